@@ -101,9 +101,9 @@ TEMPLATES = {
     "program.other": "MTE_TOOL names another program, {path}: nothing is proved of what it answers",
     "picture.unproved": "not proved: {why}",
     # what a table is called
-    "profile.table": "the tuned table",
-    "history.table": "the fitted table",
-    "timeline.table": "the fitted table",
+    "profile.table": "least waste",
+    "history.table": "least footprint",
+    "timeline.table": "least footprint",
     # the curve over the number of classes: the rows of a sheet by `tune`, or of a fit by `fit`
     "profile.curve": "Least waste by the number of classes",
     "history.curve": "Least footprint by the number of classes",

@@ -29,10 +29,10 @@ DIGITS = b"0123456789"
 LARGE = b"%d" % (LARGEST_SIZE + 1)
 COUNTED = re.compile(rb"[ \t]*([0-9]+|large)[ \t]+([0-9]+)[ \t]*")
 EVENT_WORDS = (b"malloc", b"calloc", b"realloc", b"free", b"load", b"store", b"addg", b"subg")
-SHEET_WORDS = (b"classes", b"limit", b"step", b"waste", b"footprint", b"row")
+SHEET_WORDS = (b"classes", b"limit", b"step", b"waste", b"footprint", b"row", b"moments")
 
 Sheet = namedtuple("Sheet", "classes limit step waste rows")
-Fit = namedtuple("Fit", "classes limit step footprint rows")
+Fit = namedtuple("Fit", "classes limit step footprint rows moments")  # the moments are None of a fit over a history
 History = namedtuple("History", "snapshots counts")  # how many snapshots; for each size, and `large`, its count at each of them
 
 
@@ -164,6 +164,11 @@ def is_history(data):
     return data.split(b"\n", 1)[0].split(b" ", 1)[0] == b"snapshots"
 
 
+def is_timeline(data):
+    """Whether a text that begins with these bytes is a timeline, or means to be one."""
+    return data.split(b"\n", 1)[0].rstrip(b"\r ") == b"timeline"
+
+
 def read_history(path):
     """A history. As in a profile, its sizes come in any order and however often; a size above LARGEST_SIZE is large. Counts are summed."""
     return parse_history(read(path), named(path))
@@ -179,6 +184,8 @@ def parse_history(data, name="the history"):
             raise Refused(2, f"{name}: {wrong}")
         if counted(first):
             raise Refused(2, f"{name}: line 1 is of a profile, and no history: `profile_program --history` records one")
+        if is_timeline(first):
+            raise fault(first, 1, name, "SIZE N1 .. NT")
         if first.split(b" ")[0] in EVENT_WORDS + SHEET_WORDS:
             raise fault(first, 1, name, "SIZE N1 .. NT")
         raise Refused(2, f"{name}: line 1 is not `snapshots T` with T from 1 to {MOST_SNAPSHOTS}: {shown(first)}")
@@ -318,6 +325,8 @@ def fault(text, line, path, form="SIZE COUNT"):
         return Refused(2, f"{where} is of a sheet or a class line, and not {form}: give the {kind} that it was made for")
     if is_history(text):
         return Refused(2, f"{where} is of a history, and not {form}: give histories alone, or profiles alone")
+    if is_timeline(text):
+        return Refused(2, f"{where} is of a timeline, and not {form}: `mte_tool fit` and tune_program take it as it is")
     return Refused(2, f"{where} is not {form}: {shown(text)}")
 
 
@@ -390,7 +399,12 @@ def parse_sheet(text, name="the sheet"):
 
 def parse_fit(text, name="the fit"):
     """A fit as its parts. Only `mte_tool check-fit` says whether it is right."""
-    return parse_parts(text, name, "fit", b"footprint", Fit)
+    lines = lines_of(os.fsencode(text))
+    moments = None
+    if lines and (match := re.fullmatch(rb"moments((?: (?:0|[1-9][0-9]{0,9}))+)", lines[-1])):
+        moments = [int(at) for at in match[1].split()]
+        text = b"\n".join(lines[:-1])
+    return parse_parts(text, name, "fit", b"footprint", lambda *parts: Fit(*parts, moments))
 
 
 def parse_parts(text, name, kind, cost, make):

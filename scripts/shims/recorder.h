@@ -54,6 +54,11 @@ struct notes {
   uint64_t sums[64];        // sizes.c: of each snapshot: the sum of its counters by their weights, and of `taken`
   uint64_t turn;            // which of the two marks is whole wherever the program ends; not where requests are only counted
   struct mark { uint64_t length, events, ended, sum, check; } marks[2];
+  uint64_t requests, live;  // sizes.c, where blocks are followed: the requests, and the bytes that are live now;
+  uint64_t large;           // the most bytes that were live in blocks above LARGEST_SIZE;
+  uint64_t resident;        // the most resident memory that was seen, less what the recorder takes itself, in bytes;
+  uint64_t system;          // and the most that glibc's malloc had of the system
+  uint64_t executed;        // whether the process that is recorded began to run another program in its own place
   char allocator[NAME] __attribute__((aligned(NAME)));  // the file that has the allocator of the last process that has another one
 };
 _Static_assert(sizeof(struct notes) <= PAGE, "the notes are one page");
@@ -82,6 +87,7 @@ static void write_mark(struct mark *mark) {
 }
 
 static int started, untouched;  // whether the process is left untouched
+static int is_glibcs;           // whether the allocator is glibc's
 
 // Whether this process itself is recorded is on a page that a forked child sees empty, however it is forked.
 static struct { int recorded, noted; } nowhere, *here = &nowhere;
@@ -189,7 +195,7 @@ static void examine(int usable) {
   if (!is_reached(bound)) {
     untouched = 1, allocator = bound;
   } else {
-    if (libc && is_same(libc, allocator)) return;
+    if ((is_glibcs = libc && is_same(libc, allocator))) return;
     untouched = !is_same(allocator, (void *)next.free) || !is_same(allocator, (void *)next.realloc) ||
                 !is_same(allocator, (void *)next.calloc) || (usable && !is_same(allocator, (void *)next.usable)) ||
                 dl_iterate_phdr(calls_otherwise, allocator);
@@ -277,7 +283,25 @@ static void record_here(int recorded) {
   if (page != MAP_FAILED) here = page;
   if (page == MAP_FAILED || madvise(page, PAGE, MADV_WIPEONFORK)) pthread_atfork(NULL, NULL, leave);
   here->recorded = recorded;
+  if (recorded) notes->executed = 0;
 }
+
+// The program that runs next in the place of this process clears the note, where it has the library.
+static int note_program(void) { return notes && here->recorded && (uint64_t)getpid() == notes->process ? notes->executed = 1 : 0; }
+
+#define EXECUTES(name, parameters, words) \
+  int name parameters { \
+    static int (*function) parameters; \
+    if (!function) function = (__typeof__(function))dlsym(RTLD_NEXT, #name); \
+    int noted = note_program(), status = function words; \
+    if (noted) notes->executed = 0; \
+    return status; \
+  }
+EXECUTES(execve, (const char *path, char *const words[], char *const variables[]), (path, words, variables))
+EXECUTES(execvpe, (const char *file, char *const words[], char *const variables[]), (file, words, variables))
+EXECUTES(fexecve, (int file, char *const words[], char *const variables[]), (file, words, variables))
+EXECUTES(execv, (const char *path, char *const words[]), (path, words))
+EXECUTES(execvp, (const char *file, char *const words[]), (file, words))
 
 // a request of a process that is not recorded
 static void note_other(void) {

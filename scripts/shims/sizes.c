@@ -9,6 +9,7 @@
 //                  where there is no room for one more, every second goes, and the spacing doubles.
 // SIZES_TIMELINE=1 as SIZES_LIVE=1, and the record of the run after the counters (timeline.h). Its order is that in which the calls come to
 //                  the library, by one lock: a request as soon as it has its block, and a free before the block is given back.
+// SIZES_CLASSES=.. the same, but a history from the start: of the moments at which the classes of this table, in granules, have the most blocks.
 #include "recorder.h"
 #include "timeline.h"
 
@@ -74,17 +75,56 @@ static void update_peak(void) {
   __atomic_store_n(&notes->updated, 0, __ATOMIC_RELEASE);
 }
 
+// What the process has of the system, less what the recorder takes: of each block 8 bytes and what they are rounded up to in glibc, and its
+// own pages. glibc's list of free chunks may be long, so it is asked less often.
+enum { OFTEN = 1 << 16, SELDOM = 1 << 20 };
+static int64_t measured_from;  // as soon as so many bytes are live
+struct amounts { size_t arena, chunks, fast, blocks, mapped, others[5]; };  // what mallinfo2 of glibc returns
+static struct amounts (*of_glibc)(void);
+
+static size_t chunk(size_t size) { return size < 24 ? 32 : (size + 23) & -16; }
+
+static uint64_t resident(void) {
+  char text[256] = "", *rest = text;
+  int file = open("/proc/self/statm", O_RDONLY | O_CLOEXEC);
+  if (file < 0) return 0;
+  if (read(file, text, sizeof text - 1) < 0) *text = 0;
+  close(file);
+  strtoull(rest, &rest, 10);
+  return strtoull(rest, NULL, 10) * getpagesize();
+}
+
+static void note_most(uint64_t *most, uint64_t seen, uint64_t less) {
+  if (seen > less && seen - less > *most) *most = seen - less;
+}
+
+static void measure(void) {
+  int error = errno;
+  uint64_t more = 0;
+  for (size_t i = 0; i < COUNTERS && is_glibcs; i++) more += now[i] * (chunk(i + 8) - chunk(i));
+  note_most(&notes->resident, resident(), more + sizeof early + sizeof now + 2 * sizeof early + resident_of_record());
+  if (of_glibc && (bytes >= measured_from || !(requests & (SELDOM - 1)))) {
+    struct amounts found = of_glibc();
+    note_most(&notes->system, found.arena + found.mapped, more);
+  }
+  if (bytes >= measured_from) measured_from = bytes + bytes / 64 + OFTEN;
+  errno = error;
+}
+
 static void change(size_t size, int64_t by) {
   if (!here->recorded) return;
   size_t i = counter_of(size);
+  static int64_t large;
   pthread_mutex_lock(&lock);
   now[i] += by, sum += by * weight(i);
-  requests += by > 0;
-  bytes += by * (int64_t)size;
+  notes->requests = requests += by > 0;
+  notes->live = bytes += by * (int64_t)size;
+  if (i == LARGE && (uint64_t)(large += by * (int64_t)size) > notes->large && by > 0) notes->large = large;
   if (!is_changed[i]) is_changed[i] = 1, changed[changes++] = i;
   if (bytes > peak) update_peak();
   if (snapshots > 1 && by > 0 && !(requests & (spacing - 1))) take_snapshot();
   record_event(i, by < 0, sum);
+  if (by > 0 && (bytes >= measured_from || !(requests & (OFTEN - 1)))) measure();
   pthread_mutex_unlock(&lock);
 }
 
@@ -236,10 +276,12 @@ size_t malloc_usable_size(void *block) {
 
 static void begin(void) {
   const char *only = getenv("SIZES_ONLY"), *history = getenv("SIZES_HISTORY"), *timeline = getenv("SIZES_TIMELINE");
+  char *table = getenv("SIZES_CLASSES");
+  if (table) timeline = table;
   if (only && strcmp(only, program_invocation_short_name)) return;
   int number = history ? atoi(history) : 1, follow = timeline || history || getenv("SIZES_LIVE");
   size_t room = sizeof early * (number < 1 || timeline ? 1 : number > SNAPSHOTS ? SNAPSHOTS : number), most = room;
-  if (timeline) room += room_of(FEWEST_MOMENTS), most += room_of(CLASSES);
+  if (timeline) room += room_of(table ? MOST_CLASSES + 1 : FEWEST_MOMENTS), most += room_of(table ? MOST_CLASSES + 1 : CLASSES);
   notes = map_file("SIZES", timeline ? FORM_TIMELINE : history ? FORM_HISTORY : follow ? FORM_LIVE : FORM_ALL, room, most, &room);
   if (!notes) return;
   examine(follow);
@@ -256,7 +298,19 @@ static void begin(void) {
   if (history && !timeline) snapshots = room / sizeof early < SNAPSHOTS ? room / sizeof early : SNAPSHOTS;
   // of what the process ran before in its own place
   memset(notes->taken, 0, sizeof notes->taken), memset(notes->sums, 0, sizeof notes->sums), notes->most = 0, memset(counts, 0, sizeof early);
-  if (timeline) begin_record(counts + COUNTERS, room - sizeof early, NULL);
+  if (timeline) begin_record(counts + COUNTERS, room - sizeof early, table);
+  notes->requests = notes->live = notes->large = notes->resident = notes->system = 0;
+  if (is_glibcs) of_glibc = (__typeof__(of_glibc))dlsym(RTLD_DEFAULT, "mallinfo2");
   is_aligned_own = is_same((void *)next.memalign, (void *)next.malloc) && is_same((void *)next.posix_memalign, (void *)next.malloc);
   live = 1;
+}
+
+__attribute__((destructor)) static void finish(void) {
+  if (!live || !here->recorded) return;
+  inside++;
+  pthread_mutex_lock(&lock);
+  measured_from = 0;
+  measure();
+  pthread_mutex_unlock(&lock);
+  inside--;
 }

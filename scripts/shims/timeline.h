@@ -102,6 +102,7 @@ static void write_totals(void) {
   mark.ended = BEING_REDUCED, write_mark(&mark);
   history->before = totals;
   mark.ended = REDUCED, write_mark(&mark);
+  madvise((void *)(((uintptr_t)history->moments + PAGE) & -PAGE), (groups - 1) * sizeof *history->moments, MADV_DONTNEED);
   next_event = history->piece, last_event = next_event + PIECE;
 }
 
@@ -132,6 +133,9 @@ static size_t line_of(size_t counter, int is_free) {
   for (size_t power = 10; power <= counter; power *= 10) line++;
   return line;
 }
+
+// so many bytes of the record may be among the pages of the program
+static size_t resident_of_record(void) { return history ? sizeof totals + 2 * PIECE : 2 * (mark.events & (PIECE - 1)); }
 
 // Writes the event of a request, or of a free. `sum` is that of the live blocks by weights, after it.
 static void record_event(size_t counter, int is_free, uint64_t sum) {

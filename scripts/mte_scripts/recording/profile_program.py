@@ -16,14 +16,21 @@ HELP = f"""\
 Run a program, and print how often it requested each size: a profile, the input of `mte_tool tune`.
 
 Usage: profile_program [--live] [--only NAME] [--said FILE] PROGRAM ARGS..
-       profile_program --timeline|--history[=T] [--peak FILE] [--only NAME] [--said FILE] PROGRAM ARGS..
+       profile_program --timeline|--history[=T]|--classes TABLE [--peak FILE] [--measured FILE] [--only NAME] PROGRAM ARGS..
        profile_program --library [DIR]
        profile_program --read COUNTS
 
   --live         count only the blocks that are live at the peak: when the most bytes are live
   --timeline     print a timeline instead: each request and each free of the run, by size
   --history[=T]  print a history instead: the live blocks at T moments of the run, 1 to 64; 32 where T is left out
-  --peak FILE    with --timeline or --history: write the profile of the blocks live at the peak into FILE too, as --live counts them
+  --classes TABLE
+                 print a history of the moments at which each class of a table has the most blocks. TABLE is a file whose first line
+                 is a class line, such as a sheet or a fit
+  --peak FILE    with these three: write the profile of the blocks live at the peak into FILE too, as --live counts them
+  --measured FILE
+                 with these and --live: write into FILE what the process took of memory at most, in bytes, as lines
+                 `large N`, blocks above {texts.LARGEST_SIZE:,} bytes; `resident N`, its resident set; and `glibc N`, what glibc's malloc had of
+                 the system. The last two are looked at from time to time; what the recorder takes is left out, by an estimate
   --only NAME    count only processes whose program has this name, as NAME of /usr/bin/NAME
   --library      print the path of the library that counts, and run nothing; with DIR, put it there for services
   --read COUNTS  print the profile, the history or the timeline of the counts in the file COUNTS, also while they are still made
@@ -31,10 +38,10 @@ Usage: profile_program [--live] [--only NAME] [--said FILE] PROGRAM ARGS..
 
 The program is run with a library (LD_PRELOAD) that counts its calls of malloc, calloc, realloc, memalign, aligned_alloc, valloc,
 pvalloc and posix_memalign, and so C++'s new. It runs as ever: its standard input is its own, its standard output goes to standard
-error. It may have threads, fork, and be killed. Without --live all processes that it starts are counted with it, also those of a
-script; with --live only the first process is, with what it runs in its own place. A calloc that overflows counts as a large
-request, and so does any other above {texts.LARGEST_SIZE:,} bytes; a realloc to 0 bytes is a free. An aligned request counts as its bytes plus its
-alignment minus 16.
+error; where that is a terminal, a line there says each second how far it is. It may have threads, fork, and be killed. Without
+--live all processes that it starts are counted with it, also those of a script; with --live only the first process is, with what
+it runs in its own place. A calloc that overflows counts as a large request, and so does any other above {texts.LARGEST_SIZE:,} bytes; a
+realloc to 0 bytes is a free. An aligned request counts as its bytes plus its alignment minus 16.
 
 A timeline is the input of `mte_tool fit`, which then counts each moment of the run. Its events are in the order in which the calls
 came to the library, one after the other, of all threads: a request as soon as it has its block, a free before the block is given
@@ -47,13 +54,17 @@ A history is an input of `fit` too. Its snapshots are in the order of time. One 
 spaced requests: where T are full, every second one goes, and the spacing doubles. So at the end they are about T/2 to T, and fewer
 where the program makes fewer requests. All else is as with --live.
 
+--classes is for a program that runs for long, with the table that it has now: no record is kept, and over the history this table
+takes what it takes over the whole run. Another table may take more than the history shows. Merge each day's history with those
+before by merge_profiles, and `mte_tool fit` finds the table for all of them.
+
 A program with another allocator, such as jemalloc, keeps it, and its calls are counted. Where it gets blocks in other ways too,
 such as by mallocx, nothing of it is counted, and standard error names the file that has the allocator. Not seen are a static or
 set-user-id program, a C library other than glibc, and an allocator inside the program (Go, jemalloc linked in).
 
 For a service that something else starts: set LD_PRELOAD to the path that --library DIR prints, SIZES to a file that does not exist
 yet and that the service may write (and SIZES_LIVE=1 for --live, SIZES_TIMELINE=1 for --timeline, SIZES_HISTORY=T for --history=T,
-SIZES_ONLY=NAME for --only); then read the file with --read.
+SIZES_CLASSES='2 4 ..' for --classes, with the table's numbers, SIZES_ONLY=NAME for --only); then read the file with --read.
 
 Exit status:
   0  the profile, the history or the timeline is printed
@@ -76,7 +87,8 @@ FOREGROUND = "run it in the foreground (nginx: daemon off)"
 
 class Options:
     def __init__(self, words, speaker):
-        self.live = self.snapshots = self.peak = self.only = self.read = None
+        self.live = self.snapshots = self.peak = self.measured = self.only = self.read = None
+        self.table = None
         self.timeline = self.is_library = self.is_help = False
         words = list(words)
 
@@ -96,13 +108,17 @@ class Options:
                 self.live = "--live"
             elif option == "--timeline":
                 self.timeline = True
+            elif option == "--classes":
+                self.table = texts.class_line(value(option, "a file"))
+                if not self.table:
+                    raise Refused(2, "the table of --classes has no class")
             elif option == "--history":
                 self.snapshots = 32
             elif option.startswith("--history="):
                 self.snapshots = snapshots_of(option.partition("=")[2])
             elif option == "--library":
                 self.is_library = True
-            elif option in ("--peak", "--read"):
+            elif option in ("--peak", "--read", "--measured"):
                 setattr(self, option[2:], value(option, "a file"))
             elif option == "--only":
                 self.only = value(option, "a name")
@@ -111,22 +127,28 @@ class Options:
             else:
                 raise Refused(2, f"there is no option {option}; --help says what there is")
         self.words = words
-        if self.timeline and self.snapshots:
-            raise Refused(2, "take one of --timeline and --history")
-        if self.timeline or self.snapshots:
-            self.live = "--timeline" if self.timeline else "--history"
+        chosen = {"--timeline": self.timeline, "--history": self.snapshots, "--classes": self.table is not None}
+        over_time = [name for name, is_so in chosen.items() if is_so]
+        if len(over_time) > 1:
+            raise Refused(2, f"take one of {' and '.join(over_time)}")
+        if over_time:
+            self.live = over_time[0]
         elif self.peak:
-            raise Refused(2, "--peak goes with --timeline or --history")
+            raise Refused(2, "--peak goes with --timeline, --history or --classes")
+        if self.measured and not self.live:
+            raise Refused(2, "--measured goes with --live, --timeline, --history or --classes")
 
     def settings(self):
         """The library's variables; those without a value are unset."""
         chosen = {"SIZES_LIVE": self.live == "--live", "SIZES_TIMELINE": self.timeline}
         found = {name: "1" if is_so else None for name, is_so in chosen.items()}
+        found["SIZES_CLASSES"] = None if self.table is None else " ".join(map(str, self.table))
         return {**found, "SIZES_ONLY": self.only, "SIZES_HISTORY": str(self.snapshots) if self.snapshots else None}
 
     def form(self):
         """That of the file of counts."""
-        return {"--timeline": timelines.FORM, "--history": counts.HISTORY, "--live": counts.LIVE, None: counts.ALL}[self.live]
+        forms = {"--history": counts.HISTORY, "--live": counts.LIVE, None: counts.ALL}
+        return forms.get(self.live, timelines.FORM)
 
 
 def snapshots_of(word):
@@ -161,9 +183,9 @@ def print_history(history, profile, peak):
 def print_record(speaker, record, peak):
     """Prints a timeline, or the history that is there in its place."""
     if record.history:
-        wide = record.class_bytes
-        moments = f"the {record.history.snapshots} moments at which each class of {wide} bytes had the most blocks"
-        speaker.say(f"the timeline would have more than {timelines.MOST_TEXT:,} bytes: a history is made in its place, of {moments}")
+        if wide := record.class_bytes:
+            moments = f"the {record.history.snapshots} moments at which each class of {wide} bytes had the most blocks"
+            speaker.say(f"the timeline would have more than {timelines.MOST_TEXT:,} bytes: a history is made in its place, of {moments}")
         return print_history(texts.history_text(record.history), texts.profile_text(record.peak), peak)
     if not record.events:
         return False
@@ -177,11 +199,21 @@ def print_record(speaker, record, peak):
 
 def write_peak(peak, profile):
     if peak:
-        try:
-            with open(peak, "w", encoding="ascii") as file:
-                file.write(profile)
-        except OSError as error:
-            raise Refused(3, f"{peak} could not be written: {error.strerror}") from None
+        write_file(peak, profile)
+
+
+def write_file(path, text):
+    try:
+        with open(path, "w", encoding="ascii") as file:
+            file.write(text)
+    except OSError as error:
+        raise Refused(3, f"{path} could not be written: {error.strerror}") from None
+
+
+def write_measured(path, notes):
+    if path:
+        found = {"large": notes.large, "resident": notes.resident, "glibc": notes.system}
+        write_file(path, "".join(f"{name} {value}\n" for name, value in found.items() if value))
 
 
 def say_uncounted(speaker, notes, live, program):
@@ -321,6 +353,7 @@ def run_program(options, speaker, path, work):
         found = sound_counts(run.recorded, [options.form()])
         if not found:
             raise Refused(3, f"{program} overwrote what was recorded: nothing of it counts")
+        write_measured(options.measured, notes)
         if not print_counts(speaker, notes, found, run.recorded, options.peak):
             if notes.untouched:
                 own = f"{program} has an allocator of its own, in {notes.allocator}, that can't be followed"

@@ -12,6 +12,7 @@ import stat
 import struct
 import subprocess
 import sys
+import threading
 import time
 
 from mte_scripts import private_folder, texts
@@ -25,11 +26,14 @@ SOURCES = ("formats.h", "recorder.h", "timeline.h", "checksum.h", "private_folde
 # without -fno-builtin gcc makes a calloc of a malloc and a memset, also inside calloc
 FLAGS = ("-O2", "-fno-builtin", "-shared", "-fPIC", "-Wall")
 VARIABLES = re.compile("(SIZES|TRACE)(_|$)")  # of the environment, which the libraries read
+WATCHED = 1  # a line on a terminal every so many seconds
 ANOTHER_PLACE = "set XDG_CACHE_HOME to another place"
 
 # the first page of the file that a library writes: struct notes in shims/recorder.h
 PAGE = 4096
 NOTES = ("form process others other_requests untouched foreign most length events variables shared wrong ended").split()
+COUNTED = 78  # the place of `all`
+MEASURED, MEASURES = 155, ("requests live large resident system executed").split()  # the place of these
 ALLOCATOR = slice(2048, 3072)
 
 
@@ -39,6 +43,9 @@ class Notes:
     def __init__(self, page: bytes):
         page = page.ljust(PAGE, b"\0")
         for name, value in zip(NOTES, struct.unpack_from(f"={len(NOTES)}Q", page)):
+            setattr(self, name, value)
+        self.all = struct.unpack_from("=Q", page, 8 * COUNTED)[0]
+        for name, value in zip(MEASURES, struct.unpack_from(f"={len(MEASURES)}Q", page, 8 * MEASURED)):
             setattr(self, name, value)
         self.allocator = os.fsdecode(page[ALLOCATOR].split(b"\0")[0])
 
@@ -234,13 +241,17 @@ class Run:
 
     def run(self, words: list, path: str) -> Notes:
         """Runs the program to its end. An interrupt reaches it too; then what was recorded up to there counts."""
-        self.status = ended(words, path, self.environment(path))
+        with watched(self.page):
+            self.status = ended(words, path, self.environment(path))
         if self.status:
             self.speaker.say(f"{words[0]} ended with status {self.status}")
         page = self.page()
         if not page:
             self.refuse_no_record(words[0])
-        return Notes(page)
+        notes = Notes(page)
+        if notes.executed and not self.settings[f"{self.variable}_ONLY"]:
+            self.speaker.say(f"{words[0]} ran another program in its own place, without the recorder: what that requested is not counted")
+        return notes
 
     def page(self) -> bytes:
         """The first page of the record, or nothing. The program may have put a link or a pipe in its place."""
@@ -265,6 +276,31 @@ class Run:
             time.sleep(0.2)  # those that are about to end
             found = having(self.recorded)
         return found
+
+
+@contextlib.contextmanager
+def watched(page):
+    """While the program runs, a line on a terminal says how far it is. PAGE() is the first page of the record."""
+    if not os.isatty(2):
+        yield
+        return
+    end, begin = threading.Event(), time.monotonic()
+
+    def watch() -> None:
+        while not end.wait(WATCHED):
+            notes = Notes(page())
+            live = f", {notes.live / 2**20:,.1f} MiB live" if notes.requests else ""
+            line = f"{time.monotonic() - begin:,.0f} s, {notes.requests or notes.all:,} requests{live}"
+            os.write(2, f"\r{line}\033[K\r".encode())
+
+    watcher = threading.Thread(target=watch, daemon=True)
+    watcher.start()
+    try:
+        yield
+    finally:
+        end.set()
+        watcher.join()
+        os.write(2, b"\r\033[K")
 
 
 def ended(words: list, path: str, variables: dict) -> int:

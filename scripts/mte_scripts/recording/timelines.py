@@ -1,12 +1,15 @@
-"""The record of a run in a file of counts, as shims/timeline.h writes it: a timeline, or the history that it went on as."""
+"""The record of a run: in a file of counts, as shims/timeline.h writes it, which is a timeline or the history that it went on as; and what
+a timeline's text says of moments."""
 
+import bisect
+import itertools
 import operator
 import os
 import struct
 from array import array
 from collections import Counter
 from collections.abc import Iterator
-from typing import BinaryIO, NamedTuple, Optional
+from typing import BinaryIO, NamedTuple, Optional, Union
 
 from mte_scripts import texts
 from mte_scripts.checksum import ODD, WORD, folded
@@ -47,7 +50,7 @@ class Record(NamedTuple):
     events: array
     requested: Counter  # by the events that are no longer there
     history: Optional[texts.History]
-    class_bytes: int  # of the history: the classes of whose peaks it has the moments are so wide
+    class_bytes: int  # the classes of whose peaks the history has the moments are so wide; 0 where they are those of a table
 
     def text(self) -> Iterator[bytes]:
         """The timeline, in pieces."""
@@ -134,7 +137,9 @@ def reduced(file: BinaryIO, mark: Mark, words: array) -> Optional[Record]:
     moments.update(peaks(piece, before, live, groups, list(moments.values())))
     moments[words[counts.TAKEN]] = peak_of(words)
     known = {size: times for size, times in enumerate(requested) if times}
-    return Record(mark, peak_of(words), piece, Counter(known), history_of(moments), 16 * groups.count(groups[CLASSES - 2]))
+    width = groups.count(groups[CLASSES - 2])
+    is_even = all(groups[each] == each // width for each in range(2, CLASSES))
+    return Record(mark, peak_of(words), piece, Counter(known), history_of(moments), 16 * width if is_even else 0)
 
 
 def moment_of(words: tuple) -> Optional[tuple]:
@@ -146,8 +151,13 @@ def moment_of(words: tuple) -> Optional[tuple]:
     return (at, named(found)) if (weighed(found) + at * ODD) % WORD == total else None
 
 
+def need_of(size: int) -> int:
+    """The least class that serves a size, in granules."""
+    return max(-(-size // 16), 1) + 1
+
+
 def group_of(groups: tuple, size: int) -> int:
-    return groups[max(-(-size // 16), 1) + 1]
+    return groups[need_of(size)]
 
 
 def in_groups(groups: tuple, live: dict) -> Counter:
@@ -186,3 +196,96 @@ def history_of(moments: dict) -> texts.History:
     live = [moments[at] for at in sorted(moments) if moments[at]]
     sizes = set().union(*live)
     return texts.History(len(live), {size: [each.get(size, 0) for each in live] for size in sizes})
+
+
+# ---- a timeline as a text that `mte_tool` takes
+
+
+def events_of(text: bytes) -> Iterator[list[bytes]]:
+    """The events of a timeline, as lines without their newline, in pieces."""
+    begin, piece = text.find(b"\n") + 1, 1 << 22
+    while 0 < begin < len(text):
+        end = text.find(b"\n", min(begin + piece, len(text) - 1))
+        end = len(text) if end < 0 else end
+        yield text[begin:end].split(b"\n")
+        begin = end + 1
+
+
+def size_of(event: bytes) -> Union[int, str]:
+    word = event.lstrip(b"-")
+    return "large" if word == b"large" else int(word)
+
+
+def history_at(text: bytes, moments: list) -> texts.History:
+    """The blocks that are live at these ascending moments, each the number of events before it."""
+    live, found, seen, waiting = Counter(), {}, 0, list(moments)
+    for lines in events_of(text):
+        begin = 0
+        while waiting and waiting[0] <= seen + len(lines):
+            at = waiting.pop(0)
+            take(live, lines[begin : at - seen])
+            found[at], begin = +live, at - seen
+        take(live, lines[begin:])
+        seen += len(lines)
+    return history_of(found)
+
+
+def take(live: Counter, events: list) -> None:
+    for event, times in Counter(events).items():
+        live[size_of(event)] += -times if event.startswith(b"-") else times
+
+
+def requests_of(text: bytes) -> dict:
+    """The profile of all requests."""
+    found = Counter()
+    for lines in events_of(text):
+        found.update(lines)
+    return {size_of(event): times for event, times in found.items() if not event.startswith(b"-")}
+
+
+class Amounts(dict):
+    """How much each event adds to an amount; the events are looked up but once."""
+
+    def __init__(self, of_size):
+        super().__init__()
+        self.of_size = of_size
+
+    def __missing__(self, event: bytes):
+        size = size_of(event)
+        amount = 0 if size == "large" else self.of_size(size)
+        self[event] = -amount if event.startswith(b"-") else amount
+        return self[event]
+
+
+def most_of(text: bytes, amount) -> tuple:
+    """The most of all live blocks, each with an amount of its size, and the first moment of that. Large blocks have none."""
+    amounts, now, most, at, seen = Amounts(amount), 0, 0, 0, 0
+    for lines in events_of(text):
+        sums = list(itertools.accumulate(map(amounts.__getitem__, lines), initial=now))
+        now, top = sums[-1], max(sums)
+        if top > most:
+            most, at = top, seen + sums.index(top)
+        seen += len(lines)
+    return most, at
+
+
+def peaks_of(text: bytes, classes: list) -> list:
+    """The first moments at which each class of a table that serves the timeline has the most blocks, in the order of time."""
+    now, most, at, seen = [0] * len(classes), [0] * len(classes), {}, 0
+    of_event = Amounts(lambda size: bisect.bisect_left(classes, need_of(size)) + 1)  # the class by its place from 1, or 0
+    for lines in events_of(text):
+        for moment, place in enumerate(map(of_event.__getitem__, lines), seen + 1):
+            if place < 0:
+                now[-place - 1] -= 1
+            elif place:
+                now[place - 1] += 1
+                if now[place - 1] > most[place - 1]:
+                    most[place - 1], at[place - 1] = now[place - 1], moment
+        seen += len(lines)
+    return sorted(at.values())
+
+
+def with_block(text: bytes, size: int) -> bytes:
+    """The timeline with one block more that is live from before the first event on; the same where a block of this size is requested."""
+    line = b"%d\n" % size
+    return text if b"\n" + line in text or text.endswith(b"\n" + line[:-1]) else text.replace(b"\n", b"\n" + line, 1)

@@ -61,7 +61,7 @@ def report(words):
     given = "the profile" if profile == "-" else os.path.basename(profile)
     found = figures.Figures(texts.read_profile(profile), texts.read(sheet).decode(errors="replace"), others, given=given)
     name = title or ("the profile" if profile == "-" else figures.without_ending(profile, ".profile"))
-    texts.write(report_page.page(found, name, "in the profile", [], check_command(profile, sheet, found.forced)))
+    texts.write(report_page.page(found, name, "in the profile", [], [check_command(profile, sheet, found.forced)]))
     return 1 if found.unheld() else 0
 
 

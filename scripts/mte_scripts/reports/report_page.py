@@ -63,25 +63,22 @@ svg text { fill: var(--soft); font: 12px system-ui, -apple-system, "Segoe UI", "
 }
 """
 
-COLORS = 6  # --c0, of the tuned table, to --c5
+COLORS = 6  # --c0, of the first table, to --c5
+FOOTPRINT = ["Footprint", "The first one saves"]
+CLASS_COLUMNS = {"waste": ("Requests", "Bytes lost"), "footprint": ("Blocks at most", "Their bytes")}
 SIZE_TICKS = [(16, "16"), (64, "64"), (256, "256"), (1024, "1 KiB"), (4096, "4 KiB"), (16384, "16 KiB")]
 FIRST_OCTAVE, OCTAVES = 3, 11  # the sizes from 8 bytes to 16 KiB
 
 
-def page(figures, name, counted, warnings, check, check_fit=None, tables=None):
-    """The page for a program or a profile of this name. COUNTED says what was counted, CHECK is the command that checks the sheet, and
-    CHECK_FIT the one that checks the fit, if there is one. TABLES is the file beside it with the page of scripts/page, if that is made."""
-    best = figures.best
-    lead = f"A table of {len(best.classes)} size classes loses {numbered(best.waste, 'byte')} by rounding, "
-    lead += f"{share(figures, best)} of what was requested."
-    default = figures.others[0]
-    if default.waste is not None:
-        lead += f" {default.name} loses {numbered(default.waste, 'byte')}, {share(figures, default)}."
-    over_time = " The footprint is the most memory of the classes over time." if figures.fitted else ""
+def page(figures, name, counted, warnings, checks, tables=None):
+    """The page for a program or a profile of this name. COUNTED says what was counted, CHECKS are the commands that check the sheet or the fit of
+    the first table, and that of the other one, if there is one. TABLES is the file beside it with the page of scripts/page, if that is made."""
+    first, judged = figures.first, figures.first_judged
     known = figures.known()
-    proved = int(claims.holds(figures.judged) and texts.trust().is_proved)
-    caption = claims.curve_caption("profile", figures.sheet.step, figures.judged.given, figures.forced)
+    proved = int(claims.holds(judged) and texts.trust().is_proved)
+    caption = claims.curve_caption(judged.kind, judged.step, judged.given, judged.forced)
     where = "" if texts.IS_PACKAGED else " at the top of the repository of <code>mte_tool</code>"
+    over_time = " The footprint is the most memory of the classes over time." if figures.timed else ""
     return html_safe.with_policy(f"""<!DOCTYPE html>
 <html lang="en">
 <head>
@@ -92,31 +89,31 @@ def page(figures, name, counted, warnings, check, check_fit=None, tables=None):
 </head>
 <body>
 <h1>Size classes for {escape(name)}</h1>
-<p class="lead">{escape(lead)}</p>
-<p id="proof" data-verdict="{escape(figures.verdict)}" data-proved="{proved}">{with_code(known[0])}</p>
-{f'<p id="proof-fit">{with_code(known[1])}</p>' if figures.fitted else ""}
+<p class="lead">{escape(lead(figures))}</p>
+<p id="proof" data-verdict="{escape(judged.verdict)}" data-proved="{proved}">{with_code(known[0])}</p>
+{lines(f'<p id="proof-other">{with_code(words)}</p>' for words in known[1:])}
 {lines(f'<p class="warning">{escape(text)}</p>' for text in warnings)}
 {f'<p><a href="{tables}">Try other tables for these counts</a>, in a page that tunes and checks as you turn its knobs.</p>' * bool(tables)}
 <dl>
 {card("requests", "Requests counted", figures.requests, escape(counted))}
 {card("bytes", "Bytes requested", figures.bytes, byte_text(figures.bytes))}
 {card("large", "Large requests", figures.large, f"above {texts.LARGEST_SIZE:,} bytes; in no other figure here")}
-{card("limit", "Limit of classes", figures.sheet.limit, f"in steps of {GRANULE * figures.sheet.step} bytes")}
+{card("limit", "Limit of classes", judged.limit, f"in steps of {GRANULE * judged.step} bytes")}
 </dl>
 <h2>Each table</h2>
 <div class="scroll"><table id="tables">
-{headings("Table", "Classes", "Waste, bytes", "The tuned one saves", *["Footprint"] * bool(figures.fitted))}
-<tbody>{table_row(figures, best, "tuned")}
-{lines(table_row(figures, table, f"other-{at}") for at, table in enumerate(figures.others))}</tbody>
+{headings("Table", "Classes", *FOOTPRINT * bool(figures.timed), "Waste, bytes", "The first one saves")}
+<tbody>{table_row(figures, first, "first")}
+{lines(table_row(figures, table, f"other-{at}") for at, table in enumerate(figures.rest))}</tbody>
 </table></div>
 <p class="soft">A block has a header of 16 bytes, the bytes that were requested, and those that are lost by rounding: the
-waste. Its share is of the requested bytes. The saving has its share of all blocks with that table.{over_time}</p>
+waste. Its share is of the requested bytes. What is saved of it has its share of all blocks with that table.{over_time}</p>
 <h2>How many classes?</h2>
 <figure>{curve(figures, "wide", 760, 340)}{curve(figures, "narrow", 340, 260)}
 {curve_key(figures)}
 <figcaption>{escape(caption)} Where it leaves the picture, it goes on upwards.</figcaption></figure>
 <details><summary>The line in numbers</summary><div class="scroll"><table id="curve">
-{headings("Classes", claims.TEMPLATES["profile.curve.column"])}
+{headings("Classes", claims.TEMPLATES[f"{judged.kind}.curve.column"])}
 <tbody>{lines(least_row(figures, *row) for row in enumerate(figures.least, 1))}</tbody>
 </table></div></details>
 <h2>What was requested</h2>
@@ -124,25 +121,44 @@ waste. Its share is of the requested bytes. The saving has its share of all bloc
 {border_key(figures)}
 <figcaption>A bar is the bytes that were requested in neighbouring sizes. A border is the largest size that a class
 serves.</figcaption></figure>
-<h2>The classes of the tuned table</h2>
+<h2>The classes of the table of {first.name}</h2>
 <div class="scroll"><table id="classes">
-{headings("Block, bytes", "Sizes served", "Requests", "Bytes lost", "Share")}
+{headings("Block, bytes", "Sizes served", *CLASS_COLUMNS[figures.objective], "Share")}
 <tbody>{lines(class_row(figures, *row) for row in figures.classes())}</tbody>
 </table></div>
 <h2>Check it again</h2>
-<p>This is the tuned table as a class line, in granules of 16 bytes:</p>
-<pre id="class-line">{class_text(best.classes)}</pre>
-<p>The sheet has this table and its certificate. Run this{where}:</p>
-<pre id="check">{escape(check)}</pre>
-{fit_section(figures, check_fit) if figures.fitted else ""}</body>
+<p>This is the table of {first.name} as a class line, in granules of 16 bytes:</p>
+<pre id="class-line">{class_text(first.classes)}</pre>
+<p>Its certificate is checked by this{where}:</p>
+<pre id="check">{escape(checks[0])}</pre>
+{lines(other_section(*each) for each in zip(figures.made()[1:], checks[1:]))}</body>
 </html>
 """)
 
 
-def fit_section(figures, check):
-    return f"""<p>The fitted table, and the command that checks its fit:</p>
-<pre id="fitted-line">{class_text(figures.fitted.classes)}</pre>
-<pre id="check-fit">{escape(check)}</pre>
+def lead(figures):
+    """The first sentences: what the first table costs, and Scudo's default."""
+    first, default = figures.first, figures.others[0]
+    begin = f"A table of {len(first.classes)} size classes"
+    if figures.objective == "waste":
+        words = f"{begin} loses {numbered(first.waste, 'byte')} by rounding, {share(figures, first)} of what was requested."
+        if default.waste is not None:
+            words += f" {default.name} loses {numbered(default.waste, 'byte')}, {share(figures, default)}."
+        return words
+    seen = "every moment of the run" if figures.timed.kind == "timeline" else numbered(figures.timed.history.snapshots, "moment")
+    words = f"{begin} takes {numbered(first.footprint, 'byte')} over {seen}."
+    if default.footprint is not None:
+        saving = figures.saving(default)
+        less = f"{percent(abs(saving), default.footprint)} {'less' if saving >= 0 else 'more'}"
+        words += f" {default.name} takes {numbered(default.footprint, 'byte')}; so the table takes {less}."
+    return words
+
+
+def other_section(table, check):
+    """The table that was made for the other objective."""
+    return f"""<p>The table of {table.name}, and the command that checks its certificate:</p>
+<pre id="other-line">{class_text(table.classes)}</pre>
+<pre id="check-other">{escape(check)}</pre>
 """
 
 
@@ -179,29 +195,40 @@ def with_share(text, part, whole):
 
 def table_row(figures, table, kind):
     cells = f'<th scope="row">{escape(table.name)}</th>' + cell("classes", len(table.classes), len(table.classes))
+    if figures.timed:
+        cells += footprint_cells(figures, table)
     if table.waste is None:
         cells += f'<td colspan="2" data-name="unserved" data-value="{table.unserved}">does not serve {number(table.unserved)} bytes</td>'
     else:
         cells += cell("waste", table.waste, with_share(number(table.waste), table.waste, figures.bytes))
-        saving = figures.saving(table)
-        cells += "<td></td>" if kind == "tuned" else cell("saving", saving, with_share(kibibytes(saving), saving, figures.blocks(table)))
-    if figures.fitted:
-        cells += "<td></td>" if table.footprint is None else cell("footprint", table.footprint, kibibytes(table.footprint))
-    form = ' class="tuned"' if kind == "tuned" else ""
+        saving = figures.saved_waste(table)
+        cells += "<td></td>" if kind == "first" else cell("saving", saving, with_share(kibibytes(saving), saving, figures.blocks(table)))
+    form = ' class="tuned"' if kind == "first" else ""
     return f'<tr data-table="{kind}"{form}>{cells}</tr>'
 
 
-def least_row(figures, classes, waste):
-    text = with_share(number(waste), waste, figures.bytes)
-    return f'<tr data-classes="{classes}"><th scope="row">{classes}</th>{cell("lowest", waste, text)}</tr>'
+def footprint_cells(figures, table):
+    """What it takes over time, and what the first table saves of that."""
+    if table.footprint is None:
+        return "<td></td><td></td>"
+    cells, saving = cell("footprint", table.footprint, kibibytes(table.footprint)), figures.saved_footprint(table)
+    if saving is None or table is figures.first:
+        return cells + "<td></td>"
+    return cells + cell("saved", saving, with_share(kibibytes(saving), saving, table.footprint or 1))
 
 
-def class_row(figures, block, least, most, requests, lost):
-    whole = figures.best.waste
+def least_row(figures, classes, cost):
+    text = with_share(number(cost), cost, figures.bytes) if figures.objective == "waste" else number(cost)
+    return f'<tr data-classes="{classes}"><th scope="row">{classes}</th>{cell("lowest", cost, text)}</tr>'
+
+
+def class_row(figures, block, least, most, count, cost):
+    whole = figures.cost(figures.first)
+    names = ("requests", "lost") if figures.objective == "waste" else ("blocks", "taken")
     cells = f'<th scope="row">{number(block)}</th><td>{number(least)}–{number(most)}</td>'
-    cells += cell("requests", requests, number(requests)) + cell("lost", lost, number(lost))
-    cells += f"<td>{percent(lost, whole) if whole else '–'}</td>"
-    form = "" if requests else ' class="empty"'
+    cells += cell(names[0], count, number(count)) + cell(names[1], cost, number(cost))
+    cells += f"<td>{percent(cost, whole) if whole else '–'}</td>"
+    form = "" if count else ' class="empty"'
     return f'<tr data-block="{block}"{form}>{cells}</tr>'
 
 
@@ -235,43 +262,57 @@ def key(entries):
 
 
 def served(figures):
-    """The tables that serve the profile, each with its style."""
-    return [(0, figures.best)] + [(style_of(at), table) for at, table in enumerate(figures.others) if table.waste is not None]
+    """The tables that serve what is given, each with its style."""
+    rest = [(style_of(at), table) for at, table in enumerate(figures.rest) if figures.cost(table) is not None]
+    return [(0, figures.first)] + rest
 
 
 def curve_key(figures):
-    return key((style, f"{table.name}: {len(table.classes)} classes, {share(figures, table)}") for style, table in served(figures))
+    return key((style, f"{table.name}: {len(table.classes)} classes, {cost_text(figures, table)}") for style, table in served(figures))
+
+
+def cost_text(figures, table):
+    return share(figures, table) if figures.objective == "waste" else kibibytes(table.footprint)
 
 
 def curve(figures, kind, width, height):
-    """The least waste by the number of classes, and each table as a point."""
-    picture = Picture(kind, width, height, 46, claims.TEMPLATES["profile.curve.axis"])
+    """The least cost by the number of classes, and each table as a point."""
+    words, is_waste = claims.TEMPLATES, figures.objective == "waste"
+    picture = Picture(kind, width, height, 46 if is_waste else 70, words[f"{figures.first_judged.kind}.curve.axis"])
     most = max([len(figures.least)] + [len(table.classes) for _, table in served(figures)])
-    # as high as the worst table, or as 8 classes, and some more: tables of very few classes waste far more
-    highest = max([figures.least[:8][-1]] + [table.waste for _, table in served(figures)])
-    top = 115 * highest / figures.bytes or 1
+    # as high as the worst table, or as 8 classes, and some more: tables of very few classes cost far more
+    highest = max([figures.least[:8][-1]] + [figures.cost(table) for _, table in served(figures)])
+    unit = figures.bytes / 100 if is_waste else 1024 ** (int(math.log2(max(highest, 1))) // 10)
+    top = 1.15 * highest / unit or 1
 
-    def at(classes, waste):
+    def at(classes, cost):
         x = picture.left + 8 + (picture.right - picture.left - 8) * (classes - 1) / max(most - 1, 1)
-        return x, picture.y(100 * waste / figures.bytes, top)
+        return x, picture.y(cost / unit, top)
 
-    picture.levels(top, 5, lambda value: f"{value:g}%")
+    picture.levels(top, 5, lambda value: f"{value:g}%" if is_waste else byte_text(value * unit) if value else "0")
     for classes in (1, *range(4, most + 1, 4)):
         picture.tick(at(classes, 0)[0], classes)
     picture.text(picture.middle, height - 6, "classes in the table", "middle")
     area = f'x="{picture.left}" y="{picture.top - 6}" width="{picture.right - picture.left}" height="{picture.bottom - picture.top + 8}"'
-    points = [at(classes, waste) for classes, waste in enumerate(figures.least, 1)]
+    points = [at(classes, cost) for classes, cost in enumerate(figures.least, 1)]
     drawn = " ".join(f"{shown(x)},{shown(max(y, -10 * height))}" for x, y in points)
     picture.parts.append(f'<clipPath id="area-{kind}"><rect {area}/></clipPath>')
     picture.parts.append(f'<polyline class="curve" clip-path="url(#area-{kind})" points="{drawn}"/>')
     for style, table in reversed(served(figures)):
-        title = f"{table.name}: {len(table.classes)} classes, {number(table.waste)} bytes"
-        picture.parts.append(mark(style, *at(len(table.classes), table.waste), title))
-    return picture.svg(claims.TEMPLATES["profile.curve"])
+        title = f"{table.name}: {len(table.classes)} classes, {number(figures.cost(table))} bytes"
+        picture.parts.append(mark(style, *at(len(table.classes), figures.cost(table)), title))
+    return picture.svg(words[f"{figures.first_judged.kind}.curve"])
+
+
+def default_of(figures):
+    """Scudo's default, with its style."""
+    default = figures.others[0]
+    return style_of(figures.rest.index(default)), default
 
 
 def border_key(figures):
-    return key([(0, f"borders of {figures.best.name}"), (style_of(0), f"borders of {figures.others[0].name}")])
+    style, default = default_of(figures)
+    return key([(0, f"borders of {figures.first.name}"), (style, f"borders of {default.name}")])
 
 
 def bars(counts, per_octave):
@@ -309,8 +350,8 @@ def histogram(figures, kind, width, height, per_octave):
         picture.parts.append(f'<rect class="bars" {form}><title>{title}</title></rect>')
     for size, words in SIZE_TICKS:
         picture.tick(x(size), words)
-    borders(figures.best, picture.top, picture.bottom, 'stroke="var(--c0)" stroke-opacity=".25"')
-    for row, (words, style, table) in enumerate([("tuned", 0, figures.best), ("Scudo", style_of(0), figures.others[0])]):
+    borders(figures.first, picture.top, picture.bottom, 'stroke="var(--c0)" stroke-opacity=".25"')
+    for row, (words, style, table) in enumerate([("first", 0, figures.first), ("Scudo", *default_of(figures))]):
         y = picture.bottom + 26 + 20 * row
         picture.text(picture.left - 6, y + 12, words, "end")
         borders(table, y, y + 16, f'stroke="var(--c{style})" stroke-width="1.5"')

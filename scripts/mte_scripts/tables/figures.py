@@ -2,14 +2,15 @@
 
 The program itself scores, checks and tunes; here is only what its outputs mean for memory."""
 
+import bisect
 import os
-from collections import namedtuple
+from typing import NamedTuple
 
 from mte_scripts import claims, texts
+from mte_scripts.recording import timelines
 
 GRANULE = claims.GRANULE  # bytes; a block begins with a header of one granule
 NOTHING = f"no bytes are counted in requests of at most {texts.LARGEST_SIZE:,} bytes: there is nothing to tune"
-OverTime = namedtuple("OverTime", "history fitted fit")  # texts: the history, the one that was fitted, and the fit of that
 OTHERS = [("Scudo's default", "scudo.classes"), ("Scudo's for Android", "scudo_android.classes")]
 
 
@@ -45,10 +46,46 @@ def class_text(classes):
 
 def run(words, given):
     """The output of the program, and its status, 0 or 1: a verdict. Any other ends the script."""
-    status, out, error = texts.mte_tool(words, given.encode())
+    status, out, error = texts.mte_tool(words, given if isinstance(given, bytes) else given.encode())
     if status not in (0, 1):
         raise texts.Refused(2 if status == 2 else 3, f"`mte_tool {' '.join(words)}` failed: {error or f'its status is {status}'}")
     return status, out.decode("ascii", "replace").strip()
+
+
+class OverTime(NamedTuple):
+    """What was recorded over time, a history or a timeline, and its fit."""
+
+    kind: str
+    text: bytes
+    forced: tuple  # the classes that a block more forces into the fitted table
+    fit: texts.Fit
+    fit_text: str  # or what `fit` printed in place of one
+    verdict: str
+    history: texts.History  # what was recorded, or of a timeline the moments that its fit names: at these each class has its most blocks
+
+
+def over_time(kind, text, largest, limit, step):
+    """The fit of a text, with class 1024 in its table if it is wanted. A timeline may have none: then the verdict is the bound that `fit` proves."""
+    fitted = forced_into(kind, text) if largest else text
+    forced = (texts.LARGEST_CLASS,) if fitted != text else ()
+    status, answer = run(["fit", "--limit", str(limit), "--step", str(step)], fitted)
+    if status == 1:
+        classes, cost, bound = answer.split("\n")
+        fit = texts.Fit(texts.parse_class_line(classes), limit, step, int(cost.split()[-1]), [], [])
+        moments, verdict = timelines.peaks_of(text, fit.classes), f"between {bound.split()[-1]}"
+    else:
+        fit = texts.parse_fit(answer)
+        _, verdict = run(["check-fit"], answer.encode() + b"\n" + fitted)
+        moments = [at - bool(forced) for at in fit.moments or () if at > bool(forced)]
+    history = texts.parse_history(text) if kind == "history" else timelines.history_at(text, moments)
+    return OverTime(kind, text, forced, fit, answer + "\n", verdict, history)
+
+
+def forced_into(kind, text):
+    """The text with one block more, so that each table for it has class 1024."""
+    if kind == "timeline":
+        return timelines.with_block(text, texts.LARGEST_SIZE)
+    return texts.history_text(with_largest_block(texts.parse_history(text))).encode()
 
 
 class Table:
@@ -60,18 +97,33 @@ class Table:
         status, answer = run(["score"], class_text(classes) + "\n" + profile_text(profile))
         number = int(answer.split()[-1])
         self.waste, self.unserved = (number, None) if status == 0 else (None, number)
-        self.footprint = None  # where there is a history, and the table serves it
+        # where there is a history or a timeline: its footprint, or the least size there that it does not serve
+        self.footprint = self.unserved_over_time = None
 
-    def over(self, history):
-        status, answer = run(["footprint"], class_text(self.classes) + "\n" + history)
-        self.footprint = int(answer.split()[-1]) if status == 0 else None
+    def over(self, text):
+        status, answer = run(["footprint"], class_text(self.classes).encode() + b"\n" + text)
+        number = int(answer.split()[-1])
+        self.footprint, self.unserved_over_time = (number, None) if status == 0 else (None, number)
+
+
+class Blocks:
+    """The blocks of a table, in bytes."""
+
+    def __init__(self, classes):
+        self.classes = classes
+
+    def of(self, size):
+        """That of a size, which is 0 where no class serves it."""
+        at = bisect.bisect_left(self.classes, timelines.need_of(size))
+        return GRANULE * self.classes[at] if at < len(self.classes) else 0
 
 
 class Figures:
-    """The figures of a profile, a sheet of it as text, and other tables as [(name, classes)]; with a history, those of its fit's table too,
-    and each table's footprint. GIVEN and HISTORY_GIVEN are what the profile and the history are called."""
+    """The figures of a profile, a sheet of it as text, and other tables as [(name, classes)]; with a record over time, those of its fit's table
+    too, and each table's footprint. The objective is waste or footprint: `first` is the table that is the first by it, and what is said of
+    savings, of the curve and of the classes is of this one. GIVEN and TIME_GIVEN are what the profile and the record are called."""
 
-    def __init__(self, profile, sheet, others, over_time=None, given="the profile", history_given="the history"):
+    def __init__(self, profile, sheet, others, timed=None, objective="waste", given="the profile", time_given="the history"):
         self.counts = {size: profile[size] for size in sorted(profile.keys() - {"large"}) if profile[size]}
         self.large = profile.get("large", 0)
         self.requests = sum(self.counts.values())
@@ -88,23 +140,20 @@ class Figures:
             "profile", self.verdict, self.sheet.limit, self.sheet.step, self.sheet.classes, given, self.best.waste, self.forced
         )
         self.others = [Table(name, classes, profile) for name, classes in others]
-        self.fitted = self.fit_judged = None
-        if over_time is not None:
-            self.fit(over_time, profile, history_given)
-        _, tuned = run(["tune", "--limit", "32", "--step", str(self.sheet.step)], profile_text(self.tuned))
-        # the least waste of at most 1, 2, .. classes that serve the profile, and have the classes that are forced
-        self.least = [row[0] for row in texts.parse_sheet(tuned).rows]
+        self.timed, self.fitted, self.fit_judged = timed, None, None
+        if timed is not None:
+            self.take_fit(timed, profile, time_given)
+        self.objective = objective
+        self.first, *self.rest = self.made() + self.others
+        self.least = self.least_by_classes()
 
-    def fit(self, over_time, profile, given):
+    def take_fit(self, timed, profile, given):
         """The table of the fit, and the footprint of each."""
-        fit = texts.parse_fit(over_time.fit)
-        self.fitted = Table(claims.name("history"), fit.classes, profile)
-        self.others.append(self.fitted)
-        for table in (self.best, *self.others):
-            table.over(over_time.history)
-        forced = () if over_time.fitted == over_time.history else (texts.LARGEST_CLASS,)
-        _, verdict = run(["check-fit"], over_time.fit + over_time.fitted)
-        self.fit_judged = claims.Judged("history", verdict, fit.limit, fit.step, fit.classes, given, self.fitted.footprint, forced)
+        fit = timed.fit
+        self.fitted = Table(claims.name(timed.kind), fit.classes, profile)
+        for table in (self.best, self.fitted, *self.others):
+            table.over(timed.text)
+        self.fit_judged = claims.Judged(timed.kind, timed.verdict, fit.limit, fit.step, fit.classes, given, self.fitted.footprint, timed.forced)
 
     @staticmethod
     def checked(profile, sheet):
@@ -121,36 +170,109 @@ class Figures:
         """The classes that are forced: 1024, where the sheet is of the profile with a request that wants it, else none."""
         return () if self.tuned.get(texts.LARGEST_SIZE) == self.counts.get(texts.LARGEST_SIZE) else (texts.LARGEST_CLASS,)
 
+    @property
+    def first_judged(self):
+        return self.fit_judged if self.objective == "footprint" else self.judged
+
+    def made(self):
+        """The tables that were made, the first by the objective before the other one."""
+        made = [table for table in (self.best, self.fitted) if table]
+        return made[::-1] if self.objective == "footprint" else made
+
+    def least_by_classes(self):
+        """The least cost of at most 1, 2, .. classes that serve what is given, and have the classes that are forced. A timeline is seen at the
+        moments of its fit."""
+        options = ["--limit", "32", "--step", str(self.first_judged.step)]
+        if self.objective == "waste":
+            return [row[0] for row in texts.parse_sheet(run(["tune", *options], profile_text(self.tuned))[1]).rows]
+        forced = self.timed.forced
+        history = with_largest_block(self.timed.history) if forced else self.timed.history
+        fit = texts.parse_fit(run(["fit", *options], texts.history_text(history))[1])
+        return [row[0] - sum(GRANULE * each for each in forced) for row in fit.rows]
+
+    def cost(self, table):
+        """The waste or the footprint of a table, None where it does not serve all sizes."""
+        return table.footprint if self.objective == "footprint" else table.waste
+
     def blocks(self, table):
         """The bytes of the blocks that the counted requests take: headers, requests and waste."""
         return GRANULE * self.requests + self.bytes + table.waste
 
-    def saving(self, table):
-        """By how many bytes the blocks of the sheet's table are less."""
-        return table.waste - self.best.waste
+    def whole(self, table):
+        """Of what a saving against this table is a share."""
+        return table.footprint if self.objective == "footprint" else self.blocks(table)
 
-    def map_saving(self, table, objective):
-        """By how many bytes the table of the map takes less than this one, if both serve all sizes."""
-        if objective == "footprint":
-            return None if table.footprint is None else table.footprint - self.fitted.footprint
-        return None if table.waste is None else self.saving(table)
+    def saving(self, table):
+        """By how many bytes the first table costs less than this one; None where that does not serve all sizes."""
+        return None if self.cost(table) is None else self.cost(table) - self.cost(self.first)
+
+    def saved_waste(self, table):
+        """By how many bytes the first table wastes less than this one, of what is counted at one moment."""
+        return table.waste - self.first.waste
+
+    def saved_footprint(self, table):
+        """By how many bytes the first table takes less than this one over time; None where one of the two does not serve all sizes."""
+        return None if None in (table.footprint, self.first.footprint) else table.footprint - self.first.footprint
+
+    def most(self, amount):
+        """The most of all live blocks together at a moment, each with an amount of its size."""
+        if self.timed.kind == "timeline":
+            return timelines.most_of(self.timed.text, amount)[0]
+        rows = [[amount(size) * count for count in counts] for size, counts in self.timed.history.counts.items() if size != "large"]
+        return max(map(sum, zip(*rows)), default=0)
+
+    def most_live(self, table):
+        """The most bytes of all its live blocks together: what it takes where each block that is freed is given back at once."""
+        return self.most(Blocks(table.classes).of)
+
+    def requested(self):
+        """How often each size was requested over time; of a history, which has not all, how many blocks it has."""
+        if self.timed.kind == "timeline":
+            return timelines.requests_of(self.timed.text)
+        return {size: sum(counts) for size, counts in self.timed.history.counts.items()}
+
+    def larger(self, other):
+        """The sizes that get a larger block of the first table than of the other one, as (size, block, the other block), and what that costs at
+        a moment at most. Sizes that one of the two does not serve are left out."""
+        ours, theirs = Blocks(self.first.classes), Blocks(other.classes)
+        sizes = sorted(size for size in self.requested() if size != "large")
+        found = {size: (ours.of(size), theirs.of(size)) for size in sizes}
+        found = {size: blocks for size, blocks in found.items() if 0 < blocks[1] < blocks[0]}
+        cost = self.most(lambda size: found[size][0] - found[size][1] if size in found else 0)
+        return [(size, *blocks) for size, blocks in found.items()], len(sizes), cost
+
+    def waste_over_time(self, table):
+        """The waste of all requests of a timeline, a sum over time; None where a size is not served, or not all requests are known."""
+        if self.timed.kind != "timeline":
+            return None
+        requests = {size: min(times, texts.MOST_COUNT) for size, times in self.requested().items()}
+        return Table(table.name, table.classes, requests).waste
 
     def classes(self):
-        """For each class of the sheet's table: its block in bytes, the least and the greatest size it serves, requests, bytes lost."""
+        """For each class of the first table: its block in bytes, the least and the greatest size it serves, and by the objective its requests
+        and the bytes lost, or the most of its blocks live at once and their bytes."""
         below = -1
-        for granules in self.best.classes:
+        for granules in self.first.classes:
             most = GRANULE * granules - GRANULE
-            served = {size: count for size, count in self.counts.items() if below < size <= most}
-            yield GRANULE * granules, below + 1, most, sum(served.values()), sum((most - size) * count for size, count in served.items())
+            if self.objective == "footprint":
+                rows = [counts for size, counts in self.timed.history.counts.items() if size != "large" and below < size <= most]
+                count = max(map(sum, zip(*rows)), default=0)
+                cost = GRANULE * granules * count
+            else:
+                served = {size: count for size, count in self.counts.items() if below < size <= most}
+                count, cost = sum(served.values()), sum((most - size) * count for size, count in served.items())
+            yield GRANULE * granules, below + 1, most, count, cost
             below = most
 
     def known(self):
-        """What is known of the table of the sheet, and, with a history, of that of the fit."""
-        return [claims.sentence(judged, texts.trust()) for judged in (self.judged, self.fit_judged) if judged]
+        """What is known of the table that is the first by the objective, and of the other one that is made."""
+        judged = [self.judged, self.fit_judged][:: -1 if self.objective == "footprint" else 1]
+        return [claims.sentence(each, texts.trust()) for each in judged if each]
 
     def unheld(self):
         """What `check` and `check-fit` say where nothing follows."""
-        return [claims.says(judged) for judged in (self.judged, self.fit_judged) if judged and not claims.holds(judged)]
+        judged = [each for each in (self.judged, self.fit_judged) if each and claims.bound(each) is None]
+        return [claims.says(each) for each in judged if not claims.holds(each)]
 
 
 def other_tables(paths):

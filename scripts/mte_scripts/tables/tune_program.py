@@ -1,51 +1,57 @@
 """Takes a program to a table of size classes of its own. `tune_program --help` says all."""
 
 import os
+import re
 import subprocess
 import textwrap
 
-from mte_scripts import claims, texts
+from mte_scripts import private_folder, texts
 from mte_scripts.builds import web_page
-from mte_scripts.recording import children
+from mte_scripts.recording import children, recording, timelines
 from mte_scripts.reports import report_page
-from mte_scripts.tables import figures
+from mte_scripts.tables import figures, verification
 from mte_scripts.tables.figures import kibibytes, number, numbered, percent
 
 HELP = """\
-Run a program, make two tables of size classes for it, check both, and say what they save. The tuned table loses little by rounding.
-The fitted one takes little memory over time. The summary says among which tables each of them is the first, and whether that is
-shown.
+Run a program, make two tables of size classes for it, check both, and say what they save. One is made to take little memory over
+time, the other to lose little by rounding. The summary says among which tables each is the first, and whether that is shown.
 
 Usage: tune_program [OPTION..] PROGRAM ARGS..
        tune_program [OPTION..] --read FILE
 
   --limit K        the most classes that the table may have, 1 to 32; 32 where it is left out
   --step S         each class is a multiple of S granules of 16 bytes: 1, 2, 4 or 8; 1 where it is left out
-  --all            count all requests; without it only the blocks count that are live at the peak, when the most bytes are live
+  --all            count all requests, and make one table; without it the live blocks count, over time and at the peak
   --objective footprint|waste
-                   which of the two tables Scudo's map is of: the fitted one where this is left out and there is a history, else
-                   the tuned one
+                   which of the two tables Scudo's map is of: that of the footprint where this is left out and there is a timeline
+                   or a history, else that of the waste
+  --verify SCUDO   build Scudo from LLVM's sources, of which SCUDO is the folder compiler-rt/lib/scudo/standalone, with its own map
+                   and with this one; run the program three times with glibc, Scudo and the map each, and say what was predicted and
+                   what was measured. For a program that ends by itself and does the same each time. Its standard input is kept for
+                   that; what these runs print is not shown. It wants LLVM 19 or a later one, and clang++ or what CXX names
   --only NAME      count only processes whose program has this name, as NAME of /usr/bin/NAME
   --against TABLE  a file with a class line: another table to compare with, besides Scudo's default and its table for Android
   --output FOLDER  the folder to make; without it, the name of the program or of FILE with `.tuned`, in the current folder
   --largest        force class 1024, so that each table serves every size that any can; this is so where it is left out. Then the
                    tables are compared with those alone that have it
   --no-largest     do not force it: a table serves the counted sizes, and perhaps no larger one
-  --read FILE      run no program: take a profile or a history from anywhere, also one of merge_profiles. With --all, a profile
-                   counts all requests. Of a history, the snapshot of the most requested bytes is the profile
+  --read FILE      run no program: take a profile, a history or a timeline from anywhere, also what merge_profiles prints. With
+                   --all, a profile counts all requests. Of the others the moment of the most requested bytes is the profile
 
 The program runs once, under scripts/profile_program, and as ever: its standard input is its own, its standard output goes to
 standard error. Ctrl-C ends it early; what it did up to then counts. A server counts until it is stopped.
 
-Where a program is run without --all, its live blocks are also recorded at 32 moments: a history. The second table is of these.
-docs/TUNING.md says when to take which.
+Where a program is run without --all, each request and each free is recorded: a timeline. The footprint is then over each moment of
+the run. Where the record is too long for that, it is a history of some moments; the summary says so. docs/TUNING.md says when to
+take which table.
 
 The folder is new. It has program.profile (what was counted), tuned.profile (what was tuned: with class 1024 forced), tuned.sheet
-(the table and its certificate), tuned_map.inc (a table for LLVM's Scudo), waste.svg (the waste by the number of classes),
-report.html (all of it as a page), claims.txt (what is shown of each table, and the command that checks it) and summary.txt, which
-is printed too. Where there is a history, it is program.history; what was fitted, fitted.history; and the fitted table, fitted.fit.
-Where the engines of scripts/page are at hand, page.html is its page of the same counts, to which report.html has a link. If a step
-fails, what was made before it stays.
+(the table that loses little and its certificate), tuned_map.inc (a table for LLVM's Scudo), waste.svg (the waste by the number of
+classes), report.html (all of it as a page), claims.txt (what is shown of each table, and the command that checks it) and
+summary.txt, which is printed too. Beside these it has program.timeline, fitted.fit (the other table and its certificate) and
+moments.history (the moments that the fit names, for merge_profiles); or program.history, fitted.history and fitted.fit. Where the
+engines of scripts/page are at hand, page.html is its page of the same counts, to which report.html has a link. If a step fails,
+what was made before it stays.
 
 MTE_TOOL=PATH in the environment takes the program at PATH in place of the built one; the summary and the page say so.
 
@@ -60,14 +66,17 @@ Example:
 """
 
 WIDTH, HEIGHT = 80, 24
+MEASURED = (("glibc", "glibc's malloc now"), ("resident", "the process now"))
 FILES = [
     ("program.profile", "what was counted"),
     ("tuned.profile", "what was tuned"),
     ("tuned.sheet", "table, certificate"),
     ("tuned_map.inc", "the table for Scudo"),
+    ("program.timeline", "what was recorded"),
     ("program.history", "blocks over time"),
     ("fitted.history", "what was fitted"),
-    ("fitted.fit", "fitted, certificate"),
+    ("fitted.fit", "table, certificate"),
+    ("moments.history", "the fit's moments"),
     ("claims.txt", "what is shown"),
     ("waste.svg", "waste by classes"),
     ("report.html", "all of it as a page"),
@@ -79,9 +88,9 @@ class Options:
     def __init__(self, words):
         self.limit, self.step = 32, 1
         self.all, self.largest = False, True
-        self.only = self.output = self.read = self.objective = None
+        self.only = self.output = self.read = self.objective = self.verify = None
         self.against = []
-        with_value = ("--limit", "--step", "--only", "--against", "--output", "--read", "--objective")
+        with_value = ("--limit", "--step", "--only", "--against", "--output", "--read", "--objective", "--verify")
         while words and words[0].startswith("-") and words[0] != "-":
             option, *words = words
             if option == "--":
@@ -119,6 +128,8 @@ class Options:
             raise texts.Refused(2, f"--read runs no program, so there is no place for {self.words[0]}")
         if self.read is not None and self.only is not None:
             raise texts.Refused(2, "--read runs no program, so there is no process that --only could name")
+        if self.verify is not None and (self.read is not None or self.all or self.only is not None):
+            raise texts.Refused(2, "--verify runs the program itself, so there is no place for --read, --all or --only")
         if self.limit == 1 and self.largest:
             raise texts.Refused(2, "--limit 1 has no class beside 1024: take --no-largest too, or a higher limit")
         if self.read is None:
@@ -127,15 +138,16 @@ class Options:
     def agree_on(self, history):
         """Without a history there is but one table. It may also be one that is yet to be recorded."""
         if history is None and self.objective == "footprint":
-            raise texts.Refused(2, "--objective footprint wants a history: a program that is run without --all, or one of --read")
+            wanted = "a history or a timeline: a program that is run without --all, or one of --read"
+            raise texts.Refused(2, f"--objective footprint wants {wanted}")
         if history is not None and self.all:
-            raise texts.Refused(2, "--all counts all requests, and a history has the live blocks alone")
+            raise texts.Refused(2, "--all counts all requests, and this has the live blocks: leave it out")
         self.objective = self.objective or ("waste" if history is None else "footprint")
 
     def name(self):
         if self.read is None:
             return os.path.basename(self.words[0]) or self.words[0]
-        return "profile" if self.read == "-" else figures.without_ending(self.read, ".profile", ".history")
+        return "profile" if self.read == "-" else figures.without_ending(self.read, ".profile", ".history", ".timeline")
 
 
 def chosen(option, value, values, words):
@@ -175,7 +187,7 @@ class Folder:
     def drop_empty(self):
         """Without a profile nothing is worth keeping: then the next run finds its folder free."""
         try:
-            for name in ("program.profile", "program.history"):
+            for name in ("program.profile", "program.timeline", "program.history", "measured"):
                 if self.has(name) and not os.path.getsize(self.file(name)):
                     os.remove(self.file(name))
             os.rmdir(self.path)
@@ -197,31 +209,49 @@ def script(name, words, given=None):
     return done.stdout
 
 
-def count(options, folder):
-    """Runs the program and writes its profile. Returns the status of the run, 0 or 1, and what profile_program said of it."""
-    said, profile = folder.file("said"), folder.file("program.profile")
-    printed = profile if options.all else folder.file("program.history")
-    words = ([] if options.all else ["--history", "--peak", profile]) + ([] if options.only is None else ["--only", options.only])
+def count(options, folder, given):
+    """Runs the program and writes its profile. Returns the status of the run, 0 or 1, what profile_program said of it, and what it measured."""
+    said, measured, profile = (folder.file(name) for name in ("said", "measured", "program.profile"))
+    printed = profile if options.all else folder.file("program.timeline")
+    words = [] if options.all else ["--timeline", "--peak", profile, "--measured", measured]
+    words += [] if options.only is None else ["--only", options.only]
     try:
         with open(printed, "wb") as file:
             command = [os.path.join(texts.SCRIPTS, "profile_program"), *words, "--said", said, "--", *options.words]
-            status = children.run(command, stdout=file)
+            with open(given or os.devnull, "rb") as again:
+                status = children.run(command, stdout=file, stdin=again if given else None)
+        if not options.all and texts.is_history(texts.read(printed, 100)):
+            os.rename(printed, folder.file("program.history"))
     except OSError as error:
         raise texts.Refused(3, f"{printed} can't be made: {error.strerror}") from None
-    notes = []
-    if folder.has("said"):
-        notes = [line for line in texts.read(said).decode(errors="replace").splitlines() if line]
-        os.remove(said)
+    notes = [line for line in taken(said).splitlines() if line]
+    found = {name: int(value) for name, value in map(str.split, taken(measured).splitlines())}
     if status not in (0, 1):
         # it said why on standard error itself
-        kept = f"; what it wrote is in {printed}" if os.path.getsize(printed) else ""
+        kept = f"; what it wrote is in {printed}" if os.path.exists(printed) and os.path.getsize(printed) else ""
         raise texts.Refused(2 if status == 2 else 3, f"there is no profile of {options.words[0]}, and nothing to tune{kept}")
-    return status, notes
+    return status, notes, found
+
+
+def taken(path):
+    """The text of a file that is no longer needed, empty where there is none."""
+    if not os.path.isfile(path):
+        return ""
+    text = texts.read(path).decode(errors="replace")
+    os.remove(path)
+    return text
 
 
 def read_given(options):
-    """The files of the profile, or of the history, that --read names."""
-    text = script("merge_profiles", ["--", options.read], texts.read("-") if options.read == "-" else None)
+    """The files of the profile, of the history or of the timeline, that --read names."""
+    data = texts.read(options.read)
+    if texts.is_timeline(data):
+        options.agree_on(data)
+        refuse_timeline(data, texts.named(options.read))
+        peak = timelines.history_at(data, [timelines.most_of(data, int)[1]])
+        profile = {size: counts[0] for size, counts in peak.counts.items()}
+        return {"program.profile": figures.profile_text(profile), "program.timeline": data}
+    text = script("merge_profiles", ["--", options.read if os.path.isfile(options.read) else "-"], data)
     if not texts.is_history(text):
         options.agree_on(None)
         return {"program.profile": text}
@@ -230,13 +260,28 @@ def read_given(options):
     return {"program.profile": figures.profile_text(figures.at_peak(history)), "program.history": text}
 
 
+def refuse_timeline(data, name):
+    """Refuses a timeline that has a faulty line."""
+    status, _, error = texts.mte_tool(["footprint"], figures.class_text([texts.LARGEST_CLASS]).encode() + b"\n" + data)
+    if status not in (0, 1):
+        match = re.fullmatch(r"error (\d+ \w+) line (\d+)", error)
+        raise texts.Refused(2, f"{name}: {match[1]} line {int(match[2]) - 1}" if match else f"{name}: {error}")
+
+
 def warnings(options, found, notes):
     """Where the result means little: a line for each reason."""
-    saving = found.map_saving(found.others[0], options.objective)
+    default = found.others[0]
+    saving = found.saving(default)
     if found.bytes < 1 << 20 and not options.all:
         yield f"Less than 1 MiB counts here ({figures.byte_text(found.bytes)}): the resident set may not change."
-    elif saving is not None and saving < 1 << 20 and not options.all:
-        yield "The saving against Scudo's default is below 1 MiB: the resident set may not show it."
+    elif saving is not None and 0 <= saving < 1 << 20 and not options.all:
+        yield f"The saving against {default.name} is below 1 MiB: the resident set may not show it."
+    for table in found.made():
+        if found.timed and None not in (table.footprint, default.footprint) and table.footprint > default.footprint:
+            more = kibibytes(table.footprint - default.footprint)
+            yield f"The table of {table.name} takes {more} more than {default.name} over time."
+    if found.timed:
+        yield from wasteful(found, default)
     if found.requests + found.large < 1000:
         yield f"Only {numbered(found.requests + found.large, 'request')} counted: a longer or larger job says more."
     of_requests = found.large > found.requests
@@ -249,38 +294,62 @@ def warnings(options, found, notes):
         yield note
 
 
-def counted(options, has_history=False):
+def wasteful(found, default):
+    """Whether all requests lose more than by default, though their peak does not."""
+    ours, theirs = (found.waste_over_time(table) for table in (found.first, default))
+    if None not in (ours, theirs) and ours > theirs:
+        yield (
+            f"Over all requests of the run, the table of {found.first.name} wastes more than {default.name}: {numbered(ours, 'byte')}, and not "
+            f"{number(theirs)}. Another run, which has other sizes at its peak, may take more with it."
+        )
+
+
+def counted(options, timed=None):
     """What the requests are that count."""
     if options.all:
         return "all requests"
-    if options.read is None:
-        return "the blocks live at the peak"
-    return "the blocks of the snapshot with the most bytes" if has_history else "as the profile has them"
+    if timed and timed.kind == "history" and options.read:
+        return "the blocks of the snapshot with the most bytes"
+    return "the blocks live at the peak" if timed or options.read is None else "as the profile has them"
 
 
-def summary(options, found, folder, noted):
-    """The summary: it fits a terminal of 80 columns and 24 lines, unless there are many tables, warnings or a history."""
-    lines = [f"{options.name()}: {claims.name('profile' if options.objective == 'waste' else 'history')} of size classes", ""]
+def headline(options, found):
+    """What the table of the map is, and what it saves."""
+    default = found.others[0]
+    saving = found.saving(default)
+    if saving is None:
+        return f"{options.name()}: {found.first.name}"
+    share = percent(abs(saving), found.whole(default)) if found.whole(default) else "0.0%"
+    return f"{options.name()}: {found.first.name}, {kibibytes(abs(saving))} ({share}) {'less' if saving >= 0 else 'more'} than {default.name}"
+
+
+def summary(options, found, folder, noted, measured):
+    """The summary: it fits a terminal of 80 columns and 24 lines, unless there are many tables, warnings or a record over time."""
+    lines = [*wrapped(headline(options, found), "  "), ""]
+    if found.timed:
+        lines += wrapped(recorded(found.timed))
     what = f"{numbered(found.requests, 'request')} of {numbered(found.bytes, 'byte')}"
-    lines += wrapped(f"Counted: {what}, {counted(options, bool(found.fitted))}.")
-    if found.large:
-        lines += wrapped(f"In no figure: {numbered(found.large, 'large request')}, above {number(texts.LARGEST_SIZE)} bytes.")
+    lines += wrapped(f"Counted: {what}, {counted(options, found.timed)}.")
+    if found.large or measured.get("large"):
+        most = f"; of such at most {figures.byte_text(measured['large'])} were live" if measured.get("large") else ""
+        lines += wrapped(f"In no figure: {numbered(found.large, 'large request')}, above {number(texts.LARGEST_SIZE)} bytes{most}.")
+    if found.timed:
+        lines += ["", *over_time(found, measured)]
     lines += ["", *comparison(found)]
     lines += wrapped(
         "Waste: lost by rounding, with its share of the requested bytes. "
-        "Saving: by the tuned table, with its share of all blocks with that table."
+        "Saving: by the first table, with its share of all blocks with that table."
         + (" Of all requests, these are sums over time, and no memory." if options.all else "")
     )
-    lines += wrapped(found.known()[0])
-    if found.fitted:
-        lines += over_time(found)
+    for known in found.known():
+        lines += wrapped(known)
     for text in noted:
         lines += wrapped(f"! {text}", "  ")
-    said = {"tuned_map.inc": "the fitted, for Scudo" if options.objective == "footprint" else "the tuned, for Scudo"} if found.fitted else {}
-    files = [f"{name:16}{said.get(name, words)}" for name, words in FILES if name in ("summary.txt", "report.html") or folder.has(name)]
+    said = {"tuned_map.inc": f"map of {found.first.name}", "tuned.sheet": found.best.name, "fitted.fit": found.fitted.name} if found.fitted else {}
+    files = [f"{name:17}{said.get(name, words)}" for name, words in FILES if name in ("summary.txt", "report.html") or folder.has(name)]
     half = (len(files) + 1) // 2
     lines += ["", f"In the folder {folder.path}:"]
-    lines += [f"  {left:38}{right}".rstrip() for left, right in zip(files[:half], files[half:] + [""])]
+    lines += [f"  {left:40}{right}".rstrip() for left, right in zip(files[:half], files[half:] + [""])]
     if folder.has("tuned_map.inc"):
         lines.append("Next, with Scudo's sources in $SCUDO (docs/TUNING.md, section 6):")
         lines.append(f"  cp {texts.quoted(folder.file('tuned_map.inc'))} $SCUDO/")
@@ -289,18 +358,54 @@ def summary(options, found, folder, noted):
     return "".join(f"{printable(line)}\n" for line in lines)
 
 
-def over_time(found):
-    """The footprint of each table, and what it predicts."""
-    served = [table for table in (found.best, *found.others) if table.footprint is not None]
-    width = max(len(table.name) for table in served)
-    lines = ["", "Footprint, the most memory of the classes over time:"]
-    for table in served:
-        less = table.footprint - found.fitted.footprint
-        share = percent(less, table.footprint) if table.footprint else "0.0%"
-        saving = "" if table is found.fitted else f"  the fitted one saves {kibibytes(less)}, {share}"
-        lines.append(f"  {table.name:{width}}  {kibibytes(table.footprint):>14}{saving}"[:WIDTH])
-    lines += wrapped("Predicted: the peak memory falls by these, where Scudo gives nothing back.")
-    return lines + wrapped(found.known()[1])
+def recorded(timed):
+    """What was seen of the run."""
+    if timed.kind == "timeline":
+        return f"Recorded: each moment of the run, {numbered(timed.text.rstrip(bytes([10])).count(bytes([10])), 'event')}."
+    return f"Recorded: {numbered(timed.history.snapshots, 'moment')} of the run, and not what lies between."
+
+
+def over_time(found, measured):
+    """The footprint of each table beside what the process takes now, and what is predicted of it."""
+    rows = [(table.name, table.footprint, found.saved_footprint(table)) for table in (found.first, *found.rest) if table.footprint is not None]
+    rows += [(words, measured[name], None) for name, words in MEASURED if measured.get(name)]
+    width = max(len(name) for name, *_ in rows)
+    lines = ["Footprint, the most memory of the classes over time:"]
+    for name, taken_, saved in rows:
+        share = percent(saved, taken_) if saved is not None and taken_ else "0.0%"
+        saving = "" if saved is None or name == found.first.name else f"  the first one saves {kibibytes(saved)}, {share}"
+        lines.append(f"  {name:{width}}  {kibibytes(taken_):>14}{saving}"[:WIDTH])
+    for table in (found.first, *found.rest):
+        if table.footprint is None:
+            most = 16 * table.classes[-1] - 16 if table.classes else -1
+            above = figures.byte_text(found.most(lambda size, most=most: size if size > most else 0))
+            lines += wrapped(f"  {table.name} serves no size above {number(most)} bytes, of which at most {above} were live.", "  ")
+    return lines + wrapped(predicted(found)) + wrapped(larger_blocks(found))
+
+
+def larger_blocks(found):
+    """Which sizes have a larger block than by default."""
+    default = found.others[0]
+    sizes, all_sizes, cost = found.larger(default)
+    if not sizes:
+        return f"None of the {all_sizes} sizes has a larger block than with {default.name}."
+    size, ours, theirs = max(sizes, key=lambda each: each[1] / each[2])
+    of = f"{len(sizes)} of the {all_sizes} sizes {'has' if len(sizes) == 1 else 'have'} a larger block than with {default.name}"
+    return f"{of}, which takes at most {figures.byte_text(cost)} at a moment; the most at {numbered(size, 'byte')}, {number(ours)} for {number(theirs)}."
+
+
+def predicted(found):
+    """The range of what the map saves, and on what it rests."""
+    default = found.others[0]
+    saved = found.saved_footprint(default)
+    if saved is None:
+        return "Nothing is predicted, since one of the tables does not serve all sizes."
+    at_once = found.most_live(default) - found.most_live(found.first)
+    rests = "exact over the recorded run" if found.timed.kind == "timeline" else "as far as the recorded moments show it"
+    return (
+        f"Predicted against {default.name}, {rests}: the peak memory falls by {kibibytes(saved)} where Scudo gives nothing back, and by "
+        f"{kibibytes(at_once)} where it gives back each block as it is freed."
+    )
 
 
 def wrapped(text, indent=""):
@@ -315,12 +420,12 @@ def printable(line):
 def comparison(found):
     """The tables: classes, waste and saving, in columns."""
     rows = [("Table", "classes", "waste, bytes", "share", "saving", "share")]
-    for table in [found.best, *found.others]:
+    for table in (found.first, *found.rest):
         if table.waste is None:
             rows.append((table.name, number(len(table.classes)), f"does not serve {number(table.unserved)} bytes"))
             continue
-        saving = found.saving(table)
-        saved = ("", "") if table is found.best else (kibibytes(saving), percent(saving, found.blocks(table)))
+        saving = found.saved_waste(table)
+        saved = ("", "") if table is found.first else (kibibytes(saving), percent(saving, found.blocks(table)))
         rows.append((table.name, number(len(table.classes)), number(table.waste), percent(table.waste, found.bytes), *saved))
     whole = [row for row in rows if len(row) == 6]
     widths = [max(len(row[column]) for row in whole) for column in range(1, 6)]
@@ -342,18 +447,28 @@ def tune(words):
     options = Options(words)
     others = figures.other_tables(options.against)
     given = None if options.read is None else read_given(options)
+    scudo = None if options.verify is None else verification.place(options.verify)
     folder = Folder(options.output or options.name() + ".tuned")
-    status, notes = 0, []
+    with private_folder.temporary_folder() as work:
+        return tuned_in(options, folder, others, given, scudo, work)
+
+
+def tuned_in(options, folder, others, given, scudo, work):
+    """All steps in a new folder, with one for what is needed meanwhile."""
+    status, notes, measured, kept = 0, [], {}, None
     try:
         if given is None:
-            status, notes = count(options, folder)
+            kept = work.file("input") if scudo and verification.keep_input(work.file("input")) else None
+            status, notes, measured = count(options, folder, kept)
         else:
             for name, text in given.items():
                 folder.write(name, text)
     finally:
         folder.drop_empty()
     try:
-        made(options, folder, others, notes)
+        found = made(options, folder, others, notes, measured)
+        if scudo:
+            verify(options, folder, found, scudo, work.path, kept)
     except texts.Refused as refused:
         raise texts.Refused(refused.status, f"{refused.text}; what was made until then is in {folder.path}") from None
     except KeyboardInterrupt:
@@ -362,24 +477,18 @@ def tune(words):
     return status
 
 
-def made(options, folder, others, notes):
+def made(options, folder, others, notes, measured):
     """All that follows from program.profile."""
-    profile = texts.read_profile(folder.file("program.profile"))
+    profile = texts.read_profile(folder.file("program.profile")) if folder.has("program.profile") else {}
     if not any(size for size in profile if size != "large"):
         raise texts.Refused(3, figures.NOTHING)
     tuned = figures.with_largest(profile) if options.largest else profile
     folder.write("tuned.profile", figures.profile_text(tuned))
-    sheet = made_by(options, "tune", figures.profile_text(tuned))
+    sheet = tuned_sheet(options, figures.profile_text(tuned))
     folder.write("tuned.sheet", sheet)
-    history = None
-    if folder.has("program.history"):
-        history = texts.read_history(folder.file("program.history"))
-        fitted = texts.history_text(figures.with_largest_block(history) if options.largest else history)
-        folder.write("fitted.history", fitted)
-        fit = made_by(options, "fit", fitted)
-        folder.write("fitted.fit", fit)
-        history = figures.OverTime(texts.history_text(history), fitted, fit)
-    found = figures.Figures(profile, sheet, others, history, "program.profile", "program.history")
+    timed = fitted(options, folder)
+    given = "program.timeline" if timed and timed.kind == "timeline" else "program.history"
+    found = figures.Figures(profile, sheet, others, timed, options.objective, "program.profile", given)
     failed = []
     # none of these is needed for what follows
     for name, make in (("tuned_map.inc", scudo_map), ("waste.svg", picture), *[("page.html", tables)] * has_tables()):
@@ -389,26 +498,76 @@ def made(options, folder, others, notes):
             failed.append(f"{name} is not made: {refused.text}")
     noted = [*warnings(options, found, notes), *failed]
     checks = [check_command(folder, "check", "tuned.sheet", "tuned.profile")]
-    if found.fitted:
-        checks.append(check_command(folder, "check-fit", "fitted.fit", "fitted.history"))
+    if timed:
+        checks.append(check_fit_command(folder, timed))
+    if options.objective == "footprint":
+        checks.reverse()
     folder.write("claims.txt", "".join(f"{known}\n\n    {command}\n\n" for known, command in zip(found.known(), checks)))
     beside = "page.html" if folder.has("page.html") else None
-    folder.write("report.html", report_page.page(found, options.name(), counted(options, bool(found.fitted)), noted, *checks, tables=beside))
-    text = summary(options, found, folder, noted)
+    folder.write("report.html", report_page.page(found, options.name(), counted(options, timed), noted, checks, beside))
+    text = summary(options, found, folder, noted, measured)
     folder.write("summary.txt", text)
     texts.write(text)
     failed += found.unheld()
     if failed:
         raise texts.Refused(3, "; ".join(failed))
+    return found
 
 
-def made_by(options, command, text):
-    _, answer = figures.run([command, "--limit", str(options.limit), "--step", str(options.step)], text)
+def verify(options, folder, found, scudo, work, kept):
+    """Runs the program in the real Scudo, and adds to the summary what was measured."""
+    default, path = found.others[0].name, recording.find_program(options.words[0])
+    libraries = {"glibc": None, default: os.path.join(work, "default.so"), found.first.name: os.path.join(work, "tuned.so")}
+    verification.build(scudo, libraries[default], None, work)
+    verification.build(scudo, libraries[found.first.name], found.first.classes, work)
+    runner = os.path.join(work, "peak")
+    verification.build_runner(scudo, runner, work)
+    done = verification.verified(runner, options.words, path, libraries, kept)
+    width = max(map(len, libraries))
+    lines = ["", f"Measured, the peak of the resident set, the middle of {verification.RUNS} runs each:"]
+    lines += [f"  {name:{width}}  {kibibytes(peak):>14}" for name, peak in done.peaks.items()]
+    fell = done.peaks[default] - done.peaks[found.first.name]
+    lines += wrapped(f"With the map it falls by {kibibytes(fell)}, {percent(fell, done.peaks[default])}, against {default}. {predicted(found)}")
+    for name in done.strange:
+        lines += wrapped(f"! With {name} the program ended otherwise than with glibc at first.", "  ")
+    text = "".join(f"{printable(line)}\n" for line in lines)
+    folder.write("summary.txt", texts.read(folder.file("summary.txt")) + text.encode())
+    texts.write(text)
+
+
+def fitted(options, folder):
+    """The fit of the timeline or of the history, if there is one, and its files."""
+    kind = next((kind for kind in ("timeline", "history") if folder.has(f"program.{kind}")), None)
+    if kind is None:
+        return None
+    text = texts.read(folder.file(f"program.{kind}"))
+    if kind == "history":
+        text = texts.history_text(texts.parse_history(text)).encode()
+        folder.write("fitted.history", figures.forced_into(kind, text) if options.largest else text)
+    timed = figures.over_time(kind, text, options.largest, options.limit, options.step)
+    folder.write("fitted.fit", timed.fit_text)
+    if kind == "timeline":
+        folder.write("moments.history", texts.history_text(timed.history))
+    return timed
+
+
+def tuned_sheet(options, text):
+    _, answer = figures.run(["tune", "--limit", str(options.limit), "--step", str(options.step)], text)
     return answer + "\n"
 
 
 def check_command(folder, command, *names):
     return f"cat {' '.join(texts.quoted(folder.file(name)) for name in names)} | {texts.as_called('scripts/mte_tool')} {command}"
+
+
+def check_fit_command(folder, timed):
+    """The command that checks the fit; the block that forces class 1024 is put before a timeline's first event."""
+    if timed.kind == "history":
+        return check_command(folder, "check-fit", "fitted.fit", "fitted.history")
+    if not timed.forced:
+        return check_command(folder, "check-fit", "fitted.fit", "program.timeline")
+    fit, timeline = (texts.quoted(folder.file(name)) for name in ("fitted.fit", "program.timeline"))
+    return f"sed '1s/$/\\n{texts.LARGEST_SIZE}/' {timeline} | cat {fit} - | {texts.as_called('scripts/mte_tool')} check-fit"
 
 
 def scudo_map(options, folder):
@@ -421,8 +580,10 @@ def has_tables():
 
 
 def tables(options, folder):
-    """That page, of the history where the map is of its table, else of the profile."""
-    name = "program.history" if options.objective == "footprint" else "program.profile"
+    """That page, of the record over time where the map is of its table, of a timeline the moments of the fit; else of the profile."""
+    name = "program.profile"
+    if options.objective == "footprint":
+        name = "moments.history" if folder.has("moments.history") else "program.history"
     given = options.name(), texts.read(folder.file(name)).decode()
     begin_with = {"limit": options.limit, "step": options.step, "largest": options.largest}
     return web_page.page(web_page.at_hand(), profile=given, options=begin_with)

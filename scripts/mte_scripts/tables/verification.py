@@ -1,0 +1,110 @@
+"""What a map saves in the real Scudo: it is built from LLVM's sources, and the program is run with it, with Scudo's default and with glibc."""
+
+import glob
+import os
+import shutil
+import statistics
+import subprocess
+from typing import NamedTuple, Optional
+
+from mte_scripts import texts
+from mte_scripts.recording import programs
+from mte_scripts.running import Refused
+from mte_scripts.tables import scudo_map
+
+CONFIG = "custom_scudo_config.h"
+RUNS = 3
+FLAGS = "-std=c++17 -O3 -fPIC -fvisibility=hidden -fno-exceptions -fno-rtti -nostdinc++ -shared -nostdlib++ -pthread".split()
+# of other systems, and C++'s `new`, which then goes through malloc
+LEFT_OUT = ("fuchsia", "trusty", "bionic", "wrappers_cpp")
+
+
+class Place(NamedTuple):
+    """The sources of Scudo, and the compiler."""
+
+    folder: str
+    compiler: str
+
+
+def place(folder: str) -> Place:
+    """The folder of Scudo's sources, as --verify names it; what is missing is told before the program runs."""
+    if not os.path.isfile(os.path.join(folder, "wrappers_c.cpp")):
+        raise Refused(2, f"{folder} is not the folder compiler-rt/lib/scudo/standalone of LLVM's sources")
+    if not any(CONFIG in read(path) for path in glob.glob(os.path.join(glob.escape(folder), "*.h"))):
+        raise Refused(2, f"the Scudo in {folder} takes no {CONFIG}: it has to be LLVM 19's or a later one")
+    compiler = os.environ.get("CXX") or "clang++"
+    if not shutil.which(compiler):
+        raise Refused(3, f"there is no compiler {compiler} to build Scudo with: install clang, or set CXX")
+    return Place(folder, compiler)
+
+
+def read(path: str) -> str:
+    with open(path, encoding="utf-8", errors="replace") as file:
+        return file.read()
+
+
+def build(scudo: Place, to: str, classes: Optional[list], work: str) -> None:
+    """Compiles Scudo as a library that LD_PRELOAD takes, with its own map or with that of these classes."""
+    sources = sorted(glob.glob(os.path.join(glob.escape(scudo.folder), "*.cpp")))
+    sources = [path for path in sources if not any(name in os.path.basename(path) for name in LEFT_OUT)]
+    words = [scudo.compiler, *FLAGS, f"-I{scudo.folder}", f"-I{scudo.folder}/include", *(["-msse4.2"] if os.uname().machine == "x86_64" else [])]
+    if classes is not None:
+        with open(os.path.join(work, CONFIG), "w", encoding="ascii") as file:
+            file.write(scudo_map.config(classes))
+        words += ["-DSCUDO_USE_CUSTOM_CONFIG", f"-I{work}"]
+    compile_with([*words, *sources, "-o", to], work, "Scudo")
+
+
+def keep_input(to: str) -> bool:
+    """Keeps standard input in a file, so that each run reads the same. False where there is none, or a person types it."""
+    try:
+        if os.isatty(0) or os.fstat(0).st_rdev == os.stat(os.devnull).st_rdev:
+            return False
+        with open(0, "rb", closefd=False) as given, open(to, "wb") as file:
+            shutil.copyfileobj(given, file)
+    except OSError as error:
+        raise Refused(3, f"standard input can't be kept for further runs: {error.strerror}") from None
+    return True
+
+
+def build_runner(scudo: Place, to: str, work: str) -> None:
+    """Compiles the small program that measures others."""
+    words = [scudo.compiler, "-x", "c", "-O1", os.path.join(texts.SCRIPTS, "shims", "peak.c"), "-o", to]
+    compile_with(words, work, "what measures the program")
+
+
+def compile_with(words: list, work: str, what: str) -> None:
+    done = subprocess.run(words, stdin=subprocess.DEVNULL, capture_output=True, env={**os.environ, "TMPDIR": work})
+    if done.returncode:
+        why = [line for line in done.stderr.decode(errors="replace").splitlines() if "error" in line] or ["the compiler failed"]
+        raise Refused(3, f"{what} could not be built: {why[0].strip()}")
+
+
+def peak(runner: str, words: list, path: str, library: Optional[str], given: Optional[str]) -> tuple[int, int]:
+    """The status of one run, and its most resident memory in bytes. What the program prints is not kept."""
+    found = f"{runner}.found"
+    with open(given or os.devnull, "rb") as file:
+        how = {"stdin": file if given else None, "stdout": subprocess.DEVNULL, "stderr": subprocess.DEVNULL, "close_fds": False}
+        done = subprocess.run([runner, found, library or "", path, *words], env=programs.environment(), **how)
+    if done.returncode:
+        raise Refused(3, f"{words[0]} can't be run again")
+    status, size = read(found).split()
+    return int(status), 1024 * int(size)
+
+
+class Verified(NamedTuple):
+    """The middle of each one's peaks in bytes, and those that ended with another status than in the first run."""
+
+    peaks: dict[str, int]
+    strange: list[str]
+
+
+def verified(runner: str, words: list, path: str, libraries: dict[str, Optional[str]], given: Optional[str]) -> Verified:
+    """Runs the program in turn with each library, or none."""
+    found: dict[str, list[tuple[int, int]]] = {name: [] for name in libraries}
+    for _ in range(RUNS):
+        for name, library in libraries.items():
+            found[name].append(peak(runner, words, path, library, given))
+    usual = next(iter(found.values()))[0][0]
+    strange = [name for name, runs in found.items() if any(status != usual for status, _ in runs)]
+    return Verified({name: int(statistics.median(size for _, size in runs)) for name, runs in found.items()}, strange)
