@@ -33,7 +33,7 @@ ANOTHER_PLACE = "set XDG_CACHE_HOME to another place"
 PAGE = 4096
 NOTES = ("form process others other_requests untouched foreign most length events variables shared wrong ended").split()
 COUNTED = 78  # the place of `all`
-MEASURED, MEASURES = 155, ("requests live large resident system executed").split()  # the place of these
+MEASURED = 155  # the place of `requests`, and of those after it
 ALLOCATOR = slice(2048, 3072)
 
 
@@ -45,8 +45,8 @@ class Notes:
         for name, value in zip(NOTES, struct.unpack_from(f"={len(NOTES)}Q", page)):
             setattr(self, name, value)
         self.all = struct.unpack_from("=Q", page, 8 * COUNTED)[0]
-        for name, value in zip(MEASURES, struct.unpack_from(f"={len(MEASURES)}Q", page, 8 * MEASURED)):
-            setattr(self, name, value)
+        measures = struct.unpack_from("=6Q", page, 8 * MEASURED)
+        self.requests, self.live, self.large, self.resident, self.system, self.executed = measures
         self.allocator = os.fsdecode(page[ALLOCATOR].split(b"\0")[0])
 
 

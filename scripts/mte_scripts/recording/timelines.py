@@ -218,7 +218,8 @@ def size_of(event: bytes) -> Union[int, str]:
 
 def history_at(text: bytes, moments: list) -> texts.History:
     """The blocks that are live at these ascending moments, each the number of events before it."""
-    live, found, seen, waiting = Counter(), {}, 0, list(moments)
+    live: Counter = Counter()
+    found, seen, waiting = {}, 0, list(moments)
     for lines in events_of(text):
         begin = 0
         while waiting and waiting[0] <= seen + len(lines):
@@ -237,7 +238,7 @@ def take(live: Counter, events: list) -> None:
 
 def requests_of(text: bytes) -> dict:
     """The profile of all requests."""
-    found = Counter()
+    found: Counter = Counter()
     for lines in events_of(text):
         found.update(lines)
     return {size_of(event): times for event, times in found.items() if not event.startswith(b"-")}
