@@ -5,6 +5,7 @@ import os
 from mte_scripts import texts
 from mte_scripts.builds import web_page
 from mte_scripts.texts import Refused
+from mte_scripts.words import Words
 
 HELP = """\
 Print a page in HTML that tunes tables and shows the tagged heap step by step, in any browser.
@@ -39,14 +40,8 @@ def given(path):
 
 
 def print_page(words):
-    files = {}
-    while words:
-        option, *words = words
-        if option in ("-h", "--help"):
-            return texts.write_help(HELP)
-        if option not in ("--profile", "--trace"):
-            raise Refused(2, f"there is no option {option}; --help says what there is")
-        if not words:
-            raise Refused(2, f"{option} wants a file")
-        files[option[2:]] = given(words.pop(0))
+    parser = Words(HELP)
+    for name in ("--profile", "--trace"):
+        parser.add_argument(name, type=given)
+    files = {name: file for name, file in vars(parser.take(words)).items() if file}
     return texts.write(web_page.page(web_page.built("page"), **files))

@@ -3,6 +3,7 @@
 import os
 
 from mte_scripts import manifest, texts
+from mte_scripts.words import Words
 
 HELP = """\
 Print the manifest of the program: of which sources and by which kit it was built, whether it is proved, and whether the program that is
@@ -31,10 +32,7 @@ Example:
 
 
 def show(words):
-    if words in (["-h"], ["--help"]):
-        return texts.write_help(HELP)
-    if words:
-        raise texts.Refused(2, "it takes no words; --help says what it prints")
+    Words(HELP).take(words)
     if not os.path.isfile(texts.BUILT):
         raise texts.Refused(3, f"there is no program {texts.BUILT}: `scripts/mte_tool --version` builds it")
     found = manifest.read(texts.BUILT)

@@ -5,11 +5,11 @@ import random
 import re
 import shutil
 import subprocess
-import sys
 from pathlib import Path
 
 from mte_scripts import formats, places, private_folder, running
 from mte_scripts.gate import growth
+from mte_scripts.words import Words, number
 
 HELP = """\
 Compare mte_tool with bench/plain, which does the same in plain Rust, and print a table in Markdown.
@@ -94,37 +94,17 @@ def fail(status, text):
     raise running.Refused(status, text)
 
 
-def number_after(words, name, most):
-    if not words or not re.fullmatch("[1-9][0-9]{0,5}", words[0]) or int(words[0]) > most:
-        fail(2, f"{name} wants a number from 1 to {most}")
-    return int(words.pop(0))
-
-
 def options_of(words):
-    options = {"growth": False, "instructions": False, "branches": False, "runs": 20, "seed": 1, "keep": None, "rows": []}
-    while words:
-        word = words.pop(0)
-        if word in ("-h", "--help"):
-            print(HELP, end="", flush=True)
-            sys.exit(0)
-        elif word == "--growth":
-            options["growth"] = True
-        elif word == "--instructions":
-            options["instructions"] = True
-        elif word == "--branches":
-            options["branches"] = True
-        elif word == "--runs":
-            options["runs"] = number_after(words, word, 10_000)
-        elif word == "--seed":
-            options["seed"] = number_after(words, word, formats.OPTIONS["seed"].most)
-        elif word == "--keep":
-            if not words:
-                fail(2, "--keep wants a folder")
-            options["keep"] = words.pop(0)
-        elif word in ROWS:
-            options["rows"].append(word)
-        else:
-            fail(2, f"there is no option and no row {word}; --help says what there is")
+    parser = Words(HELP)
+    for name in ("--growth", "--instructions", "--branches"):
+        parser.add_argument(name, action="store_true")
+    parser.add_argument("--runs", type=number(1, 10_000), default=20)
+    parser.add_argument("--seed", type=number(1, formats.OPTIONS["seed"].most), default=1)
+    parser.add_argument("--keep")
+    parser.add_argument("rows", nargs="*")
+    options = vars(parser.take(words))
+    if unknown := [row for row in options["rows"] if row not in ROWS]:
+        fail(2, f"there is no row {unknown[0]}; --help says what there is")
     if options["growth"] and (options["rows"] or options["keep"] or options["instructions"] or options["branches"]):
         fail(2, "--growth takes no row and no option but --seed")
     return options

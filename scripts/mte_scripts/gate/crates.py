@@ -15,6 +15,7 @@ import shutil
 from mte_scripts import texts
 from mte_scripts.builds.crate_list import CrateList
 from mte_scripts.places import ROOT
+from mte_scripts.words import Words, some
 
 
 
@@ -44,13 +45,11 @@ def copy(crates, names, folder):
 
 
 def main(words):
-    if words in (["--help"], ["-h"]):
-        return texts.write(__doc__)
-    folder = None
-    if words[:1] == ["--copy"]:
-        folder, words = (words[1:2] or [None])[0], words[2:]
-        if not folder:
-            raise texts.Refused(2, "--copy takes a folder; `crates --help` says more")
+    parser = Words(__doc__)
+    parser.add_argument("--copy", type=some)
+    parser.add_argument("crates", nargs="*")
+    options = parser.take(words)
+    words, folder = options.crates, options.copy
     crates = CrateList(ROOT)
     unknown = [it for it in words if it not in crates.stands_on]
     if unknown or not words:

@@ -16,6 +16,7 @@ import sys
 import textwrap
 
 from mte_scripts.places import ROOT
+from mte_scripts.words import Words
 
 CRATES = pathlib.Path(ROOT) / "crates"
 KEYS = ("of", "what", "breaks", "file", "old", "new")
@@ -71,15 +72,14 @@ def listing(crate, edits):
 
 
 def main(words):
-    if words in (["-h"], ["--help"]):
-        print(__doc__.strip())
-        return 0
-    check = words[:1] == ["--check"]
-    names = words[1:] if check else words
+    parser = Words(__doc__)
+    parser.add_argument("--check", action="store_true")
+    parser.add_argument("crates", nargs="*")
+    options = parser.take(words)
+    check, names = options.check, options.crates
     wrong = [it for it in names if not re.fullmatch(r"\w+", it) or not (CRATES / it).is_dir()]
     if wrong:
-        print(f"edits: there is no crate {wrong[0]}; see edits --help", file=sys.stderr)
-        return 2
+        parser.error(f"there is no crate {wrong[0]}")
     status = 0
     for crate in names or sorted(it.name for it in CRATES.iterdir()):
         edits = sorted((CRATES / crate / "must-fail").glob("*.edit"))

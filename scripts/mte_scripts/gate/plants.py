@@ -25,6 +25,7 @@ from collections import namedtuple
 from mte_scripts import running
 from mte_scripts.builds.crate_list import CrateList
 from mte_scripts.places import ROOT
+from mte_scripts.words import Words, number
 
 KNOWN = os.path.join(os.path.dirname(os.path.realpath(__file__)), "plants.txt")
 ROW = re.compile(r"^(proves|no-ensures) +(\S+?):\d+ (.*?)(?:  \(and in \d+ more impls\))?$")
@@ -66,22 +67,22 @@ def table(figures):
 
 
 def plants(words):
-    minutes = 10
-    if "--help" in words:
-        return print(__doc__.strip())
+    parser = Words(__doc__)
+    parser.add_argument("--minutes", type=number(1, 10_000), default=10)
+    parser.add_argument("--table", action="store_true")
+    parser.add_argument("crates", nargs="*")
+    options = parser.take(words)
     its = known()
-    if words == ["--table"]:
+    if options.table:
         return table(its.figures)
-    if words[:1] == ["--minutes"] and len(words) > 1 and words[1].isdecimal():
-        minutes, words = int(words[1]), words[2:]
     crates = CrateList(ROOT)
-    names = words or [it for it in crates.stands_on if os.path.exists(os.path.join(crates.folder(it), "src", "lib.rt"))]
+    names = options.crates or [it for it in crates.stands_on if os.path.exists(os.path.join(crates.folder(it), "src", "lib.rt"))]
     unknown = [it for it in names if it not in crates.stands_on]
     if unknown:
         raise running.Refused(2, f"there is no crate {unknown[0]} (--help says more)")
     new = 0
     for crate in names:
-        bodies, figures = planted(crate, minutes)
+        bodies, figures = planted(crate, options.minutes)
         for body in bodies:
             if (crate, body) not in its.reasons:
                 new += 1

@@ -1,8 +1,11 @@
 """Prints what a reader has to read to believe a promise. `statement --help` says all."""
 
+import argparse
+
 from mte_scripts import texts
 from mte_scripts.gate import statement_page, statements
 from mte_scripts.running import Refused
+from mte_scripts.words import Words
 
 HELP = """\
 Print a promise's contract, and each definition that it reaches, where it is cited first.
@@ -40,26 +43,27 @@ def table() -> str:
     return "".join("  ".join(line).rstrip() + "\n" for line in lines)
 
 
-def printed(words: "list[str]") -> str:
-    is_page = words[:1] == ["--html"]
-    names = words[1:] if is_page else words
-    if words == ["--count"]:
+def printed(options: argparse.Namespace) -> str:
+    if options.count:
         return table()
-    if names and names[0].startswith("-"):
-        raise Refused(2, f"there is no option {names[0]}, or not there; --help says what there is")
-    if len(names) != 1:
-        raise Refused(2, "it wants one name, of a command or a promise; --help lists them")
-    if names[0] not in statements.TOPICS:
-        raise Refused(2, f"there is no command or promise {names[0]}; the names are {', '.join(statements.TOPICS)}")
-    found = statements.statement(names[0])
-    return statement_page.page(found) if is_page else statements.as_text(found)
+    found = statements.statement(options.names[0])
+    return statement_page.page(found) if options.html else statements.as_text(found)
 
 
 def statement(words: "list[str]") -> int:
-    if words and words[0] in ("-h", "--help"):
-        return texts.write_help(HELP)
+    parser = Words(HELP)
+    parser.add_argument("--html", action="store_true")
+    parser.add_argument("--count", action="store_true")
+    parser.add_argument("names", nargs="*")
+    options = parser.take(words)
+    if options.count and (options.html or options.names):
+        parser.error("--count takes no name")
+    if not options.count and len(options.names) != 1:
+        raise Refused(2, "it wants one name, of a command or a promise; --help lists them")
+    if not options.count and options.names[0] not in statements.TOPICS:
+        raise Refused(2, f"there is no command or promise {options.names[0]}; the names are {', '.join(statements.TOPICS)}")
     try:
-        text = printed(words)
+        text = printed(options)
     except statements.Unresolved as error:
         raise Refused(1, str(error)) from None
     return texts.write(text.encode())

@@ -10,6 +10,7 @@ from mte_scripts import manifest, private_folder, texts
 from mte_scripts.builds import web_page
 from mte_scripts.packaging import debian, helps, packaging
 from mte_scripts.texts import Refused
+from mte_scripts.words import Words, some
 
 HELP = """\
 Make a Debian package and a tar of this commit: the program, the scripts, the library for C, the page, manual pages, completions for
@@ -43,29 +44,19 @@ Example:
   scripts/package . && apt install ./mte-tool_*.deb
 """
 
-VALUES = ("--program", "--library", "--page", "--kit", "--maintainer")
-
-
 def options_of(words):
-    found, folders = {}, []
-    while words:
-        word, *words = words
-        if word in VALUES:
-            if not words or not words[0]:
-                raise Refused(2, f"{word} wants a value; --help says which")
-            found[word[2:]] = words.pop(0)
-        elif word in ("--no-library", "--no-page"):
-            found[word[2:]] = True
-        elif word.startswith("-"):
-            raise Refused(2, f"there is no option {word}; --help says what there is")
-        else:
-            folders.append(word)
-    if len(folders) != 1:
-        raise Refused(2, "name one folder for the packages; --help says more")
+    parser = Words(HELP)
+    for name in ("--program", "--kit", "--maintainer"):
+        parser.add_argument(name, type=some)
     for name in ("library", "page"):
-        if name in found and f"no-{name}" in found:
-            raise Refused(2, f"--{name} and --no-{name} can't be given both")
-    return found, folders[0]
+        either = parser.add_mutually_exclusive_group()
+        either.add_argument(f"--{name}", type=some)
+        either.add_argument(f"--no-{name}", action="store_true")
+    parser.add_argument("folders", nargs="*")
+    options = parser.take(words)
+    if len(options.folders) != 1:
+        raise Refused(2, "name one folder for the packages; --help says more")
+    return options, options.folders[0]
 
 
 def commit():
@@ -83,7 +74,7 @@ def digest(path):
 
 def program_of(options):
     """The path of the program. One that was built elsewhere has to print this commit's help."""
-    path = options.get("program")
+    path = options.program
     if path is None:
         if os.environ.get("MTE_TOOL"):
             raise Refused(2, "MTE_TOOL names another program, and a package has the built one: unset it, or name that by --program")
@@ -114,10 +105,10 @@ def manifest_of(path, options):
 
 def library_of(options, folder):
     """The folder of the library, and where it is from; or None, and why there is none."""
-    if "no-library" in options:
+    if options.no_library:
         return None, "the library for C: --no-library"
-    if "library" in options:
-        given = options["library"]
+    if options.library:
+        given = options.library
         if not os.path.isfile(os.path.join(given, "lib/pkgconfig/mte_tool.pc")):
             raise Refused(2, f"{given} is no folder of scripts/library")
         return given, "the library for C was built elsewhere, by scripts/library"
@@ -130,10 +121,10 @@ def library_of(options, folder):
 
 def page_of(options):
     """The modules of the page, and where they are from; or None, and why there are none."""
-    if "no-page" in options:
+    if options.no_page:
         return None, "the page: --no-page"
-    if "page" in options:
-        return packaging.modules_of(options["page"]), "the engines of the page were compiled elsewhere, by scripts/page"
+    if options.page:
+        return packaging.modules_of(options.page), "the engines of the page were compiled elsewhere, by scripts/page"
     try:
         return web_page.built("package"), "the engines of the page were proved and compiled from these sources"
     except Refused as refused:
@@ -141,8 +132,8 @@ def page_of(options):
 
 
 def kit_of(options):
-    if "kit" in options:
-        return options["kit"]
+    if options.kit:
+        return options.kit
     if not shutil.which("rt"):
         return "a Rattle kit of unknown version"
     return " ".join(packaging.run(["rt", "version"]).split())
@@ -151,7 +142,7 @@ def kit_of(options):
 def collect(options, work):
     """All parts of the packages."""
     number, time, author, is_changed = commit()
-    maintainer = options.get("maintainer", author)
+    maintainer = options.maintainer or author
     if not re.fullmatch(r"[^<>\n]+ <[^<>@\s]+@[^<>@\s]+>", maintainer):
         raise Refused(2, f"the maintainer is not NAME <ADDRESS>: {maintainer}")
     program = program_of(options)

@@ -4,6 +4,7 @@ import re
 import socket
 
 from mte_scripts import texts
+from mte_scripts.words import Words
 
 HELP = f"""Print a profile of the items of memcached: of those that a server holds, or of keys and values of one's own.
 
@@ -42,26 +43,20 @@ WAIT = 30  # seconds
 
 
 def profile(words):
-    if words in (["-h"], ["--help"]):
-        texts.write_help(HELP)
-        return
-    options = set()
-    while words and words[0].startswith("--"):
-        option = words.pop(0)
-        if option == "--":
-            break
-        if option not in ("--each", "--flags", "--no-cas", "--items") or option in options:
-            raise texts.Refused(2, f"there is no option {option}" if option not in options else f"{option} is there twice")
-        options.add(option)
-    if len(words) != 1:
+    parser = Words(HELP)
+    for name in ("--each", "--flags", "--no-cas", "--items"):
+        parser.add_argument(name, action="store_true")
+    parser.add_argument("names", nargs="*")
+    options = parser.take(words, once=True)
+    if len(options.names) != 1:
         raise texts.Refused(2, "name a server as HOST:PORT, or a file after --items; `memcached_profile --help` says all")
-    of_items = {"--flags", "--no-cas"}
-    if options & ({"--each"} if "--items" in options else of_items):
+    if options.each if options.items else options.flags or options.no_cas:
         raise texts.Refused(2, "--each is for a server; --flags and --no-cas are for --items, as a server says itself how large an item is")
-    if "--items" in options:
-        write_profile(of_file(words[0], HEADER + (0 if "--no-cas" in options else CAS) + (FLAGS if "--flags" in options else 0)))
+    if options.items:
+        header = HEADER + (0 if options.no_cas else CAS) + (FLAGS if options.flags else 0)
+        write_profile(of_file(options.names[0], header))
     else:
-        write_profile(of_server(words[0], "--each" in options))
+        write_profile(of_server(options.names[0], options.each))
 
 
 def of_file(path, header):

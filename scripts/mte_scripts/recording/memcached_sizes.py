@@ -3,6 +3,7 @@
 import sys
 
 from mte_scripts import texts
+from mte_scripts.words import Words, number
 
 HELP = f"""Print the class table of a sheet as the chunk sizes of memcached: the value of its option `-o slab_sizes=`.
 
@@ -31,7 +32,9 @@ PAGES_A_CLASS = 4  # of 1 MiB; examples/memcached has the measurement
 
 
 def chunk_sizes(words):
-    memory = memory_of(words)
+    parser = Words(HELP)
+    parser.add_argument("--memory", type=number(1, 1_000_000_000))
+    memory = parser.take(words).memory
     if sys.stdin is not None and sys.stdin.isatty():
         texts.say("memcached_sizes", "reading standard input, a sheet; Ctrl-D ends it")
     classes = texts.class_line("-")
@@ -49,18 +52,3 @@ def chunk_sizes(words):
         texts.say("memcached_sizes", f"warning: {memory} MB are few for {len(rooms)} classes, as each takes pages of 1 MiB of its own. "
                   f"Try `--limit {max(1, memory // PAGES_A_CLASS)}` too, and compare the hits")
     texts.write("-".join(map(str, chunks)) + "\n")
-
-
-def memory_of(words):
-    if words in (["-h"], ["--help"]):
-        texts.write_help(HELP)
-        sys.exit(0)
-    if words[-1:] == ["--"]:
-        words = words[:-1]
-    if not words:
-        return None
-    if words[0] != "--memory":
-        raise texts.Refused(2, f"there is no argument {words[0]}; the sheet is read from standard input")
-    if len(words) != 2 or not words[1].isascii() or not words[1].isdigit() or not 1 <= int(words[1]) <= 1_000_000_000:
-        raise texts.Refused(2, "`--memory` takes a number of megabytes, as memcached's option -m does")
-    return int(words[1])

@@ -5,6 +5,7 @@ import os
 from mte_scripts import texts
 from mte_scripts.reports import report_page
 from mte_scripts.tables import figures
+from mte_scripts.words import Words
 
 HELP = f"""\
 Print a page in HTML: what the table of a sheet wastes on a profile, and what other tables do.
@@ -35,29 +36,16 @@ Example:
 
 
 def report(words):
-    against, title, names = [], None, []
-    while words:
-        option, *words = words
-        if option in ("-h", "--help"):
-            texts.write_help(HELP)
-            return 0
-        if option == "--":
-            names += words
-            break
-        if option == "-" or not option.startswith("-"):
-            names.append(option)
-        elif option not in ("--against", "--title"):
-            raise texts.Refused(2, f"there is no option {option}; --help says what there is")
-        elif not words:
-            raise texts.Refused(2, f"{option} wants {'a file' if option == '--against' else 'a text'}")
-        elif option == "--against":
-            against.append(words.pop(0))
-        else:
-            title = words.pop(0)
+    parser = Words(HELP)
+    parser.add_argument("--title")
+    parser.add_argument("--against", action="append", default=[])
+    parser.add_argument("names", nargs="*")
+    options = parser.take(words)
+    names, title = options.names, options.title
     if len(names) != 2 or names == ["-", "-"]:
         raise texts.Refused(2, "it wants a profile and a sheet: report PROFILE SHEET; --help says more")
     profile, sheet = names
-    others = figures.other_tables(against)
+    others = figures.other_tables(options.against)
     given = "the profile" if profile == "-" else os.path.basename(profile)
     found = figures.Figures(texts.read_profile(profile), texts.read(sheet).decode(errors="replace"), others, given=given)
     name = title or ("the profile" if profile == "-" else figures.without_ending(profile, ".profile"))

@@ -4,6 +4,7 @@ import os
 import re
 
 from mte_scripts import claims, texts
+from mte_scripts.words import Words, number, one_of
 
 HELP = """Check a sheet or a fit in a build: does mte_tool accept it for your profile or history, your number of classes and your step? The
 last line says among which tables its table is the first then; where it is refused, what is wrong, and with which of the two files.
@@ -34,10 +35,16 @@ MOST_OF_A_SHEET = 1 << 20
 
 
 def check(words):
-    if words in (["-h"], ["--help"]):
-        texts.write_help(HELP)
-        return 0
-    names, options = words_of(words)
+    parser = Words(HELP)
+    parser.add_argument("--limit", type=number(1, texts.MOST_CLASSES))
+    parser.add_argument("--step", type=one_of(1, 2, 4, 8), default=1)
+    parser.add_argument("names", nargs="*")
+    options = parser.take(words, once=True)
+    names = options.names
+    if len(names) != 2:
+        raise texts.Refused(2, "name a sheet and a profile, or a fit and a history; `check_sheet --help` says all")
+    if "-" in names:
+        raise texts.Refused(2, "standard input is not read: give the names of two files")
     sheet_bytes, counts_bytes = non_empty(names[0], MOST_OF_A_SHEET, "no sheet has"), non_empty(names[1], texts.MOST_INPUT, "mte_tool reads")
     is_fit = bool(re.search(rb"(?m)^footprint ", sheet_bytes))
     texts.write((counted_in_history if is_fit else counted_in_profile)(names[1], counts_bytes))
@@ -67,7 +74,7 @@ def whole_sheet(name, data, is_fit):
 
 def meets_options(name, sheet, options):
     """Its limit and its step are those that were asked for."""
-    wanted = {"limit": options.get("--limit", sheet.limit), "step": options.get("--step", 1)}
+    wanted = {"limit": options.limit or sheet.limit, "step": options.step}
     for option, value in wanted.items():
         if getattr(sheet, option) != value:
             raise texts.Refused(1, f"{name} is for --{option} {getattr(sheet, option)}, and not for --{option} {value}: tune again")
@@ -87,34 +94,6 @@ def counted_in_history(name, data):
     if not sizes:
         raise texts.Refused(2, f"{name} counts no block of at most {texts.LARGEST_SIZE} bytes: was the right program counted?")
     return f"the history counts blocks of {sizes} sizes at {found.snapshots} snapshots\n"
-
-
-def words_of(words):
-    names, options = [], {}
-    at = iter(words)
-    for word in at:
-        if word == "--":
-            names += at
-            break
-        if not word.startswith("-") or word == "-":
-            names.append(word)
-            continue
-        name, equals, value = word.partition("=")
-        most = {"--limit": texts.MOST_CLASSES, "--step": 8}.get(name)
-        if most is None:
-            raise texts.Refused(2, f"there is no option {name}")
-        if not equals:
-            value = next(at, "")
-        if not re.fullmatch("0*[0-9]{1,2}", value) or not 1 <= int(value) <= most or name == "--step" and int(value) not in (1, 2, 4, 8):
-            raise texts.Refused(2, f"{name} takes " + (f"a number from 1 to {most}" if name == "--limit" else "1, 2, 4 or 8"))
-        if name in options:
-            raise texts.Refused(2, f"{name} is there twice")
-        options[name] = int(value)
-    if len(names) != 2:
-        raise texts.Refused(2, "name a sheet and a profile, or a fit and a history; `check_sheet --help` says all")
-    if "-" in names:
-        raise texts.Refused(2, "standard input is not read: give the names of two files")
-    return names, options
 
 
 def non_empty(path, most, whose):

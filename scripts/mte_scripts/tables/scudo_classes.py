@@ -5,6 +5,7 @@ import sys
 from mte_scripts import texts
 from mte_scripts.tables import scudo_map
 from mte_scripts.texts import Refused
+from mte_scripts.words import Words
 
 HELP = r"""Print the class table of a sheet or a fit as a size-class map of LLVM's Scudo: a header that takes the place of its default map.
 
@@ -37,13 +38,11 @@ Examples:
 
 
 def print_map(words):
-    if words and words[0] in ("-h", "--help"):
-        return texts.write_help(HELP)
-    whole = words[:1] == ["--config"]
-    words = words[1:] if whole else words
-    if words and words[0].startswith("-") and words[0] not in ("-", "--"):
-        raise Refused(2, f"there is no option {words[0]}; --help says what there is, and -- ends the options")
-    files = words[1:] if words[:1] == ["--"] else words
+    parser = Words(HELP)
+    parser.add_argument("--config", action="store_true")
+    parser.add_argument("files", nargs="*")
+    options = parser.take(words)
+    files, whole = options.files, options.config
     if len(files) > 1:
         raise Refused(2, f"there is one sheet, so no argument {files[1]}")
     if not files and sys.stdin is not None and sys.stdin.isatty():
