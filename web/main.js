@@ -63,6 +63,7 @@ function show(view) {
     $(`tab-${name}`).tabIndex = name === view ? 0 : -1;
   }
   say(said[view].words, said[view].bad);
+  showSlots();
   if (view === "heap") drawGrid();
   else if (tuner.judged) showPictures();
   $("linked").hidden = true;

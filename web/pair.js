@@ -8,7 +8,7 @@ const nameInPair = (slot, table) => (table.style === 0 ? `the table of ${slot.sl
 function showSlots() {
   const [, second] = slots;
   $("slots").hidden = !second.kind;
-  $("beside").hidden = Boolean(second.kind);
+  $("beside").hidden = Boolean(second.kind) || $("view-tune").hidden;
   $("beside").setAttribute("aria-pressed", String(comesTo === 1));
   for (const slot of slots) {
     $(`name-${slot.slot}`).textContent = slot.name;
