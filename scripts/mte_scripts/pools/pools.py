@@ -10,47 +10,51 @@ from mte_scripts.running import Refused
 from mte_scripts.tables.figures import number, percent
 
 HELP = f"""\
-Find static pools for the runs of a program: which sizes of blocks, and how many of each. Pools are what firmware has in place of a
-heap. Each has so many blocks of one size in static memory, and a request takes a block of the pool with the smallest blocks that hold
-it, and of no other.
+Find static pools for the runs of a program: which sizes of blocks, and how many of each. Pools are what firmware has in place
+of a heap. Each has so many blocks of one size in static memory, and a request takes a block of the pool with the smallest
+blocks that hold it, and of no other.
 
 Usage: pools [OPTION..] RUN..
 
-With --limit it finds pools for the runs, with --check it checks the pools of a file for them; with --read it prints the pools of a file,
-and takes no run. A RUN is a timeline, as docs/FORMATS.md has it: all requests and frees of a run in their order. It may
-also be a history, which knows some moments alone: what was live between these may have no block. `-` is standard input.
+With --limit it finds pools for the runs, with --check it checks the pools of a file for them; with --read it prints the pools
+of a file, and takes no run. A RUN is a timeline, as docs/FORMATS.md has it and `profile_program --timeline` records it: all
+requests and frees of a run in their order. It may also be a history, which knows some moments alone: what was live between
+these may have no block. `-` is standard input.
 
   --limit K        at most so many pools, 1 to 32
   --unit U         blocks are multiples of U bytes: 4, 8, 16 or 32; 8 where it is left out
   --overhead O     so many bytes of each block hold no request, 0 to 4096; 0 where it is left out
   --today POOLS    pools to compare with, as 128x156,256x592: the bytes of a block with its overhead, and how many blocks
   --reserve P      P percent more blocks in each pool, rounded up, in what is printed; and what they cost. 0 to 1000
-  --as FORM        print the pools as C, and not the summary: c, lwip, zephyr, threadx or freertos
+  --as c|lwip|zephyr|threadx|freertos
+                   print the pools as C, and not the summary
   --name NAME      what names begin with in C; app where it is left out
-  --certificate F  also write the pools with their certificate to the file F
-  --check POOLS    check such a file for these runs, which need not be the author's: the same pools, and as few bytes
-  --read POOLS     take the pools of such a file
+  --certificate FILE
+                   also write the pools with their certificate to FILE
+  --check FILE     check such a file for these runs: the same pools, and no others with fewer bytes
+  --read FILE      take the pools of such a file
   --each           print for each number of pools from 1 to K what they take, and not the pools: so K can be chosen
-  --units          print the runs in units, for `mte_tool`: the fit in POOLS is of these
+  --units          print the runs in units, for `mte_tool`: the fit in FILE is of these
 
 The forms are
 {textwrap.indent("".join(f"{name:10}{form.what}" + chr(10) for name, form in pool_forms.FORMS.items()), "  ")}
-In lwIP, the unit is MEM_ALIGNMENT, and the overhead the bytes of struct memp_malloc_helper, rounded up to it. Zephyr has no overhead.
-ThreadX and FreeRTOS have a pointer for each block: the overhead is 4 or 8. Sizes are those requested; what an application adds to each
-block is overhead too.
+In lwIP, the unit is MEM_ALIGNMENT, and the overhead the bytes of struct memp_malloc_helper, rounded up to it. Zephyr has no
+overhead. ThreadX and FreeRTOS have a pointer for each block: the overhead is 4 or 8. Sizes are those requested; what an
+application adds to each block is overhead too.
 
-Several runs, as of a test suite, get pools that serve each of them, one run at a time. At the end of a run its live blocks are freed.
-So of the runs one after the other, at each moment the blocks of one run alone are live, and a pool needs the most blocks that it has
-live in any run. The summary says which run that is.
+Several runs, as of a test suite, get pools that serve each of them, one run at a time. At the end of a run its live blocks are
+freed, so the runs one after the other are a timeline. At each of its moments the blocks of one run alone are live: it has the
+moments of all runs, and a pool needs the most blocks that it has live in any run. The summary says which run that is.
 
 {claims.TEMPLATES["pools.help"]}
 
-A request takes (S + O) / U units, rounded up, and at least one. The limit is 1,024 units, or 512 where a request takes one unit; a
-request above {texts.LARGEST_SIZE:,} bytes has no pool, which is said.
+A request takes (S + O) / U units, rounded up, and at least one. The limit is 1,024 units, or 512 where a request takes one
+unit; a request above {texts.LARGEST_SIZE:,} bytes has no pool, which is said.
 
 Exit status:
   0  the pools are printed, or the checked ones are right
-  1  the checked pools are not: the last line on standard error says why; or, without --check, nothing shows that no others take less
+  1  the checked pools are not: the last line on standard error says why; or, without --check, nothing shows that no others
+     take less
   2  the words or a file are refused, or a request has too many units
   3  there is no request, mte_tool could not run, or a write failed
 
