@@ -6,18 +6,19 @@ import re
 from mte_scripts import claims, texts
 from mte_scripts.words import Words, number, one_of
 
-HELP = """Check a sheet or a fit in a build: does mte_tool accept it for your profile or history, your number of classes and your step? The
-last line says among which tables its table is the first then; where it is refused, what is wrong, and with which of the two files.
+HELP = """Check a sheet or a fit in a build: does mte_tool accept it for your profile, history or timeline, your number of classes and your
+step? The last line says among which tables its table is the first then; where it is refused, what is wrong, and with which of the
+two files.
 
 Usage: check_sheet SHEET PROFILE [--limit K] [--step S]
-       check_sheet FIT HISTORY [--limit K] [--step S]
+       check_sheet FIT HISTORY|TIMELINE [--limit K] [--step S]
 
 It tests what docs/TUNING.md says that a build should, in this order, and prints a line for each:
 
-  - the profile is there, and counts a request that a class can serve; or the history a block
+  - the profile or the timeline is there, and has a request that a class can serve; or the history a block
   - the sheet or the fit is whole
   - its limit is K, and its step is S; without --limit any limit will do, and without --step the step has to be 1
-  - mte_tool answers `optimal`: `check` for the sheet and this profile, or `check-fit` for the fit and this history
+  - mte_tool answers `optimal`: `check` for the sheet and this profile, or `check-fit` for the fit and this history or timeline
 
 Exit status:
   0  the sheet or the fit meets all
@@ -27,7 +28,7 @@ Exit status:
 
 Examples:
   check_sheet app.sheet app.profile --limit 32
-  check_sheet app.fit app.history --limit 32
+  check_sheet app.fit app.timeline --limit 32
 """
 
 # a sheet has at most 32 rows of 1,023 numbers of 20 digits
@@ -42,19 +43,23 @@ def check(words):
     options = parser.take(words, once=True)
     names = options.names
     if len(names) != 2:
-        raise texts.Refused(2, "name a sheet and a profile, or a fit and a history; `check_sheet --help` says all")
+        raise texts.Refused(2, "name a sheet and a profile, or a fit and a history or a timeline; `check_sheet --help` says all")
     if "-" in names:
         raise texts.Refused(2, "standard input is not read: give the names of two files")
     sheet_bytes, counts_bytes = non_empty(names[0], MOST_OF_A_SHEET, "no sheet has"), non_empty(names[1], texts.MOST_INPUT, "mte_tool reads")
     is_fit = bool(re.search(rb"(?m)^footprint ", sheet_bytes))
-    texts.write((counted_in_history if is_fit else counted_in_profile)(names[1], counts_bytes))
+    kind = "profile" if not is_fit else "timeline" if texts.is_timeline(counts_bytes) else "history"
+    texts.write(COUNTED[kind](names[1], counts_bytes))
     sheet = whole_sheet(names[0], sheet_bytes, is_fit)
+    if is_fit and (sheet.moments is None) != (kind == "history"):
+        of = "history" if sheet.moments is None else "timeline"
+        raise texts.Refused(1, f"{names[0]} is the fit of a {of}, and {names[1]} is a {kind}: fit again")
     meets_options(names[0], sheet, options)
     ending = b"" if sheet_bytes.endswith(b"\n") else b"\n"
     status, answer, error = texts.mte_tool(["check-fit" if is_fit else "check"], sheet_bytes + ending + counts_bytes)
     if status not in (0, 1):
-        raise texts.Refused(status if status in (2, 3) else 3, whose_fault(error, len(texts.lines_of(sheet_bytes)), names, is_fit))
-    kind, cost = ("history", sheet.footprint) if is_fit else ("profile", sheet.waste)
+        raise texts.Refused(status if status in (2, 3) else 3, whose_fault(error, len(texts.lines_of(sheet_bytes)), names, kind))
+    cost = sheet.footprint if is_fit else sheet.waste
     verdict = answer.decode(errors="replace").strip()
     judged = claims.Judged(kind, verdict, sheet.limit, sheet.step, sheet.classes, texts.printable(names[1]), cost, ())
     if not claims.holds(judged):
@@ -96,6 +101,18 @@ def counted_in_history(name, data):
     return f"the history counts blocks of {sizes} sizes at {found.snapshots} snapshots\n"
 
 
+def counted_in_timeline(name, data):
+    """mte_tool finds what is wrong with its lines."""
+    events = texts.lines_of(data)[1:]
+    sizes = {event for event in events if event.isdigit()}
+    if not sizes:
+        raise texts.Refused(2, f"{name} has no request of at most {texts.LARGEST_SIZE} bytes: was the right program recorded?")
+    return f"the timeline has {len(events)} events, with requests of {len(sizes)} sizes\n"
+
+
+COUNTED = {"profile": counted_in_profile, "history": counted_in_history, "timeline": counted_in_timeline}
+
+
 def non_empty(path, most, whose):
     """The bytes of a file. No more are read than it may have, whatever it is."""
     if os.path.isdir(path):
@@ -108,12 +125,13 @@ def non_empty(path, most, whose):
     return data
 
 
-def whose_fault(error, lines, names, is_fit):
+def whose_fault(error, lines, names, kind):
     """The fault that mte_tool found, with the file that it is in, and its line there. The sheet has so many lines, and comes first."""
     match = re.fullmatch(r"error ([0-9]+ \w+) line ([0-9]+)", error)
     if not match:
         return f"{names[0]} and {names[1]}: {error}"
     at = int(match[2])
     if at <= lines:
-        return f"{names[0]}: {match[1]} line {at}: no {'fit' if is_fit else 'sheet'} has this line here; write it anew by `mte_tool`"
-    return f"{names[1]}: {match[1]} line {at - lines}: bring its lines in order by `merge_profiles`"
+        return f"{names[0]}: {match[1]} line {at}: no {'sheet' if kind == 'profile' else 'fit'} has this line here; write it anew by `mte_tool`"
+    helps = "record the run again" if kind == "timeline" else "bring its lines in order by `merge_profiles`"
+    return f"{names[1]}: {match[1]} line {at - lines}: {helps}"
