@@ -13,7 +13,7 @@
     found[0].numbers              of all errors of the log that are of this cause, from 0
 
 An access of a live block beyond its bounds has one cause with those that come from the same source line and the same allocation, on the same
-side of the block. An access of a freed or resized block has one with each other of that block, of blocks that were freed from the same
+side of the block; whoever called the function does not count where it made the block itself (made_within). An access of a freed or resized block has one with each other of that block, of blocks that were freed from the same
 callers and first wrongly used at the same line, and of what is one object with it (its_calls). A free has one with those from the same
 line."""
 
@@ -62,6 +62,13 @@ def its_calls(log, error, places):
     return [(made, ended, used) for made, ended, used in ways if ended[0] != used[0]]
 
 
+def made_within(frames, made):
+    """How many of the frames of an allocation are of the function of the wrong access, which made the block, or were called by it; 0 where it
+    did not."""
+    names = [(frame.function, frame.source) for frame in made[:SAME_CALLERS]]
+    return names.index((frames[0].function, frames[0].source)) + 1 if frames and (frames[0].function, frames[0].source) in names else 0
+
+
 def entries(log, outcomes, places):
     """The entries of a log, in the order of their first use. An outcome of an error is (verdict, result, why). places has learned the
     stacks of all errors."""
@@ -74,6 +81,11 @@ def entries(log, outcomes, places):
 
     def callers(stack):
         return ",".join(log.stacks[max(stack, 0)].split(",")[:SAME_CALLERS])
+
+    def maker(error):
+        frames = places.frames(log.made[error.block])
+        within = made_within(places.frames(error.stack), frames)
+        return " ".join(frame.show() for frame in frames[:within]) if within else callers(log.made[error.block])
 
     of_block, of_object, causes = {}, {}, {}
     for at, error in enumerate(log.errors):
@@ -88,7 +100,7 @@ def entries(log, outcomes, places):
                 of_block[kind, block] = key
             key = of_block[kind, block]
         else:
-            key = kind, line(error.stack), callers(log.made[block]) if block else "", callers(log.ended[block]) if block else ""
+            key = kind, line(error.stack), maker(error) if block else "", callers(log.ended[block]) if error.state != "live" else ""
         causes.setdefault(key, []).append(at)
     found = []
     for (kind, *_), numbers in causes.items():

@@ -45,10 +45,12 @@ def all_of(log, found, places, odds):
 
 def finding(entry, log, places, odds):
     frames, made = places.frames(entry.stack), places.frames(entry.made)
+    within = fault_entries.made_within(frames, made) if entry.kind in (fault_entries.OVERFLOW, fault_entries.UNDERFLOW) else 0
+    named = [*map(name_of, frames[: 1 if within else FRAMES_OF_ID]), "allocated", *map(name_of, made[: within or FRAMES_OF_ID])]
     value = {
         "kind": entry.kind, "cwe": None, "result": entry.result, "times": 1, "odds": None, "block": None,
         "frames": as_values(frames), "allocated": as_values(made), "ended": as_values(places.frames(entry.ended)), "uses": [],
-        "id": hashed(entry.kind, *map(name_of, frames[:FRAMES_OF_ID]), "allocated", *map(name_of, made[:FRAMES_OF_ID])),
+        "id": hashed(entry.kind, *named),
     }
     if entry.kind == fault_entries.CRASH:
         return value | {"what": crash_sentence(entry.crash), "why": entry.crash.signal}
