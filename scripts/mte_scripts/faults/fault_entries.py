@@ -14,8 +14,8 @@
 
 An access of a live block beyond its bounds has one cause with those that come from the same source line and the same allocation, on the same
 side of the block. An access of a freed or resized block has one with each other of that block, of blocks that were freed from the same
-callers and first wrongly used at the same line, and of what is one object with it (its_calls). A free has one with those from the same
-line."""
+callers and first wrongly used at the same line, and of what is one object with it (its_calls). Whoever called the function of the wrong
+access does not count where it made or freed the block itself (within). A free has one with those from the same line."""
 
 import itertools
 from collections import namedtuple
@@ -62,6 +62,13 @@ def its_calls(log, error, places):
     return [(made, ended, used) for made, ended, used in ways if ended[0] != used[0]]
 
 
+def within(frames, others):
+    """How many of the innermost frames of a request or a free are of the function of the wrong access, or were called by it; 0 where that
+    function did not make the request."""
+    names = [(frame.function, frame.source) for frame in others[:SAME_CALLERS]]
+    return names.index((frames[0].function, frames[0].source)) + 1 if frames and (frames[0].function, frames[0].source) in names else 0
+
+
 def entries(log, outcomes, places):
     """The entries of a log, in the order of their first use. An outcome of an error is (verdict, result, why). places has learned the
     stacks of all errors."""
@@ -75,20 +82,26 @@ def entries(log, outcomes, places):
     def callers(stack):
         return ",".join(log.stacks[max(stack, 0)].split(",")[:SAME_CALLERS])
 
+    def callers_within(error, stack):
+        frames = places.frames(max(stack, 0))
+        own = frames[: within(places.frames(error.stack), frames)]
+        return " ".join(frame.show() for frame in own) or callers(stack)
+
     of_block, of_object, causes = {}, {}, {}
     for at, error in enumerate(log.errors):
         kind, block = kind_of(error), error.block
         if kind in (USE_AFTER_FREE, USE_AFTER_REALLOC) and block:
             if (kind, block) not in of_block:
                 # what another block's first wrong use is one cause with
-                key, ways = (kind, line(error.stack), callers(log.ended[block])), its_calls(log, error, places)
+                key, ways = (kind, line(error.stack), callers_within(error, log.ended[block])), its_calls(log, error, places)
                 if key not in causes:
                     key = next((of_object[kind, way] for way in ways if (kind, way) in of_object), key)
                 of_object.update(((kind, way), key) for way in ways if (kind, way) not in of_object)
                 of_block[kind, block] = key
             key = of_block[kind, block]
         else:
-            key = kind, line(error.stack), callers(log.made[block]) if block else "", callers(log.ended[block]) if block else ""
+            made = callers_within(error, log.made[block]) if block else ""
+            key = kind, line(error.stack), made, callers(log.ended[block]) if error.state != "live" else ""
         causes.setdefault(key, []).append(at)
     found = []
     for (kind, *_), numbers in causes.items():

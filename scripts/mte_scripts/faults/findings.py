@@ -45,10 +45,11 @@ def all_of(log, found, places, odds):
 
 def finding(entry, log, places, odds):
     frames, made = places.frames(entry.stack), places.frames(entry.made)
+    ended = places.frames(entry.ended)
     value = {
         "kind": entry.kind, "cwe": None, "result": entry.result, "times": 1, "odds": None, "block": None,
-        "frames": as_values(frames), "allocated": as_values(made), "ended": as_values(places.frames(entry.ended)), "uses": [],
-        "id": hashed(entry.kind, *map(name_of, frames[:FRAMES_OF_ID]), "allocated", *map(name_of, made[:FRAMES_OF_ID])),
+        "frames": as_values(frames), "allocated": as_values(made), "ended": as_values(ended), "uses": [],
+        "id": hashed(*named(entry.kind, frames, made, ended)),
     }
     if entry.kind == fault_entries.CRASH:
         return value | {"what": crash_sentence(entry.crash), "why": entry.crash.signal}
@@ -63,6 +64,15 @@ def finding(entry, log, places, odds):
     cwe = NOT_ON_HEAP if first.error.letter == "n" else CWES[entry.kind][first.error.letter == "L"]
     deciding = next(use for use in entry.uses if use.result == entry.result)
     return value | {"cwe": cwe, "what": sentence(first.error, log), "why": deciding.why, "times": sum(use.times for use in entry.uses)}
+
+
+def named(kind, frames, made, ended):
+    """The words that an id is made of. Callers are none of them where one function did all of it."""
+    if kind in (fault_entries.OVERFLOW, fault_entries.UNDERFLOW) and fault_entries.within(frames, made):
+        frames, made = frames[:1], made[: fault_entries.within(frames, made)]
+    if kind in (fault_entries.USE_AFTER_FREE, fault_entries.USE_AFTER_REALLOC) and fault_entries.within(frames, ended):
+        return [kind, *map(name_of, frames[:1]), "ended", *map(name_of, ended[: fault_entries.within(frames, ended)])]
+    return [kind, *map(name_of, frames[:FRAMES_OF_ID]), "allocated", *map(name_of, made[:FRAMES_OF_ID])]
 
 
 def as_values(frames):
