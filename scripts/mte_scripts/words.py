@@ -14,6 +14,7 @@ SAYINGS = (
     (r"argument (\S+): expected one argument", r"\1 takes a value"),
     (r"argument (\S+): not allowed with argument (\S+)", r"\2 and \1 can't be given both"),
     (r"argument (\S+): (takes .*)", r"\1 \2"),
+    (r"argument (\S+): ignored explicit argument .*", r"\1 takes no value"),
     (r"argument (\S+): (.*)", r"\1: \2"),
 )
 
@@ -48,6 +49,25 @@ class Words(argparse.ArgumentParser):
         raise Refused(2, f"{message}; --help says what there is")
 
 
+class ProgramWords(Words):
+    """Takes options, and then the words of a program: `words`, from the first one that is no option, or from `--` on."""
+
+    def take(self, words: list, once: bool = False) -> argparse.Namespace:
+        end = self.end_of_options(words)
+        options = super().take(words[:end], once)
+        options.words = words[end + (words[end : end + 1] == ["--"]) :]
+        return options
+
+    def end_of_options(self, words: list) -> int:
+        """How many words come before those of the program."""
+        at = 0
+        while at < len(words) and words[at].startswith("-") and words[at] not in ("-", "--"):
+            option, equals, _ = words[at].partition("=")
+            action = self._option_string_actions.get(option)
+            at += 2 if action and action.nargs is None and not equals else 1
+        return min(at, len(words))
+
+
 class Help(argparse.Action):
     def __call__(self, parser, namespace, values, option_string=None):
         texts.write_help(parser.help_text)
@@ -71,6 +91,16 @@ def one_of(*values: int) -> Callable[[str], int]:
             *most, last = map(str, values)
             raise argparse.ArgumentTypeError(f"takes {', '.join(most)} or {last}, and not {word}")
         return int(word)
+
+    return taken
+
+
+def named(*names: str) -> Callable[[str], str]:
+    """One of these names."""
+    def taken(word: str) -> str:
+        if word not in names:
+            raise argparse.ArgumentTypeError(f"takes {', '.join(names[:-1])} or {names[-1]}, and not {word}")
+        return word
 
     return taken
 

@@ -3,7 +3,6 @@
 import array
 import contextlib
 import os
-import re
 import stat
 import time
 
@@ -11,6 +10,7 @@ from mte_scripts import private_folder, texts
 from mte_scripts.private_folder import NotPrivate
 from mte_scripts.recording import counts, recording, timelines
 from mte_scripts.running import Refused
+from mte_scripts.words import ProgramWords, number, some
 
 HELP = f"""\
 Run a program, and print how often it requested each size: a profile, the input of `mte_tool tune`.
@@ -86,54 +86,26 @@ FOREGROUND = "run it in the foreground (nginx: daemon off)"
 
 
 class Options:
-    def __init__(self, words, speaker):
-        self.live = self.snapshots = self.peak = self.measured = self.only = self.read = None
-        self.table = None
-        self.timeline = self.is_library = self.is_help = False
-        words = list(words)
-
-        def value(option, what):
-            if not words:
-                raise Refused(2, f"{option} wants {what}")
-            return words.pop(0)
-
-        while words and words[0].startswith("-"):
-            option = words.pop(0)
-            if option == "--":
-                break
-            if option in ("-h", "--help"):
-                self.is_help = True
-                return
-            if option == "--live":
-                self.live = "--live"
-            elif option == "--timeline":
-                self.timeline = True
-            elif option == "--classes":
-                self.table = texts.class_line(value(option, "a file"))
-                if not self.table:
-                    raise Refused(2, "the table of --classes has no class")
-            elif option == "--history":
-                self.snapshots = 32
-            elif option.startswith("--history="):
-                self.snapshots = snapshots_of(option.partition("=")[2])
-            elif option == "--library":
-                self.is_library = True
-            elif option in ("--peak", "--read", "--measured"):
-                setattr(self, option[2:], value(option, "a file"))
-            elif option == "--only":
-                self.only = value(option, "a name")
-            elif option == "--said":
-                speaker.said = value(option, "a file")
-            else:
-                raise Refused(2, f"there is no option {option}; --help says what there is")
-        self.words = words
-        chosen = {"--timeline": self.timeline, "--history": self.snapshots, "--classes": self.table is not None}
-        over_time = [name for name, is_so in chosen.items() if is_so]
+    def __init__(self, words):
+        parser = ProgramWords(HELP)
+        for name in ("--live", "--timeline", "--library"):
+            parser.add_argument(name, action="store_true")
+        parser.add_argument("--history", type=number(1, counts.SNAPSHOTS), nargs="?", const=32)
+        for name in ("--classes", "--peak", "--read", "--measured", "--only", "--said"):
+            parser.add_argument(name, type=some)
+        given = parser.take(words)
+        self.words, self.timeline, self.snapshots, self.table = given.words, given.timeline, given.history, None
+        self.is_library, self.read, self.only, self.said = given.library, given.read, given.only, given.said
+        self.peak, self.measured = given.peak, given.measured
+        if given.classes is not None:
+            self.table = texts.class_line(given.classes)
+            if not self.table:
+                raise Refused(2, "the table of --classes has no class")
+        over_time = [f"--{name}" for name in ("timeline", "history", "classes") if getattr(given, name)]
         if len(over_time) > 1:
             raise Refused(2, f"take one of {' and '.join(over_time)}")
-        if over_time:
-            self.live = over_time[0]
-        elif self.peak:
+        self.live = over_time[0] if over_time else "--live" if given.live else None
+        if self.peak and not over_time:
             raise Refused(2, "--peak goes with --timeline, --history or --classes")
         if self.measured and not self.live:
             raise Refused(2, "--measured goes with --live, --timeline, --history or --classes")
@@ -149,12 +121,6 @@ class Options:
         """That of the file of counts."""
         forms = {"--history": counts.HISTORY, "--live": counts.LIVE, None: counts.ALL}
         return forms.get(self.live, timelines.FORM)
-
-
-def snapshots_of(word):
-    if not re.fullmatch("[0-9]{1,2}", word) or not 1 <= int(word) <= counts.SNAPSHOTS:
-        raise Refused(2, f"--history takes 1 to {counts.SNAPSHOTS} snapshots, and not {word}")
-    return int(word)
 
 
 # ---- counts
@@ -376,9 +342,8 @@ def keep_library(run, library):
 
 
 def profile(words, speaker):
-    options = Options(words, speaker)
-    if options.is_help:
-        return recording.write("the help", texts.help_text(HELP))
+    options = Options(words)
+    speaker.said = options.said
     if options.is_library:
         return print_library(options, speaker)
     if options.read:
