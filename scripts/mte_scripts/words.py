@@ -29,11 +29,30 @@ class Words(argparse.ArgumentParser):
 
     def take(self, words: list, once: bool = False) -> argparse.Namespace:
         """The options by their names. With ONCE none of them may be there twice."""
-        end = words.index("--") if "--" in words else len(words)
-        given = [word.partition("=")[0] for word in words[:end] if word.startswith("--")]
-        if twice := [word for word in given if once and given.count(word) > 1]:
+        given, rest = self.split(words)
+        names = [word.partition("=")[0] for word in given if word.startswith("--")]
+        if twice := [name for name in names if once and names.count(name) > 1]:
             self.error(f"{twice[0]} is there twice")
-        options, rest = self.parse_intermixed_args(words[:end]), words[end + 1 :]
+        options = self.parse_intermixed_args(given)
+        return self.with_rest(options, rest)
+
+    def split(self, words: list) -> "tuple[list, list]":
+        """The options and words up to `--`, an option and its value in one word; and those after it."""
+        given, at = [], 0
+        while at < len(words) and words[at] != "--" and not self.is_last(words[at]):
+            word, at = words[at], at + 1
+            option = self._option_string_actions.get(word)
+            if option and option.nargs is None and at < len(words) and words[at] not in ("--", *self._option_string_actions):
+                word, at = f"{word}={words[at]}", at + 1
+            given.append(word)
+        return given, words[at + (words[at : at + 1] == ["--"]) :]
+
+    def is_last(self, word: str) -> bool:
+        """Whether a word that is no option's value ends the options."""
+        return False
+
+    def with_rest(self, options: argparse.Namespace, rest: list) -> argparse.Namespace:
+        """The options with the words after `--`."""
         others = [action.dest for action in self._actions if not action.option_strings]
         if rest and not others:
             self.error(f"there is no place for {rest[0]}")
@@ -52,20 +71,12 @@ class Words(argparse.ArgumentParser):
 class ProgramWords(Words):
     """Takes options, and then the words of a program: `words`, from the first one that is no option, or from `--` on."""
 
-    def take(self, words: list, once: bool = False) -> argparse.Namespace:
-        end = self.end_of_options(words)
-        options = super().take(words[:end], once)
-        options.words = words[end + (words[end : end + 1] == ["--"]) :]
-        return options
+    def is_last(self, word: str) -> bool:
+        return not word.startswith("-") or word == "-"
 
-    def end_of_options(self, words: list) -> int:
-        """How many words come before those of the program."""
-        at = 0
-        while at < len(words) and words[at].startswith("-") and words[at] not in ("-", "--"):
-            option, equals, _ = words[at].partition("=")
-            action = self._option_string_actions.get(option)
-            at += 2 if action and action.nargs is None and not equals else 1
-        return min(at, len(words))
+    def with_rest(self, options: argparse.Namespace, rest: list) -> argparse.Namespace:
+        options.words = rest
+        return options
 
 
 class Help(argparse.Action):
