@@ -27,13 +27,13 @@ class Words(argparse.ArgumentParser):
         self.help_text = help_text
         self.add_argument("-h", "--help", action=Help, nargs=0, default=argparse.SUPPRESS)
 
-    def take(self, words: list, once: bool = False) -> argparse.Namespace:
-        """The options by their names. With ONCE none of them may be there twice."""
+    def take(self, words: list, once: bool = False, into: "argparse.Namespace | None" = None) -> argparse.Namespace:
+        """The options by their names, or INTO what has them then. With ONCE none of them may be there twice."""
         given, rest = self.split(words)
-        names = [word.partition("=")[0] for word in given if word.startswith("--")]
+        names = self.given(words)
         if twice := [name for name in names if once and names.count(name) > 1]:
             self.error(f"{twice[0]} is there twice")
-        options = self.parse_intermixed_args(given)
+        options = self.parse_intermixed_args(given, into)
         return self.with_rest(options, rest)
 
     def split(self, words: list) -> "tuple[list, list]":
@@ -46,6 +46,10 @@ class Words(argparse.ArgumentParser):
                 word, at = f"{word}={words[at]}", at + 1
             given.append(word)
         return given, words[at + (words[at : at + 1] == ["--"]) :]
+
+    def given(self, words: list) -> list:
+        """The names of the options that are there."""
+        return [word.partition("=")[0] for word in self.split(words)[0] if word.startswith("--")]
 
     def is_last(self, word: str) -> bool:
         """Whether a word that is no option's value ends the options."""
@@ -85,7 +89,7 @@ class Help(argparse.Action):
         parser.exit()
 
 
-def number(least: int, most: int) -> Callable[[str], int]:
+def between(least: int, most: int) -> Callable[[str], int]:
     """A number of a range."""
     def taken(word: str) -> int:
         if not re.fullmatch("[0-9]{1,18}", word) or not least <= int(word) <= most:

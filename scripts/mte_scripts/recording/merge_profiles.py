@@ -7,7 +7,7 @@ import sys
 
 from mte_scripts import texts
 from mte_scripts.texts import LARGEST_SIZE, MOST_COUNT, MOST_SNAPSHOTS, Refused
-from mte_scripts.words import Words, number
+from mte_scripts.words import Words, between
 
 HELP = f"""\
 Make one profile of many: the counts of each size are added up. Or make one history of many.
@@ -176,7 +176,7 @@ def add(rows, key, counts):
 
 def merge(words):
     parser = Words(HELP)
-    parser.add_argument("--snapshots", type=number(1, MOST_SNAPSHOTS), default=MOST_SNAPSHOTS)
+    parser.add_argument("--snapshots", type=between(1, MOST_SNAPSHOTS), default=MOST_SNAPSHOTS)
     parser.add_argument("--files-from")
     parser.add_argument("files", nargs="*")
     options = parser.take(words)

@@ -1,5 +1,6 @@
 """Runs a program and prints its profile: how often it requested each size. `profile_program --help` says all."""
 
+import argparse
 import array
 import contextlib
 import os
@@ -10,7 +11,7 @@ from mte_scripts import private_folder, texts
 from mte_scripts.private_folder import NotPrivate
 from mte_scripts.recording import counts, recording, timelines
 from mte_scripts.running import Refused
-from mte_scripts.words import ProgramWords, number, some
+from mte_scripts.words import ProgramWords, between, some
 
 HELP = f"""\
 Run a program, and print how often it requested each size: a profile, the input of `mte_tool tune`.
@@ -85,27 +86,25 @@ OPEN_PLACE = "choose a place that all can reach, such as /usr/local/lib"
 FOREGROUND = "run it in the foreground (nginx: daemon off)"
 
 
-class Options:
+class Options(argparse.Namespace):
     def __init__(self, words):
         parser = ProgramWords(HELP)
-        for name in ("--live", "--timeline", "--library"):
-            parser.add_argument(name, action="store_true")
-        parser.add_argument("--history", type=number(1, counts.SNAPSHOTS), nargs="?", const=32)
+        parser.add_argument("--live", action="store_const", const="--live")
+        parser.add_argument("--timeline", action="store_true")
+        parser.add_argument("--library", action="store_true")
+        parser.add_argument("--history", type=between(1, counts.SNAPSHOTS), nargs="?", const=32)
         for name in ("--classes", "--peak", "--read", "--measured", "--only", "--said"):
             parser.add_argument(name, type=some)
-        given = parser.take(words)
-        self.words, self.timeline, self.snapshots, self.table = given.words, given.timeline, given.history, None
-        self.is_library, self.read, self.only, self.said = given.library, given.read, given.only, given.said
-        self.peak, self.measured = given.peak, given.measured
-        if given.classes is not None:
-            self.table = texts.class_line(given.classes)
-            if not self.table:
-                raise Refused(2, "the table of --classes has no class")
-        over_time = [f"--{name}" for name in ("timeline", "history", "classes") if getattr(given, name)]
+        parser.take(words, into=self)
+        self.table = None if self.classes is None else texts.class_line(self.classes)
+        if self.classes is not None and not self.table:
+            raise Refused(2, "the table of --classes has no class")
+        over_time = [f"--{name}" for name in ("timeline", "history", "classes") if getattr(self, name)]
         if len(over_time) > 1:
             raise Refused(2, f"take one of {' and '.join(over_time)}")
-        self.live = over_time[0] if over_time else "--live" if given.live else None
-        if self.peak and not over_time:
+        if over_time:
+            self.live = over_time[0]
+        elif self.peak:
             raise Refused(2, "--peak goes with --timeline, --history or --classes")
         if self.measured and not self.live:
             raise Refused(2, "--measured goes with --live, --timeline, --history or --classes")
@@ -115,7 +114,7 @@ class Options:
         chosen = {"SIZES_LIVE": self.live == "--live", "SIZES_TIMELINE": self.timeline}
         found = {name: "1" if is_so else None for name, is_so in chosen.items()}
         found["SIZES_CLASSES"] = None if self.table is None else " ".join(map(str, self.table))
-        return {**found, "SIZES_ONLY": self.only, "SIZES_HISTORY": str(self.snapshots) if self.snapshots else None}
+        return {**found, "SIZES_ONLY": self.only, "SIZES_HISTORY": str(self.history) if self.history else None}
 
     def form(self):
         """That of the file of counts."""
@@ -344,7 +343,7 @@ def keep_library(run, library):
 def profile(words, speaker):
     options = Options(words)
     speaker.said = options.said
-    if options.is_library:
+    if options.library:
         return print_library(options, speaker)
     if options.read:
         return read_only(options, speaker)
