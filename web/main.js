@@ -12,6 +12,8 @@ const EXAMPLES = {
   "errors that are let pass": "malloc 0 40\nstore 0 40 8 11\nstore 0 44 4 22\nload 0 47 1\nload 0 48 1\n",
 };
 
+const MOST_BEGIN = 4096; // bytes by which a file of another tool is known
+
 const $ = (id) => document.getElementById(id);
 const data = JSON.parse($("data").textContent);
 const waiting = new Map();
@@ -94,7 +96,8 @@ async function takeText(text, name) {
     show("tune");
     return takeCounts(kind, text, name);
   }
-  return say(`${name} is no profile, history, timeline, trace, sheet or link: its first word is "${word.slice(0, 40)}".`, true);
+  const says = `${name} is no profile, history, timeline, trace, sheet or link: its first word is "${word.slice(0, 40)}".`;
+  return say(otherTool(name, text.slice(0, MOST_BEGIN)) ?? says, true);
 }
 
 async function takeSheet(text, name) {
@@ -125,7 +128,8 @@ async function takeFile(file) {
   if (file.size > MOST_EDITED && EVENTS.test(await file.slice(0, 80).text())) return takeBoth(file, file.name);
   const bytes = new Uint8Array(await file.arrayBuffer());
   if (!isText(bytes)) {
-    say(`${file.name} is no text of mte_tool: ${notText(bytes)}.`, true);
+    const begin = String.fromCharCode(...bytes.subarray(0, MOST_BEGIN));
+    say(otherTool(file.name, begin) ?? `${file.name} is no text of mte_tool: ${notText(bytes)}.`, true);
     return;
   }
   await takeText(new TextDecoder().decode(bytes), file.name);

@@ -127,6 +127,23 @@ function isText(bytes) {
   return true;
 }
 
+// How files of other tools begin, each byte as a character. `profile_program --import` reads them.
+const OTHER_TOOLS = [
+  [/^\x1f\x8b|^\x28\xb5\x2f\xfd/, "is packed, as heaptrack and Go write their files"],
+  [/^heap profile:|^heap_v2\//, "looks like a heap profile of gperftools, jemalloc or Go"],
+  [/^v [\da-f]+ [\da-f]+\n/, "looks like a record of heaptrack"],
+  [/^\{\s*"dhatFileVersion"/, "looks like the JSON of DHAT"],
+  [/\{\s*"jemalloc"\s*:/, "looks like statistics of jemalloc"],
+  [/^<malloc version="scudo|^Stats: SizeClassAllocator/, "looks like statistics of Scudo"],
+  [/^\x0a[\0-\x7f]\x08/, "looks like a heap profile of pprof"],
+];
+
+/** What a file or a text of this name is, if it begins as one of another tool does, and what makes a profile of it; else null. */
+function otherTool(name, begin) {
+  const found = OTHER_TOOLS.find(([pattern]) => pattern.test(begin));
+  return found ? `${name} ${found[1]}. The page takes the profile that \`${data.importer}\` makes of it.` : null;
+}
+
 /** Why the bytes of a file are no text of mte_tool, with what mends it. */
 function notText(bytes) {
   const begins = (...marks) => marks.every((mark, i) => bytes[i] === mark);

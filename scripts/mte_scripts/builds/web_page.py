@@ -124,6 +124,7 @@ def page(modules, profile=None, trace=None, replay=None, options=None):
     data = {name: base64.b64encode(bytes_).decode() for name, bytes_ in modules.items()}
     data["examples"] = {name: example(file) for name, file in EXAMPLES.items()}
     data["scudo"], data["android"] = example("scudo.classes").strip(), example("scudo_android.classes").strip()
+    data["importer"] = f"{texts.called('profile_program')} --import"
     data["claims"], data["map"] = claims.templates(), scudo_map.for_page()
     data["given"] = {name: {"name": html_safe.shown(of[0]), "text": of[1]} for name, of in (("profile", profile), ("trace", trace)) if of}
     if options:

@@ -10,8 +10,9 @@ import time
 from mte_scripts import private_folder, texts
 from mte_scripts.private_folder import NotPrivate
 from mte_scripts.recording import counts, recording, timelines
+from mte_scripts.recording.imports import found, importing
 from mte_scripts.running import Refused
-from mte_scripts.words import ProgramWords, between, some
+from mte_scripts.words import ProgramWords, between, named, some
 
 HELP = f"""\
 Run a program, and print how often it requested each size: a profile, the input of `mte_tool tune`.
@@ -20,6 +21,7 @@ Usage: profile_program [--live] [--only NAME] [--said FILE] PROGRAM ARGS..
        profile_program --timeline|--history[=T]|--classes TABLE [--peak FILE] [--measured FILE] [--only NAME] PROGRAM ARGS..
        profile_program --library [DIR]
        profile_program --read COUNTS
+       profile_program --import FILE [--as FORMAT] [--live|--timeline|--history[=T]] [--peak FILE]
 
   --live         count only the blocks that are live at the peak: when the most bytes are live
   --timeline     print a timeline instead: each request and each free of the run, by size
@@ -35,6 +37,8 @@ Usage: profile_program [--live] [--only NAME] [--said FILE] PROGRAM ARGS..
   --only NAME    count only processes whose program has this name, as NAME of /usr/bin/NAME
   --library      print the path of the library that counts, and run nothing; with DIR, put it there for services
   --read COUNTS  print the profile, the history or the timeline of the counts in the file COUNTS, also while they are still made
+  --import FILE  print the profile of a file that another tool wrote (standard input for `-`); standard error says what it tells
+  --as FORMAT    of --import: the format, where it is not found by itself
   --said FILE    write what this script says of the run into FILE too, a line for each, apart from what the program says
 
 The program is run with a library (LD_PRELOAD) that counts its calls of malloc, calloc, realloc, memalign, aligned_alloc, valloc,
@@ -67,6 +71,13 @@ For a service that something else starts: set LD_PRELOAD to the path that --libr
 yet and that the service may write (and SIZES_LIVE=1 for --live, SIZES_TIMELINE=1 for --timeline, SIZES_HISTORY=T for --history=T,
 SIZES_CLASSES='2 4 ..' for --classes, with the table's numbers, SIZES_ONLY=NAME for --only); then read the file with --read.
 
+--import takes these formats, packed by gzip or zstd or not:
+{importing.HELP}
+Without an option all requests are counted, where the file has them; with --live the blocks that were live: at the peak in files of
+heaptrack and DHAT, in others when the file was written. heaptrack alone has the order of requests and frees, for --timeline and
+--history. Where a file has only the sum of several blocks, each counts at their average; where it has only size classes, at the
+most that its class holds.
+
 Exit status:
   0  the profile, the history or the timeline is printed
   1  the same; the program itself ended with another status than 0, which standard error has
@@ -77,6 +88,7 @@ Exit status:
 Examples:
   profile_program sort /etc/services > sort.profile
   profile_program --timeline sort /etc/services > sort.timeline
+  profile_program --timeline --import heaptrack.sort.4711.zst > sort.timeline
 """
 
 LIBRARY = "mte_tool_sizes.so"  # for services
@@ -95,6 +107,8 @@ class Options(argparse.Namespace):
         parser.add_argument("--history", type=between(1, counts.SNAPSHOTS), nargs="?", const=32)
         for name in ("--classes", "--peak", "--read", "--measured", "--only", "--said"):
             parser.add_argument(name, type=some)
+        parser.add_argument("--import", type=some, dest="file")
+        parser.add_argument("--as", type=named(*importing.NAMES), dest="format")
         parser.take(words, into=self)
         self.table = None if self.classes is None else texts.class_line(self.classes)
         if self.classes is not None and not self.table:
@@ -108,6 +122,18 @@ class Options(argparse.Namespace):
             raise Refused(2, "--peak goes with --timeline, --history or --classes")
         if self.measured and not self.live:
             raise Refused(2, "--measured goes with --live, --timeline, --history or --classes")
+        if self.file is not None:
+            self.refuse_beside_import()
+        elif self.format is not None:
+            raise Refused(2, "--as goes with --import")
+
+    def refuse_beside_import(self):
+        others = {"--read": self.read, "--only": self.only, "--measured": self.measured, "--classes": self.table,
+                  "--library": self.library}
+        if given := [name for name, value in others.items() if value]:
+            raise Refused(2, f"--import reads a file, and {given[0]} is for a run")
+        if self.words:
+            raise Refused(2, f"--import takes one file, and runs no program: there is no place for {self.words[0]}")
 
     def settings(self):
         """The library's variables; those without a value are unset."""
@@ -240,6 +266,18 @@ def read_only(options, speaker):
     raise Refused(3, f"nothing was counted in {options.read} yet")
 
 
+def import_file(options, speaker):
+    """Prints what a file of another tool counts, and says what that is."""
+    wanted = options.live.removeprefix("--") if options.live else found.ALL
+    got = importing.imported(options.file, options.format, wanted, options.history)
+    for line in got.told:
+        speaker.say(line)
+    for piece in got.text:
+        recording.write(got.what, piece)
+    write_peak(options.peak, got.peak)
+    return 0
+
+
 # ---- the library of a service
 
 def print_library(options, speaker):
@@ -345,6 +383,8 @@ def profile(words, speaker):
     speaker.said = options.said
     if options.library:
         return print_library(options, speaker)
+    if options.file is not None:
+        return import_file(options, speaker)
     if options.read:
         return read_only(options, speaker)
     if not options.words:

@@ -53,10 +53,7 @@ class Record(NamedTuple):
     class_bytes: int  # the classes of whose peaks the history has the moments are so wide; 0 where they are those of a table
 
     def text(self) -> Iterator[bytes]:
-        """The timeline, in pieces."""
-        yield b"timeline\n"
-        for at in range(0, len(self.events), PIECE):
-            yield b"".join(map(LINES.__getitem__, self.events[at : at + PIECE]))
+        return text_of(self.events)
 
     def requests(self) -> dict:
         """The profile of all requests."""
@@ -75,6 +72,13 @@ def lines() -> list[bytes]:
 
 
 LINES = lines()
+
+
+def text_of(events: array) -> Iterator[bytes]:
+    """The timeline of these events, in pieces."""
+    yield b"timeline\n"
+    for at in range(0, len(events), PIECE):
+        yield b"".join(map(LINES.__getitem__, events[at : at + PIECE]))
 
 
 def named(by_counter: dict) -> dict:

@@ -1,0 +1,112 @@
+"""Makes a profile, a history or a timeline of a file of another tool: finds its format, reads it, and says what it tells of sizes.
+
+A format is a module in FORMATS: its NAME, WHAT it is, the KINDS that it has, whether a file BEGINS so, and what it READS of it."""
+
+from array import array
+from collections import Counter
+from typing import Iterable, NamedTuple, Optional
+
+from mte_scripts import texts
+from mte_scripts.recording import timelines
+from mte_scripts.recording.imports import dhat, found, heap_text, heaptrack, jemalloc_stats, malloc_info, pprof, scudo_stats
+from mte_scripts.recording.imports.found import Found
+from mte_scripts.recording.imports.source import Source, Wrong
+from mte_scripts.running import Refused
+
+FORMATS = (heap_text, heaptrack, dhat, jemalloc_stats, malloc_info, scudo_stats, pprof)
+NAMES = {each.NAME: each for each in FORMATS}
+NOT_THERE = {found.LIVE: "live blocks", found.TIMELINE: "order of requests and frees", found.HISTORY: "moments"}
+HELP = "\n".join(f"  {each.NAME:15}{each.WHAT}" for each in FORMATS)
+HEAD = 1 << 16  # bytes by which a format is found
+# what is no format, and what to do
+OTHERS = (
+    (b"desc: ", "it is of valgrind's massif, which has the bytes of each stack but no number of blocks: take `valgrind --tool=dhat`"),
+    (b"___ Begin jemalloc statistics", "they are as a table: MALLOC_CONF=stats_print:true,stats_print_opts:J prints them as JSON"),
+    (b"snapshots ", "it is a history of mte_tool already"),
+    (b"timeline\n", "it is a timeline of mte_tool already"),
+)
+
+
+class Imported(NamedTuple):
+    """What is written, and said."""
+
+    what: str
+    text: Iterable[bytes]
+    peak: str  # the profile of the blocks live at the peak, where it is known
+    told: list
+
+
+def imported(path: str, name: Optional[str], wanted: str, snapshots: int) -> Imported:
+    """What a file has, in the format of this name or the one that it is found to be of."""
+    with Source(path) as source:
+        try:
+            form = NAMES[name] if name else form_of(source)
+            if wanted not in form.KINDS and wanted != found.ALL:
+                raise Wrong(f"{form.WHAT} has no {NOT_THERE[wanted]}: without --{wanted} its blocks are counted")
+            result = form.read(source, wanted)
+        except Wrong as wrong:
+            raise Refused(2, f"{source.name}: {wrong}") from None
+    if not result.counts:
+        raise Refused(3, f"{source.name}: it counts nothing")
+    return made(result, wanted, snapshots)
+
+
+def form_of(source: Source):
+    """The format of a file, by how it begins."""
+    head = source.begin(HEAD)
+    if not head:
+        raise Refused(3, f"{source.name} is empty: did the command that writes it fail?")
+    for mark, says in OTHERS:
+        if head.startswith(mark):
+            raise Wrong(says)
+    for form in FORMATS:
+        if form.begins(head):
+            return form
+    if texts.counted(head.split(b"\n", 1)[0]):
+        raise Wrong("it is a profile of mte_tool already")
+    lines = head[:1000].split(b"\n")
+    if not any(texts.binary(line.removesuffix(b"\r")) for line in lines[:-1] or lines):
+        raise Wrong(f"it is of no format that --help lists; --as names one. It begins with {texts.shown(lines[0])}")
+    return pprof
+
+
+def made(result: Found, wanted: str, snapshots: int) -> Imported:
+    told = list(result.told)
+    if wanted == found.ALL and result.kind == found.LIVE:
+        told.append("! it has no count of all requests: its live blocks are counted, as by --live")
+    profile = texts.profile_text(timelines.named(result.counts))
+    if result.events is None or wanted in (found.ALL, found.LIVE):
+        return Imported("the profile", [profile.encode()], profile if result.kind == found.LIVE else "", told)
+    return made_of_run(result.events, result.peak_at, wanted, snapshots, told)
+
+
+def made_of_run(events: array, peak_at: int, wanted: str, snapshots: int, told: list) -> Imported:
+    """The timeline, or the history of some moments."""
+    peak = live_at(events, [peak_at])[peak_at]
+    if wanted == found.TIMELINE and length_of(events) <= timelines.MOST_TEXT:
+        return Imported("the timeline", timelines.text_of(events), texts.profile_text(peak), told)
+    if wanted == found.TIMELINE:
+        groups = tuple(range(timelines.CLASSES + 1))
+        moments = {**timelines.peaks(events, 0, Counter(), groups, []), peak_at: peak}
+        of = f"of the {len(moments)} moments at which each class of 16 bytes had the most blocks"
+        told.append(f"the timeline would have more than {timelines.MOST_TEXT:,} bytes: a history is made in its place, {of}")
+    else:
+        spaced = {round(len(events) * each / snapshots) for each in range(1, snapshots)}
+        moments = live_at(events, sorted(spaced | {peak_at}))
+        told.append(f"the history has {found.number(len(moments), 'moment')}, evenly spaced but for that of the most bytes")
+    return Imported("the history", [texts.history_text(timelines.history_of(moments)).encode()], texts.profile_text(peak), told)
+
+
+def length_of(events: array) -> int:
+    """The bytes of the timeline."""
+    return sum(times * len(timelines.LINES[code]) for code, times in Counter(events).items())
+
+
+def live_at(events: array, moments: list) -> dict:
+    """The live blocks at these ascending moments."""
+    live: Counter = Counter()
+    at, begin = {}, 0
+    for moment in moments:
+        live.update(timelines.by_size(events[begin:moment]))
+        at[moment], begin = timelines.named(live), moment
+    return at
