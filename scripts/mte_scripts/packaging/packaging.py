@@ -22,8 +22,8 @@ NAME = "mte-tool"
 # what is packed: the program's path, its manifest, the library's folder and the page's modules, or None; where each of these comes from;
 # and names
 Parts = namedtuple("Parts", "program manifest library modules origins left_out version commit time kit maintainer")
-COMMANDS = """check_sheet draw_waste find_faults manifest memcached_profile memcached_sizes merge_profiles page pools profile_program report
-scudo_classes trace_program traced_c++ traced_cc tune_program""".split()
+COMMANDS = """check_sheet draw_waste find_faults fleet_profiles fleet_regret manifest memcached_profile memcached_sizes merge_profiles page
+pools profile_program report scudo_classes trace_program traced_c++ traced_cc tune_program""".split()
 RECORDERS = ("sizes", "trace")
 MULTIARCH = "x86_64-linux-gnu"  # what the toolchain builds for
 SHARE, PRIVATE, LIBRARIES = f"usr/share/{NAME}", f"usr/lib/{NAME}", f"usr/lib/{MULTIARCH}"
