@@ -14,6 +14,7 @@ SAYINGS = (
     (r"argument (\S+): expected one argument", r"\1 takes a value"),
     (r"argument (\S+): not allowed with argument (\S+)", r"\2 and \1 can't be given both"),
     (r"argument (\S+): (takes .*)", r"\1 \2"),
+    (r"argument (\S+): ignored explicit argument .*", r"\1 takes no value"),
     (r"argument (\S+): (.*)", r"\1: \2"),
 )
 
@@ -26,13 +27,36 @@ class Words(argparse.ArgumentParser):
         self.help_text = help_text
         self.add_argument("-h", "--help", action=Help, nargs=0, default=argparse.SUPPRESS)
 
-    def take(self, words: list, once: bool = False) -> argparse.Namespace:
-        """The options by their names. With ONCE none of them may be there twice."""
-        end = words.index("--") if "--" in words else len(words)
-        given = [word.partition("=")[0] for word in words[:end] if word.startswith("--")]
-        if twice := [word for word in given if once and given.count(word) > 1]:
+    def take(self, words: list, once: bool = False, into: "argparse.Namespace | None" = None) -> argparse.Namespace:
+        """The options by their names, or INTO what has them then. With ONCE none of them may be there twice."""
+        given, rest = self.split(words)
+        names = self.given(words)
+        if twice := [name for name in names if once and names.count(name) > 1]:
             self.error(f"{twice[0]} is there twice")
-        options, rest = self.parse_intermixed_args(words[:end]), words[end + 1 :]
+        options = self.parse_intermixed_args(given, into)
+        return self.with_rest(options, rest)
+
+    def split(self, words: list) -> "tuple[list, list]":
+        """The options and words up to `--`, an option and its value in one word; and those after it."""
+        given, at = [], 0
+        while at < len(words) and words[at] != "--" and not self.is_last(words[at]):
+            word, at = words[at], at + 1
+            option = self._option_string_actions.get(word)
+            if option and option.nargs is None and at < len(words) and words[at] not in ("--", *self._option_string_actions):
+                word, at = f"{word}={words[at]}", at + 1
+            given.append(word)
+        return given, words[at + (words[at : at + 1] == ["--"]) :]
+
+    def given(self, words: list) -> list:
+        """The names of the options that are there."""
+        return [word.partition("=")[0] for word in self.split(words)[0] if word.startswith("--")]
+
+    def is_last(self, word: str) -> bool:
+        """Whether a word that is no option's value ends the options."""
+        return False
+
+    def with_rest(self, options: argparse.Namespace, rest: list) -> argparse.Namespace:
+        """The options with the words after `--`."""
         others = [action.dest for action in self._actions if not action.option_strings]
         if rest and not others:
             self.error(f"there is no place for {rest[0]}")
@@ -48,13 +72,24 @@ class Words(argparse.ArgumentParser):
         raise Refused(2, f"{message}; --help says what there is")
 
 
+class ProgramWords(Words):
+    """Takes options, and then the words of a program: `words`, from the first one that is no option, or from `--` on."""
+
+    def is_last(self, word: str) -> bool:
+        return not word.startswith("-") or word == "-"
+
+    def with_rest(self, options: argparse.Namespace, rest: list) -> argparse.Namespace:
+        options.words = rest
+        return options
+
+
 class Help(argparse.Action):
     def __call__(self, parser, namespace, values, option_string=None):
         texts.write_help(parser.help_text)
         parser.exit()
 
 
-def number(least: int, most: int) -> Callable[[str], int]:
+def between(least: int, most: int) -> Callable[[str], int]:
     """A number of a range."""
     def taken(word: str) -> int:
         if not re.fullmatch("[0-9]{1,18}", word) or not least <= int(word) <= most:
@@ -71,6 +106,16 @@ def one_of(*values: int) -> Callable[[str], int]:
             *most, last = map(str, values)
             raise argparse.ArgumentTypeError(f"takes {', '.join(most)} or {last}, and not {word}")
         return int(word)
+
+    return taken
+
+
+def named(*names: str) -> Callable[[str], str]:
+    """One of these names."""
+    def taken(word: str) -> str:
+        if word not in names:
+            raise argparse.ArgumentTypeError(f"takes {', '.join(names[:-1])} or {names[-1]}, and not {word}")
+        return word
 
     return taken
 

@@ -1,6 +1,5 @@
 """Runs a program that traced_cc built, and tells its memory errors on the tagged heap. `find_faults --help` says all."""
 
-import argparse
 import contextlib
 import os
 import shutil
@@ -17,6 +16,7 @@ from mte_scripts.faults.slot_model import Slots
 from mte_scripts.formats import MOST_GRANULES, OPTIONS
 from mte_scripts.recording import children
 from mte_scripts.texts import Refused
+from mte_scripts.words import ProgramWords, between
 
 HELP = """Run a program that traced_cc or traced_c++ built, and tell its memory errors: the source line of each wrong load, store and free,
 where its block was allocated and freed, and whether the tagged heap catches it, or why it does not.
@@ -72,58 +72,39 @@ ENDED = "status"  # the file of a kept folder that has the exit status of the pr
 
 
 def read_words(words):
-    def refuse(text):
-        raise Refused(2, f"{text}; --help says what there is")
-
-    parser = argparse.ArgumentParser(add_help=False, allow_abbrev=False)
-    parser.error = refuse
-    parser.add_argument("-h", "--help", action="store_true")
+    parser = ProgramWords(HELP)
     for name, (least, most, default) in RANGES.items():
-        parser.add_argument(f"--{name}", type=ranged(least, most), default=default)
+        parser.add_argument(f"--{name}", type=between(least, most), default=default)
     for name in ("keep", "read", "only", "page", "json", "sarif", "suppressions", "baseline", "tombstone", "tombstones"):
         parser.add_argument(f"--{name}")
     for name in ("annotations", "children", "whole"):
         parser.add_argument(f"--{name}", action="store_true")
-    parser.add_argument("program", nargs=argparse.REMAINDER)
-    options = parser.parse_args(words)
-    if options.program[:1] == ["--"]:
-        del options.program[0]
-    if options.help:
-        return options
-    if bool(options.program) == bool(options.read):
-        refuse("there is no program" if not options.program else "--read takes no program")
+    options = parser.take(words)
+    if bool(options.words) == bool(options.read):
+        parser.error("there is no program" if not options.words else "--read takes no program")
     if options.read and options.keep:
-        refuse("--read and --keep can't be given both")
+        parser.error("--read and --keep can't be given both")
     if options.children and (options.only or options.page):
-        refuse(f"--children and --{'only' if options.only else 'page'} can't be given both")
+        parser.error(f"--children and --{'only' if options.only else 'page'} can't be given both")
     return options
-
-
-def ranged(least, most):
-    def number(word):
-        if not word.isascii() or not word.isdigit() or not least <= int(word) <= most:
-            raise argparse.ArgumentTypeError(f"{word} is not from {least} to {most}")
-        return int(word)
-
-    return number
 
 
 def record(options, folder):
     """Runs the program; its log is in the folder then."""
     log = os.path.join(folder, "%p" if options.children else "log")
-    path = shutil.which(options.program[0])
+    path = shutil.which(options.words[0])
     if not path:
-        raise Refused(3, f"there is no program {options.program[0]}")
+        raise Refused(3, f"there is no program {options.words[0]}")
     environment = dict(os.environ, ACCESSES=log)
     environment.pop("ACCESSES_ONLY", None)
     if options.only:
         environment["ACCESSES_ONLY"] = options.only
     try:
-        status = children.run(options.program, GRACE, env=environment, stdout=2)
+        status = children.run(options.words, GRACE, env=environment, stdout=2)
     except OSError as error:
-        raise Refused(3, f"{options.program[0]} can't be run: {error.strerror}") from None
+        raise Refused(3, f"{options.words[0]} can't be run: {error.strerror}") from None
     if not any(os.path.exists(os.path.join(folder, name)) for name in fault_answer.logs(folder, options.children) or [log]):
-        whom = f"no process that has the name {options.only} and that" if options.only else f"{options.program[0]}: no process that"
+        whom = f"no process that has the name {options.only} and that" if options.only else f"{options.words[0]}: no process that"
         raise Refused(3, f"{whom} traced_cc built made a log in {folder}: build the program with scripts/traced_cc")
     keep(os.path.join(folder, ENDED), b"%d\n" % (status if status >= 0 else 128 - status))
 
@@ -252,7 +233,7 @@ def verdict(processes, names, ended):
 
 def say(options, processes, lists, ended, status):
     """Writes the answer, and the files that were asked for."""
-    name = os.path.basename(options.program[0] if options.program else os.path.abspath(options.read))
+    name = os.path.basename(options.words[0] if options.words else os.path.abspath(options.read))
     lines = fault_answer.of_many(processes, options) if options.children else fault_answer.of_one(processes[0], options)
     lines += fault_answer.counts(processes, lists.known) + fault_report.ending(ended)
     for judged in processes:
@@ -302,7 +283,7 @@ def keep(path, content):
 
 def write_page(options, judged, lines):
     """The page with the replay and a note at each error that an event asks; without the page's engines, that of the report alone."""
-    name = os.path.basename(options.program[0] if options.program else os.path.abspath(options.read))
+    name = os.path.basename(options.words[0] if options.words else os.path.abspath(options.read))
     modules = web_page.at_hand()
     if modules:
         heap = {"granules": options.granules, "seed": spread(1)[0] if options.seeds else options.seed, "quarantine": quarantine_of(options, judged.log)}
@@ -352,11 +333,6 @@ def folder_to_keep(path):
 
 def main(words):
     options = read_words(words)
-    if options.help:
-        texts.write_help(HELP)
-        return 0
-    if not words:
-        raise Refused(2, "there is no program")
     if options.page and not web_page.at_hand():
         texts.say(NAME, f"the engines of the page are not built (`scripts/page` proves and builds them): {options.page} has the report alone")
     if options.read:

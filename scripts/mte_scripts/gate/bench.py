@@ -9,7 +9,7 @@ from pathlib import Path
 
 from mte_scripts import formats, places, private_folder, running
 from mte_scripts.gate import growth
-from mte_scripts.words import Words, number
+from mte_scripts.words import Words, between
 
 HELP = """\
 Compare mte_tool with bench/plain, which does the same in plain Rust, and print a table in Markdown.
@@ -98,8 +98,8 @@ def options_of(words):
     parser = Words(HELP)
     for name in ("--growth", "--instructions", "--branches"):
         parser.add_argument(name, action="store_true")
-    parser.add_argument("--runs", type=number(1, 10_000), default=20)
-    parser.add_argument("--seed", type=number(1, formats.OPTIONS["seed"].most), default=1)
+    parser.add_argument("--runs", type=between(1, 10_000), default=20)
+    parser.add_argument("--seed", type=between(1, formats.OPTIONS["seed"].most), default=1)
     parser.add_argument("--keep")
     parser.add_argument("rows", nargs="*")
     options = vars(parser.take(words))

@@ -25,7 +25,7 @@ from collections import namedtuple
 from mte_scripts import running
 from mte_scripts.builds.crate_list import CrateList
 from mte_scripts.places import ROOT
-from mte_scripts.words import Words, number
+from mte_scripts.words import Words, between
 
 KNOWN = os.path.join(os.path.dirname(os.path.realpath(__file__)), "plants.txt")
 ROW = re.compile(r"^(proves|no-ensures) +(\S+?):\d+ (.*?)(?:  \(and in \d+ more impls\))?$")
@@ -68,7 +68,7 @@ def table(figures):
 
 def plants(words):
     parser = Words(__doc__)
-    parser.add_argument("--minutes", type=number(1, 10_000), default=10)
+    parser.add_argument("--minutes", type=between(1, 10_000), default=10)
     parser.add_argument("--table", action="store_true")
     parser.add_argument("crates", nargs="*")
     options = parser.take(words)

@@ -1,5 +1,6 @@
 """Finds static pools for the runs of a program, checks them, and prints them as C. `pools --help` says all."""
 
+import argparse
 import os
 import re
 import textwrap
@@ -8,6 +9,7 @@ from mte_scripts import claims, texts
 from mte_scripts.pools import pool_forms, pool_runs, pool_sets
 from mte_scripts.running import Refused
 from mte_scripts.tables.figures import number, percent
+from mte_scripts.words import Words, between, named, one_of, some
 
 HELP = f"""\
 Find static pools for the runs of a program: which sizes of blocks, and how many of each. Pools are what firmware has in place
@@ -63,57 +65,26 @@ Examples:
   scripts/pools --check lwip.pools lwip.timeline
   scripts/pools --read lwip.pools --as lwip --reserve 10 > lwippools.h
 """
-# the options with a value, and what that is
-VALUES = {
-    "--limit": (range(1, 33), "a number from 1 to 32"),
-    "--unit": (pool_runs.UNITS, "4, 8, 16 or 32"),
-    "--overhead": (range(pool_runs.MOST_OVERHEAD + 1), f"a number from 0 to {pool_runs.MOST_OVERHEAD}"),
-    "--reserve": (range(1001), "a number from 0 to 1000"),
-}
-TEXTS = ("--today", "--as", "--name", "--certificate", "--check", "--read")
 WIDTH = 100
 
 
-class Options:
+class Options(argparse.Namespace):
     def __init__(self, words):
-        self.limit = self.unit = self.overhead = None
-        self.reserve = 0
-        self.today = []
-        self.name = "app"
-        self.form = self.certificate = self.check = self.read = None
-        self.runs, given = [], []
-        at = iter(words)
-        for word in at:
-            if word == "--":
-                self.runs += at
-            elif word == "-" or not word.startswith("-"):
-                self.runs.append(word)
-            else:
-                option, equals, value = word.partition("=")
-                given.append(option)
-                if option not in ("--units", "--each") or equals:
-                    self.take(option, value if equals else next(at, None))
-        self.units, self.each = "--units" in given, "--each" in given
-        self.agree(given)
-
-    def take(self, option, value):
-        if option not in VALUES and option not in TEXTS:
-            raise Refused(2, f"there is no option {option}; --help says what there is")
-        if value is None:
-            raise Refused(2, f"{option} wants a value; --help says which")
-        if option in VALUES:
-            values, says = VALUES[option]
-            if not re.fullmatch("[0-9]{1,4}", value) or int(value) not in values:
-                raise Refused(2, f"{option} is {says}, and not {value}")
-            setattr(self, option[2:], int(value))
-        elif option == "--today":
-            self.today = today_of(value)
-        elif option == "--as" and value not in pool_forms.FORMS:
-            raise Refused(2, f"--as is {', '.join(pool_forms.FORMS)}, and not {value}")
-        elif option == "--name" and not re.fullmatch("[A-Za-z][A-Za-z0-9_]{0,40}", value):
-            raise Refused(2, f"--name is the begin of a name in C, and not {value}")
-        else:
-            setattr(self, "form" if option == "--as" else option[2:], value)
+        parser = Words(HELP)
+        parser.add_argument("--limit", type=between(1, texts.MOST_CLASSES))
+        parser.add_argument("--unit", type=one_of(*pool_runs.UNITS))
+        parser.add_argument("--overhead", type=between(0, pool_runs.MOST_OVERHEAD))
+        parser.add_argument("--reserve", type=between(0, 1000), default=0)
+        parser.add_argument("--today", type=today_of, default=[])
+        parser.add_argument("--as", type=named(*pool_forms.FORMS), dest="form")
+        parser.add_argument("--name", type=name_in_c, default="app")
+        for name in ("--certificate", "--check", "--read"):
+            parser.add_argument(name, type=some)
+        for name in ("--each", "--units"):
+            parser.add_argument(name, action="store_true")
+        parser.add_argument("runs", nargs="*")
+        parser.take(words, into=self)
+        self.agree(parser.given(words))
 
     def agree(self, given):
         for one in ("--check", "--read"):
@@ -143,17 +114,20 @@ def today_of(value):
     for word in value.split(","):
         match = re.fullmatch("([1-9][0-9]{0,6})x([0-9]{1,9})", word)
         if not match:
-            raise Refused(2, f"--today is pools as 128x156,256x592, and not {word}")
+            raise argparse.ArgumentTypeError(f"takes pools as 128x156,256x592, and not {word}")
         pools.append(pool_sets.Pool(int(match[1]), int(match[2])))
     if len({pool.block for pool in pools}) < len(pools):
-        raise Refused(2, "--today names a size of blocks twice")
+        raise argparse.ArgumentTypeError("takes a size of blocks once, and not twice")
     return sorted(pools)
 
 
+def name_in_c(value):
+    if not re.fullmatch("[A-Za-z][A-Za-z0-9_]{0,40}", value):
+        raise argparse.ArgumentTypeError(f"takes the begin of a name in C, and not {value}")
+    return value
+
+
 def pools(words):
-    if words[:1] in (["-h"], ["--help"]):
-        texts.write_help(HELP)
-        return 0
     options = Options(words)
     if options.read is not None:
         its = pool_sets.read(options.read)

@@ -3,7 +3,7 @@
 import sys
 
 from mte_scripts import texts
-from mte_scripts.words import Words, number
+from mte_scripts.words import Words, between
 
 HELP = f"""Print the class table of a sheet as the chunk sizes of memcached: the value of its option `-o slab_sizes=`.
 
@@ -33,7 +33,7 @@ PAGES_A_CLASS = 4  # of 1 MiB; examples/memcached has the measurement
 
 def chunk_sizes(words):
     parser = Words(HELP)
-    parser.add_argument("--memory", type=number(1, 1_000_000_000))
+    parser.add_argument("--memory", type=between(1, 1_000_000_000))
     memory = parser.take(words).memory
     if sys.stdin is not None and sys.stdin.isatty():
         texts.say("memcached_sizes", "reading standard input, a sheet; Ctrl-D ends it")

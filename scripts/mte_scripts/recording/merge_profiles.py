@@ -3,11 +3,11 @@
 import heapq
 import operator
 import os
-import re
 import sys
 
 from mte_scripts import texts
 from mte_scripts.texts import LARGEST_SIZE, MOST_COUNT, MOST_SNAPSHOTS, Refused
+from mte_scripts.words import Words, between
 
 HELP = f"""\
 Make one profile of many: the counts of each size are added up. Or make one history of many.
@@ -40,24 +40,10 @@ Examples:
 """
 
 
-def most_of(words: list[str]) -> tuple[int, list[str]]:
-    """How many snapshots are kept at most, and the other words."""
-    if words[:1] != ["--snapshots"]:
-        return MOST_SNAPSHOTS, words
-    if len(words) < 2 or not re.fullmatch("[0-9]{1,4}", words[1]) or not 1 <= int(words[1]) <= MOST_SNAPSHOTS:
-        raise Refused(2, f"--snapshots takes a number from 1 to {MOST_SNAPSHOTS}")
-    return int(words[1]), words[2:]
-
-
-def files_of(words):
-    if words[:1] == ["--files-from"]:
-        if len(words) != 2:
-            raise Refused(2, "--files-from takes a list of names, or `-`, and no other file beside it")
-        files = listed(words[1])
-    elif words and words[0].startswith("-") and words[0] not in ("-", "--"):
-        raise Refused(2, f"there is no option {words[0]}; --help says what there is, and -- ends the options")
-    else:
-        files = words[1:] if words[:1] == ["--"] else words
+def files_of(options) -> list[str]:
+    if options.files_from is not None and options.files:
+        raise Refused(2, "--files-from takes a list of names, or `-`, and no other file beside it")
+    files = options.files if options.files_from is None else listed(options.files_from)
     for file in files:
         if os.path.isfile(file) and os.path.getsize(file) == 0:
             raise Refused(3, f"{file} is empty: did the command that writes it fail?")
@@ -71,10 +57,10 @@ def listed(path):
     names = [os.fsdecode(name) for name in text.removesuffix(end).split(end)] if text else []
     if not names:
         raise Refused(3, f"{texts.named(path)} names no file: did the command that writes it fail?")
-    for number, name in enumerate(names, 1):
+    for at, name in enumerate(names, 1):
         if name in ("", "-"):
             wrong = "standard input, which a list can't name" if name else "empty"
-            raise Refused(2, f"{texts.named(path)}: name {number} is {wrong}")
+            raise Refused(2, f"{texts.named(path)}: name {at} is {wrong}")
     return names
 
 
@@ -189,10 +175,12 @@ def add(rows, key, counts):
 
 
 def merge(words):
-    if words and words[0] in ("-h", "--help"):
-        return texts.write_help(HELP)
-    most, words = most_of(words)
-    files = files_of(words)
+    parser = Words(HELP)
+    parser.add_argument("--snapshots", type=between(1, MOST_SNAPSHOTS), default=MOST_SNAPSHOTS)
+    parser.add_argument("--files-from")
+    parser.add_argument("files", nargs="*")
+    options = parser.take(words)
+    files = files_of(options)
     if not words and sys.stdin is not None and sys.stdin.isatty():
         texts.say("merge_profiles", "reading standard input; Ctrl-D ends it")
     sums, histories = {}, []
@@ -206,7 +194,7 @@ def merge(words):
         if histories and len(histories) <= at:
             raise Refused(2, f"{texts.named(files[0])} and {texts.named(file)} are a profile and a history: merge one kind alone")
     if histories:
-        return texts.write(texts.history_text(merged(histories, most)))
+        return texts.write(texts.history_text(merged(histories, options.snapshots)))
     if not any(sums.values()):
         raise Refused(3, "there is no request to count")
     return texts.write(texts.profile_text(sums))

@@ -1,9 +1,9 @@
 """Runs a program and prints its profile: how often it requested each size. `profile_program --help` says all."""
 
+import argparse
 import array
 import contextlib
 import os
-import re
 import stat
 import time
 
@@ -12,6 +12,7 @@ from mte_scripts.private_folder import NotPrivate
 from mte_scripts.recording import counts, recording, timelines
 from mte_scripts.recording.imports import found, importing
 from mte_scripts.running import Refused
+from mte_scripts.words import ProgramWords, between, named, some
 
 HELP = f"""\
 Run a program, and print how often it requested each size: a profile, the input of `mte_tool tune`.
@@ -97,54 +98,22 @@ OPEN_PLACE = "choose a place that all can reach, such as /usr/local/lib"
 FOREGROUND = "run it in the foreground (nginx: daemon off)"
 
 
-class Options:
-    def __init__(self, words, speaker):
-        self.live = self.snapshots = self.peak = self.measured = self.only = self.read = None
-        self.table = self.file = self.format = None
-        self.timeline = self.is_library = self.is_help = False
-        words = list(words)
-
-        def value(option, what):
-            if not words:
-                raise Refused(2, f"{option} wants {what}")
-            return words.pop(0)
-
-        while words and words[0].startswith("-"):
-            option = words.pop(0)
-            if option == "--":
-                break
-            if option in ("-h", "--help"):
-                self.is_help = True
-                return
-            if option == "--live":
-                self.live = "--live"
-            elif option == "--timeline":
-                self.timeline = True
-            elif option == "--classes":
-                self.table = texts.class_line(value(option, "a file"))
-                if not self.table:
-                    raise Refused(2, "the table of --classes has no class")
-            elif option == "--history":
-                self.snapshots = 32
-            elif option.startswith("--history="):
-                self.snapshots = snapshots_of(option.partition("=")[2])
-            elif option == "--library":
-                self.is_library = True
-            elif option in ("--peak", "--read", "--measured"):
-                setattr(self, option[2:], value(option, "a file"))
-            elif option == "--import":
-                self.file = value(option, "a file")
-            elif option == "--as":
-                self.format = value(option, "the name of a format")
-            elif option == "--only":
-                self.only = value(option, "a name")
-            elif option == "--said":
-                speaker.said = value(option, "a file")
-            else:
-                raise Refused(2, f"there is no option {option}; --help says what there is")
-        self.words = words
-        chosen = {"--timeline": self.timeline, "--history": self.snapshots, "--classes": self.table is not None}
-        over_time = [name for name, is_so in chosen.items() if is_so]
+class Options(argparse.Namespace):
+    def __init__(self, words):
+        parser = ProgramWords(HELP)
+        parser.add_argument("--live", action="store_const", const="--live")
+        parser.add_argument("--timeline", action="store_true")
+        parser.add_argument("--library", action="store_true")
+        parser.add_argument("--history", type=between(1, counts.SNAPSHOTS), nargs="?", const=32)
+        for name in ("--classes", "--peak", "--read", "--measured", "--only", "--said"):
+            parser.add_argument(name, type=some)
+        parser.add_argument("--import", type=some, dest="file")
+        parser.add_argument("--as", type=named(*importing.NAMES), dest="format")
+        parser.take(words, into=self)
+        self.table = None if self.classes is None else texts.class_line(self.classes)
+        if self.classes is not None and not self.table:
+            raise Refused(2, "the table of --classes has no class")
+        over_time = [f"--{name}" for name in ("timeline", "history", "classes") if getattr(self, name)]
         if len(over_time) > 1:
             raise Refused(2, f"take one of {' and '.join(over_time)}")
         if over_time:
@@ -160,31 +129,23 @@ class Options:
 
     def refuse_beside_import(self):
         others = {"--read": self.read, "--only": self.only, "--measured": self.measured, "--classes": self.table,
-                  "--library": self.is_library}
+                  "--library": self.library}
         if given := [name for name, value in others.items() if value]:
             raise Refused(2, f"--import reads a file, and {given[0]} is for a run")
         if self.words:
             raise Refused(2, f"--import takes one file, and runs no program: there is no place for {self.words[0]}")
-        if self.format is not None and self.format not in importing.NAMES:
-            raise Refused(2, f"--as takes one of {', '.join(importing.NAMES)}, and not {self.format}")
 
     def settings(self):
         """The library's variables; those without a value are unset."""
         chosen = {"SIZES_LIVE": self.live == "--live", "SIZES_TIMELINE": self.timeline}
         found = {name: "1" if is_so else None for name, is_so in chosen.items()}
         found["SIZES_CLASSES"] = None if self.table is None else " ".join(map(str, self.table))
-        return {**found, "SIZES_ONLY": self.only, "SIZES_HISTORY": str(self.snapshots) if self.snapshots else None}
+        return {**found, "SIZES_ONLY": self.only, "SIZES_HISTORY": str(self.history) if self.history else None}
 
     def form(self):
         """That of the file of counts."""
         forms = {"--history": counts.HISTORY, "--live": counts.LIVE, None: counts.ALL}
         return forms.get(self.live, timelines.FORM)
-
-
-def snapshots_of(word):
-    if not re.fullmatch("[0-9]{1,2}", word) or not 1 <= int(word) <= counts.SNAPSHOTS:
-        raise Refused(2, f"--history takes 1 to {counts.SNAPSHOTS} snapshots, and not {word}")
-    return int(word)
 
 
 # ---- counts
@@ -308,7 +269,7 @@ def read_only(options, speaker):
 def import_file(options, speaker):
     """Prints what a file of another tool counts, and says what that is."""
     wanted = options.live.removeprefix("--") if options.live else found.ALL
-    got = importing.imported(options.file, options.format, wanted, options.snapshots)
+    got = importing.imported(options.file, options.format, wanted, options.history)
     for line in got.told:
         speaker.say(line)
     for piece in got.text:
@@ -418,10 +379,9 @@ def keep_library(run, library):
 
 
 def profile(words, speaker):
-    options = Options(words, speaker)
-    if options.is_help:
-        return recording.write("the help", texts.help_text(HELP))
-    if options.is_library:
+    options = Options(words)
+    speaker.said = options.said
+    if options.library:
         return print_library(options, speaker)
     if options.file is not None:
         return import_file(options, speaker)

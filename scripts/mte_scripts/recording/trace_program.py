@@ -2,14 +2,14 @@
 
 import contextlib
 import os
-import re
 import struct
 
-from mte_scripts import private_folder, texts
+from mte_scripts import private_folder
 from mte_scripts.checksum import crc, folded
 from mte_scripts.formats import MOST_EVENTS
 from mte_scripts.recording import recording
 from mte_scripts.running import Refused
+from mte_scripts.words import ProgramWords, between, some
 
 HELP = """\
 Run a program, and print what it does with its allocator as a trace, the input of `mte_tool run`, `replay` and `profile`.
@@ -49,36 +49,11 @@ NO_ROOM = 2  # why a trace ended
 REASON = "So a replay is of a sample; for a whole one trace a smaller job, one program of it (--only), or its start (--first N)"
 
 
-class Options:
-    def __init__(self, words):
-        self.only = self.first = None
-        self.is_help = False
-        words = list(words)
-        while words and words[0].startswith("-"):
-            option = words.pop(0)
-            if option == "--":
-                break
-            if option in ("-h", "--help"):
-                self.is_help = True
-                return
-            if option not in ("--only", "--first"):
-                raise Refused(2, f"there is no option {option}; --help says what there is")
-            if not words:
-                raise Refused(2, f"{option} wants {'a name' if option == '--only' else 'a number of events'}")
-            setattr(self, option[2:], words.pop(0))
-        self.words = words
-        if self.first is not None:
-            self.first = number_of_events(self.first)
-
-    def settings(self):
-        """The library's variables; those without a value are unset."""
-        return {"TRACE_ONLY": self.only, "TRACE_FIRST": str(self.first) if self.first else None}
-
-
-def number_of_events(word):
-    if not re.fullmatch("[0-9]{1,7}", word) or not 3 <= int(word) <= MOST_EVENTS:
-        raise Refused(2, f"--first wants a number from 3 to {MOST_EVENTS}")
-    return int(word)
+def options_of(words):
+    parser = ProgramWords(HELP)
+    parser.add_argument("--only", type=some)
+    parser.add_argument("--first", type=between(3, MOST_EVENTS))
+    return parser.take(words)
 
 
 def remarks(options, notes, work, left):
@@ -151,7 +126,8 @@ def print_trace(file, length):
 def run_program(options, speaker, path, work):
     library = recording.Library(recording.make_library("trace", work), work)
     try:
-        run = recording.Run(speaker, "TRACE", work, library, options.settings())
+        settings = {"TRACE_ONLY": options.only, "TRACE_FIRST": str(options.first) if options.first else None}
+        run = recording.Run(speaker, "TRACE", work, library, settings)
         notes = run.run(options.words, path)
         if not is_sound(run.recorded, notes):
             raise Refused(3, f"{options.words[0]} overwrote what was recorded: nothing of it is printed")
@@ -171,9 +147,7 @@ def run_program(options, speaker, path, work):
 
 
 def trace(words, speaker):
-    options = Options(words)
-    if options.is_help:
-        return recording.write("the help", texts.help_text(HELP))
+    options = options_of(words)
     if not options.words:
         return recording.print_usage(HELP)
     path = recording.find_program(options.words[0])

@@ -4,7 +4,7 @@ import os
 import re
 
 from mte_scripts import claims, texts
-from mte_scripts.words import Words, number, one_of
+from mte_scripts.words import Words, between, one_of
 
 HELP = """Check a sheet or a fit in a build: does mte_tool accept it for your profile, history or timeline, your number of classes and your
 step? The last line says among which tables its table is the first then; where it is refused, what is wrong, and with which of the
@@ -37,7 +37,7 @@ MOST_OF_A_SHEET = 1 << 20
 
 def check(words):
     parser = Words(HELP)
-    parser.add_argument("--limit", type=number(1, texts.MOST_CLASSES))
+    parser.add_argument("--limit", type=between(1, texts.MOST_CLASSES))
     parser.add_argument("--step", type=one_of(1, 2, 4, 8), default=1)
     parser.add_argument("names", nargs="*")
     options = parser.take(words, once=True)

@@ -6,6 +6,7 @@ import os
 from mte_scripts import claims, texts
 from mte_scripts.reports import pictures
 from mte_scripts.texts import Refused
+from mte_scripts.words import Words
 
 HELP = """\
 Draw how much the tuned tables of 1 to 32 classes waste on each profile, as a picture (SVG) on standard output.
@@ -148,22 +149,13 @@ def picture(curves):
 
 
 def draw(words):
-    as_table, name = False, None
-    while words and words[0].startswith("-") and words[0] != "-":
-        word = words.pop(0)
-        if word in ("-h", "--help"):
-            return texts.write_help(HELP)
-        if word == "--":
-            break
-        if word == "--table":
-            as_table = True
-        elif word == "--name" and words:
-            name = words.pop(0)
-        elif word == "--name":
-            raise Refused(2, "--name wants a name; --help says which")
-        else:
-            raise Refused(2, f"there is no option {word}; --help says what there is, and -- ends the options")
-    if not words:
+    parser = Words(HELP)
+    parser.add_argument("--table", action="store_true")
+    parser.add_argument("--name")
+    parser.add_argument("profiles", nargs="*")
+    options = parser.take(words)
+    if not options.profiles:
         raise Refused(2, "there is no profile; --help says how it is used")
-    curves = [Curve(words[0], name), *map(Curve, words[1:])]
-    return texts.write(table(curves)) if as_table else texts.write(picture(curves).encode())
+    first, *others = options.profiles
+    curves = [Curve(first, options.name), *map(Curve, others)]
+    return texts.write(table(curves)) if options.table else texts.write(picture(curves).encode())

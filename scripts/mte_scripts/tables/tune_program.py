@@ -1,5 +1,6 @@
 """Takes a program to a table of size classes of its own. `tune_program --help` says all."""
 
+import argparse
 import os
 import re
 import subprocess
@@ -11,6 +12,7 @@ from mte_scripts.recording import children, recording, timelines
 from mte_scripts.reports import report_page
 from mte_scripts.tables import figures, verification
 from mte_scripts.tables.figures import kibibytes, number, numbered, percent
+from mte_scripts.words import ProgramWords, between, named, one_of, some
 
 HELP = """\
 Run a program, make two tables of size classes for it, check both, and say what they save. One is made to take little memory over
@@ -84,42 +86,20 @@ FILES = [
 ]
 
 
-class Options:
+class Options(argparse.Namespace):
     def __init__(self, words):
-        self.limit, self.step = 32, 1
-        self.all, self.largest = False, True
-        self.only = self.output = self.read = self.objective = self.verify = None
-        self.against = []
-        with_value = ("--limit", "--step", "--only", "--against", "--output", "--read", "--objective", "--verify")
-        while words and words[0].startswith("-") and words[0] != "-":
-            option, *words = words
-            if option == "--":
-                break
-            if option == "--all":
-                self.all = True
-            elif option in ("--largest", "--no-largest"):
-                self.largest = option == "--largest"
-            elif option not in with_value:
-                raise texts.Refused(2, f"there is no option {option}; --help says what there is")
-            elif not words or not words[0]:
-                raise texts.Refused(2, f"{option} wants a value; --help says which")
-            else:
-                value, *words = words
-                self.take(option, value)
-        self.words = words
+        parser = ProgramWords(HELP)
+        parser.add_argument("--limit", type=between(1, texts.MOST_CLASSES), default=32)
+        parser.add_argument("--step", type=one_of(1, 2, 4, 8), default=1)
+        parser.add_argument("--all", action="store_true")
+        parser.add_argument("--largest", action="store_true", default=True)
+        parser.add_argument("--no-largest", action="store_false", dest="largest")
+        parser.add_argument("--against", type=some, action="append", default=[])
+        parser.add_argument("--objective", type=named("footprint", "waste"))
+        for name in ("--only", "--output", "--read", "--verify"):
+            parser.add_argument(name, type=some)
+        parser.take(words, into=self)
         self.agree()
-
-    def take(self, option, value):
-        if option == "--limit":
-            self.limit = chosen(option, value, range(1, 33), "a number from 1 to 32")
-        elif option == "--step":
-            self.step = chosen(option, value, (1, 2, 4, 8), "1, 2, 4 or 8")
-        elif option == "--against":
-            self.against.append(value)
-        elif option == "--objective" and value not in ("footprint", "waste"):
-            raise texts.Refused(2, f"--objective is footprint or waste, and not {value}")
-        else:
-            setattr(self, option[2:], value)
 
     def agree(self):
         if self.read is None and not self.words:
@@ -148,12 +128,6 @@ class Options:
         if self.read is None:
             return os.path.basename(self.words[0]) or self.words[0]
         return "profile" if self.read == "-" else figures.without_ending(self.read, ".profile", ".history", ".timeline")
-
-
-def chosen(option, value, values, words):
-    if value.isascii() and value.isdigit() and len(value) < 9 and int(value) in values:
-        return int(value)
-    raise texts.Refused(2, f"{option} is {words}, and not {value}")
 
 
 class Folder:
@@ -441,9 +415,6 @@ def comparison(found):
 
 
 def tune(words):
-    if words[:1] in (["-h"], ["--help"]):
-        texts.write_help(HELP)
-        return 0
     options = Options(words)
     others = figures.other_tables(options.against)
     given = None if options.read is None else read_given(options)
