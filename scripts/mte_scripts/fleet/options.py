@@ -6,7 +6,7 @@ from typing import Callable
 
 from mte_scripts import texts
 from mte_scripts.fleet.bounds import Among
-from mte_scripts.words import Words, number, one_of
+from mte_scripts.words import Words, between, one_of
 
 AMONG_HELP = """\
   --limit K          among tables of at most K classes, 1 to 32; 32 where it is left out
@@ -16,7 +16,7 @@ AMONG_HELP = """\
 
 def add_among(parser: Words) -> None:
     """The options that say which tables are meant."""
-    parser.add_argument("--limit", type=number(1, texts.MOST_CLASSES), default=texts.MOST_CLASSES)
+    parser.add_argument("--limit", type=between(1, texts.MOST_CLASSES), default=texts.MOST_CLASSES)
     parser.add_argument("--step", type=one_of(1, 2, 4, 8), default=1)
     parser.add_argument("--largest", action=argparse.BooleanOptionalAction, default=True)
 
