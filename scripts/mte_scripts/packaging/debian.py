@@ -5,6 +5,7 @@ import shutil
 import textwrap
 
 from mte_scripts import texts
+from mte_scripts.formats import INTERFACE
 from mte_scripts.packaging import packaging
 from mte_scripts.texts import Refused
 
@@ -80,7 +81,7 @@ def put_control(tree, parts):
     tree.write("DEBIAN/control", control(tree, parts))
     tree.write("DEBIAN/md5sums", sums)
     if parts.library:
-        tree.write("DEBIAN/shlibs", f"libmte_tool 2 {packaging.NAME}\n")
+        tree.write("DEBIAN/shlibs", f"libmte_tool {INTERFACE} {packaging.NAME}\n")
         tree.write("DEBIAN/triggers", "activate-noawait ldconfig\n")
 
 
