@@ -10,7 +10,8 @@ Take a step of a shell script that is in Python.
 Usage: step private_folder make NAME               make a temporary folder that only the user can change, and print its path
        step private_folder remove NAME FOLDER      remove it; NAME is the script's own
        step manifest sources FOLDER                print the hash of the sources of the repository in FOLDER
-       step manifest write FOLDER PROGRAM SOURCES  write the manifest of a program that rt has just built of these sources
+       step manifest write FOLDER PROGRAM SOURCES [LOG]
+                                                   write the manifest of a program that rt has just built of these sources
        step first_build [FOLDER PROGRAM]           prove the crates below a program side by side, or print how many at once
 
 Exit status: 0 it is done, 2 the words are refused, 3 it failed.

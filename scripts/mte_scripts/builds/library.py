@@ -4,7 +4,7 @@ import os
 import shutil
 import subprocess
 
-from mte_scripts import private_folder, texts
+from mte_scripts import manifest, private_folder, texts
 from mte_scripts.builds import static_libraries
 from mte_scripts.formats import INTERFACE, VERSION
 from mte_scripts.places import ROOT
@@ -21,6 +21,8 @@ Usage: library DIR
   DIR/lib/libmte_tool.a          the static library, without a need of any other but the C library
   DIR/lib/libmte_tool.so.1       the shared library, and a link libmte_tool.so to it for the linker
   DIR/lib/pkgconfig/mte_tool.pc  for pkg-config
+
+Beside each library is its manifest, as `manifest --help` has it: of which sources it was proved and built.
 
 The proof is done once, and takes as long as that of the program. It needs the Rattle kit with its command rt, a C compiler (`cc`, or what
 CC names) and binutils.
@@ -39,11 +41,13 @@ HEADERS = ("mte_tool.h", "mte_tool.hpp")
 SHARED = f"libmte_tool.so.{INTERFACE}"
 PKG_CONFIG = f"""\
 prefix=${{pcfiledir}}/../..
+libdir=${{prefix}}/lib
+includedir=${{prefix}}/include
 Name: mte_tool
 Description: class tables with certificates, and a tagged heap; for processors with x86-64-v2
 Version: {VERSION}
-Cflags: -I${{prefix}}/include
-Libs: -L${{prefix}}/lib -lmte_tool
+Cflags: -I${{includedir}}
+Libs: -L${{libdir}} -lmte_tool
 """
 
 
@@ -103,6 +107,21 @@ def lay_out(work: str, folder: str) -> None:
     os.symlink(SHARED, name)
 
 
+def put_manifests(folder: str, before: str) -> None:
+    """The manifests of both libraries, which were built of sources with the hash BEFORE; none where they have changed since."""
+    sources = manifest.sources_of(ROOT)
+    kit = static_libraries.run(["rt", "version"]).split("\n")[0]
+    for name in ("libmte_tool.a", SHARED):
+        path = f"{folder}/lib/{name}"
+        if os.path.exists(manifest.path_of(path)):
+            os.unlink(manifest.path_of(path))
+        if sources == before:
+            with open(manifest.path_of(path), "w", encoding="ascii") as file:
+                file.write(manifest.text_of(manifest.Manifest(manifest.hash_of(path), sources, kit, "proved")))
+    if sources != before:
+        texts.say("library", "the sources were changed while the library was built: it has no manifest")
+
+
 def make_library(words: "list[str]") -> None:
     parser = Words(HELP)
     parser.add_argument("folders", nargs="*")
@@ -114,9 +133,11 @@ def make_library(words: "list[str]") -> None:
             raise Refused(3, f"the library can't be built: the command {tool} is missing")
     try:
         os.makedirs(folders[0], exist_ok=True)
+        sources = manifest.sources_of(ROOT)
         with private_folder.temporary() as work:
             link(work, proved_objects(work))
             lay_out(work, folders[0])
+        put_manifests(folders[0], sources)
     except (subprocess.CalledProcessError, OSError) as error:
         raise Refused(3, f"the library could not be built: {error}") from None
     texts.say("library", f"built in {os.path.abspath(folders[0])}")
