@@ -16,8 +16,8 @@ extern "C" {
 #endif
 
 /* The version of this header; the first of its three numbers is that of the interface. The number is 10000, 100 and 1 times the three. */
-#define MTE_TOOL_VERSION "0.1.0"
-#define MTE_TOOL_VERSION_NUMBER 100
+#define MTE_TOOL_VERSION "1.0.0"
+#define MTE_TOOL_VERSION_NUMBER 10000
 
 /* the limits of docs/FORMATS.md */
 #define MTE_TOOL_MOST_INPUT 67108864   /* the bytes of an input */

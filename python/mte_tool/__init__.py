@@ -35,7 +35,7 @@ from mte_tool._calls import Cost, Error, Fit, Verdict, strerror, version
 from mte_tool._heap import Heap, Outcome
 from mte_tool._texts import check, check_fit, fit, footprint, profile, replay, run, score, tune
 
-__version__ = "0.1.0"
+__version__ = "1.0.0"
 __all__ = [
     "Cost", "Error", "Fit", "Heap", "Outcome", "Table", "Verdict", "check", "check_fit", "check_fit_history", "check_fit_timeline",
     "check_profile", "fit", "fit_history", "fit_timeline", "footprint", "footprint_history", "footprint_timeline", "profile", "replay",

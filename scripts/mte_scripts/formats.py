@@ -8,7 +8,7 @@ numbers or sentences.
 from typing import NamedTuple, Optional
 
 # The version of all that this repository makes: the program, the library, its header and its packages.
-VERSION = "0.1.0"
+VERSION = "1.0.0"
 # that of the library's interface alone: of the name libmte_tool.so.N, and of the node MTE_TOOL_N of its symbols
 INTERFACE = "1"
 

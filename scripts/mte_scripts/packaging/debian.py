@@ -13,11 +13,11 @@ from mte_scripts.packaging.tree import Tree, run
 from mte_scripts.texts import Refused
 
 # packages of an older shape, which had the files of all
-ONCE = "0.1.0+git20270000"  # a date of eight digits is below one with its time
+ONCE = "1.0.0+git20270000"  # a date of eight digits is below one with its time
 
 
 # the nodes of library/mte_tool.map, with the first version of the packages that has each
-SINCE = {"MTE_TOOL_1": "0.1.0"}
+SINCE = {"MTE_TOOL_1": "1.0.0"}
 
 
 class Package(NamedTuple):

@@ -28,7 +28,7 @@ Exit status:
   3  a tool is missing or failed, or a file can't be written
 
 Example:
-  git tag v0.1.0 && scripts/release ../mte-tool-0.1.0 && cd ../mte-tool-0.1.0 && sha256sum -c SHA256SUMS
+  git tag v1.0.0 && scripts/release ../mte-tool-1.0.0 && cd ../mte-tool-1.0.0 && sha256sum -c SHA256SUMS
 """
 NOTES = """\
 # mte_tool {version}
