@@ -1,208 +1,291 @@
-/* The functions of mte_tool.h: each looks for null pointers, and for numbers that are too large for the arguments of the proved function of
-   crates/mte_c, and then calls that. Nothing here is proved. */
-#include "../include/mte_tool.h"
+/* The functions of mte_tool.h but for those over histories and timelines: each looks for null pointers, and for numbers that are too large
+   for the arguments of the proved function of crates/mte_c, and then calls that. Nothing here is proved. */
+#include "layer.h"
+#include "sentences.h"
 
-/* the options as the proved functions have them */
-typedef struct narrow_options {
-    uint32_t granules;
-    uint32_t quarantine;
-    uint16_t seed;
-    uint8_t limit;
-    uint8_t step;
-} narrow_options;
+#include <stdlib.h>
+#include <string.h>
 
-/* the proved functions; a slice is a pointer and a length */
-uint32_t mte_c_version(void);
-mte_tool_ending mte_c_call(uint8_t, narrow_options, const uint8_t *, size_t, mte_tool_text *);
-uint32_t mte_c_append(const uint8_t *, size_t, mte_tool_text *);
-void mte_c_continue(mte_tool_text *);
-size_t mte_c_read(mte_tool_text *, size_t, uint8_t *, size_t);
-void mte_c_free(mte_tool_text *);
-mte_tool_numbers mte_arrays_score(const uint16_t *, size_t, const uint32_t *, size_t, const uint32_t *, size_t);
-mte_tool_numbers mte_arrays_tune(uint8_t, uint8_t, const uint32_t *, size_t, const uint32_t *, size_t, uint16_t *, size_t, uint64_t *,
-                                 size_t);
-mte_tool_numbers mte_arrays_check(uint8_t, uint8_t, uint64_t, const uint16_t *, size_t, const uint64_t *, size_t, const uint32_t *, size_t,
-                                  const uint32_t *, size_t);
+const uint64_t layer_no_numbers;
 
-typedef struct heap_settings {
-    uint32_t granules;
-    uint32_t quarantine;
-    uint16_t seed;
-} heap_settings;
+/* ---- structures that begin with their size */
 
-mte_tool_outcome mte_heap_new(heap_settings, const uint16_t *, size_t, mte_tool_heap *);
-mte_tool_outcome mte_heap_malloc(mte_tool_heap *, uint32_t);
-mte_tool_outcome mte_heap_calloc(mte_tool_heap *, uint32_t);
-mte_tool_outcome mte_heap_realloc(mte_tool_heap *, uint64_t, uint32_t);
-mte_tool_outcome mte_heap_free(mte_tool_heap *, uint64_t);
-mte_tool_outcome mte_heap_load(mte_tool_heap *, uint64_t, uint8_t *, size_t);
-mte_tool_outcome mte_heap_store(mte_tool_heap *, uint64_t, const uint8_t *, size_t);
-mte_tool_outcome mte_heap_addg(mte_tool_heap *, uint64_t, uint8_t, uint8_t);
-void mte_heap_close(mte_tool_heap *);
+/* more than any version of one will have: a size above is none that was set */
+enum { MOST_SIZE = 4096, WORD = sizeof(uint64_t) };
 
-static const uint8_t no_bytes;
-static const mte_tool_ending misuse = {MTE_TOOL_MISUSE, 0, 0};
-static const narrow_options no_options;
-
-/* whether a slice has bytes and no place */
-static int is_missing(const void *bytes, size_t length) {
-    return !bytes && length > 0;
+int layer_is_wrong(const void *sized) {
+    size_t size;
+    if (!sized) return 0;
+    memcpy(&size, sized, sizeof size);
+    return size < sizeof size || size > MOST_SIZE || size % WORD != 0;
 }
 
-static const uint8_t *or_none(const uint8_t *bytes) {
-    return bytes ? bytes : &no_bytes;
+/* Copies what the caller's structure has room for of one whose size is `known`. What this library does not know is set to 0. */
+static void give(void *to, const void *found, size_t known) {
+    size_t size;
+    if (!to) return;
+    memcpy(&size, to, sizeof size);
+    memcpy((char *)to + WORD, (const char *)found + WORD, (size < known ? size : known) - WORD);
+    if (size > known) memset((char *)to + known, 0, size - known);
 }
 
-/* The options for the proved functions. A number that is too large for its place becomes one that is out of the option's range too. */
-static narrow_options narrowed(mte_tool_options options) {
-    narrow_options narrow;
-    narrow.granules = options.granules > UINT32_MAX ? 0 : (uint32_t)options.granules;
-    narrow.quarantine = options.quarantine > UINT32_MAX ? UINT32_MAX : (uint32_t)options.quarantine;
-    narrow.seed = options.seed > UINT16_MAX ? 0 : (uint16_t)options.seed;
-    narrow.limit = options.limit > UINT8_MAX ? 0 : (uint8_t)options.limit;
-    narrow.step = options.step > UINT8_MAX ? 0 : (uint8_t)options.step;
-    return narrow;
+int layer_give(int end, const mte_tool_result *found, mte_tool_result *result) {
+    give(result, found, sizeof *found);
+    return end;
 }
 
-/* the numbers of the commands */
-enum { SCORE, TUNE, CHECK, FOOTPRINT, FIT, CHECK_FIT, PROFILE, REPLAY, RUN };
-
-static mte_tool_ending call(uint8_t command, narrow_options options, const uint8_t *input, size_t length, mte_tool_text *text) {
-    if (!text || is_missing(input, length)) return misuse;
-    return mte_c_call(command, options, or_none(input), length, text);
-}
-
-#define CALL(command, name)                                                                     \
-    mte_tool_ending mte_tool_##name(const uint8_t *input, size_t length, mte_tool_text *text) { \
-        return call(command, no_options, input, length, text);                                  \
+int layer_options(const mte_tool_options *options, narrow_options *narrow) {
+    mte_tool_options wide = MTE_TOOL_OPTIONS(0);
+    size_t i;
+    if (layer_is_wrong(options)) return MTE_TOOL_MISUSE;
+    if (options) {
+        memcpy(&wide, options, options->size < sizeof wide ? options->size : sizeof wide);
+        for (i = sizeof wide; i < options->size; i++)
+            if (((const char *)options)[i]) return MTE_TOOL_BAD_OPTION;
     }
-
-#define CALL_WITH_OPTIONS(command, name)                                                           \
-    mte_tool_ending mte_tool_##name(mte_tool_options options, const uint8_t *input, size_t length, \
-                                    mte_tool_text *text) {                                         \
-        return call(command, narrowed(options), input, length, text);                              \
-    }
-
-CALL(SCORE, score)
-CALL_WITH_OPTIONS(TUNE, tune)
-CALL(CHECK, check)
-CALL(FOOTPRINT, footprint)
-CALL_WITH_OPTIONS(FIT, fit)
-CALL(CHECK_FIT, check_fit)
-CALL(PROFILE, profile)
-CALL_WITH_OPTIONS(REPLAY, replay)
-CALL_WITH_OPTIONS(RUN, run)
-
-uint32_t mte_tool_version(void) {
-    return mte_c_version();
-}
-
-uint32_t mte_tool_append(mte_tool_text *text, const uint8_t *piece, size_t length) {
-    if (!text || is_missing(piece, length)) return MTE_TOOL_MISUSE;
-    return mte_c_append(or_none(piece), length, text);
-}
-
-uint32_t mte_tool_continue(mte_tool_text *text) {
-    if (!text) return MTE_TOOL_MISUSE;
-    mte_c_continue(text);
+    narrow->granules = wide.granules > UINT32_MAX ? 0 : (uint32_t)wide.granules;
+    narrow->quarantine = wide.quarantine > UINT32_MAX ? UINT32_MAX : (uint32_t)wide.quarantine;
+    narrow->seed = wide.seed > UINT16_MAX ? 0 : (uint16_t)wide.seed;
+    narrow->limit = wide.limit > UINT8_MAX ? 0 : (uint8_t)wide.limit;
+    narrow->step = wide.step > UINT8_MAX ? 0 : (uint8_t)wide.step;
     return MTE_TOOL_DONE;
 }
 
-size_t mte_tool_read(mte_tool_text *text, size_t from, uint8_t *room, size_t length) {
-    uint8_t none;
-    if (!text || is_missing(room, length)) return 0;
-    return mte_c_read(text, from, room ? room : &none, length);
+/* ---- texts */
+
+/* Moves the bytes of a text of the proved functions into one for the caller. */
+static int hand_over(held_text *held, mte_tool_text *answer) {
+    size_t length = held->length;
+    if (length > 0 && (answer->bytes = malloc(length + 1))) {
+        answer->length = mte_c_read(held, 0, (uint8_t *)answer->bytes, length);
+        answer->bytes[answer->length] = 0;
+        answer->room = length + 1;
+    }
+    mte_c_free(held);
+    return length == 0 || answer->bytes ? MTE_TOOL_DONE : MTE_TOOL_OUT_OF_MEMORY;
+}
+
+/* The number after a word that a text begins with; 0 without that word. */
+static uint64_t number_after(const mte_tool_text *text, const char *word) {
+    size_t n = strlen(word);
+    return text->length > n && !memcmp(text->bytes, word, n) ? strtoull(text->bytes + n, NULL, 10) : 0;
+}
+
+int layer_call(uint8_t command, narrow_options options, const void *input, size_t length, mte_tool_text *answer, mte_tool_result *found) {
+    held_text held = {NULL, 0};
+    ending ended = mte_c_call(command, options, input, length, &held);
+    if (hand_over(&held, answer) != MTE_TOOL_DONE) return MTE_TOOL_OUT_OF_MEMORY;
+    found->code = ended.fault;
+    found->line = ended.line;
+    if (ended.end == MTE_TOOL_NO) {
+        found->code = (uint32_t)number_after(answer, "refused ");
+        found->at = number_after(answer, "not serving ");
+    } else if (ended.end == MTE_TOOL_DONE && (command == SCORE || command == FOOTPRINT)) {
+        found->bytes = number_after(answer, command == SCORE ? "waste " : "footprint ");
+    }
+    return (int)ended.end;
+}
+
+static int call(uint8_t command, const mte_tool_options *options, const void *input, size_t length, mte_tool_text *output,
+                mte_tool_result *result) {
+    mte_tool_result found = MTE_TOOL_RESULT;
+    mte_tool_text answer = MTE_TOOL_TEXT;
+    narrow_options narrow;
+    int end = layer_options(options, &narrow);
+    if (!output || is_missing(input, length) || end == MTE_TOOL_MISUSE || layer_is_wrong(result)) return MTE_TOOL_MISUSE;
+    if (end == MTE_TOOL_DONE) end = layer_call(command, narrow, input ? input : &layer_no_numbers, length, &answer, &found);
+    mte_tool_free(output); /* only now, since the input may be in it */
+    *output = answer;
+    return layer_give(end, &found, result);
+}
+
+#define CALL(command, name)                                                                                        \
+    int mte_tool_##name(const mte_tool_options *options, const void *input, size_t length, mte_tool_text *output, \
+                        mte_tool_result *result) {                                                                \
+        return call(command, options, input, length, output, result);                                              \
+    }
+
+CALL(SCORE, score)
+CALL(TUNE, tune)
+CALL(CHECK, check)
+CALL(FOOTPRINT, footprint)
+CALL(FIT, fit)
+CALL(CHECK_FIT, check_fit)
+CALL(PROFILE, profile)
+CALL(REPLAY, replay)
+CALL(RUN, run)
+
+int mte_tool_append(mte_tool_text *text, const void *piece, size_t length) {
+    if (!text || is_missing(piece, length)) return MTE_TOOL_MISUSE;
+    if (length == 0) return MTE_TOOL_DONE;
+    if (length >= SIZE_MAX / 2 - text->length) return MTE_TOOL_OUT_OF_MEMORY;
+    if (text->length + length >= text->room) {
+        size_t room = 2 * text->length > text->length + length ? 2 * text->length : text->length + length + 1;
+        char *bytes = realloc(text->bytes, room);
+        if (!bytes) return MTE_TOOL_OUT_OF_MEMORY;
+        text->bytes = bytes;
+        text->room = room;
+    }
+    memcpy(text->bytes + text->length, piece, length);
+    text->length += length;
+    text->bytes[text->length] = 0;
+    return MTE_TOOL_DONE;
 }
 
 void mte_tool_free(mte_tool_text *text) {
-    if (text) mte_c_free(text);
+    static const mte_tool_text none = MTE_TOOL_TEXT;
+    if (!text) return;
+    free(text->bytes);
+    *text = none;
 }
 
-/* ---- arrays */
-
-static const mte_tool_numbers misused_numbers = {MTE_TOOL_MISUSE, 0, 0, 0, 0, 0};
-/* where an empty array stands */
-static uint64_t no_numbers;
-
-static int is_whole(mte_tool_profile_arrays profile) {
-    return !is_missing(profile.sizes, profile.length) && !is_missing(profile.counts, profile.length);
+const char *mte_tool_version(void) {
+    return MTE_TOOL_VERSION;
 }
 
-static const uint32_t *numbers_or_none(const uint32_t *numbers) {
-    return numbers ? numbers : (const uint32_t *)&no_numbers;
+const char *mte_tool_strerror(int code) {
+    size_t i;
+    for (i = 0; i < sizeof sentences / sizeof *sentences; i++)
+        if (sentences[i].code == code) return sentences[i].words;
+    return "there is no such code";
+}
+
+/* ---- profiles */
+
+static const uint32_t *numbers_or_none(const uint32_t *at) {
+    return at ? at : (const uint32_t *)&layer_no_numbers;
+}
+
+static const uint16_t *classes_or_none(const uint16_t *at) {
+    return at ? at : (const uint16_t *)&layer_no_numbers;
+}
+
+static int is_whole(const mte_tool_profile_arrays *profile) {
+    return profile && !is_missing(profile->sizes, profile->length) && !is_missing(profile->counts, profile->length);
 }
 
 /* the two slices of a profile */
-#define SLICES(profile) numbers_or_none(profile.sizes), profile.length, numbers_or_none(profile.counts), profile.length
+#define SLICES(profile) numbers_or_none((profile)->sizes), (profile)->length, numbers_or_none((profile)->counts), (profile)->length
 
-mte_tool_numbers mte_tool_score_arrays(const uint16_t *classes, size_t class_count, mte_tool_profile_arrays profile) {
-    if (is_missing(classes, class_count) || !is_whole(profile)) return misused_numbers;
-    return mte_arrays_score(classes ? classes : (const uint16_t *)&no_numbers, class_count, SLICES(profile));
+static int give_numbers(numbers got, mte_tool_result *result) {
+    mte_tool_result found = MTE_TOOL_RESULT;
+    if (got.end == MTE_TOOL_MISUSE) return MTE_TOOL_MISUSE;
+    found.code = got.fault;
+    found.classes = got.classes;
+    found.at = got.at;
+    found.bytes = got.waste;
+    found.places = got.places;
+    return layer_give((int)got.end, &found, result);
 }
 
-mte_tool_numbers mte_tool_tune_arrays(mte_tool_options options, mte_tool_profile_arrays profile, uint16_t *classes, size_t class_room,
-                                      uint64_t *rows, size_t row_room) {
+/* the end of a call whose options can't be taken */
+static int refuse_options(int end, mte_tool_result *result) {
+    mte_tool_result found = MTE_TOOL_RESULT;
+    return end == MTE_TOOL_MISUSE ? end : layer_give(end, &found, result);
+}
+
+int mte_tool_score_profile(const mte_tool_options *options, const uint16_t *classes, size_t class_count,
+                           const mte_tool_profile_arrays *profile, mte_tool_result *result) {
+    narrow_options narrow;
+    int end = layer_options(options, &narrow);
+    if (is_missing(classes, class_count) || !is_whole(profile) || layer_is_wrong(result)) return MTE_TOOL_MISUSE;
+    if (end != MTE_TOOL_DONE) return refuse_options(end, result);
+    return give_numbers(mte_arrays_score(classes_or_none(classes), class_count, SLICES(profile)), result);
+}
+
+int mte_tool_tune_profile(const mte_tool_options *options, const mte_tool_profile_arrays *profile, uint16_t *classes, size_t class_room,
+                          uint64_t *rows, size_t row_room, mte_tool_result *result) {
     uint64_t no_row;
-    narrow_options narrow = narrowed(options);
-    if (!classes || is_missing(rows, row_room) || !is_whole(profile)) return misused_numbers;
-    return mte_arrays_tune(narrow.limit, narrow.step, SLICES(profile), classes, class_room, rows ? rows : &no_row, row_room);
+    narrow_options narrow;
+    int end = layer_options(options, &narrow);
+    if (!classes || is_missing(rows, row_room) || !is_whole(profile) || layer_is_wrong(result)) return MTE_TOOL_MISUSE;
+    if (end != MTE_TOOL_DONE) return refuse_options(end, result);
+    return give_numbers(
+        mte_arrays_tune(narrow.limit, narrow.step, SLICES(profile), classes, class_room, rows ? rows : &no_row, row_room), result);
 }
 
-mte_tool_numbers mte_tool_check_arrays(mte_tool_options options, const uint16_t *classes, size_t class_count, uint64_t waste,
-                                       const uint64_t *rows, size_t row_count, mte_tool_profile_arrays profile) {
-    narrow_options narrow = narrowed(options);
-    if (is_missing(classes, class_count) || is_missing(rows, row_count) || !is_whole(profile)) return misused_numbers;
-    return mte_arrays_check(narrow.limit, narrow.step, waste, classes ? classes : (const uint16_t *)&no_numbers, class_count,
-                            rows ? rows : &no_numbers, row_count, SLICES(profile));
+int mte_tool_check_profile(const mte_tool_options *options, const uint16_t *classes, size_t class_count, uint64_t waste,
+                           const uint64_t *rows, size_t row_count, const mte_tool_profile_arrays *profile, mte_tool_result *result) {
+    narrow_options narrow;
+    int end = layer_options(options, &narrow);
+    if (is_missing(classes, class_count) || is_missing(rows, row_count) || !is_whole(profile) || layer_is_wrong(result))
+        return MTE_TOOL_MISUSE;
+    if (end != MTE_TOOL_DONE) return refuse_options(end, result);
+    return give_numbers(mte_arrays_check(narrow.limit, narrow.step, waste, classes_or_none(classes), class_count,
+                                         rows ? rows : &layer_no_numbers, row_count, SLICES(profile)),
+                        result);
 }
 
 /* ---- the heap */
 
-static const mte_tool_outcome misused_heap = {MTE_TOOL_MISUSE, 0, 0, 0, 0, 0, 0};
+static int give_outcome(heap_outcome got, mte_tool_outcome *outcome) {
+    mte_tool_outcome found = MTE_TOOL_OUTCOME;
+    if (got.end == MTE_TOOL_MISUSE) return MTE_TOOL_MISUSE;
+    found.value = got.value;
+    found.code = got.code;
+    found.granule = got.granule;
+    found.memory_tag = got.memory_tag;
+    found.pointer_tag = got.pointer_tag;
+    found.granule_kind = got.granule_kind;
+    give(outcome, &found, sizeof found);
+    return (int)got.end;
+}
 
 /* a size for the heap, to which all that is above MTE_TOOL_LARGEST_SIZE is one */
 static uint32_t request(size_t size) {
     return size > UINT32_MAX ? UINT32_MAX : (uint32_t)size;
 }
 
-mte_tool_outcome mte_tool_heap_new(mte_tool_heap *heap, mte_tool_options options, const uint16_t *classes, size_t class_count) {
-    narrow_options narrow = narrowed(options);
-    heap_settings settings = {narrow.granules, narrow.quarantine, narrow.seed};
-    if (!heap || is_missing(classes, class_count)) return misused_heap;
-    return mte_heap_new(settings, classes ? classes : (const uint16_t *)&no_numbers, class_count, heap);
+static uint8_t narrowed(uint64_t number) {
+    return number > UINT8_MAX ? UINT8_MAX : (uint8_t)number; /* out of its range too */
 }
 
-mte_tool_outcome mte_tool_heap_malloc(mte_tool_heap *heap, size_t size) {
-    return heap ? mte_heap_malloc(heap, request(size)) : misused_heap;
+int mte_tool_heap_new(mte_tool_heap *heap, const mte_tool_options *options, const uint16_t *classes, size_t class_count,
+                      mte_tool_outcome *outcome) {
+    narrow_options narrow;
+    heap_outcome bad = {MTE_TOOL_BAD_OPTION, 0, 0, 0, 0, 0, 0};
+    int end = layer_options(options, &narrow);
+    if (!heap || heap->live || is_missing(classes, class_count)) return MTE_TOOL_MISUSE;
+    if (end == MTE_TOOL_MISUSE || layer_is_wrong(outcome)) return MTE_TOOL_MISUSE;
+    if (end == MTE_TOOL_DONE) {
+        heap_settings settings = {narrow.granules, narrow.quarantine, narrow.seed};
+        bad = mte_heap_new(settings, classes_or_none(classes), class_count, heap);
+    }
+    return give_outcome(bad, outcome);
 }
 
-mte_tool_outcome mte_tool_heap_calloc(mte_tool_heap *heap, size_t size) {
-    return heap ? mte_heap_calloc(heap, request(size)) : misused_heap;
+/* the call on a heap and for an outcome that are as they have to be */
+#define ON_HEAP(made) heap && !layer_is_wrong(outcome) ? give_outcome(made, outcome) : MTE_TOOL_MISUSE
+
+int mte_tool_heap_malloc(mte_tool_heap *heap, size_t size, mte_tool_outcome *outcome) {
+    return ON_HEAP(mte_heap_malloc(heap, request(size)));
 }
 
-mte_tool_outcome mte_tool_heap_realloc(mte_tool_heap *heap, uint64_t address, size_t size) {
-    return heap ? mte_heap_realloc(heap, address, request(size)) : misused_heap;
+int mte_tool_heap_calloc(mte_tool_heap *heap, size_t size, mte_tool_outcome *outcome) {
+    return ON_HEAP(mte_heap_calloc(heap, request(size)));
 }
 
-mte_tool_outcome mte_tool_heap_free(mte_tool_heap *heap, uint64_t address) {
-    return heap ? mte_heap_free(heap, address) : misused_heap;
+int mte_tool_heap_realloc(mte_tool_heap *heap, uint64_t address, size_t size, mte_tool_outcome *outcome) {
+    return ON_HEAP(mte_heap_realloc(heap, address, request(size)));
 }
 
-mte_tool_outcome mte_tool_heap_load(mte_tool_heap *heap, uint64_t address, uint8_t *room, size_t length) {
+int mte_tool_heap_free(mte_tool_heap *heap, uint64_t address, mte_tool_outcome *outcome) {
+    return ON_HEAP(mte_heap_free(heap, address));
+}
+
+int mte_tool_heap_load(mte_tool_heap *heap, uint64_t address, void *room, size_t length, mte_tool_outcome *outcome) {
     uint8_t none;
-    if (!heap || is_missing(room, length)) return misused_heap;
-    return mte_heap_load(heap, address, room ? room : &none, length);
+    if (is_missing(room, length)) return MTE_TOOL_MISUSE;
+    return ON_HEAP(mte_heap_load(heap, address, room ? room : &none, length));
 }
 
-mte_tool_outcome mte_tool_heap_store(mte_tool_heap *heap, uint64_t address, const uint8_t *bytes, size_t length) {
-    if (!heap || is_missing(bytes, length)) return misused_heap;
-    return mte_heap_store(heap, address, or_none(bytes), length);
+int mte_tool_heap_store(mte_tool_heap *heap, uint64_t address, const void *bytes, size_t length, mte_tool_outcome *outcome) {
+    if (is_missing(bytes, length)) return MTE_TOOL_MISUSE;
+    return ON_HEAP(mte_heap_store(heap, address, bytes ? bytes : (const void *)&layer_no_numbers, length));
 }
 
-mte_tool_outcome mte_tool_heap_addg(mte_tool_heap *heap, uint64_t address, uint64_t granules, uint64_t step) {
-    uint8_t narrow_granules = granules > UINT8_MAX ? UINT8_MAX : (uint8_t)granules; /* out of range too */
-    uint8_t narrow_step = step > UINT8_MAX ? UINT8_MAX : (uint8_t)step;
-    return heap ? mte_heap_addg(heap, address, narrow_granules, narrow_step) : misused_heap;
+int mte_tool_heap_addg(mte_tool_heap *heap, uint64_t address, uint64_t granules, uint64_t step, mte_tool_outcome *outcome) {
+    return ON_HEAP(mte_heap_addg(heap, address, narrowed(granules), narrowed(step)));
 }
 
 void mte_tool_heap_close(mte_tool_heap *heap) {

@@ -95,7 +95,7 @@ fn answer(words: Vec<String>, out: &mut impl Write) -> Result<ExitCode, Fault> {
     let mut words = words.into_iter();
     let command = words.next().unwrap_or_default();
     match command.as_str() {
-        "--version" => written(out, b"plain 0.1.0\n"),
+        "--version" => written(out, b"plain 1.0.0\n"),
         "events" => events(&Options::new(&["--seed"], words)?, out),
         "score" => Options::new(&[], words).and_then(|_| score(out)),
         "tune" => tune(&Options::new(&TUNER, words)?, out),

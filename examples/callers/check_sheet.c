@@ -6,7 +6,7 @@
 
 /* Appends a file to a text. */
 static int append_file(mte_tool_text *text, const char *path) {
-    uint8_t piece[4096];
+    char piece[4096];
     size_t n;
     int good;
     FILE *file = fopen(path, "rb");
@@ -17,27 +17,23 @@ static int append_file(mte_tool_text *text, const char *path) {
     return good;
 }
 
-/* Prints a text, a piece at a time. */
-static void print(mte_tool_text *text, FILE *to) {
-    uint8_t piece[4096];
-    size_t n, from = 0;
-    for (; (n = mte_tool_read(text, from, piece, sizeof piece)) > 0; from += n) fwrite(piece, 1, n, to);
-}
-
 int main(int argc, char **argv) {
-    mte_tool_text text = MTE_TOOL_TEXT; /* the sheet and the profile, and then the verdict */
-    mte_tool_ending ending = {MTE_TOOL_REFUSED, 0, 0};
+    mte_tool_text input = MTE_TOOL_TEXT, verdict = MTE_TOOL_TEXT;
+    mte_tool_result result = MTE_TOOL_RESULT;
+    int end = MTE_TOOL_REFUSED;
     if (argc != 3) {
         fprintf(stderr, "usage: check_sheet SHEET PROFILE\n");
         return 2;
     }
-    if (append_file(&text, argv[1]) && append_file(&text, argv[2])) {
-        ending = mte_tool_check(NULL, 0, &text);
-        print(&text, ending.end == MTE_TOOL_DONE ? stdout : stderr);
-        if (ending.end == MTE_TOOL_REFUSED) fprintf(stderr, " of %s and then %s\n", argv[1], argv[2]);
+    if (append_file(&input, argv[1]) && append_file(&input, argv[2])) {
+        end = mte_tool_check(NULL, input.bytes, input.length, &verdict, &result);
+        if (end == MTE_TOOL_DONE) fputs(verdict.bytes, stdout);
+        else fprintf(stderr, "%s: %s\n", mte_tool_strerror(end), mte_tool_strerror(result.code ? (int)result.code : end));
+        if (result.line) fprintf(stderr, "line %llu of %s and then %s\n", (unsigned long long)result.line, argv[1], argv[2]);
     } else {
         perror(argv[0]);
     }
-    mte_tool_free(&text);
-    return (int)ending.end;
+    mte_tool_free(&input);
+    mte_tool_free(&verdict);
+    return end;
 }

@@ -9,11 +9,12 @@ int main(int count, char **words) {
     static uint32_t counted[MTE_TOOL_LARGEST_SIZE + 1], sizes[MTE_TOOL_LARGEST_SIZE + 1], counts[MTE_TOOL_LARGEST_SIZE + 1];
     mte_tool_profile_arrays profile = {sizes, counts, 0};
     mte_tool_options options = MTE_TOOL_OPTIONS(count == 2 ? strtoul(words[1], NULL, 10) : 0);
+    mte_tool_result tuned = MTE_TOOL_RESULT;
     uint16_t classes[MTE_TOOL_MOST_CLASSES];
-    mte_tool_numbers tuned, checked;
     uint64_t *rows;
     size_t room;
     uint32_t size, i;
+    int end;
     while (scanf("%u", &size) == 1)
         if (size <= MTE_TOOL_LARGEST_SIZE) counted[size]++; /* larger ones are not for the classes */
     for (size = 0; size <= MTE_TOOL_LARGEST_SIZE; size++)
@@ -23,15 +24,16 @@ int main(int count, char **words) {
         }
     room = MTE_TOOL_MOST_CLASSES * profile.length;
     if (!(rows = malloc((room + 1) * sizeof *rows))) return 3;
-    tuned = mte_tool_tune_arrays(options, profile, classes, MTE_TOOL_MOST_CLASSES, rows, room);
-    if (tuned.end != MTE_TOOL_DONE) {
-        fprintf(stderr, "end %u, fault %u at entry %llu\n", tuned.end, tuned.fault, (unsigned long long)tuned.at);
-        return 2;
-    }
-    checked = mte_tool_check_arrays(options, classes, tuned.classes, tuned.waste, rows, (size_t)options.limit * tuned.places, profile);
+    end = mte_tool_tune_profile(&options, &profile, classes, MTE_TOOL_MOST_CLASSES, rows, room, &tuned);
+    if (end == MTE_TOOL_DONE)
+        end = mte_tool_check_profile(&options, classes, tuned.classes, tuned.bytes, rows, (size_t)options.limit * tuned.places, &profile,
+                                     NULL);
     free(rows);
-    if (checked.end != MTE_TOOL_DONE) return 1;
+    if (end != MTE_TOOL_DONE) {
+        fprintf(stderr, "own_counts: %s\n", mte_tool_strerror(end));
+        return end == MTE_TOOL_NO ? 1 : 2;
+    }
     for (i = 0; i < tuned.classes; i++) printf("%u ", classes[i] * 16u);
-    printf("waste %llu\n", (unsigned long long)tuned.waste);
+    printf("waste %llu\n", (unsigned long long)tuned.bytes);
     return 0;
 }

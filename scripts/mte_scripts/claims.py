@@ -60,6 +60,28 @@ TEMPLATES = {
     "history.unproved": "Nothing is proved, since {why}. If its `check-fit` is right, {claim}",
     "timeline.unproved": "Nothing is proved, since {why}. If its `check-fit` is right, {claim}",
     "timeline.between.unproved": "Nothing is proved, since {why}. If its `fit` is right, {claim}",
+    # a profile whose counts are above what a text may have, and the machines of a fleet, each with a history of its own
+    "scaled.claim": "of {tables}, none wastes less on it than {cost}.",
+    "scaled.says.own": "`check` says `optimal` of its counts, divided and rounded down, so {claim}",
+    "scaled.says.forced": "`check` says `optimal` of its counts, divided and rounded down, with a request of {size} bytes added, so {claim}",
+    "scaled.unproved": "Nothing is proved, since {why}. If its `check` is right, {claim}",
+    "scaled.refused": "`check` says `{verdict}` of its counts, divided and rounded down: nothing bounds what a table wastes on {given}. {meaning}",
+    "scaled.other": "`check` says `optimal` of another profile, of which nothing follows for {given}.",
+    "histories.claim": "of {tables}, none takes less over its machines together than {cost}.",
+    "histories.says.own": "`check-fit` says `optimal` of moments over which no table takes more, so {claim}",
+    "histories.says.forced": "`check-fit` says `optimal` of moments over which no table takes more, with a block of {size} bytes added at each, "
+    "so {claim}",
+    "histories.unproved": "Nothing is proved, since {why}. If its `check-fit` is right, {claim}",
+    "histories.refused": "`check-fit` says `{verdict}`: nothing bounds what a table takes over {given}. {meaning}",
+    "histories.other": "`check-fit` says `optimal` of another history, of which nothing follows for {given}.",
+    # a table that is none of those, beside what bounds them: {percent} is rounded up
+    "regret.profile": "{table} wastes {cost}; its blocks, with headers and requests, take at most {percent}% more than those of the best of these.",
+    "regret.history": "{table} takes {cost}, at most {percent}% more than the best of these.",
+    "regret.below": "{table} costs less, {cost}: it is none of these.",
+    "regret.unserved": "{table} does not serve {size}, which {given} has.",
+    "regret.column": "above the best",
+    "regret.title": "{table}: at most so far above the best table of each day",
+    "regret.help": "how far a table of size classes is at most above the best table of each day",
     # the last line of a script that checks one sheet
     "answer.proved": "optimal: {claim}",
     "answer.unproved": "optimal, but nothing is proved, since {why}: {claim}",
@@ -177,7 +199,9 @@ def claim(judged: Judged) -> str:
 
 def refusal(judged: Judged) -> str:
     """What the refusal of a sheet or a fit means, in a sentence; empty for an answer that is none."""
-    return meaning(judged.verdict, *(("sheet", "profile", "wastes") if judged.kind == "profile" else ("fit", judged.kind, "takes")))
+    if judged.kind in ("profile", "scaled"):
+        return meaning(judged.verdict, "sheet", "profile", "wastes")
+    return meaning(judged.verdict, "fit", "timeline" if judged.kind == "timeline" else "history", "takes")
 
 
 def meaning(verdict: str, sheet: str, counts: str, costs: str) -> str:
@@ -207,6 +231,17 @@ def sentence(judged: Judged, trust: Trust) -> str:
     if trust.is_proved:
         return TEMPLATES["prefix.proved"] + says(judged)
     return TEMPLATES[f"{judged.kind}{'.between' * between}.unproved"].format(why=trust.why, claim=claim(judged))
+
+
+def regret(judged: Judged, table: str, cost: "int | None", above: "float | None", unserved: "int | None" = None) -> str:
+    """What a table, which has a name, comes to beside this bound: its own waste or footprint, and how many percent more its blocks take at most,
+    below 0 where it is none of the tables that are bounded. Without a cost it does not serve a size."""
+    if cost is None or above is None:
+        return TEMPLATES["regret.unserved"].format(table=table, size=byte_text(unserved or 0), given=judged.given)
+    if above < 0:
+        return TEMPLATES["regret.below"].format(table=table, cost=byte_text(cost))
+    kind = "profile" if judged.kind in ("profile", "scaled") else "history"
+    return TEMPLATES[f"regret.{kind}"].format(table=table, cost=byte_text(cost), percent=f"{above:,.2f}")
 
 
 def answer(judged: Judged, trust: Trust) -> str:

@@ -1,10 +1,16 @@
 """The numbers of the formats and of the library's interface, and the codes with their words: the one table of them beside the proofs.
 
 scripts/tests/formats compares it with the laws that the crates prove of their numbers, with the texts of the codes that contracts cite, and
-with what the program and the documents say. It writes the parts of include/mte_tool.h, web/ and scripts/shims that have numbers.
+with what the program and the documents say. It writes the parts of include/, library/, python/, rust/, web/ and scripts/shims that have
+numbers or sentences.
 """
 
 from typing import NamedTuple, Optional
+
+# The version of all that this repository makes: the program, the library, its header and its packages.
+VERSION = "1.0.0"
+# that of the library's interface alone: of the name libmte_tool.so.N, and of the node MTE_TOOL_N of its symbols
+INTERFACE = "1"
 
 # sizes, in bytes but for those of classes, which are granules
 GRANULE_BYTES = 16
@@ -64,15 +70,21 @@ OPTIONS = {
     "quarantine": Option(0, MOST_QUARANTINE, 65_536),
 }
 
-# how a call of the library ends, from 0 on
+class End(NamedTuple):
+    """How a call of the library ends: the sentence, and what it leaves."""
+
+    sentence: str
+    leaves: str
+
+
+# from 0 on
 ENDS = {
-    "DONE": "the text is the answer",
-    "NO": "the text is the answer, and the verdict is no",
-    "REFUSED": 'the text is the first fault of the input, as "30 BadLine line 2", without a newline',
-    "OUT_OF_MEMORY": "the text is empty",
-    "BAD_OPTION": "an option is out of its range; the text is empty",
-    "MISUSE": "the call is not as it has to be: a pointer is null that must not be, the text holds an answer, or as the call says; nothing "
-    "was done",
+    "DONE": End("done", "the output is the answer"),
+    "NO": End("the verdict is no", "the output is the answer"),
+    "REFUSED": End("the input is refused", 'the output is its first fault, as "30 BadLine line 2", without a newline'),
+    "OUT_OF_MEMORY": End("memory ran out", "the output is empty"),
+    "BAD_OPTION": End("an option is out of its range, or not known to this library", "the output is empty"),
+    "MISUSE": End("the call is not as it has to be", "a pointer is null that must not be, a structure has no size, or as the call says"),
 }
 
 
@@ -139,3 +151,22 @@ CODES = {
     82: Code("WriteFault", 3, "a write failed, or took no byte"),
     83: Code("BadOption", 2, "the step is 3, 5, 6 or 7; nothing is read then"),
 }
+
+# of the codes that have no words of their own above
+SENTENCES = {
+    44: "a number of the first row is above the cost of one class on all that comes after its place",
+    45: "a number is above the one at its place in the row before",
+    46: "a number is above the cost of one class up to a later place, and the number there in the row before",
+    47: "the first number of the last row is not the cost of the table",
+    51: "an address is not aligned",
+}
+
+
+def sentence(number: int) -> str:
+    """What mte_tool_strerror says of an end or of a code: no call of the library gives the code 1, which is an end too."""
+    if number < len(ENDS):
+        return list(ENDS.values())[number].sentence
+    code = CODES[number]
+    if code.words is None:
+        return SENTENCES[number]
+    return f"this is not so: {code.words}" if code.status == 1 else code.words

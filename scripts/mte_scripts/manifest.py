@@ -4,6 +4,7 @@
     sources SHA-256 of the list of the sources' SHA-256s
     kit what `rt version` prints
     proofs proved, or unproved
+    verdict the line of `rt` with its verdict on the program's crate, where a log has it
 
 The list is what this prints, in the repository's folder:
 
@@ -12,8 +13,9 @@ The list is what this prints, in the repository's folder:
 scripts/mte_tool writes the manifest after a build, and compares the program with it each time; it calls this module by `step`:
 
     step manifest sources FOLDER                 prints the hash of the sources of the repository in FOLDER
-    step manifest write FOLDER PROGRAM SOURCES   writes the manifest of a program that was just proved and built of sources with the hash
-                                                 SOURCES; where they have another one now, it says so in place of that"""
+    step manifest write FOLDER PROGRAM SOURCES [LOG]   writes the manifest of a program that was just proved and built of sources with the
+                                                       hash SOURCES; where they have another one now, it says so in place of that. The
+                                                       verdict is in LOG, which has what rt printed"""
 
 import hashlib
 import os
@@ -23,8 +25,9 @@ from collections import namedtuple
 
 from mte_scripts import running
 
-Manifest = namedtuple("Manifest", "program sources kit proofs")
-LINES = re.compile(r"program ([0-9a-f]{64})\nsources ([0-9a-f]{64})\nkit ([^\n]{1,200})\nproofs (proved|unproved)\n")
+Manifest = namedtuple("Manifest", "program sources kit proofs verdict", defaults=("",))
+LINES = re.compile(r"program ([0-9a-f]{64})\nsources ([0-9a-f]{64})\nkit ([^\n]{1,200})\nproofs (proved|unproved)\n"
+                   r"(?:verdict ([^\n]{1,500})\n)?")
 
 
 def path_of(program: str) -> str:
@@ -32,17 +35,17 @@ def path_of(program: str) -> str:
 
 
 def text_of(manifest: Manifest) -> str:
-    return "".join(f"{name} {value}\n" for name, value in manifest._asdict().items())
+    return "".join(f"{name} {value}\n" for name, value in manifest._asdict().items() if value)
 
 
 def read(program: str) -> "Manifest | None":
     """The manifest beside a program, if there is a whole one."""
     try:
         with open(path_of(program), encoding="ascii") as file:
-            found = LINES.fullmatch(file.read(1000))
+            found = LINES.fullmatch(file.read(2000))
     except (OSError, UnicodeDecodeError):
         return None
-    return Manifest(*found.groups()) if found else None
+    return Manifest(*found.groups("")) if found else None
 
 
 def hash_of(path: "str | bytes") -> str:
@@ -75,7 +78,17 @@ def sources_of(root: str) -> str:
     return listed.hexdigest()
 
 
-def write(root: str, program: str, before: str) -> None:
+def verdict_in(log: str, crate: str) -> str:
+    """The verdict on a crate in what `rt ci` or `rt run` printed: the line before `rt: CRATE proved`, or of one crate alone the last one.
+    It is empty where there is none, as of a crate that an earlier run has proved."""
+    lines = log.splitlines()
+    verdicts = [at for at, line in enumerate(lines) if line.startswith("logic=proved ")]
+    if any(re.fullmatch(r"rt: \w+ (proved|is kept: .*)", line) for line in lines):
+        verdicts = [at for at in verdicts if lines[at + 1 : at + 2] == [f"rt: {crate} proved"]]
+    return lines[verdicts[-1]] if verdicts else ""
+
+
+def write(root: str, program: str, before: str, log: str = "") -> None:
     sources = sources_of(root)
     if sources != before:
         running.say("mte_tool", "the sources were changed while the program was built: nothing is proved of what it answers")
@@ -83,7 +96,7 @@ def write(root: str, program: str, before: str) -> None:
     kit = subprocess.run(["rt", "version"], stdout=subprocess.PIPE, check=True, text=True).stdout.split("\n")[0]
     place = path_of(program)
     with open(f"{place}.new", "w", encoding="ascii") as file:
-        file.write(text_of(Manifest(hash_of(program), sources, kit, "proved")))
+        file.write(text_of(Manifest(hash_of(program), sources, kit, "proved", verdict_in(log, os.path.basename(program)))))
     os.replace(f"{place}.new", place)
 
 
@@ -108,9 +121,10 @@ def main(words: list[str]) -> None:
     try:
         if words[:1] == ["sources"] and len(words) == 2:
             print(sources_of(words[1]))
-        elif words[:1] == ["write"] and len(words) == 4:
-            write(*words[1:])
+        elif words[:1] == ["write"] and len(words) in (4, 5):
+            with open(words[4] if words[4:] else os.devnull, encoding="utf-8", errors="replace") as file:
+                write(words[1], words[2], words[3], file.read())
         else:
-            raise running.Refused(2, "it is `step manifest sources FOLDER`, or `step manifest write FOLDER PROGRAM SOURCES`")
+            raise running.Refused(2, "it is `step manifest sources FOLDER`, or `step manifest write FOLDER PROGRAM SOURCES [LOG]`")
     except (OSError, subprocess.CalledProcessError) as error:
         raise running.Refused(3, f"the manifest can't be made: {error}") from None

@@ -10,14 +10,14 @@ Take a step of a shell script that is in Python.
 Usage: step private_folder make NAME               make a temporary folder that only the user can change, and print its path
        step private_folder remove NAME FOLDER      remove it; NAME is the script's own
        step manifest sources FOLDER                print the hash of the sources of the repository in FOLDER
-       step manifest write FOLDER PROGRAM SOURCES  write the manifest of a program that rt has just built of these sources
+       step manifest write FOLDER PROGRAM SOURCES [LOG]
+                                                   write the manifest of a program that rt has just built of these sources
        step first_build [FOLDER PROGRAM]           prove the crates below a program side by side, or print how many at once
-       step static_libraries FOLDER CRATE..        build the static libraries of crates in this folder
 
 Exit status: 0 it is done, 2 the words are refused, 3 it failed.
 """
 # imported once they are wanted: the first has to be there soon
-MODULES = {"private_folder": "private_folder", "manifest": "manifest", "first_build": "builds.first_build", "static_libraries": "builds.static_libraries"}
+MODULES = {"private_folder": "private_folder", "manifest": "manifest", "first_build": "builds.first_build"}
 
 
 def name(words: list) -> str:

@@ -28,6 +28,11 @@ MOST_DIGITS = 4_000  # of a number; Python itself converts 4,300
 DIGITS = b"0123456789"
 LARGE = b"%d" % (LARGEST_SIZE + 1)
 COUNTED = re.compile(rb"[ \t]*([0-9]+|large)[ \t]+([0-9]+)[ \t]*")
+# how files of other tools begin, packed or not
+OTHER_TOOLS = re.compile(
+    rb"\x1f\x8b|\x28\xb5\x2f\xfd|heap profile:|heap_v2/|v [0-9a-f]+ [0-9a-f]+$|\{\"dhatFileVersion|\{\"jemalloc"
+    rb"|<malloc |Stats: SizeClassAllocator"
+)
 EVENT_WORDS = (b"malloc", b"calloc", b"realloc", b"free", b"load", b"store", b"addg", b"subg")
 SHEET_WORDS = (b"classes", b"limit", b"step", b"waste", b"footprint", b"row", b"moments")
 
@@ -315,6 +320,8 @@ def refuse_line(piece, line, path):
 def fault(text, line, path, form="SIZE COUNT"):
     """What is wrong with a line that is not of this form."""
     name, first = named(path), text.split(b" ")[0]
+    if line == 1 and OTHER_TOOLS.match(text):
+        return Refused(2, f"{name}: it looks like a file of another tool: `profile_program --import` makes a profile of it")
     if wrong := encoding(text, line):
         return Refused(2, f"{name}: {wrong}")
     where = f"{name}: line {line}" if line else name

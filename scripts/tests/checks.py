@@ -17,11 +17,13 @@ The last line of a part has its name and how many checks passed, failed and were
 import argparse
 import os
 import shutil
+import subprocess
 import sys
 import tempfile
 import time
 import traceback
 import unittest
+from typing import Optional
 
 from mte_scripts.places import ROOT
 
@@ -96,6 +98,20 @@ def built() -> str:
     if not os.access(PROGRAM, os.X_OK):
         raise FileNotFoundError(f"{PROGRAM} is not built: run `scripts/mte_tool --version`")
     return PROGRAM
+
+
+def any_program(place: str) -> Optional[str]:
+    """A program for MTE_TOOL: the one that it names, None for the built one, or a plain one that is compiled in PLACE; empty where there is
+    none."""
+    if os.environ.get("MTE_TOOL"):
+        return os.path.abspath(os.environ["MTE_TOOL"])
+    if os.access(PROGRAM, os.X_OK):
+        return None
+    if not shutil.which("rustc"):
+        return ""
+    plain = os.path.join(place, "plain")
+    subprocess.run(["rustc", "-O", "--edition", "2021", os.path.join(ROOT, "bench/plain/main.rs"), "-o", plain], check=True)
+    return plain
 
 
 class Part(unittest.TestCase):

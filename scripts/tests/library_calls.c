@@ -2,7 +2,8 @@
 
    library_calls PIECE FOLDER COUNT    makes the calls 0 to COUNT-1 of the folder, with inputs in pieces of PIECE bytes (0: whole)
    library_calls threads FOLDER COUNT  the same in 16 threads at once
-   library_calls refuse FOLDER COUNT   each call with each growth of memory refused in turn; then the calls over arrays, and a new heap
+   library_calls refuse FOLDER COUNT   each call with each growth of memory refused in turn; then the calls over arrays, a text that is
+                                       appended to, and a new heap
 
    A call N has the files N.call (command, limit, step, granules, seed, quarantine, end, fault, line), N.input and N.want, the text that it
    has to leave. The first call that goes wrong ends the run with status 1. */
@@ -14,9 +15,15 @@
 #include <string.h>
 
 typedef struct {
+    int end;
+    unsigned code;
+    unsigned long line;
+} ending;
+
+typedef struct {
     char command[16];
     mte_tool_options options;
-    mte_tool_ending ending;
+    ending want_ending;
     uint8_t *input, *want;
     size_t length, want_length;
 } call;
@@ -73,107 +80,153 @@ static call read_call(const char *folder, int number) {
     char *words = (char *)read_file(folder, number, "call", &n);
     if (sscanf(words, "%15s %u %u %u %u %u %u %u %lu", c.command, &limit, &step, &granules, &seed, &quarantine, &end, &fault, &line) != 9)
         exit(2);
-    c.options = (mte_tool_options){granules, quarantine, seed, limit, step};
-    c.ending = (mte_tool_ending){end, fault, line};
+    c.options = (mte_tool_options){sizeof c.options, granules, quarantine, seed, limit, step};
+    c.want_ending = (ending){(int)end, fault, line};
     c.input = read_file(folder, number, "input", &c.length);
     c.want = read_file(folder, number, "want", &c.want_length);
     __real_free(words);
     return c;
 }
 
-static mte_tool_ending make(const call *c, const uint8_t *input, size_t length, mte_tool_text *text) {
-    if (!strcmp(c->command, "score")) return mte_tool_score(input, length, text);
-    if (!strcmp(c->command, "tune")) return mte_tool_tune(c->options, input, length, text);
-    if (!strcmp(c->command, "check")) return mte_tool_check(input, length, text);
-    if (!strcmp(c->command, "footprint")) return mte_tool_footprint(input, length, text);
-    if (!strcmp(c->command, "fit")) return mte_tool_fit(c->options, input, length, text);
-    if (!strcmp(c->command, "check-fit")) return mte_tool_check_fit(input, length, text);
-    if (!strcmp(c->command, "profile")) return mte_tool_profile(input, length, text);
-    if (!strcmp(c->command, "replay")) return mte_tool_replay(c->options, input, length, text);
-    if (!strcmp(c->command, "run")) return mte_tool_run(c->options, input, length, text);
+static ending make(const call *c, const void *input, size_t length, mte_tool_text *output) {
+    static const struct {
+        const char *name;
+        int (*call)(const mte_tool_options *, const void *, size_t, mte_tool_text *, mte_tool_result *);
+    } commands[] = {{"score", mte_tool_score}, {"tune", mte_tool_tune}, {"check", mte_tool_check}, {"footprint", mte_tool_footprint},
+                    {"fit", mte_tool_fit}, {"check-fit", mte_tool_check_fit}, {"profile", mte_tool_profile}, {"replay", mte_tool_replay},
+                    {"run", mte_tool_run}};
+    mte_tool_result result = MTE_TOOL_RESULT;
+    size_t i;
+    for (i = 0; i < sizeof commands / sizeof *commands; i++)
+        if (!strcmp(c->command, commands[i].name)) {
+            int end = commands[i].call(&c->options, input, length, output, &result);
+            return (ending){end, result.code, result.line};
+        }
     exit(2);
 }
 
-/* whether a text has these bytes, which are read out by this many at a time */
-static int has(mte_tool_text *text, const uint8_t *want, size_t length, size_t room) {
-    uint8_t *bytes = __real_malloc(room);
-    size_t n, from = 0;
-    int same = text->length == length;
-    while (same && (n = mte_tool_read(text, from, bytes, room)) > 0) {
-        same = n <= length - from && !memcmp(bytes, want + from, n);
-        from += n;
-    }
-    __real_free(bytes);
-    return same && from == length;
+static int has(const mte_tool_text *text, const uint8_t *want, size_t length) {
+    if (length == 0) return !text->bytes && text->length == 0;
+    return text->length == length && !memcmp(text->bytes, want, length) && !text->bytes[length];
 }
 
-static int is_ending(mte_tool_ending a, mte_tool_ending b) {
-    return a.end == b.end && a.fault == b.fault && a.line == b.line;
+static int is_ending(ending a, ending b) {
+    return a.end == b.end && a.code == b.code && a.line == b.line;
 }
 
-/* makes a call whose input comes in such pieces; the last one comes with the call */
+/* makes a call whose input is put together of such pieces */
 static void test(const call *c, int number, size_t piece) {
-    mte_tool_text text = MTE_TOOL_TEXT;
-    size_t from = 0;
-    for (; piece && c->length - from > piece; from += piece)
-        if (mte_tool_append(&text, c->input + from, piece) != MTE_TOOL_DONE || text.length != from + piece) wrong("append", number, c);
-    if (!is_ending(make(c, c->length > from ? c->input + from : NULL, c->length - from, &text), c->ending)) wrong("ending", number, c);
-    if (!has(&text, c->want, c->want_length, piece ? piece : 65536)) wrong("text", number, c);
-    mte_tool_free(&text);
-    mte_tool_free(&text);
-    if (text.handle || text.length) wrong("free", number, c);
+    mte_tool_text input = MTE_TOOL_TEXT, output = MTE_TOOL_TEXT;
+    size_t from, n;
+    for (from = 0; piece && from < c->length; from += n) {
+        n = c->length - from < piece ? c->length - from : piece;
+        if (mte_tool_append(&input, c->input + from, n) != MTE_TOOL_DONE || input.length != from + n) wrong("append", number, c);
+    }
+    if (piece && !has(&input, c->input, c->length)) wrong("pieces", number, c);
+    if (!is_ending(make(c, piece ? (void *)input.bytes : c->input, c->length, &output), c->want_ending)) wrong("ending", number, c);
+    if (!has(&output, c->want, c->want_length)) wrong("text", number, c);
+    /* what the output held goes, and it may be the input too */
+    if (!is_ending(make(c, c->input, c->length, &output), c->want_ending)) wrong("ending of the second call", number, c);
+    if (!has(&output, c->want, c->want_length)) wrong("text of the second call", number, c);
+    if (piece && !is_ending(make(c, input.bytes, input.length, &input), c->want_ending)) wrong("in its place", number, c);
+    if (piece && !has(&input, c->want, c->want_length)) wrong("text in its place", number, c);
+    mte_tool_free(&input);
+    mte_tool_free(&output);
+    mte_tool_free(&output);
+    if (output.bytes || output.length || output.room) wrong("free", number, c);
 }
 
 /* makes a call with each growth refused: it has to report that, or to give its whole answer where it needed no more */
 static void refuse(const call *c, int number) {
-    mte_tool_text text = MTE_TOOL_TEXT;
+    mte_tool_text output = MTE_TOOL_TEXT;
     long calls_refused = 0, turn;
     for (turn = 1;; turn++) {
-        mte_tool_ending ending;
+        ending got;
         growths = live = 0;
         refused_growth = turn;
-        ending = make(c, c->input, c->length, &text);
+        got = make(c, c->input, c->length, &output);
         if (growths < turn) break;
         calls_refused++;
-        if (!is_ending(ending, (mte_tool_ending){MTE_TOOL_OUT_OF_MEMORY, 0, 0}) || text.length || live) wrong("out of memory", number, c);
+        if (!is_ending(got, (ending){MTE_TOOL_OUT_OF_MEMORY, 0, 0})) wrong("out of memory", number, c);
+        if (output.length || output.bytes || live) wrong("left after out of memory", number, c);
     }
-    mte_tool_free(&text);
+    if (!is_ending(make(c, c->input, c->length, &output), c->want_ending)) wrong("ending after all", number, c);
+    if (!has(&output, c->want, c->want_length)) wrong("text after all", number, c);
+    mte_tool_free(&output);
     if (live) wrong("memory is left", number, c);
     refused_growth = 0;
     printf("%s %ld\n", c->command, calls_refused);
 }
 
-/* the same for `tune` and `check` over arrays, and for a new heap */
-static mte_tool_numbers tune_and_check(void) {
+/* Each of these gives its end, and leaves no memory. */
+
+static int tune_and_check(void) {
     static const uint32_t sizes[] = {16, 32, 48}, counts[] = {1, 1, 1};
     mte_tool_profile_arrays profile = {sizes, counts, 3};
     mte_tool_options options = MTE_TOOL_OPTIONS(2);
+    mte_tool_result tuned = MTE_TOOL_RESULT;
     uint16_t classes[2];
     uint64_t rows[6];
-    mte_tool_numbers tuned = mte_tool_tune_arrays(options, profile, classes, 2, rows, 6);
-    if (tuned.end != MTE_TOOL_DONE) return tuned;
-    return mte_tool_check_arrays(options, classes, tuned.classes, tuned.waste, rows, 6, profile);
+    int end = mte_tool_tune_profile(&options, &profile, classes, 2, rows, 6, &tuned);
+    return end ? end : mte_tool_check_profile(&options, classes, tuned.classes, tuned.bytes, rows, 6, &profile, NULL);
 }
 
-static uint32_t new_heap(void) {
-    static const uint16_t classes[] = {2, 4};
+static int fit_and_check(void) {
+    static const uint32_t sizes[] = {16, 40}, counts[] = {4, 0, 1, 2, 3, 0};
+    mte_tool_history_arrays history = {sizes, counts, 2, 3};
     mte_tool_options options = MTE_TOOL_OPTIONS(2);
+    mte_tool_result found = MTE_TOOL_RESULT;
+    uint16_t classes[2];
+    uint64_t rows[4];
+    int end = mte_tool_fit_history(&options, &history, classes, 2, rows, 4, &found);
+    if (!end) end = mte_tool_footprint_history(NULL, classes, found.classes, &history, NULL);
+    return end ? end : mte_tool_check_fit_history(&options, classes, found.classes, found.bytes, rows, 4, &history, NULL);
+}
+
+static int fit_timeline_and_check(void) {
+    static const uint32_t sizes[] = {16, 40, 16, 40};
+    static const uint8_t frees[] = {0, 0, 1, 0};
+    mte_tool_timeline_arrays timeline = {sizes, frees, 4};
+    mte_tool_options options = MTE_TOOL_OPTIONS(2);
+    mte_tool_result found = MTE_TOOL_RESULT;
+    uint16_t classes[2];
+    uint64_t rows[4];
+    uint32_t moments[4];
+    int end = mte_tool_fit_timeline(&options, &timeline, classes, 2, rows, 4, moments, 4, &found);
+    if (!end) end = mte_tool_footprint_timeline(NULL, classes, found.classes, &timeline, NULL);
+    if (end) return end;
+    return mte_tool_check_fit_timeline(&options, classes, found.classes, found.bytes, rows, 2 * found.places, moments, found.moments,
+                                       &timeline, NULL);
+}
+
+static int append(void) {
+    mte_tool_text text = MTE_TOOL_TEXT;
+    int i, end = MTE_TOOL_DONE;
+    for (i = 0; i < 100 && end == MTE_TOOL_DONE; i++) end = mte_tool_append(&text, "a text, ", 8);
+    if (text.length != (size_t)(end ? i - 1 : i) * 8 || (text.bytes && strlen(text.bytes) != text.length)) exit(1);
+    mte_tool_free(&text);
+    return end;
+}
+
+static int new_heap(void) {
+    static const uint16_t classes[] = {2, 4};
     mte_tool_heap heap = MTE_TOOL_HEAP;
-    uint32_t end = mte_tool_heap_new(&heap, options, classes, 2).end;
+    int end = mte_tool_heap_new(&heap, NULL, classes, 2, NULL);
     if (heap.live != (end == MTE_TOOL_DONE)) exit(1);
     mte_tool_heap_close(&heap);
     return end;
 }
 
 static void refuse_others(void) {
-    int which;
-    for (which = 0; which < 2; which++)
+    static int (*const others[])(void) = {tune_and_check, fit_and_check, fit_timeline_and_check, append, new_heap};
+    size_t which;
+    for (which = 0; which < sizeof others / sizeof *others; which++)
         for (refused_growth = 1;; refused_growth++) {
-            uint32_t end;
+            int end;
             growths = live = 0;
-            end = which ? new_heap() : tune_and_check().end;
+            end = others[which]();
             if (live || end != (growths < refused_growth ? MTE_TOOL_DONE : MTE_TOOL_OUT_OF_MEMORY)) {
-                printf("%s: growth %ld refused: end %u, %ld blocks live\n", which ? "heap" : "arrays", refused_growth, end, live);
+                printf("other %zu: growth %ld refused: end %d, %ld blocks live\n", which, refused_growth, end, live);
                 exit(1);
             }
             if (growths < refused_growth) break;

@@ -16,31 +16,31 @@ static mte_tool_options options;
 static uint16_t classes[32];
 static size_t class_count;
 
-static void write_line(FILE *out, long number, const mte_tool_outcome *o, const uint8_t *bytes, size_t length) {
+static void write_line(FILE *out, long number, int end, const mte_tool_outcome *o, const uint8_t *bytes, size_t length) {
     static const char *const kinds[] = {"slack", "header", "tail", "dead", "other"};
     static const char *const words[] = {"null large", "null no-class", "null exhausted", "refused misplaced", "refused not-live",
                                         "refused wrong-tag"};
     size_t i;
-    if (o->end == MTE_TOOL_DONE && !bytes) return;
+    if (end == MTE_TOOL_DONE && !bytes) return;
     fprintf(out, "%ld ", number);
-    if (o->end == MTE_TOOL_DONE) {
+    if (end == MTE_TOOL_DONE) {
         fprintf(out, "data ");
         for (i = 0; i < length; i++) fprintf(out, "%02x", bytes[i]);
     } else if (o->code == 50) {
         fprintf(out, "fault unmapped");
     } else if (o->code == 52) {
         fprintf(out, "fault tag granule %u memory %u pointer %u in %s", o->granule, o->memory_tag, o->pointer_tag, kinds[o->granule_kind]);
-    } else if (o->end == MTE_TOOL_NO && o->code >= 60 && o->code <= 65) {
+    } else if (end == MTE_TOOL_NO && o->code >= 60 && o->code <= 65) {
         fprintf(out, "%s", words[o->code - 60]);
     } else {
-        fprintf(out, "end %u code %u", o->end, o->code);
+        fprintf(out, "end %d code %u", end, o->code);
     }
     fprintf(out, "\n");
 }
 
 /* sets a variable to the address of an outcome, and to null if there is none */
-static void set(uint64_t *variable, const mte_tool_outcome *o, int keeps) {
-    if (o->end == MTE_TOOL_DONE) *variable = o->value;
+static void set(uint64_t *variable, int end, const mte_tool_outcome *o, int keeps) {
+    if (end == MTE_TOOL_DONE) *variable = o->value;
     else if (!keeps) *variable = 0;
 }
 
@@ -49,21 +49,21 @@ static void perform(mte_tool_heap *heap, uint64_t *at, const char *line, long nu
     long v, a, b, c;
     unsigned byte;
     uint8_t bytes[64];
-    mte_tool_outcome o = {0, 0, 0, 0, 0, 0, 0};
-    int is_load = 0;
+    mte_tool_outcome o = MTE_TOOL_OUTCOME;
+    int end, is_load = 0;
     sscanf(line, "%15s %ld %ld %ld", word, &v, &a, &b);
-    if (!strcmp(word, "malloc")) set(at + v, (o = mte_tool_heap_malloc(heap, (size_t)a), &o), 0);
-    else if (!strcmp(word, "calloc")) set(at + v, (o = mte_tool_heap_calloc(heap, (size_t)a), &o), 0);
-    else if (!strcmp(word, "realloc")) set(at + v, (o = mte_tool_heap_realloc(heap, at[v], (size_t)a), &o), 1);
-    else if (!strcmp(word, "free")) o = mte_tool_heap_free(heap, at[v]);
-    else if (!strcmp(word, "load")) is_load = 1, o = mte_tool_heap_load(heap, at[v] + (uint64_t)a, bytes, (size_t)b);
+    if (!strcmp(word, "malloc")) set(at + v, end = mte_tool_heap_malloc(heap, (size_t)a, &o), &o, 0);
+    else if (!strcmp(word, "calloc")) set(at + v, end = mte_tool_heap_calloc(heap, (size_t)a, &o), &o, 0);
+    else if (!strcmp(word, "realloc")) set(at + v, end = mte_tool_heap_realloc(heap, at[v], (size_t)a, &o), &o, 1);
+    else if (!strcmp(word, "free")) end = mte_tool_heap_free(heap, at[v], &o);
+    else if (!strcmp(word, "load")) is_load = 1, end = mte_tool_heap_load(heap, at[v] + (uint64_t)a, bytes, (size_t)b, &o);
     else if (!strcmp(word, "store") && sscanf(line, "%*s %*d %*d %*d %x", &byte) == 1) {
         memset(bytes, (int)byte, sizeof bytes);
-        o = mte_tool_heap_store(heap, at[v] + (uint64_t)a, bytes, (size_t)b);
+        end = mte_tool_heap_store(heap, at[v] + (uint64_t)a, bytes, (size_t)b, &o);
     } else if (!strcmp(word, "addg") && sscanf(line, "%*s %*d %*d %*d %ld", &c) == 1)
-        set(at + v, (o = mte_tool_heap_addg(heap, at[a], (uint64_t)b, (uint64_t)c), &o), 0);
+        set(at + v, end = mte_tool_heap_addg(heap, at[a], (uint64_t)b, (uint64_t)c, &o), &o, 0);
     else exit(2);
-    write_line(out, number, &o, is_load ? bytes : NULL, (size_t)b);
+    write_line(out, number, end, &o, is_load ? bytes : NULL, (size_t)b);
 }
 
 /* the report's lines, in a block of its own */
@@ -76,7 +76,7 @@ static void *replay(void *unused) {
     const char *line;
     long number = 0;
     (void)unused;
-    if (mte_tool_heap_new(&heap, options, classes, class_count).end != MTE_TOOL_DONE || !heap.live) exit(3);
+    if (mte_tool_heap_new(&heap, &options, classes, class_count, NULL) != MTE_TOOL_DONE || !heap.live) exit(3);
     for (line = trace; *line; line = strchr(line, '\n') + 1) perform(&heap, variables, line, ++number, out);
     mte_tool_heap_close(&heap);
     if (heap.live || heap.handle) exit(3);
@@ -96,7 +96,7 @@ int main(int count, char **words) {
     if (fread(whole, 1, (1 << 26) - 1, file) == 0 && !feof(file)) return 2;
     fclose(file);
     trace = whole;
-    options = (mte_tool_options){(uint64_t)atol(words[2]), (uint64_t)atol(words[4]), (uint64_t)atol(words[3]), 0, 0};
+    options = (mte_tool_options){sizeof options, (uint64_t)atol(words[2]), (uint64_t)atol(words[4]), (uint64_t)atol(words[3]), 0, 0};
     for (i = 5; i < count; i++) classes[class_count++] = (uint16_t)atol(words[i]);
     if (in_threads) {
         char *first = replay(NULL);

@@ -40,6 +40,6 @@ def started() -> Iterator[dict[str, str]]:
 
 
 def load() -> str:
-    """The command that loads rows.tsv and makes fleet.profile of all rows in the table."""
+    """The command that loads rows.tsv and makes sums.tsv of all rows in the table."""
     with open(COMMANDS, encoding="utf-8") as file:
         return re.search(r"(?m)^    (psql .*postgresql\.sql < rows\.tsv .*)$", file.read())[1]

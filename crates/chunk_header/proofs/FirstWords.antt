@@ -1,7 +1,7 @@
--- The first word with another link, and that of a released slot.
+-- The first word with another link, that of a released slot, and that of a slot in quarantine.
 use Rattle.std.proofs.Common.{◌≡◌, ℕ, ◌+◌, ◌*◌, ◌/◌, ◌%◌, ◌^◌, arith}
 use Rattle.heap_theory.specs.Header.{standing_of, first_word, header_of}
-use Rattle.heap_theory.specs.Header.Standing.{Freed}
+use Rattle.heap_theory.specs.Header.Standing.{Freed, Quarantined}
 use Rattle.heap_theory.proofs.HeaderWords.{code_of-standing_of}
 
 pub first_word-with_next : (first second next : ℕ) →
@@ -51,3 +51,7 @@ header_of-freed first second next =
       next = next_is i;
       mark = second;
     }
+
+pub first_word-quarantined : (first second : ℕ) →
+    first_word (record (header_of first second) { standing = Quarantined; next = 0 }) ≡ first % 2 ^ 32 / 2 ^ 2 * 2 ^ 2 + 2
+first_word-quarantined first second = omega arith

@@ -3,7 +3,7 @@ use Rattle.std.proofs.Common.{◌≡◌, ℕ, ◌+◌, ◌*◌, List, sym, ◌�
 use Rattle.std.specs.Int.{w64, to_le_bytes}
 use Rattle.machine_theory.specs.Memory.{Granule, IsMemory, word_at, written}
 use Rattle.heap_theory.specs.Header.{Header, first_word, header_of, header_at, with_header}
-use Rattle.heap_theory.specs.Header.Standing.{Freed}
+use Rattle.heap_theory.specs.Header.Standing.{Freed, Quarantined}
 use Rattle.heap_theory.proofs.HeaderWords.{with_header-words}
 use Rattle.chunk_header.proofs.Rewrites.{word_written_over}
 
@@ -29,6 +29,16 @@ word_freed memory g next word second read =
     let at : 16 * g + 0 ≡ 16 * g = omega arith in
     (λ i. first_word (record (header_of (read i) second) { standing = Freed; next = next }))
     ∙ (λ i. first_word (record (header_of (word_at memory (at i)) second) { standing = Freed; next = next }))
+
+-- the first word of the header of a slot in quarantine, by the first word that was read
+pub word_quarantined : (memory : List Granule) (g word second : ℕ) → word ≡ word_at memory (16 * g + 0) →
+    first_word (record (header_of word second) { standing = Quarantined; next = 0 })
+    ≡ first_word (record (header_at memory g) { standing = Quarantined; next = 0 })
+unfolding header_at
+word_quarantined memory g word second read =
+    let at : 16 * g + 0 ≡ 16 * g = omega arith in
+    (λ i. first_word (record (header_of (read i) second) { standing = Quarantined; next = 0 }))
+    ∙ (λ i. first_word (record (header_of (word_at memory (at i)) second) { standing = Quarantined; next = 0 }))
 
 -- the second word is not written, since it would not change
 pub first_written : (old new : List Granule) (g : ℕ) (header : Header) → IsMemory new → word_at new (16 * g + 8) ≡ header.mark →

@@ -1,9 +1,10 @@
 -- What is written where it was read changes nothing.
 use Rattle.std.specs.Int.{w64, to_le_bytes}
-use Rattle.std.proofs.Common.{◌≡◌, ℕ, ◌+◌, ◌-◌, ◌*◌, ◌/◌, ◌%◌, ◌<◌, List, length, get_or, false, ⊎_elim, refl, sym, ap, ◌∙◌, arith, slice_index}
+use Rattle.std.proofs.Common.{◌≡◌, ℕ, ◌+◌, ◌-◌, ◌*◌, ◌/◌, ◌%◌, ◌<◌, List, length, get_or, false, ⊎_elim, inl, inr, refl, sym, ap, ◌∙◌, arith, slice_index}
 use Rattle.std.proofs.lemmas.Bool.{cases_lt, cond-true, cond-false, and_from, and_left, and_right, le-leb, lt-ltb, lt-leb, le-ltb}
 use Rattle.std.proofs.lemmas.List.FromFn.{fill_by_all}
 use Rattle.std.proofs.lemmas.Nat.{le_bytes_8}
+use Rattle.granule_memory.specs.Changes.{ChangesOnlyBytes}
 use Rattle.machine_theory.specs.Memory as memory_words
 use Rattle.machine_theory.specs.Memory.{Granule, IsGranule, IsMemory, no_granule, granule_at, byte_at, bytes_at, word_at, is_among, written, byte_after, bytes_after}
 use Rattle.machine_theory.proofs.ByteLaws.{byte_below, bytes_at-below, get_or-bytes_at, length-bytes_at}
@@ -62,3 +63,20 @@ word_written_over memory i is =
     (le_bytes_8 (bytes_at memory i 8) (word_at memory i) (length-bytes_at memory i 8)
     (λ k. byte_below (bytes_at memory i 8) k (bytes_at-below memory i 8 is)) refl)
     ∙ written_over memory is i 8
+
+-- two words that are written one after the other change no byte but those of their granule
+pub both_words : (old half new : List Granule) (g : ℕ) → ChangesOnlyBytes old half (16 * g + 0) (16 * g + 0 + 8) →
+    ChangesOnlyBytes half new (16 * g + 8) (16 * g + 8 + 8) → ChangesOnlyBytes old new (16 * g) (16 * g + 16)
+both_words old half new g first second = record {
+  len = second.len ∙ first.len;
+  tag = λ k. second.tag k ∙ first.tag k;
+  byte = λ k. ⊎_elim
+      (λ low. second.byte k (inl (omega (arith, low))) ∙ first.byte k (inl (omega (arith, low))))
+      (λ past. second.byte k (inr (omega (arith, past))) ∙ first.byte k (inr (omega (arith, past))));
+  word = λ k. ⊎_elim
+      (λ low. second.word k (inl (omega (arith, low))) ∙ first.word k (inl (omega (arith, low))))
+      (λ past. second.word k (inr (omega (arith, past))) ∙ first.word k (inr (omega (arith, past))));
+  granule = λ k. ⊎_elim
+      (λ low. second.granule k (inl (omega (arith, low))) ∙ first.granule k (inl (omega (arith, low))))
+      (λ past. second.granule k (inr (omega (arith, past))) ∙ first.granule k (inr (omega (arith, past))));
+}

@@ -8,4 +8,4 @@ mod words;
 
 pub use header::{Header, State};
 pub use slot_links::{link, set_link, set_link_at, unlink};
-pub use stored_header::{class_in, is_header, read, set_freed, write};
+pub use stored_header::{class_in, is_header, read, set_freed, set_quarantined, write};

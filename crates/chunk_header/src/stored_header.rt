@@ -2,11 +2,13 @@
 ghost use Rattle.chunk_header.specs.HeaderView.{seen};
 ghost use Rattle.chunk_header.specs.HeaderWrite.{WritesHeader};
 ghost use Rattle.heap_theory.specs.Header.{header_at};
-ghost use Rattle.heap_theory.specs.Header.Standing.{Freed};
+ghost use Rattle.heap_theory.specs.Header.Standing.{Freed, Quarantined};
 ghost use Rattle.std.specs.Prelude.{◌≡◌, ◌↔◌, ◌<◌, ◌^◌, length, IsTrue};
 
 use crate::header::Header;
-use crate::words::{class_of, first_word, freed_with_next, header_of, next_of, with_next_in};
+use crate::words::{
+    class_of, first_word, freed_with_next, header_of, next_of, quarantined, with_next_in,
+};
 use class_table::MOST_CLASSES;
 use granule_memory::Memory;
 use machine_theory::GRANULE_BYTES;
@@ -66,6 +68,20 @@ pub fn set_freed(memory: &mut Memory, granule: u32, next: u32)
 {
     let word = freed_with_next(memory.word(granule, 0), next);
     memory.set_word(granule, 0, word);
+}
+
+/// Makes the header in a granule, which must be below `granules()` and hold a header (`is_header`), that of a slot that is freed, with this
+/// mark: the state is `Quarantined`, and the link 0. The header's other fields, all tags and all other granules stay the same.
+pub fn set_quarantined(memory: &mut Memory, granule: u32, mark: u64)
+    requires granule { granule < length memory.old }
+    requires class { (header_at memory.old granule).class < MOST_CLASSES }
+    ensures { let before = header_at memory.old granule in
+        WritesHeader memory.old memory.new granule GRANULE_BYTES
+        (record before { standing = Quarantined; next = 0; mark = mark }) }
+{
+    let word = quarantined(memory.word(granule, 0));
+    memory.set_word(granule, 0, word);
+    memory.set_word(granule, 1, mark);
 }
 
 /// The link of the header in a granule, which must be below `granules()`: a slot's number plus one, or 0.

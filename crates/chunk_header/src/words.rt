@@ -3,7 +3,7 @@
 //! are 0.
 ghost use Rattle.chunk_header.specs.HeaderView.{seen, standing_seen};
 ghost use Rattle.heap_theory.specs.Header.{FitsWords, code_of, first_word, header_of, standing_of};
-ghost use Rattle.heap_theory.specs.Header.Standing.{Freed};
+ghost use Rattle.heap_theory.specs.Header.Standing.{Freed, Quarantined};
 ghost use Rattle.std.specs.Prelude.{◌≡◌, ◌/◌, ◌%◌, ◌<◌, ◌^◌, ℕ};
 
 use crate::header::{Header, State};
@@ -89,6 +89,13 @@ pub(crate) fn freed_with_next(first: u64, next: u32) -> u64
     ((first & BELOW_NEXT_MASK) >> SIZE_SHIFT << SIZE_SHIFT)
         + STATE_MASK
         + (u64::from(next) << NEXT_SHIFT)
+}
+
+/// The first word with the state `Quarantined` and the link 0.
+pub(crate) fn quarantined(first: u64) -> u64
+    ensures { (second : ℕ) → result ≡ first_word (record (header_of first second) { standing = Quarantined; next = 0 }) }
+{
+    ((first & BELOW_NEXT_MASK) >> SIZE_SHIFT << SIZE_SHIFT) + code_of(State::Quarantined)
 }
 
 fn code_of(state: State) -> u64

@@ -49,7 +49,7 @@ fn top_words<'a>(alloc: Global) -> Command<'a>
     ensures { app_of result ≡ top }
 {
     Command::new(alloc, "mte_tool")
-        .version("0.1.0")
+        .version("1.0.0")
         .about(ABOUT)
         .after_help(AFTER)
         .subcommand_required(true)

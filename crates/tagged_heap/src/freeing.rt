@@ -17,7 +17,7 @@ use crate::heap::Heap;
 use crate::pointers::slot_of_pointer;
 use crate::read_header::{class_number, header};
 use crate::slot_changes::retire;
-use chunk_header::{Header, State, set_freed};
+use chunk_header::{State, set_freed};
 use class_lists::ClassLists;
 use class_table::Layout;
 use granule_memory::Memory;
@@ -109,27 +109,27 @@ impl Heap {
             slot,
             start,
             class,
-            number,
             size,
             tag,
+            ..
         } = chunk;
-        let mark = self.total;
-        let before = Header {
-            state: State::Live,
-            size: size as u16,
+        // here, apart from `total`: the compiler would add to both as one vector, which takes more instructions
+        self.frees += 1;
+        retire(
+            &mut self.machine,
+            &self.layout,
+            slot,
+            start,
+            size,
             tag,
-            class: number as u8,
-            next: 0,
-            mark: 0,
-        };
-        retire(&mut self.machine, &self.layout, slot, start, before, mark);
+            self.total,
+        );
         let bytes = GRANULE_BYTES as u32 * class;
         let memory = self.machine.memory_mut();
         self.quarantine
             .put_at(memory, &self.layout, slot, start, bytes);
         release_oldest(memory, &self.layout, &mut self.quarantine, &mut self.lists);
         self.total += u64::from(bytes);
-        self.frees += 1;
     }
 }
 

@@ -1,22 +1,21 @@
 //! The changes of one slot's chunk: it is given out, resized and taken back, with its header and its tags.
-ghost use Rattle.chunk_header.specs.HeaderView.{seen};
 ghost use Rattle.class_table.specs.Layout.{slot_of};
 ghost use Rattle.heap_theory.specs.Calls.{chunk_tagged};
-ghost use Rattle.heap_theory.specs.Header.{FitsWords, with_header};
+ghost use Rattle.heap_theory.specs.Header.{with_header};
 ghost use Rattle.class_table.specs.Sizes.{chunk_granules};
 ghost use Rattle.heap_theory.specs.State.{payload_place, payload_start};
 ghost use Rattle.machine_theory.specs.Address.{with_tag};
 ghost use Rattle.machine_theory.specs.Memory.{tagged, IsMemory};
 ghost use Rattle.machine_theory.specs.Seed.{next_seed};
-ghost use Rattle.std.specs.Prelude.{◌≡◌};
+ghost use Rattle.std.specs.Prelude.{◌≡◌, ◌<◌};
 ghost use Rattle.tagged_heap.specs.Chunks.{HasRoom, given_header, retired_header, tag_for};
 ghost use Rattle.heap_theory.specs.Region.{region_of, header_in};
 
 use crate::pointers::payload_place;
 use crate::read_header::header;
 use crate::tags::{chunk_granules, draw, tag_chunk};
-use chunk_header::{Header, State, write};
-use class_table::{Layout, Slot};
+use chunk_header::{Header, State, set_quarantined, write};
+use class_table::{FEWEST_GRANULES, Layout, Slot};
 use tag_machine::Machine;
 
 /// Gives out the slot that lies at `place` for `n` bytes, at most `LARGEST_COUNTED`, for which it must have room. Draws a tag, writes the header and
@@ -83,19 +82,21 @@ pub(crate) fn resize(machine: &mut Machine, layout: &Layout, slot: u32, place: S
     tag_chunk(machine, place, n, before.tag);
 }
 
-/// Takes back the chunk of a live slot, whose header is granule `start` and was `before`: draws a tag, writes the header with this mark, and
-/// tags the chunk.
+/// Takes back the chunk of a live slot, whose header is granule `start` and has this size and this tag: draws a tag, writes the header with
+/// this mark, and tags the chunk.
 #[inline(always)]
 pub(crate) fn retire(
     machine: &mut Machine,
     layout: &Layout,
     slot: u32,
     start: u32,
-    before: Header,
+    size: u32,
+    tag: u8,
     mark: u64,
 )
-    requires before { seen before ≡ header_in (region_of layout.now machine.old.memory) slot }
-    requires fits { FitsWords (seen before) }
+    requires size { size ≡ (header_in (region_of layout.now machine.old.memory) slot).size }
+    requires tag { tag ≡ (header_in (region_of layout.now machine.old.memory) slot).tag }
+    requires below { tag < 16 }
     requires room { let before = header_in (region_of layout.now machine.old.memory) slot in
         HasRoom layout.now machine.old.memory slot before.size }
     requires start { start ≡ (slot_of layout.now slot).start }
@@ -110,14 +111,9 @@ pub(crate) fn retire(
         } }
     ensures memory { IsMemory machine.new.memory }
 {
-    let (other, _) = draw(machine, 0, slot, before.tag);
-    let after = Header {
-        state: State::Quarantined,
-        next: 0,
-        mark,
-        ..before
-    };
+    prove!(layout.granules() >= FEWEST_GRANULES);
+    let (other, _) = draw(machine, 0, slot, tag);
     let memory = machine.memory_mut();
-    write(memory, start, &after);
-    memory.set_tags(start + 1, chunk_granules(u32::from(before.size)), other);
+    set_quarantined(memory, start, mark);
+    memory.set_tags(start + 1, chunk_granules(size), other);
 }

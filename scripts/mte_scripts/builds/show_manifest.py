@@ -15,6 +15,7 @@ Usage: manifest [--help]
   sources SHA-256    of the list of the SHA-256 of each source, as sha256sum prints it, in the order of the bytes of their paths
   kit VERSION        what `rt version` printed
   proofs proved      or unproved
+  verdict LINE       what the kit printed of the proof, where the build's log had it
 
 Then one line says what holds. The manifest is a file beside the program, with the same name and `.manifest`: copy both together. It tells
 a program that was swapped or is out of date, but not from one of somebody who wrote both. So compare its first line with one that you

@@ -1,15 +1,12 @@
 """Building the static libraries of this repository. By hand they are built by `rt lib`, which proves them and keeps what it proved. In the
 gate `rt ci` has just proved all crates, but makes no static library and keeps nothing for `rt lib`: there, where MTE_AFTER_CI is set, a
-static library is proved once more over the libraries that `rt ci` left, and built of that.
-
-  step static_libraries FOLDER CRATE..    builds libCRATE.a of each crate in that folder"""
+static library is proved once more over the libraries that `rt ci` left, and built of that."""
 
 import os
 import shutil
 import subprocess
 import sys
 
-from mte_scripts import running
 from mte_scripts.builds.crate_list import CrateList
 from mte_scripts.places import ROOT
 
@@ -83,17 +80,8 @@ def build(crate, archive, toolchain):
     run(compiled, cwd=place)
 
 
-def main(words):
-    if not words:
-        raise running.Refused(2, "it is `step static_libraries FOLDER CRATE..`")
-    folder, *crates = words
-    try:
-        make(folder, crates)
-    except (subprocess.CalledProcessError, OSError) as error:
-        raise running.Refused(running.FAILED, str(error)) from None
-
-
 def make(folder, crates):
+    """Builds libCRATE.a of each crate in that folder."""
     for crate in crates:
         archive = os.path.join(os.path.abspath(folder), f"lib{crate}.a")
         if are_left(crate):

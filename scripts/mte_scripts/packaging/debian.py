@@ -1,49 +1,89 @@
-"""The Debian package of a tree of scripts/mte_scripts/packaging/packaging.py: its control files, and the archive."""
+"""The Debian packages of a tree of scripts/mte_scripts/packaging/packaging.py: which files each has, its control files, and the archive."""
 
+import hashlib
 import os
-import shutil
+import re
 import textwrap
+from typing import NamedTuple
 
 from mte_scripts import texts
-from mte_scripts.packaging import packaging
+from mte_scripts.packaging import packaging, provenance
+from mte_scripts.packaging.packaging import LIBRARIES, NAME, Parts
+from mte_scripts.packaging.tree import Tree, run
 from mte_scripts.texts import Refused
 
-ABOUT = """\
-An allocator with size classes rounds each request up to the next of a few block sizes, and the rest is lost. This package makes tables of
-sizes for the requests of your program: one tuned to lose little, and one that takes little memory over time. Each has a certificate, by
-which anybody can check how good it is. It also replays the calls of a program on a hardened heap with memory tags, modelled after Arm's Memory Tagging
-Extension."""
+# packages of an older shape, which had the files of all
+ONCE = "1.0.0+git20270000"  # a date of eight digits is below one with its time
 
 
-def paragraph(text):
+# the nodes of library/mte_tool.map, with the first version of the packages that has each
+SINCE = {"MTE_TOOL_1": "1.0.0"}
+
+
+class Package(NamedTuple):
+    """One of the packages."""
+    name: str
+    section: str
+    title: str
+    about: str
+    fields: str  # the lines of its own in the control file; GLIBC stands for what its objects need of glibc
+    files: str  # what its files are named, as a pattern
+
+
+def packages(tree: Tree, parts: Parts) -> "list[Package]":
+    """The packages that the tree has files for; the first has what no other has."""
+    found = [Package(NAME, "devel", "size-class tables with certificates, and a heap with memory tags",
+                     "This package has the program, the scripts, the page, the documents and the examples.", commands_fields(tree), "")]
+    if provenance.has_library(tree):
+        soname = packaging.soname_of(tree)
+        library = library_name(soname)
+        moved = f"Breaks: {NAME} (<< {ONCE})\nReplaces: {NAME} (<< {ONCE})\n"
+        found += [
+            Package(library, "libs", "size-class tables with certificates - shared library", "This package has the shared library.",
+                    "Multi-Arch: same\nDepends: GLIBC\n", re.escape(f"{LIBRARIES}/{soname}")),
+            Package(f"lib{NAME}-dev", "libdevel", "size-class tables with certificates - development files",
+                    "This package has the headers, the static library, and what pkg-config and CMake read.",
+                    f"Multi-Arch: same\nDepends: {library} (= {parts.version})\n{moved}",
+                    rf"usr/include/.*|{LIBRARIES}/(libmte_tool\.(a|so)|pkgconfig/.*|cmake/.*)")]
+    return found
+
+
+def library_name(soname: str) -> str:
+    return f"lib{NAME}{soname.rpartition('.')[2]}"
+
+
+def commands_fields(tree: Tree) -> str:
+    helped, recommended = "binutils, gcc | c-compiler, g++ | c++-compiler, libc6-dev | libc-dev", ""
+    if not tree.has(f"{packaging.PRIVATE}/recorders"):
+        helped, recommended = "binutils, g++ | c++-compiler", "Recommends: gcc | c-compiler, libc6-dev | libc-dev\n"
+    return f"Depends: GLIBC, python3 (>= 3.9)\n{recommended}Suggests: {helped}, lib{NAME}-dev\n"
+
+
+def paragraph(text: str) -> str:
     return "".join(f" {line}\n" for line in textwrap.wrap(text, 77))
 
 
-def control(tree, parts):
+def control(tree: Tree, parts: Parts, package: Package) -> str:
     size = sum(1 if os.path.isdir(path) or os.path.islink(path) else -(-os.path.getsize(path) // 1024)
                for path in (os.path.join(tree.root, name) for name in tree.entries()))
-    helped = "binutils, gcc | c-compiler, g++ | c++-compiler, libc6-dev | libc-dev"
-    if not tree.has(f"{packaging.PRIVATE}/recorders"):
-        helped, recommended = "binutils, g++ | c++-compiler", "Recommends: gcc | c-compiler, libc6-dev | libc-dev\n"
-    else:
-        recommended = ""
-    built = f"Built from the commit {parts.commit} with {parts.kit}."
-    return f"""Package: {packaging.NAME}
-Version: {parts.version}
+    built = f"Built from the commit {parts.commit} with {parts.kit}; {manifest_of(package)} beside the copyright says more."
+    glibc = "libc6 (>= {}.{})".format(*tree.least_glibc())
+    source = "" if package.name == NAME else f"Source: {NAME}\n"
+    return f"""Package: {package.name}
+{source}Version: {parts.version}
 Architecture: amd64
 Maintainer: {parts.maintainer}
 Installed-Size: {size}
-Depends: libc6 (>= {packaging.least_glibc(tree)}), python3 (>= 3.9)
-{recommended}Suggests: {helped}
-Section: devel
+{package.fields.replace("GLIBC", glibc)}Section: {package.section}
 Priority: optional
-Description: size-class tables with certificates, and a heap with memory tags
-{paragraph(ABOUT)} .
+Description: {package.title}
+{paragraph(packaging.ABOUT)} .
+{paragraph(package.about)} .
 {paragraph(packaging.trusted(parts))} .
 {paragraph(built)}"""
 
 
-def copyright_text(parts):
+def copyright_text(parts: Parts) -> str:
     with open(os.path.join(texts.ROOT, "LICENSE"), encoding="utf-8") as file:
         _, mark, exceptions = file.read().partition("---- LLVM Exceptions to the Apache 2.0 License ----\n")
     if not mark:
@@ -64,8 +104,8 @@ License: Apache-2.0-with-LLVM-exceptions
 {indented}"""
 
 
-def changelog(parts):
-    return f"""{packaging.NAME} ({parts.version}) unstable; urgency=medium
+def changelog(parts: Parts) -> str:
+    return f"""{NAME} ({parts.version}) unstable; urgency=medium
 
   * Built from the commit
     {parts.commit}.
@@ -74,26 +114,74 @@ def changelog(parts):
 """
 
 
-def put_control(tree, parts):
-    """The control files; what Debian wants in the tree is there before."""
-    sums = packaging.sums(tree)
-    tree.write("DEBIAN/control", control(tree, parts))
-    tree.write("DEBIAN/md5sums", sums)
-    if parts.library:
-        tree.write("DEBIAN/shlibs", f"libmte_tool 2 {packaging.NAME}\n")
-        tree.write("DEBIAN/triggers", "activate-noawait ldconfig\n")
+def manifest_of(package: Package) -> str:
+    """The name of the manifest. A package that may be there for two architectures has no file that differs between them."""
+    return provenance.NAME if package.name == NAME else provenance.NAME.replace(".txt", ".amd64.txt")
 
 
-def put_texts(tree, parts):
-    tree.write(f"{packaging.DOCUMENTS}/copyright", copyright_text(parts))
-    tree.packed(f"{packaging.DOCUMENTS}/changelog", changelog(parts))
+def overrides(package: Package) -> str:
+    """What lintian would say of the package, and why it is meant."""
+    if package.name != NAME:
+        return ""
+    return f"""# the script reads the list of files of each package of the machine that it measures
+{NAME}: uses-dpkg-database-directly [usr/share/{NAME}/examples/memcached/measure]
+"""
 
 
-def build(tree, parts, path):
-    put_control(tree, parts)
-    seconds = int(parts.time.timestamp())
-    tree.finish(seconds)
-    # gzip, since its bytes do not depend on the number of cores
-    words = ["dpkg-deb", "--root-owner-group", "-Zgzip", "--build", tree.root, path]
-    packaging.run(words, env={**os.environ, "SOURCE_DATE_EPOCH": str(seconds)})
-    shutil.rmtree(os.path.join(tree.root, "DEBIAN"))
+def symbols(tree: Tree, library: str) -> str:
+    """The symbols file of the shared library: each symbol with the version that had it first, which its node tells."""
+    lines = []
+    for line in run(["readelf", "-W", "--dyn-syms", tree.path(LIBRARIES, "libmte_tool.so")]).splitlines():
+        words = line.split()
+        if len(words) < 8 or words[4] not in ("GLOBAL", "WEAK") or words[6] == "UND":
+            continue
+        name, _, node = words[7].partition("@")
+        node = name if words[6] == "ABS" else node.lstrip("@")  # the node itself is a symbol too
+        if node not in SINCE:
+            raise Refused(3, f"the shared library exports {name} in {node}, which SINCE of packaging/debian.py lacks")
+        lines.append(f" {name}@{node} {SINCE[node]}\n")
+    head = f"{packaging.soname_of(tree)} {library} #MINVER#\n* Build-Depends-Package: lib{NAME}-dev\n"
+    return head + "".join(sorted(lines))
+
+
+def sums(tree: Tree) -> str:
+    return "".join(f"{hashlib.md5(tree.read(name), usedforsecurity=False).hexdigest()}  {name}\n" for name in tree.files())
+
+
+def divided(tree: Tree, parts: Parts, folder: str) -> "list[tuple[Package, Tree]]":
+    """Each package with its files, which move into folders of their own, and with the control files."""
+    every = packages(tree, parts)
+    told = symbols(tree, every[1].name) if len(every) > 1 else ""
+    soname = packaging.soname_of(tree) if told else ""
+    found = [(package, Tree(os.path.join(folder, package.name))) for package in every]
+    for name in [name for name in tree.entries() if not os.path.isdir(tree.path(name)) or os.path.islink(tree.path(name))]:
+        to = next((its for package, its in found[1:] if re.fullmatch(package.files, name)), found[0][1])
+        tree.move(name, to)
+    for package, its in found:
+        documents = f"usr/share/doc/{package.name}"
+        its.write(f"{documents}/copyright", copyright_text(parts))
+        its.packed(f"{documents}/changelog", changelog(parts))
+        if meant := overrides(package):
+            its.write(f"usr/share/lintian/overrides/{package.name}", meant)
+        its.write(f"{documents}/{manifest_of(package)}", provenance.text_of(its, parts, package.name))
+        written = control(its, parts, package), sums(its)
+        its.write("DEBIAN/control", written[0])
+        its.write("DEBIAN/md5sums", written[1])
+        if package.section == "libs":
+            its.write("DEBIAN/shlibs", f"libmte_tool {soname.rpartition('.')[2]} {package.name}\n")
+            its.write("DEBIAN/symbols", told)
+            its.write("DEBIAN/triggers", "activate-noawait ldconfig\n")
+    return found
+
+
+def build(tree: Tree, parts: Parts, folder: str, work: str) -> "list[str]":
+    """Writes the packages of the tree into the folder, and takes its files for it; their paths."""
+    made = []
+    for package, its in divided(tree, parts, work):
+        path = os.path.join(folder, f"{package.name}_{parts.version}_amd64.deb")
+        its.finish(parts.seconds())
+        # gzip, since its bytes do not depend on the number of cores
+        words = ["dpkg-deb", "--root-owner-group", "-Zgzip", "--build", its.root, path]
+        run(words, env={**os.environ, "SOURCE_DATE_EPOCH": str(parts.seconds())})
+        made.append(path)
+    return made

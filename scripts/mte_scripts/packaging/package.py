@@ -1,5 +1,6 @@
-"""Makes a Debian package and a tar of the program and all that goes with it. `package --help` says all."""
+"""Makes the packages of the program and all that goes with it. `package --help` says all."""
 
+import argparse
 import datetime
 import os
 import re
@@ -8,32 +9,45 @@ import subprocess
 
 from mte_scripts import manifest, private_folder, texts
 from mte_scripts.builds import web_page
-from mte_scripts.packaging import debian, helps, packaging
+from mte_scripts.packaging import crates, debian, helps, packaging, provenance, wheel
+from mte_scripts.packaging.packaging import Parts
+from mte_scripts.packaging.tree import Tree, run, source, write_tar
 from mte_scripts.texts import Refused
 from mte_scripts.words import Words, some
 
-HELP = """\
-Make a Debian package and a tar of this commit: the program, the scripts, the library for C, the page, manual pages, completions for
-bash, zsh and fish, the documents and the examples.
-
-Usage: package [OPTION..] FOLDER
-
+OPTIONS = """\
   --program FILE   the program, where it was built elsewhere, with its manifest beside it; without it scripts/mte_tool proves and builds it
   --library DIR    what scripts/library laid out in DIR; without it that script proves and builds the library
   --page FILE      what scripts/page printed; without it the engines of the page are built
-  --no-library     leave the library out
-  --no-page        leave the page out
+"""
+NAMES = """\
   --kit TEXT       the version of the Rattle kit that built these, where they were built elsewhere; `rt version` where it is left out
   --maintainer TEXT
-                   `NAME <ADDRESS>` for the package; the author of the commit where it is left out
+                   `NAME <ADDRESS>` for the packages; the author of the commit where it is left out
+"""
+HELP = f"""\
+Make the packages of this commit, of the program, the scripts, the library for C, C++, Rust and Python, the page, manual pages, completions
+for bash, zsh and fish, the documents and the examples.
 
-It writes mte-tool_VERSION_amd64.deb, with dpkg-deb, and mte-tool-VERSION-x86_64-linux.tar.gz, which is unpacked anywhere, into FOLDER,
-and prints their names. VERSION has the time and the number of the commit; it ends with `+changed` where files differ from the
-commit. It needs git, binutils and Python 3, no root and no network.
+Usage: package [OPTION..] FOLDER
 
-What can't be made, for want of a tool or the kit, is left out; standard error and the package's README.Debian say what, and why. The
-program can't be left out. Two runs over one commit, in any two folders, write the same bytes with the same tools
-(docs/INSTALL.md).
+{OPTIONS}  --no-library     leave the library out, and with it the wheel, the crates, libmte-tool1 and libmte-tool-dev
+  --no-page        leave the page out
+{NAMES}
+It writes into FOLDER, and prints the names of:
+
+  mte-tool-VERSION-x86_64-linux.tar.gz   everything, to be unpacked anywhere
+  mte-tool_VERSION_amd64.deb             for Debian, by dpkg-deb: the commands; libmte-tool1 has the shared library, libmte-tool-dev the
+                                         headers, the static library, and what pkg-config and CMake read
+  mte_tool-VERSION-PLATFORM.whl          for pip: the Python package, with the commands
+  mte-tool-NUMBER.crate                  for cargo, and mte-tool-sys-NUMBER.crate: the Rust crates, with the static library
+
+VERSION has the program's number; where the commit has not the tag `vNUMBER`, also its time and its own number; and it ends with
+`.changed` where files differ from the commit. It needs git, binutils and Python 3, no root and no network.
+
+What can't be made, for want of a tool or the kit, is left out; standard error and the packages' README.Debian say what, and why. The
+program can't be left out. Each package has a file {provenance.NAME} that says where it comes from. Two runs over one commit, in any two
+folders, write the same bytes with the same tools (docs/INSTALL.md).
 
 Exit status:
   0  the packages are made
@@ -41,38 +55,53 @@ Exit status:
   3  there is no program, a tool is missing or failed, or a file can't be written
 
 Example:
-  scripts/package . && apt install ./mte-tool_*.deb
+  scripts/package packages && apt install ./packages/*.deb
 """
 
-def options_of(words):
-    parser = Words(HELP)
+
+def options_of(words: list, help_text: str, may_leave_out: bool) -> "tuple[argparse.Namespace, str]":
+    """The options, and the folder."""
+    parser = Words(help_text)
     for name in ("--program", "--kit", "--maintainer"):
         parser.add_argument(name, type=some)
     for name in ("library", "page"):
         either = parser.add_mutually_exclusive_group()
         either.add_argument(f"--{name}", type=some)
-        either.add_argument(f"--no-{name}", action="store_true")
+        if may_leave_out:
+            either.add_argument(f"--no-{name}", action="store_true")
+        else:
+            parser.set_defaults(**{f"no_{name}": False})
     parser.add_argument("folders", nargs="*")
+    if not may_leave_out:
+        parser.add_argument("--gate", type=some)
     options = parser.take(words)
     if len(options.folders) != 1:
         raise Refused(2, "name one folder for the packages; --help says more")
     return options, options.folders[0]
 
 
-def commit():
+def commit() -> "tuple[str, datetime.datetime, str, bool]":
     """The number of the commit, its time and its author, and whether files differ from it."""
     git = ["git", "-C", texts.ROOT]
-    number, seconds, author = packaging.run([*git, "log", "-1", "--format=%H%n%ct%n%an <%ae>"]).splitlines()
+    number, seconds, author = run([*git, "log", "-1", "--format=%H%n%ct%n%an <%ae>"]).splitlines()
     time = datetime.datetime.fromtimestamp(int(seconds), datetime.timezone.utc)
-    return number, time, author, bool(packaging.run([*git, "status", "--porcelain", "--untracked-files=no"]))
+    return number, time, author, bool(run([*git, "status", "--porcelain", "--untracked-files=no"]))
 
 
-def digest(path):
+def version_of(number: str, commit_number: str, time: datetime.datetime, is_changed: bool) -> str:
+    """The version of the packages: the program's number for a commit with its tag, and else the commit's time and number too."""
+    tags = run(["git", "-C", texts.ROOT, "tag", "--points-at", "HEAD"]).split()
+    if f"v{number}" in tags and not is_changed:
+        return number
+    return f"{number}+git{time:%Y%m%d%H%M%S}.g{commit_number[:12]}{'.changed' if is_changed else ''}"
+
+
+def digest(path: str) -> str:
     """What tells the program from others: in the package it is without the symbols that a debugger reads."""
     return f"SHA-256 {manifest.hash_of(path)} before its symbols were stripped"
 
 
-def program_of(options):
+def program_of(options: argparse.Namespace) -> str:
     """The path of the program. One that was built elsewhere has to print this commit's help."""
     path = options.program
     if path is None:
@@ -93,7 +122,7 @@ def program_of(options):
     return path
 
 
-def manifest_of(path, options):
+def manifest_of(path: str, options: argparse.Namespace) -> "tuple[manifest.Manifest, str]":
     """The manifest that the package has, and where the program is from. It is called proved only by a manifest that holds."""
     why = manifest.why_unproved(path, texts.ROOT)
     if not why:
@@ -103,23 +132,23 @@ def manifest_of(path, options):
     return unproved, f"the program was built elsewhere, and nothing is proved of it: {why} ({digest(path)})"
 
 
-def library_of(options, folder):
-    """The folder of the library, and where it is from; or None, and why there is none."""
+def library_of(options: argparse.Namespace, folder: str) -> "tuple[str | None, str]":
+    """The folder of the library; or None, and why there is none."""
     if options.no_library:
         return None, "the library for C: --no-library"
     if options.library:
         given = options.library
         if not os.path.isfile(os.path.join(given, "lib/pkgconfig/mte_tool.pc")):
             raise Refused(2, f"{given} is no folder of scripts/library")
-        return given, "the library for C was built elsewhere, by scripts/library"
+        return given, ""
     if not shutil.which("rt"):
         return None, "the library for C: the kit's command rt is missing"
     if subprocess.run([os.path.join(texts.SCRIPTS, "library"), folder], stdin=subprocess.DEVNULL, stdout=subprocess.DEVNULL).returncode:
         return None, "the library for C: scripts/library could not build it"
-    return folder, "the library for C was proved and built from these sources"
+    return folder, ""
 
 
-def page_of(options):
+def page_of(options: argparse.Namespace) -> "tuple[dict[str, bytes] | None, str]":
     """The modules of the page, and where they are from; or None, and why there are none."""
     if options.no_page:
         return None, "the page: --no-page"
@@ -131,15 +160,15 @@ def page_of(options):
         return None, f"the page: {refused.text}"
 
 
-def kit_of(options):
+def kit_of(options: argparse.Namespace) -> str:
     if options.kit:
         return options.kit
     if not shutil.which("rt"):
         return "a Rattle kit of unknown version"
-    return " ".join(packaging.run(["rt", "version"]).split())
+    return " ".join(run(["rt", "version"]).split())
 
 
-def collect(options, work):
+def collect(options: argparse.Namespace, work: str) -> Parts:
     """All parts of the packages."""
     number, time, author, is_changed = commit()
     maintainer = options.maintainer or author
@@ -147,44 +176,65 @@ def collect(options, work):
         raise Refused(2, f"the maintainer is not NAME <ADDRESS>: {maintainer}")
     program = program_of(options)
     manifested, origin = manifest_of(program, options)
-    origins, left_out, found = [origin], [], {}
-    for name, (value, words) in (("library", library_of(options, f"{work}/library")), ("modules", page_of(options))):
-        found[name] = value
-        (origins if value else left_out).append(words)
-        if not value:
+    library, library_words = library_of(options, f"{work}/library")
+    unproved = packaging.library_unproved(library) if library else ""
+    if unproved:
+        texts.say("package", f"nothing is proved of the library: {unproved}")
+        library_words = f"the library for C was built elsewhere, and nothing is proved of it: {unproved}"
+    elif library:
+        library_words = "the engines of the library for C were proved and built from these sources"
+    modules, page_words = page_of(options)
+    origins: "list[str]" = [origin]
+    left_out: "list[str]" = []
+    for has, words in ((library, library_words), (modules, page_words)):
+        (origins if has else left_out).append(words)
+        if not has:
             texts.say("package", f"left out: {words}")
-    said = packaging.run([program, "--version"]).split()[-1]
-    version = f"{said}+git{time:%Y%m%d.%H%M%S}.{number[:12]}{'+changed' if is_changed else ''}"
+    said = run([program, "--version"]).split()[-1]
+    version = version_of(said, number, time, is_changed)
     if is_changed:
-        texts.say("package", f"files differ from the commit {number[:12]}, so the version ends with +changed")
+        texts.say("package", f"files differ from the commit {number[:12]}, so the version ends with .changed")
     commit_name = f"{number}, with changes," if is_changed else number
-    return packaging.Parts(program=program, manifest=manifested, origins=origins, left_out=left_out, version=version, commit=commit_name, time=time,
-                           kit=kit_of(options), maintainer=maintainer, **found)
+    return Parts(program, manifested, library, unproved, modules, origins, left_out, said, version, commit_name, is_changed, time,
+                 kit_of(options), maintainer)
 
 
-def package(words):
-    if words in (["-h"], ["--help"]):
-        return texts.write_help(HELP)
-    options, folder = options_of(words)
-    for tool in ("git", "strip", "readelf"):
+def made_of(parts: Parts, folder: str, work: str) -> "list[str]":
+    """Makes the packages of these parts in the folder; their paths."""
+    tree = packaging.stage(f"{work}/tree", parts)
+    usr = Tree(os.path.join(tree.root, "usr"))
+    made: "list[str]" = []
+    if parts.library:
+        made += [wheel.build(usr, parts, folder, f"{work}/wheel"), *crates.build(usr, parts, folder, f"{work}/crates")]
+    usr.copy(source("LICENSE"), "LICENSE")  # Debian has its text elsewhere
+    documents = packaging.DOCUMENTS.partition("/")[2]
+    usr.write(f"{documents}/{provenance.NAME}", provenance.text_of(usr, parts, packaging.NAME))
+    usr.finish(parts.seconds())
+    name = f"{packaging.NAME}-{parts.version}"
+    made.append(os.path.join(folder, f"{name}-x86_64-linux.tar.gz"))
+    write_tar(usr, made[-1], name, parts.seconds())
+    for extra in ("LICENSE", f"{documents}/{provenance.NAME}"):
+        os.remove(usr.path(extra))
+    if shutil.which("dpkg-deb"):
+        return [*made, *debian.build(tree, parts, folder, f"{work}/debian")]
+    texts.say("package", "left out: the Debian packages: the command dpkg-deb is missing")
+    return made
+
+
+def want_tools(*more: str) -> None:
+    for tool in ("git", "strip", "readelf", *more):
         if not shutil.which(tool):
             raise Refused(3, f"the command {tool} is missing")
+
+
+def package(words: list) -> None:
+    options, folder = options_of(words, HELP, may_leave_out=True)
+    want_tools()
     os.umask(0o022)
     try:
         os.makedirs(folder, exist_ok=True)
         with private_folder.temporary() as work:
-            parts = collect(options, work)
-            tree = packaging.stage(f"{work}/tree", parts)
-            debian.put_texts(tree, parts)
-            tree.finish(int(parts.time.timestamp()))
-            named = f"mte-tool-{parts.version}"
-            made = [os.path.join(folder, f"{named}-x86_64-linux.tar.gz")]
-            packaging.write_tar(tree, made[0], named, int(parts.time.timestamp()))
-            if shutil.which("dpkg-deb"):
-                made.append(os.path.join(folder, f"mte-tool_{parts.version}_amd64.deb"))
-                debian.build(tree, parts, made[1])
-            else:
-                texts.say("package", "left out: the Debian package: the command dpkg-deb is missing")
+            made = made_of(collect(options, work), folder, work)
     except OSError as error:
         raise Refused(3, f"{error.filename or folder}: {error.strerror}") from None
-    return texts.write("".join(f"{path}\n" for path in made))
+    texts.write("".join(f"{path}\n" for path in sorted(made)))

@@ -2,142 +2,135 @@
 
 import ast
 import base64
-import gzip
-import hashlib
+import datetime
 import json
 import os
 import re
 import shutil
 import subprocess
-import sys
-import tarfile
-from collections import namedtuple
+from typing import NamedTuple
 
 from mte_scripts import manifest, texts
 from mte_scripts.builds import web_page
 from mte_scripts.packaging import completions, helps, manual
+from mte_scripts.packaging.tree import Tree, run, source, tracked
 from mte_scripts.texts import Refused
 
 NAME = "mte-tool"
-# what is packed: the program's path, its manifest, the library's folder and the page's modules, or None; where each of these comes from;
-# and names
-Parts = namedtuple("Parts", "program manifest library modules origins left_out version commit time kit maintainer")
-COMMANDS = """check_sheet draw_waste find_faults manifest memcached_profile memcached_sizes merge_profiles page pools profile_program report
-scudo_classes trace_program traced_c++ traced_cc tune_program""".split()
+ABOUT = """\
+An allocator with size classes rounds each request up to the next of a few block sizes, and the rest is lost. mte_tool makes tables of
+sizes for the requests of your program: one tuned to lose little, and one that takes little memory over time. Each has a certificate, by
+which anybody can check how good it is. It also replays the calls of a program on a hardened heap with memory tags, modelled after Arm's
+Memory Tagging Extension."""
+# what only the repository can do
+AT_HOME = "bench crates edits library mte_tool package plants refuse_memory release statement step".split()
+COMMANDS = sorted(name for name in os.listdir(texts.SCRIPTS) if re.fullmatch(r"[a-z_]+(\+\+)?", name)
+                  and os.path.isfile(os.path.join(texts.SCRIPTS, name)) and name not in AT_HOME)
 RECORDERS = ("sizes", "trace")
 MULTIARCH = "x86_64-linux-gnu"  # what the toolchain builds for
 SHARE, PRIVATE, LIBRARIES = f"usr/share/{NAME}", f"usr/lib/{NAME}", f"usr/lib/{MULTIARCH}"
 DOCUMENTS = f"usr/share/doc/{NAME}"
+# Debian's flags for what other programs load
+HARDENED = "-fstack-protector-strong -D_FORTIFY_SOURCE=2 -Wformat -Werror=format-security -Wl,-z,relro -Wl,-z,now".split()
+CMAKE = """\
+# find_package(mte_tool) gives the targets mte_tool::mte_tool and, static, mte_tool::static.
+if(NOT TARGET mte_tool::mte_tool)
+    get_filename_component(mte_tool_libraries "${{CMAKE_CURRENT_LIST_DIR}}/../.." ABSOLUTE)
+    get_filename_component(mte_tool_include "${{mte_tool_libraries}}/../../include" ABSOLUTE)
+    add_library(mte_tool::mte_tool SHARED IMPORTED)
+    set_target_properties(mte_tool::mte_tool PROPERTIES IMPORTED_LOCATION "${{mte_tool_libraries}}/{soname}" IMPORTED_SONAME "{soname}"
+        INTERFACE_INCLUDE_DIRECTORIES "${{mte_tool_include}}")
+    add_library(mte_tool::static STATIC IMPORTED)
+    set_target_properties(mte_tool::static PROPERTIES IMPORTED_LOCATION "${{mte_tool_libraries}}/libmte_tool.a"
+        INTERFACE_INCLUDE_DIRECTORIES "${{mte_tool_include}}")
+endif()
+"""
+CMAKE_VERSION = """\
+set(PACKAGE_VERSION "{version}")
+if(NOT PACKAGE_FIND_VERSION OR
+   NOT PACKAGE_FIND_VERSION VERSION_GREATER PACKAGE_VERSION AND "{major}" STREQUAL "${{PACKAGE_FIND_VERSION_MAJOR}}")
+    set(PACKAGE_VERSION_COMPATIBLE TRUE)
+    if(PACKAGE_FIND_VERSION VERSION_EQUAL PACKAGE_VERSION)
+        set(PACKAGE_VERSION_EXACT TRUE)
+    endif()
+endif()
+"""
 
 
-def run(words, **how):
-    """What a command prints; a failure ends the script."""
-    try:
-        done = subprocess.run(words, stdout=subprocess.PIPE, stderr=subprocess.PIPE, stdin=subprocess.DEVNULL, **how)
-    except OSError as error:
-        raise Refused(3, f"{words[0]} can't be run: {error.strerror}") from None
-    if done.returncode:
-        sys.stderr.write(done.stderr.decode(errors="replace"))
-        raise Refused(3, f"{os.path.basename(words[0])} ended with status {done.returncode}")
-    return done.stdout.decode(errors="replace")
+class Parts(NamedTuple):
+    """What is packed, where it comes from, and the names that it has."""
+    program: str
+    manifest: manifest.Manifest
+    library: "str | None"  # the folder of scripts/library
+    unproved: str  # why the library is not known to be proved; empty if it is
+    modules: "dict[str, bytes] | None"  # the page's engines
+    origins: "list[str]"
+    left_out: "list[str]"
+    number: str  # of the program's version
+    version: str  # of the packages
+    commit: str
+    is_changed: bool
+    time: datetime.datetime
+    kit: str
+    maintainer: str
+
+    def seconds(self) -> int:
+        return int(self.time.timestamp())
 
 
-class Tree:
-    """The files of the package, below the folder `root`."""
-
-    def __init__(self, root):
-        self.root = root
-
-    def path(self, *parts):
-        path = os.path.join(self.root, *parts)
-        os.makedirs(os.path.dirname(path), exist_ok=True)
-        return path
-
-    def has(self, name):
-        return os.path.lexists(os.path.join(self.root, name))
-
-    def write(self, name, data, mode=0o644):
-        path = self.path(name)
-        with open(path, "wb") as file:
-            file.write(data.encode() if isinstance(data, str) else data)
-        os.chmod(path, mode)
-
-    def copy(self, source, name, mode=0o644):
-        try:
-            shutil.copyfile(source, self.path(name))
-        except OSError as error:
-            raise Refused(3, f"{source} can't be read: {error.strerror}") from None
-        os.chmod(self.path(name), mode)
-
-    def link(self, name, to):
-        """A link from one name to another, both below the root; it holds where the whole tree is moved."""
-        os.symlink(os.path.relpath(to, os.path.dirname(name)), self.path(name))
-
-    def packed(self, name, text):
-        self.write(f"{name}.gz", gzip.compress(text.encode(), 9, mtime=0))
-
-    def entries(self):
-        """The names of all folders and files, in one order on each machine."""
-        found = []
-        for folder, below, names in os.walk(self.root):
-            found += [os.path.relpath(os.path.join(folder, name), self.root) for name in [*below, *names]]
-        return sorted(found)
-
-    def finish(self, time):
-        """Modes and times that depend on nothing but the commit."""
-        for name in [*self.entries(), "."]:
-            path = os.path.join(self.root, name)
-            if os.path.isdir(path) and not os.path.islink(path):
-                os.chmod(path, 0o755)
-            os.utime(path, (time, time), follow_symlinks=False)
-
-
-def tracked(*paths):
-    """The repository's files below these paths."""
-    return run(["git", "-C", texts.ROOT, "ls-files", "-z", "--", *paths]).split("\0")[:-1]
-
-
-def source(name):
-    return os.path.join(texts.ROOT, name)
-
-
-def stripped(tree, name):
-    """An object without what only a debugger reads. Its comments stay: the program's name the logic that it was proved in."""
-    run(["strip", "-D", "--strip-unneeded", tree.path(name)])
-
-
-def put_program(tree, parts):
+def put_program(tree: Tree, parts: Parts) -> None:
     """The program, and its manifest with the hash that it has without its symbols."""
     tree.copy(parts.program, "usr/bin/mte_tool", 0o755)
-    stripped(tree, "usr/bin/mte_tool")
+    tree.stripped("usr/bin/mte_tool")
     tree.link(f"{PRIVATE}/mte_tool", "usr/bin/mte_tool")
     packed = parts.manifest._replace(program=manifest.hash_of(tree.path("usr/bin/mte_tool")))
     tree.write(manifest.path_of(f"{PRIVATE}/mte_tool"), manifest.text_of(packed))
 
 
-def trusted(parts):
-    """What is known of the program, for the package's description."""
+def libraries_in(folder: str) -> "list[str]":
+    """The static and the shared library that scripts/library laid out in this folder."""
+    below = os.path.join(folder, "lib")
+    found = [os.path.join(below, name) for name in sorted(os.listdir(below)) if re.fullmatch(r"libmte_tool\.(a|so\.\d+)", name)]
+    if len(found) != 2:
+        raise Refused(2, f"{folder} has not one static and one shared library: it is no folder of scripts/library")
+    return found
+
+
+def library_unproved(folder: str) -> str:
+    """Why a library in this folder is not known to be proved, or an empty text."""
+    for path in libraries_in(folder):
+        if why := manifest.why_unproved(path, texts.ROOT):
+            return why.replace("the program", os.path.basename(path))
+    return ""
+
+
+def trusted(parts: Parts) -> str:
+    """What is known of the program and the library, for the packages' descriptions."""
+    tested = "The scripts, the page, the heap of the page in WebAssembly and what other languages call are tested, and not proved."
     if parts.manifest.proofs != "proved":
         return "Nothing shows that this build of the program is proved."
-    return """Every function of the program and of the library for C is proved to be safe, to return and to meet its contract. The scripts,
-    the page and the heap of the page in WebAssembly are tested, and not proved."""
+    if not parts.library or parts.unproved:
+        return f"Every function of the program is proved to be safe, to return and to meet its contract. {tested}"
+    return f"Every function of the program and of the library's engines is proved to be safe, to return and to meet its contract. {tested}"
 
 
-def modules_of_commands():
+def modules_of_commands() -> "list[str]":
     """The modules of mte_scripts that a command imports, also by others."""
-    found, left = set(), [f"scripts/{name}" for name in COMMANDS]
+    found: "set[str]" = set()
+    left = [f"scripts/{name}" for name in COMMANDS]
     while left:
         for node in ast.walk(ast.parse(texts.read(source(left.pop())))):
             if isinstance(node, ast.ImportFrom) and node.module and node.module.split(".")[0] == "mte_scripts":
                 place = f"scripts/{node.module.replace('.', '/')}"
-                names = {f"{place}.py", f"{place}/__init__.py", "scripts/mte_scripts/__init__.py", *(f"{place}/{each.name}.py" for each in node.names)}
+                names = {f"{place}.py", f"{place}/__init__.py", "scripts/mte_scripts/__init__.py"}
+                names |= {f"{place}/{each.name}.py" for each in node.names}
                 new = {name for name in names - found if os.path.isfile(source(name))}
                 found |= new
                 left += new
     return sorted(found)
 
 
-def put_scripts(tree):
+def put_scripts(tree: Tree) -> None:
     """The scripts with what they use. Each is called by a name of its own."""
     for name in [*modules_of_commands(), *tracked("scripts/shims")]:
         tree.copy(source(name), f"{PRIVATE}/{name}")
@@ -151,7 +144,7 @@ def put_scripts(tree):
             tree.link(f"usr/bin/mte_{name}", f"{PRIVATE}/scripts/{name}")
 
 
-def put_recorders(tree):
+def put_recorders(tree: Tree) -> "str | None":
     """The libraries that record a program, compiled, so that no compiler is needed where they are used."""
     compiler = os.environ.get("CC", "cc")
     if not shutil.which(compiler):
@@ -160,37 +153,51 @@ def put_recorders(tree):
     for name in RECORDERS:
         at = f"{PRIVATE}/recorders/{name}.so"
         # in the folder, so that no path of this machine can be in it
-        words = [compiler, "-O2", "-fno-builtin", "-shared", "-fPIC", "-Wall", f"{name}.c", "-o", tree.path(at), "-pthread", "-ldl"]
-        run(words, cwd=source("scripts/shims"))
-        stripped(tree, at)
+        words = [compiler, "-O2", "-fno-builtin", "-shared", "-fPIC", "-Wall", *HARDENED, f"{name}.c", "-o", tree.path(at)]
+        run([*words, "-pthread", "-ldl"], cwd=source("scripts/shims"))
+        tree.stripped(at)
         os.chmod(tree.path(at), 0o644)
     return None
 
 
-def put_library(tree, folder):
+def put_library(tree: Tree, folder: str, number: str) -> None:
     """What scripts/library laid out, where Debian has it."""
-    tree.copy(f"{folder}/include/mte_tool.h", "usr/include/mte_tool.h")
+    for name in sorted(os.listdir(f"{folder}/include")):
+        tree.copy(f"{folder}/include/{name}", f"usr/include/{name}")
     names = os.listdir(f"{folder}/lib")
     for name in sorted(names):
         path = f"{folder}/lib/{name}"
         if os.path.islink(path):
             tree.link(f"{LIBRARIES}/{name}", f"{LIBRARIES}/{os.readlink(path)}")
-        elif os.path.isfile(path):
+        elif os.path.isfile(path) and not name.endswith(".manifest"):
             tree.copy(path, f"{LIBRARIES}/{name}")
             if name.endswith(".a"):
                 run(["strip", "-D", "--strip-debug", tree.path(f"{LIBRARIES}/{name}")])
             else:
-                stripped(tree, f"{LIBRARIES}/{name}")
-    with open(f"{folder}/lib/pkgconfig/mte_tool.pc", encoding="utf-8") as file:
-        text = file.read()
-    for old, new in (("${pcfiledir}/../..\n", "${pcfiledir}/../../..\n"), ("${prefix}/lib ", f"${{prefix}}/lib/{MULTIARCH} ")):
-        if old not in text:
-            raise Refused(3, f"{folder}/lib/pkgconfig/mte_tool.pc has no {old.strip()}: scripts/library and scripts/package differ")
-        text = text.replace(old, new)
-    tree.write(f"{LIBRARIES}/pkgconfig/mte_tool.pc", text)
+                tree.stripped(f"{LIBRARIES}/{name}")
+    tree.write(f"{LIBRARIES}/pkgconfig/mte_tool.pc", pkg_config(f"{folder}/lib/pkgconfig/mte_tool.pc"))
+    tree.write(f"{LIBRARIES}/cmake/mte_tool/mte_toolConfig.cmake", CMAKE.format(soname=soname_of(tree)))
+    tree.write(f"{LIBRARIES}/cmake/mte_tool/mte_toolConfigVersion.cmake", CMAKE_VERSION.format(version=number, major=number.split(".")[0]))
 
 
-def put_documents(tree, parts):
+def pkg_config(path: str) -> str:
+    """The file for pkg-config of scripts/library, with the folder of libraries that Debian has."""
+    text = re.sub(r"(?m)^libdir=.*\n", "", texts.read(path).decode())
+    text = re.sub(r"(?m)^prefix=.*$", f"prefix=${{pcfiledir}}/../../..\nlibdir=${{prefix}}/lib/{MULTIARCH}", text)
+    if not ("\nlibdir=" in text and "-L${libdir} " in text):
+        raise Refused(3, f"{path} has no prefix or no libdir: scripts/library and scripts/package differ")
+    return text
+
+
+def soname_of(tree: Tree) -> str:
+    """The name by which the loader knows the shared library."""
+    dynamic = run(["readelf", "-W", "-d", tree.path(LIBRARIES, "libmte_tool.so")])
+    if found := re.search(r"\(SONAME\).*\[(libmte_tool\.so\.[0-9]+)\]", dynamic):
+        return found[1]
+    raise Refused(2, "the shared library has no name libmte_tool.so.N: it is not one of scripts/library")
+
+
+def put_documents(tree: Tree, parts: Parts) -> None:
     for name in tracked("README.md", "docs"):
         tree.copy(source(name), f"{DOCUMENTS}/{name}")
     for name in tracked("examples"):
@@ -202,7 +209,7 @@ def put_documents(tree, parts):
     tree.write(f"{DOCUMENTS}/README.Debian", about(parts))
 
 
-def put_page(tree, modules):
+def put_page(tree: Tree, modules: "dict[str, bytes] | None") -> None:
     """The sources of the page with its engines, and the page that the package's own script prints of them."""
     for name in tracked("web"):
         if not name.endswith(".c"):
@@ -214,18 +221,18 @@ def put_page(tree, modules):
         tree.link(f"{DOCUMENTS}/page.html", f"{SHARE}/page.html")
 
 
-def help_of(tree, command, *words):
+def help_of(tree: Tree, command: str, *words: str) -> helps.Help:
     """The help of a command of the package, with the paths that it has where it is installed."""
     return helps.Help(run([tree.path(f"usr/bin/{command}"), *words]).replace(f"{os.path.realpath(tree.root)}/", "/"))
 
 
-def put_words(tree, parts):
+def put_words(tree: Tree, parts: Parts) -> None:
     """Manual pages and completions, all from what the commands themselves say."""
     scripts = {f"mte_{name}": help_of(tree, f"mte_{name}", "--help") for name in COMMANDS}
     own = help_of(tree, "mte_tool", "-h")
     commands = {term: help_of(tree, "mte_tool", term, "-h") for term, _ in own.terms("COMMANDS") if term != "help"}
     date = f"{parts.time:%Y-%m-%d}"
-    version = f"mte_tool {parts.version.split('+')[0]}"
+    version = f"mte_tool {parts.number}"
     files = [(f"/{DOCUMENTS}/docs", "the documents; FORMATS.md has all formats and codes"),
              (f"/{SHARE}/examples", "profiles, traces and programs to try")]
     pages = {"mte_tool": own, **{f"mte_tool {name}": each for name, each in commands.items()}, **scripts}
@@ -244,7 +251,7 @@ def put_words(tree, parts):
     tree.write("usr/share/zsh/vendor-completions/_mte_tool", completions.zsh(scripts, "mte_tool", own, commands))
 
 
-def about(parts):
+def about(parts: Parts) -> str:
     """The package's own README."""
     origins = "\n".join(f"- {line}" for line in parts.origins)
     left_out = "\n".join(f"- {line}" for line in parts.left_out) or "- nothing"
@@ -272,8 +279,8 @@ What is not here
 ----------------
 
 - the proofs: they are in the repository, with the contracts and the crates. Links of the documents to `crates` lead there.
-- the scripts that build and test: `library`, `package`, `bench`, `edits`, `refuse_memory` and `tests`; and `statement`, which reads the
-  crates.
+- the scripts that build and test: `library`, `package`, `release`, `bench`, `edits`, `refuse_memory` and `tests`; and `statement`, which
+  reads the crates.
 
 Left out of this package, because it could not be made or was not wanted:
 
@@ -281,23 +288,7 @@ Left out of this package, because it could not be made or was not wanted:
 """
 
 
-def is_elf(path):
-    with open(path, "rb") as file:
-        return file.read(4) == b"\x7fELF"
-
-
-def least_glibc(tree):
-    """The version of glibc that the objects of the package need."""
-    needed = [(2, 17)]
-    for name in tree.entries():
-        path = os.path.join(tree.root, name)
-        if os.path.isfile(path) and not os.path.islink(path) and is_elf(path):
-            versions = re.findall(r"Name: GLIBC_(\d+)\.(\d+)", run(["readelf", "-W", "--version-info", path]))
-            needed += [(int(major), int(minor)) for major, minor in versions]
-    return ".".join(map(str, max(needed)))
-
-
-def modules_of(page):
+def modules_of(page: str) -> "dict[str, bytes]":
     """The engines in a page that scripts/page printed."""
     text = texts.read(page).decode(errors="replace")
     found = re.search(r'<script type="application/json" id="data">\s*(.*?)</script>', text, re.S)
@@ -308,7 +299,7 @@ def modules_of(page):
         raise Refused(2, f"{page} is no page of scripts/page") from None
 
 
-def stage(folder, parts):
+def stage(folder: str, parts: Parts) -> Tree:
     """The whole tree in this folder."""
     tree = Tree(folder)
     put_program(tree, parts)
@@ -317,37 +308,8 @@ def stage(folder, parts):
         texts.say("package", f"left out: {missing}")
         parts.left_out.append(missing)
     if parts.library:
-        put_library(tree, parts.library)
+        put_library(tree, parts.library, parts.number)
     put_documents(tree, parts)
     put_page(tree, parts.modules)
     put_words(tree, parts)
     return tree
-
-
-def write_tar(tree, path, name, time):
-    """The tree without its folder `usr`, below one folder of this name: it can be unpacked anywhere."""
-    def as_root(entry):
-        if entry.isreg():
-            entry.mode = 0o755 if entry.mode & 0o100 else 0o644
-        entry.uid = entry.gid = 0
-        entry.uname = entry.gname = "root"
-        entry.mtime = time
-        return entry
-
-    with open(path, "wb") as file, gzip.GzipFile("", "wb", 9, file, time) as packed:
-        with tarfile.open(fileobj=packed, mode="w", format=tarfile.GNU_FORMAT) as tar:
-            tar.add(os.path.join(tree.root, "usr"), name, recursive=False, filter=as_root)
-            tar.add(source("LICENSE"), f"{name}/LICENSE", filter=as_root)  # Debian has its text elsewhere
-            for entry in tree.entries():
-                if entry.startswith("usr/"):
-                    tar.add(os.path.join(tree.root, entry), f"{name}/{entry.removeprefix('usr/')}", recursive=False, filter=as_root)
-
-
-def sums(tree):
-    lines = []
-    for name in tree.entries():
-        path = os.path.join(tree.root, name)
-        if os.path.isfile(path) and not os.path.islink(path):
-            with open(path, "rb") as file:
-                lines.append(f"{hashlib.md5(file.read(), usedforsecurity=False).hexdigest()}  {name}\n")
-    return "".join(lines)

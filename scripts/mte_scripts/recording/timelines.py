@@ -290,6 +290,34 @@ def peaks_of(text: bytes, classes: list) -> list:
     return sorted(at.values())
 
 
+def heights(text: bytes, classes: list, parts: int) -> list[list[int]]:
+    """The most live blocks of each class of a table in each of so many equal parts of a timeline, or of fewer where it has fewer events.
+    What the table does not serve is left out."""
+    count = text.count(b"\n", text.find(b"\n") + 1) + (not text.endswith(b"\n"))
+    parts = min(parts, count)
+    of_event = Amounts(lambda size: (bisect.bisect_left(classes, need_of(size)) + 1) % (len(classes) + 1))
+    rows: list[list[int]] = []
+    ends = [count * part // parts for part in range(1, parts + 1)]
+    now, most, seen = [0] * len(classes), [0] * len(classes), 0
+    for lines in events_of(text):
+        places, begin = list(map(of_event.__getitem__, lines)), 0
+        while begin < len(places):
+            end = min(len(places), ends[len(rows)] - seen)
+            for place in places[begin:end]:
+                if place < 0:
+                    now[-place - 1] -= 1
+                elif place:
+                    now[place - 1] += 1
+                    if now[place - 1] > most[place - 1]:
+                        most[place - 1] = now[place - 1]
+            if seen + end == ends[len(rows)]:
+                rows.append(most)
+                most = list(now)
+            begin = end
+        seen += len(lines)
+    return rows
+
+
 def with_block(text: bytes, size: int) -> bytes:
     """The timeline with one block more that is live from before the first event on; the same where a block of this size is requested."""
     line = b"%d\n" % size

@@ -48,6 +48,7 @@ svg text { fill: var(--soft); font: 12px system-ui, -apple-system, "Segoe UI", "
 .axis { stroke: var(--soft) }
 .curve { fill: none; stroke: var(--c0); stroke-width: 2 }
 .bars { fill: var(--soft); fill-opacity: .55 }
+.level { fill: none; stroke: var(--text); stroke-dasharray: 5 3 }
 .key { list-style: none; display: flex; flex-wrap: wrap; gap: .25rem 1.25rem; margin: .25rem 0; padding: 0; font-size: .875rem }
 .key svg { display: inline-block; width: 12px; height: 12px; margin-right: .4rem; vertical-align: -1px }
 @media (max-width: 600px) {
@@ -64,6 +65,7 @@ svg text { fill: var(--soft); font: 12px system-ui, -apple-system, "Segoe UI", "
 """
 
 COLORS = 6  # --c0, of the first table, to --c5
+PARTS = 200  # of a timeline, as the picture of the live blocks has columns
 FOOTPRINT = ["Footprint", "The first one saves"]
 CLASS_COLUMNS = {"waste": ("Requests", "Bytes lost"), "footprint": ("Blocks at most", "Their bytes")}
 SIZE_TICKS = [(16, "16"), (64, "64"), (256, "256"), (1024, "1 KiB"), (4096, "4 KiB"), (16384, "16 KiB")]
@@ -116,7 +118,7 @@ waste. Its share is of the requested bytes. What is saved of it has its share of
 {headings("Classes", claims.TEMPLATES[f"{judged.kind}.curve.column"])}
 <tbody>{lines(least_row(figures, *row) for row in enumerate(figures.least, 1))}</tbody>
 </table></div></details>
-<h2>What was requested</h2>
+{over_time_section(figures)}<h2>What was requested</h2>
 <figure>{histogram(figures, "wide", 760, 360, 8)}{histogram(figures, "narrow", 340, 300, 4)}
 {border_key(figures)}
 <figcaption>A bar is the bytes that were requested in neighbouring sizes. A border is the largest size that a class
@@ -313,6 +315,67 @@ def default_of(figures):
 def border_key(figures):
     style, default = default_of(figures)
     return key([(0, f"borders of {figures.first.name}"), (style, f"borders of {default.name}")])
+
+
+def over_time_section(figures):
+    """The live blocks over the run, where it was recorded."""
+    if not figures.timed or figures.first.footprint is None:
+        return ""
+    rows = figures.heights(PARTS)
+    layers = layers_of(figures.first.classes, rows)
+    parts = f"{len(rows)} equal parts of the run, and as high as the most blocks of each class in it"
+    column = f"one of {parts}" if figures.timed.kind == "timeline" else "a recorded moment"
+    return f"""<h2>The blocks over time</h2>
+<figure>{live_blocks(figures, layers, "wide", 760, 340)}{live_blocks(figures, layers, "narrow", 340, 280)}
+<ul class="key">{lines(f'<li>{square(form)}{words}</li>' for words, form, _, _ in layers)}</ul>
+<figcaption>A column is {column}. The footprint is the highest place of each class, added up.</figcaption></figure>
+"""
+
+
+def layers_of(classes, rows):
+    """What is drawn one upon the other, from below: words, form, the bytes at each time and their most. Classes that take least are one."""
+    columns = [[GRANULE * each * count for count in column] for each, column in zip(classes, zip(*rows))]
+    most = sorted(range(len(classes)), key=lambda at: -max(columns[at]))
+    shown_, rest = [at for at in most[: COLORS - 1] if max(columns[at])], [columns[at] for at in most[COLORS - 1 :] if max(columns[at])]
+    found = [
+        (f"blocks of {number(GRANULE * classes[at])} bytes", f'fill="var(--c{style})"', columns[at], max(columns[at]))
+        for style, at in enumerate(shown_)
+    ]
+    if rest:
+        words = f"{len(rest)} other class{'es' * (len(rest) > 1)}"
+        found.append((words, 'class="bars"', list(map(sum, zip(*rest))), sum(map(max, rest))))
+    return found
+
+
+def live_blocks(figures, layers, kind, width, height):
+    """The bytes of the live blocks over the run, the layers one upon the other, and the footprint."""
+    picture = Picture(kind, width, height, 46, "bytes of live blocks")
+    footprint = figures.first.footprint
+    unit = 1024 ** (int(math.log2(footprint)) // 10)
+    top = 1.05 * footprint / unit
+    picture.levels(top, 5, lambda value: byte_text(value * unit) if value else "0")
+    columns = len(layers[0][2])
+    x = [shown(picture.left + (picture.right - picture.left) * at / columns) for at in range(columns + 1)]
+    below = [0] * columns
+    for words, form, values, most in layers:
+        above = list(map(sum, zip(below, values)))
+        up = "".join(f"H{x[at]}V{shown(picture.y(value / unit, top))}" for at, value in enumerate(above))
+        down = "".join(f"H{x[at + 1]}V{shown(picture.y(below[at] / unit, top))}" for at in reversed(range(columns)))
+        title = f"{words}: at most {numbered(most, 'byte')}"
+        begin = shown(picture.y(below[0] / unit, top))
+        picture.parts.append(f'<path {form} d="M{x[0]} {begin}{up}H{x[-1]}{down}Z"><title>{title}</title></path>')
+        below = above
+    y, title = shown(picture.y(footprint / unit, top)), f"footprint: {numbered(footprint, 'byte')}"
+    picture.parts.append(f'<path class="level" d="M{picture.left} {y}H{picture.right}"><title>{title}</title></path>')
+    of = "events of the run" if figures.timed.kind == "timeline" else "recorded moments"
+    for share_ in (0, 25, 50, 75, 100):
+        picture.tick(picture.left + (picture.right - picture.left) * share_ / 100, f"{share_}%")
+    picture.text(picture.middle, height - 6, of, "middle")
+    return picture.svg("The bytes of the live blocks over the run, by class")
+
+
+def square(form):
+    return f'<svg viewBox="0 0 12 12" aria-hidden="true"><rect width="12" height="12" {form}/></svg>'
 
 
 def bars(counts, per_octave):

@@ -225,6 +225,19 @@ class Figures:
         """The most bytes of all its live blocks together: what it takes where each block that is freed is given back at once."""
         return self.most(Blocks(table.classes).of)
 
+    def heights(self, parts):
+        """The most live blocks of each class of the first table in each of so many equal parts of a timeline, or at each moment of a
+        history."""
+        if self.timed.kind == "timeline":
+            return timelines.heights(self.timed.text, self.first.classes, parts)
+        rows, blocks = [[0] * len(self.first.classes) for _ in range(self.timed.history.snapshots)], Blocks(self.first.classes)
+        for size, counts in self.timed.history.counts.items():
+            if size != "large" and blocks.of(size):
+                place = self.first.classes.index(blocks.of(size) // GRANULE)
+                for row, count in zip(rows, counts):
+                    row[place] += count
+        return rows
+
     def requested(self):
         """How often each size was requested over time; of a history, which has not all, how many blocks it has."""
         if self.timed.kind == "timeline":

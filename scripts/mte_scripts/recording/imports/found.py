@@ -17,6 +17,10 @@ class Found:
         self.kind, self.counts, self.told, self.events, self.peak_at = kind, counts, told, events, peak_at
 
 
+MANY = 100  # a share of one in so many is worth a warning
+MISSED = "a size that the sample missed is not there, so a table tuned for it may lose more than the default: sample more often"
+
+
 def counter_of(size: int) -> int:
     """A size as a key of the counts: all large ones are one."""
     return size if size < LARGE else LARGE
@@ -59,7 +63,9 @@ class Buckets:
         blocks = f"{number(self.blocks, 'block')} of {number(self.bytes, 'byte')} at {number(self.stacks, 'stack')}"
         lines = [f"{what}: {blocks}. Each block counts at the average of its stack: exact where all blocks of a stack have one size"]
         if self.mixed:
-            lines.append(f"at least {number(self.mixed, 'block')} are not exact: their stacks have blocks of several sizes")
+            of = "are not exact: their stacks have blocks of several sizes. A table tuned for the averages may save little"
+            mark = "! " if self.mixed * MANY > self.blocks else ""
+            lines.append(f"{mark}at least {number(self.mixed, 'block')}, {100 * self.mixed / self.blocks:.1f}%, {of}")
         if self.empty:
             lines.append(f"! {number(self.empty, 'byte')} are at stacks without a number of blocks, and are left out")
         return lines

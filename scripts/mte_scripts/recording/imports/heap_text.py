@@ -132,6 +132,7 @@ def counted(profile: Profile, period: int, form: str) -> Found:
     if period > 1:
         how = f"a block of s bytes is in the sample with the probability 1 - exp(-s/{period:,}), and the counts are scaled up by that"
         told.append(f"sampled, a block in about {period:,} bytes, so the counts are estimates: {how}")
+        told.append(f"! {found.MISSED}")
     if form == "jemalloc":
         told.append("the sizes are of jemalloc's classes, to which it rounds requests up; where it samples, they are off by some percent")
     elif form == "Go":

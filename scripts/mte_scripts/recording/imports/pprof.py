@@ -65,6 +65,7 @@ def told_of(types: Types, buckets: Buckets, requested: int) -> list:
         lines.append(f"{found.number(requested, 'block')} have their size as a label `{REQUEST}`, and count as that")
     if types.period > 1 and types.period_type == "space":
         lines.append(f"sampled, a block in about {types.period:,} bytes: the counts are estimates, which who wrote the file has scaled up")
+        lines.append(f"! {found.MISSED}")
     lines.append("the sizes are as the allocator's own recorder has them: Go's are those of its classes, and not what was requested")
     return lines
 

@@ -13,7 +13,7 @@ KINDS = (found.LIVE,)
 
 HEADER_BYTES = 16  # of a block
 BEGIN = re.compile(rb"Stats: SizeClassAllocator(?:32|64): .*")
-CLASS = re.compile(rb"(?:F|\s)*(\d{2,3}) \(\s*(\d{1,10})\): mapped: .*?\binuse:\s*(\d{1,19})\b.*")
+CLASS = re.compile(rb"[EF\s]*(\d{2,3}) \(\s*(\d{1,10})\): mapped: .*?\binuse:\s*(\d{1,19})\b.*")
 LARGE_ONES = re.compile(rb"Stats: MapAllocator: .*\bremains (\d{1,19}) .*")
 
 

@@ -1,7 +1,5 @@
-use Rattle.std.proofs.Common.{◌≡◌, ◌+◌, ◌*◌, ap, sym, subst, ◌∙◌, arith}
-use Rattle.heap_theory.specs.Header.{Header, FitsWords}
-use Rattle.heap_theory.specs.Header.Standing.{Live}
-use Rattle.tagged_heap.specs.declared.freeing.Chunk.{Chunk}
+use Rattle.std.proofs.Common.{◌≡◌, ◌+◌, ◌*◌, ap, sym, ◌∙◌, arith}
+use Rattle.heap_theory.specs.Header.{Header}
 use Rattle.heap_theory.specs.Calls.{freed}
 use Rattle.tagged_heap.specs.HeapFields.{state_of}
 use Rattle.tagged_heap.specs.HeapAtRest.{shown_heap}
@@ -10,10 +8,6 @@ use Rattle.tagged_heap.proofs.Kept.{class_most}
 use Rattle.tagged_heap.proofs.TakingBack.{live_fits, live_header, retire_room, can_be_put, kept_freed, freed_held, freed_shown}
 use Rattle.tagged_heap.proofs.heap.Heap.free_chunk.Goals as goal
 use Rattle.tagged_heap.proofs.heap.Heap.free_chunk.Goals.{After-self, After-put_at, After-from}
-
--- the header of a live chunk
-abbrev header_of_chunk : Chunk → Header
-header_of_chunk chunk = record { standing = Live; size = chunk.size; tag = chunk.tag; class = chunk.number; next = 0; mark = 0 }
 
 pub overflow_mul-bytes : goal.overflow_mul-bytes
 overflow_mul-bytes c =
@@ -25,27 +19,22 @@ retire-requires-clause-room c =
     let chunk = rw (← c.self.view_is) at c.requires.live in
     retire_room c.self.invariant c.args.chunk.slot c.args.chunk.size c.args.chunk.tag chunk.slot chunk.live
 
--- what the chunk's header says fits its words
-fits : (c : After-self) → FitsWords (header_of_chunk c.args.chunk)
-fits c =
+pub retire-requires-clause-size : goal.retire-requires-clause-size
+retire-requires-clause-size c =
     let chunk = rw (← c.self.view_is) at c.requires.live in
-    subst (λ number. FitsWords (record (header_of_chunk c.args.chunk) { class = number })) (sym chunk.numbered)
-    (live_fits c.self.invariant c.args.chunk.slot c.args.chunk.size c.args.chunk.tag chunk.slot chunk.live)
+    ap (λ (x : Header). x.size)
+    (sym (live_header c.self.invariant c.args.chunk.slot c.args.chunk.size c.args.chunk.tag chunk.slot chunk.live))
 
-pub overflow_cast-before : goal.overflow_cast-before
-overflow_cast-before c = let f = fits (goal.at.overflow_cast-before c).After-self in record { fits = omega (arith, f.size) }
-
-pub overflow_cast-before-2 : goal.overflow_cast-before-2
-overflow_cast-before-2 c = let f = fits (goal.at.overflow_cast-before-2 c).After-self in record { fits = omega (arith, f.class) }
-
-pub retire-requires-clause-before : goal.retire-requires-clause-before
-retire-requires-clause-before c =
+pub retire-requires-clause-tag : goal.retire-requires-clause-tag
+retire-requires-clause-tag c =
     let chunk = rw (← c.self.view_is) at c.requires.live in
-    ap (λ number. record (header_of_chunk c.args.chunk) { class = number }) chunk.numbered
-    ∙ sym (live_header c.self.invariant c.args.chunk.slot c.args.chunk.size c.args.chunk.tag chunk.slot chunk.live)
+    ap (λ (x : Header). x.tag)
+    (sym (live_header c.self.invariant c.args.chunk.slot c.args.chunk.size c.args.chunk.tag chunk.slot chunk.live))
 
-pub retire-requires-clause-fits : goal.retire-requires-clause-fits
-retire-requires-clause-fits c = fits (goal.at.retire-requires-clause-fits c).After-self
+pub retire-requires-clause-below : goal.retire-requires-clause-below
+retire-requires-clause-below c =
+    let chunk = rw (← c.self.view_is) at c.requires.live in
+    (live_fits c.self.invariant c.args.chunk.slot c.args.chunk.size c.args.chunk.tag chunk.slot chunk.live).tag
 
 pub retire-requires-clause-start : goal.retire-requires-clause-start
 retire-requires-clause-start c = let chunk = rw (← c.self.view_is) at c.requires.live in chunk.start

@@ -1,0 +1,421 @@
+/* mte_tool.h for C++17 and later, in this header alone: memory that frees itself, and exceptions. With C++20 arrays are taken as std::span
+   too. docs/LIBRARY.md says what is proved, and what of the interface stays.
+
+   A verdict of no is an answer, and is returned. All else is thrown: mte_tool::Error where the input is refused, an option is out of its
+   range or the call is not as it has to be, std::bad_alloc where memory runs out. After that all arguments are as they were.
+
+       #include <mte_tool.hpp>
+       #include <iostream>
+
+       int main() {
+           const std::string_view profile = "16 500\n24 70\n100 3\n";
+           const mte_tool::Text sheet = mte_tool::tune(profile, mte_tool::Options(2));
+           std::cout << sheet.view() << (mte_tool::check(sheet.view(), profile) ? "checked\n" : "refused\n");
+       }
+*/
+#ifndef MTE_TOOL_HPP
+#define MTE_TOOL_HPP
+
+#include "mte_tool.h"
+
+#include <cstddef>
+#include <cstdint>
+#include <new>
+#include <stdexcept>
+#include <string>
+#include <string_view>
+#include <utility>
+#include <vector>
+#if __cplusplus >= 202002L && __has_include(<span>)
+#include <span>
+#endif
+
+namespace mte_tool {
+
+/* The options, which begin as the program's own defaults. A call reads those that are its own, and each has 64 bits: a number out of its
+   range is an Error with the end MTE_TOOL_BAD_OPTION. The members are those of mte_tool_options. */
+struct Options : mte_tool_options {
+    Options() : mte_tool_options MTE_TOOL_OPTIONS(0) {}
+
+    /* At most so many classes (1 to 32), each a multiple of so many granules (1, 2, 4 or 8). */
+    explicit Options(std::uint64_t most_classes, std::uint64_t step_granules = 1) : Options() {
+        limit = most_classes;
+        step = step_granules;
+    }
+};
+
+/* Why a call gave no answer. what() is the first fault of the input, as "30 BadLine line 2", or a sentence. */
+class Error : public std::runtime_error {
+  public:
+    Error(int end, const mte_tool_result &result, const std::string &what) : std::runtime_error(what), end_(end), result_(result) {}
+
+    /* MTE_TOOL_REFUSED, MTE_TOOL_BAD_OPTION or MTE_TOOL_MISUSE */
+    int end() const noexcept { return end_; }
+
+    /* the code of the input's fault (docs/FORMATS.md); 0 without one */
+    std::uint32_t code() const noexcept { return result_.code; }
+
+    /* the line of a text's fault, from 1 on; 0 without one */
+    std::uint64_t line() const noexcept { return result_.line; }
+
+    /* the index of the first faulty entry of arrays, from 0 on */
+    std::uint64_t at() const noexcept { return result_.at; }
+
+  private:
+    int end_;
+    mte_tool_result result_;
+};
+
+/* A text of the library's memory, which is freed with it. */
+class Text {
+  public:
+    Text() = default;
+    Text(Text &&other) noexcept : held_(std::exchange(other.held_, mte_tool_text MTE_TOOL_TEXT)) {}
+    Text &operator=(Text &&other) noexcept {
+        std::swap(held_, other.held_);
+        return *this;
+    }
+    Text(const Text &) = delete;
+    Text &operator=(const Text &) = delete;
+    ~Text() { mte_tool_free(&held_); }
+
+    /* its bytes, as long as the text is there and not appended to */
+    std::string_view view() const noexcept { return {held_.bytes ? held_.bytes : "", held_.length}; }
+
+    /* Appends bytes that are no part of it. Throws std::bad_alloc, and then it is as it was. */
+    Text &append(std::string_view piece) {
+        if (mte_tool_append(&held_, piece.data(), piece.size()) != MTE_TOOL_DONE) throw std::bad_alloc();
+        return *this;
+    }
+
+    /* the structure of C, for its calls */
+    mte_tool_text *c() noexcept { return &held_; }
+
+  private:
+    mte_tool_text held_ = MTE_TOOL_TEXT;
+};
+
+/* the verdict of `check` and `check_fit` */
+struct Verdict {
+    bool is_optimal;    /* no table within the sheet's limit and step costs less */
+    std::uint32_t code; /* of the condition that the sheet breaks, 39 to 53; 0 without one */
+    explicit operator bool() const noexcept { return is_optimal; }
+    const char *sentence() const noexcept { return is_optimal ? "optimal" : mte_tool_strerror(static_cast<int>(code)); }
+};
+
+/* what a table costs */
+struct Cost {
+    bool serves;              /* each counted size has a class */
+    std::uint64_t bytes;      /* what the table wastes, or takes of memory, if it serves */
+    std::uint64_t least_size; /* else the least size without a class, in bytes */
+};
+
+/* a fit as a text */
+struct Fit {
+    Text text;
+    bool is_least; /* always of a history; of a timeline the text says if it is not shown */
+};
+
+/* a table in numbers */
+struct Table {
+    std::vector<std::uint16_t> classes; /* in granules of 16 bytes, ascending */
+    std::uint64_t bytes = 0;            /* what it wastes, or takes of memory */
+    std::vector<std::uint64_t> rows;    /* its certificate: `limit` rows of `places` numbers, row after row */
+    std::size_t places = 0;
+    std::vector<std::uint32_t> moments; /* of a timeline: the moments that the certificate names, by the events before each */
+    bool is_least = true;               /* false only of a timeline, and then there is no certificate */
+    std::uint64_t bound = 0;            /* if it is not shown to be least: no table takes less than these bytes */
+};
+
+/* The version of the library that runs; MTE_TOOL_VERSION is that of the header. */
+inline std::string_view version() noexcept { return mte_tool_version(); }
+
+namespace detail {
+
+/* Throws unless there is an answer; whether it is a yes. */
+inline bool answered(int end, const mte_tool_result &result, std::string_view said = {}) {
+    if (end == MTE_TOOL_OUT_OF_MEMORY) throw std::bad_alloc();
+    if (end != MTE_TOOL_DONE && end != MTE_TOOL_NO)
+        throw Error(end, result, said.empty() ? mte_tool_strerror(result.code ? static_cast<int>(result.code) : end) : std::string(said));
+    return end == MTE_TOOL_DONE;
+}
+
+using Command = int(const mte_tool_options *, const void *, std::size_t, mte_tool_text *, mte_tool_result *);
+
+/* a call over an input */
+struct Called {
+    Text text;
+    mte_tool_result result = MTE_TOOL_RESULT;
+    bool is_yes;
+    Called(Command *command, std::string_view input, const mte_tool_options *options) {
+        const int end = command(options, input.data(), input.size(), text.c(), &result);
+        is_yes = answered(end, result, text.view());
+    }
+};
+
+/* two texts as one input */
+inline Text joined(std::string_view first, std::string_view second) {
+    Text both;
+    both.append(first).append(second);
+    return both;
+}
+
+inline Verdict verdict(Command *command, std::string_view first, std::string_view second) {
+    const Called made(command, joined(first, second).view(), nullptr);
+    return {made.is_yes, made.result.code};
+}
+
+inline Cost cost(bool serves, const mte_tool_result &result) { return {serves, result.bytes, result.at}; }
+
+inline std::size_t rooms(const Options &options) {
+    return options.limit <= MTE_TOOL_MOST_CLASSES ? static_cast<std::size_t>(options.limit) : 1;
+}
+
+/* A tuner's call, with room for all that it can give. `call` takes the table's arrays and a result. */
+template <class Call> Table tuned(const Options &options, std::size_t length, std::size_t most_moments, Call call) {
+    Table table;
+    mte_tool_result result = MTE_TOOL_RESULT;
+    const std::size_t most_places = length < MTE_TOOL_LARGEST_CLASS ? length : MTE_TOOL_LARGEST_CLASS;
+    table.classes.resize(MTE_TOOL_MOST_CLASSES);
+    table.rows.resize(rooms(options) * most_places);
+    table.moments.resize(most_moments);
+    table.is_least = answered(call(table, result), result);
+    table.classes.resize(result.classes);
+    table.places = table.is_least ? result.places : 0;
+    table.rows.resize(rooms(options) * table.places);
+    table.moments.resize(table.is_least ? result.moments : 0);
+    table.bytes = result.bytes;
+    table.bound = result.bound;
+    return table;
+}
+
+inline void need(bool is_so, const char *what) {
+    if (!is_so) throw std::invalid_argument(what);
+}
+
+} // namespace detail
+
+/* ---- the commands over texts (docs/FORMATS.md), each at most MTE_TOOL_MOST_INPUT bytes together. An Error has the first fault's code and
+   line. */
+
+/* What the table of a class line wastes on a profile. */
+inline Cost score(std::string_view classes, std::string_view profile) {
+    const detail::Called made(mte_tool_score, detail::joined(classes, profile).view(), nullptr);
+    return detail::cost(made.is_yes, made.result);
+}
+
+/* The sheet of the table of least waste, of at most options.limit classes. */
+inline Text tune(std::string_view profile, const Options &options) {
+    return std::move(detail::Called(mte_tool_tune, profile, &options).text);
+}
+
+/* Whether a sheet shows that no table within its limit and step wastes less on a profile. */
+inline Verdict check(std::string_view sheet, std::string_view profile) { return detail::verdict(mte_tool_check, sheet, profile); }
+
+/* What the table of a class line takes of memory over a history or a timeline. */
+inline Cost footprint(std::string_view classes, std::string_view history) {
+    const detail::Called made(mte_tool_footprint, detail::joined(classes, history).view(), nullptr);
+    return detail::cost(made.is_yes, made.result);
+}
+
+/* The fit of the table of least footprint over a history or a timeline. */
+inline Fit fit(std::string_view history, const Options &options) {
+    detail::Called made(mte_tool_fit, history, &options);
+    return {std::move(made.text), made.is_yes};
+}
+
+/* Whether a fit shows that no table within its limit and step takes less over a history or a timeline. */
+inline Verdict check_fit(std::string_view fit, std::string_view history) { return detail::verdict(mte_tool_check_fit, fit, history); }
+
+/* The profile of a trace. */
+inline Text profile(std::string_view trace) { return std::move(detail::Called(mte_tool_profile, trace, nullptr).text); }
+
+/* The report of the tagged heap over the table of a class line on a trace. */
+inline Text replay(std::string_view classes, std::string_view trace, const Options &options = Options()) {
+    return std::move(detail::Called(mte_tool_replay, detail::joined(classes, trace).view(), &options).text);
+}
+
+/* The sheet of a trace's profile, and then the report with its table. */
+inline Text run(std::string_view trace, const Options &options) { return std::move(detail::Called(mte_tool_run, trace, &options).text); }
+
+/* ---- the same over arrays: sizes in bytes, ascending, from 0 to MTE_TOOL_LARGEST_SIZE; classes in granules of 16 bytes, ascending, from 2
+   to 1024. An Error has the code, and in at() the index of the first faulty entry. */
+
+/* What a table wastes on a profile: each size with its count, 1 to MTE_TOOL_MOST_COUNT. */
+inline Cost score_profile(const std::uint16_t *classes, std::size_t class_count, const mte_tool_profile_arrays &profile) {
+    mte_tool_result result = MTE_TOOL_RESULT;
+    const int end = mte_tool_score_profile(nullptr, classes, class_count, &profile, &result);
+    return detail::cost(detail::answered(end, result), result);
+}
+
+/* What a table takes over a history: for each size its live blocks at each of 1 to 1024 snapshots. */
+inline Cost footprint_history(const std::uint16_t *classes, std::size_t class_count, const mte_tool_history_arrays &history) {
+    mte_tool_result result = MTE_TOOL_RESULT;
+    const int end = mte_tool_footprint_history(nullptr, classes, class_count, &history, &result);
+    return detail::cost(detail::answered(end, result), result);
+}
+
+/* What a table takes over a timeline: requests, and frees where `frees` is not 0. */
+inline Cost footprint_timeline(const std::uint16_t *classes, std::size_t class_count, const mte_tool_timeline_arrays &timeline) {
+    mte_tool_result result = MTE_TOOL_RESULT;
+    const int end = mte_tool_footprint_timeline(nullptr, classes, class_count, &timeline, &result);
+    return detail::cost(detail::answered(end, result), result);
+}
+
+/* The table of least waste, with its certificate. */
+inline Table tune_profile(const mte_tool_profile_arrays &profile, const Options &options) {
+    return detail::tuned(options, profile.length, 0, [&](Table &to, mte_tool_result &result) {
+        return mte_tool_tune_profile(&options, &profile, to.classes.data(), to.classes.size(), to.rows.data(), to.rows.size(), &result);
+    });
+}
+
+/* The table of least footprint over a history, with its certificate. */
+inline Table fit_history(const mte_tool_history_arrays &history, const Options &options) {
+    return detail::tuned(options, history.length, 0, [&](Table &to, mte_tool_result &result) {
+        return mte_tool_fit_history(&options, &history, to.classes.data(), to.classes.size(), to.rows.data(), to.rows.size(), &result);
+    });
+}
+
+/* The table of least footprint over a timeline; is_least says whether that is shown. */
+inline Table fit_timeline(const mte_tool_timeline_arrays &timeline, const Options &options) {
+    return detail::tuned(options, timeline.length, 1024, [&](Table &to, mte_tool_result &result) {
+        return mte_tool_fit_timeline(&options, &timeline, to.classes.data(), to.classes.size(), to.rows.data(), to.rows.size(),
+                                     to.moments.data(), to.moments.size(), &result);
+    });
+}
+
+/* Whether a table's rows show that no table within the options wastes less. The rows have options.limit times as many numbers as one. */
+inline Verdict check_profile(const Table &table, const mte_tool_profile_arrays &profile, const Options &options) {
+    mte_tool_result result = MTE_TOOL_RESULT;
+    const int end = mte_tool_check_profile(&options, table.classes.data(), table.classes.size(), table.bytes, table.rows.data(),
+                                           table.rows.size(), &profile, &result);
+    return {detail::answered(end, result), result.code};
+}
+
+/* The same of a footprint over a history. */
+inline Verdict check_fit_history(const Table &table, const mte_tool_history_arrays &history, const Options &options) {
+    mte_tool_result result = MTE_TOOL_RESULT;
+    const int end = mte_tool_check_fit_history(&options, table.classes.data(), table.classes.size(), table.bytes, table.rows.data(),
+                                               table.rows.size(), &history, &result);
+    return {detail::answered(end, result), result.code};
+}
+
+/* The same over a timeline, by the moments that the table names. */
+inline Verdict check_fit_timeline(const Table &table, const mte_tool_timeline_arrays &timeline, const Options &options) {
+    mte_tool_result result = MTE_TOOL_RESULT;
+    const int end = mte_tool_check_fit_timeline(&options, table.classes.data(), table.classes.size(), table.bytes, table.rows.data(),
+                                                table.rows.size(), table.moments.data(), table.moments.size(), &timeline, &result);
+    return {detail::answered(end, result), result.code};
+}
+
+#ifdef __cpp_lib_span
+/* The arrays of the calls above. Spans of lengths that don't fit together are std::invalid_argument. */
+inline mte_tool_profile_arrays profile_of(std::span<const std::uint32_t> sizes, std::span<const std::uint32_t> counts) {
+    detail::need(sizes.size() == counts.size(), "a profile has a count for each size");
+    return {sizes.data(), counts.data(), sizes.size()};
+}
+
+inline mte_tool_history_arrays history_of(std::span<const std::uint32_t> sizes, std::span<const std::uint32_t> counts,
+                                          std::size_t snapshots) {
+    detail::need(counts.size() == sizes.size() * snapshots, "a history has a count for each size at each snapshot");
+    return {sizes.data(), counts.data(), sizes.size(), snapshots};
+}
+
+inline mte_tool_timeline_arrays timeline_of(std::span<const std::uint32_t> sizes, std::span<const std::uint8_t> frees) {
+    detail::need(sizes.size() == frees.size(), "a timeline says of each size whether it is freed");
+    return {sizes.data(), frees.data(), sizes.size()};
+}
+
+inline Cost score_profile(std::span<const std::uint16_t> classes, const mte_tool_profile_arrays &profile) {
+    return score_profile(classes.data(), classes.size(), profile);
+}
+
+inline Cost footprint_history(std::span<const std::uint16_t> classes, const mte_tool_history_arrays &history) {
+    return footprint_history(classes.data(), classes.size(), history);
+}
+
+inline Cost footprint_timeline(std::span<const std::uint16_t> classes, const mte_tool_timeline_arrays &timeline) {
+    return footprint_timeline(classes.data(), classes.size(), timeline);
+}
+#endif
+
+/* ---- the heap */
+
+/* What a call on a heap gave: the members of mte_tool_outcome. */
+struct Outcome : mte_tool_outcome {
+    Outcome() : mte_tool_outcome MTE_TOOL_OUTCOME {}
+    bool is_done = false; /* else the heap or the machine refused it: `code` says why, and nothing changed */
+    explicit operator bool() const noexcept { return is_done; }
+    const char *sentence() const noexcept { return mte_tool_strerror(static_cast<int>(code)); }
+};
+
+/* One modelled heap with its tagged memory (docs/HEAP.md), closed with it. An address is a number of 64 bits with its tag in bits 56 to 59,
+   and no pointer of the program. A call that can't be made is an Error, such as a load of 65 bytes. */
+class Heap {
+  public:
+    /* A heap over a table of classes in granules, with options.granules, .quarantine and .seed. Throws Error for these and the classes, and
+       std::bad_alloc. */
+    Heap(const std::uint16_t *classes, std::size_t class_count, const Options &options = Options()) {
+        Outcome made;
+        done(mte_tool_heap_new(&held_, &options, classes, class_count, &made), made);
+    }
+#ifdef __cpp_lib_span
+    explicit Heap(std::span<const std::uint16_t> classes, const Options &options = Options())
+        : Heap(classes.data(), classes.size(), options) {}
+#endif
+    Heap(Heap &&other) noexcept : held_(std::exchange(other.held_, mte_tool_heap MTE_TOOL_HEAP)) {}
+    Heap &operator=(Heap &&other) noexcept {
+        std::swap(held_, other.held_);
+        return *this;
+    }
+    Heap(const Heap &) = delete;
+    Heap &operator=(const Heap &) = delete;
+    ~Heap() { mte_tool_heap_close(&held_); }
+
+    /* A chunk of so many bytes: its address is in `value`. */
+    Outcome malloc(std::size_t size) {
+        return made([&](Outcome &to) { return mte_tool_heap_malloc(&held_, size, &to); });
+    }
+    /* The same, of zeros. */
+    Outcome calloc(std::size_t size) {
+        return made([&](Outcome &to) { return mte_tool_heap_calloc(&held_, size, &to); });
+    }
+    /* Another size for the chunk at an address; of 0 it is malloc. */
+    Outcome realloc(std::uint64_t address, std::size_t size) {
+        return made([&](Outcome &to) { return mte_tool_heap_realloc(&held_, address, size, &to); });
+    }
+    /* Frees the chunk at an address; 0 is let pass. */
+    Outcome free(std::uint64_t address) {
+        return made([&](Outcome &to) { return mte_tool_heap_free(&held_, address, &to); });
+    }
+    /* Reads 1 to 64 bytes from an address on. */
+    Outcome load(std::uint64_t address, void *room, std::size_t length) {
+        return made([&](Outcome &to) { return mte_tool_heap_load(&held_, address, room, length, &to); });
+    }
+    /* Writes 1 to 64 bytes from an address on. */
+    Outcome store(std::uint64_t address, const void *bytes, std::size_t length) {
+        return made([&](Outcome &to) { return mte_tool_heap_store(&held_, address, bytes, length, &to); });
+    }
+    /* The address so many granules (0 to 63) further up, its tag counted up by `step` (0 to 15). */
+    Outcome addg(std::uint64_t address, std::uint64_t granules, std::uint64_t step) {
+        return made([&](Outcome &to) { return mte_tool_heap_addg(&held_, address, granules, step, &to); });
+    }
+
+  private:
+    static bool done(int end, const Outcome &outcome) {
+        mte_tool_result result = MTE_TOOL_RESULT;
+        result.code = outcome.code;
+        return detail::answered(end, result);
+    }
+    template <class Call> static Outcome made(Call call) {
+        Outcome outcome;
+        outcome.is_done = done(call(outcome), outcome);
+        return outcome;
+    }
+
+    mte_tool_heap held_ = MTE_TOOL_HEAP;
+};
+
+} // namespace mte_tool
+
+#endif

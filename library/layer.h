@@ -1,0 +1,96 @@
+/* What the files of this folder share: the proved functions of crates/mte_c, and the way of options and results over the border. Nothing
+   here is proved. */
+#ifndef MTE_TOOL_LAYER_H
+#define MTE_TOOL_LAYER_H
+
+#include "../include/mte_tool.h"
+
+/* the structures of the proved functions */
+typedef struct narrow_options {
+    uint32_t granules;
+    uint32_t quarantine;
+    uint16_t seed;
+    uint8_t limit;
+    uint8_t step;
+} narrow_options;
+
+typedef struct heap_settings {
+    uint32_t granules;
+    uint32_t quarantine;
+    uint16_t seed;
+} heap_settings;
+
+typedef struct held_text {
+    void *handle;
+    size_t length;
+} held_text;
+
+typedef struct ending {
+    uint32_t end;
+    uint32_t fault;
+    uint64_t line;
+} ending;
+
+typedef struct numbers {
+    uint32_t end;
+    uint32_t fault;
+    uint64_t at;
+    uint64_t waste;
+    uint32_t classes;
+    uint32_t places;
+} numbers;
+
+typedef struct heap_outcome {
+    uint32_t end;
+    uint32_t code;
+    uint64_t value;
+    uint32_t granule;
+    uint8_t memory_tag;
+    uint8_t pointer_tag;
+    uint8_t granule_kind;
+} heap_outcome;
+
+/* the proved functions; a slice is a pointer, never null, and a length */
+ending mte_c_call(uint8_t, narrow_options, const uint8_t *, size_t, held_text *);
+uint32_t mte_c_append(const uint8_t *, size_t, held_text *);
+size_t mte_c_read(held_text *, size_t, uint8_t *, size_t);
+void mte_c_free(held_text *);
+numbers mte_arrays_score(const uint16_t *, size_t, const uint32_t *, size_t, const uint32_t *, size_t);
+numbers mte_arrays_tune(uint8_t, uint8_t, const uint32_t *, size_t, const uint32_t *, size_t, uint16_t *, size_t, uint64_t *, size_t);
+numbers mte_arrays_check(uint8_t, uint8_t, uint64_t, const uint16_t *, size_t, const uint64_t *, size_t, const uint32_t *, size_t,
+                         const uint32_t *, size_t);
+heap_outcome mte_heap_new(heap_settings, const uint16_t *, size_t, mte_tool_heap *);
+heap_outcome mte_heap_malloc(mte_tool_heap *, uint32_t);
+heap_outcome mte_heap_calloc(mte_tool_heap *, uint32_t);
+heap_outcome mte_heap_realloc(mte_tool_heap *, uint64_t, uint32_t);
+heap_outcome mte_heap_free(mte_tool_heap *, uint64_t);
+heap_outcome mte_heap_load(mte_tool_heap *, uint64_t, uint8_t *, size_t);
+heap_outcome mte_heap_store(mte_tool_heap *, uint64_t, const uint8_t *, size_t);
+heap_outcome mte_heap_addg(mte_tool_heap *, uint64_t, uint8_t, uint8_t);
+void mte_heap_close(mte_tool_heap *);
+
+/* the numbers of the commands */
+enum { SCORE, TUNE, CHECK, FOOTPRINT, FIT, CHECK_FIT, PROFILE, REPLAY, RUN };
+
+/* Whether a slice has numbers and no place. */
+static inline int is_missing(const void *at, size_t length) {
+    return !at && length > 0;
+}
+
+/* Where an array without numbers stands. */
+extern const uint64_t layer_no_numbers;
+
+/* Whether a structure that begins with its size has one that can't be. Null has none. */
+int layer_is_wrong(const void *sized);
+
+/* The options for the proved functions; MTE_TOOL_DONE, MTE_TOOL_MISUSE, or MTE_TOOL_BAD_OPTION where a member that nobody here knows is
+   set. A number that is too large for its place becomes one that is out of the option's range too. */
+int layer_options(const mte_tool_options *options, narrow_options *narrow);
+
+/* Puts what a call found into the caller's structure, or nowhere if that is null, and returns the end. */
+int layer_give(int end, const mte_tool_result *found, mte_tool_result *result);
+
+/* Makes a call over a text, and puts the answer into an empty text. What it found is set. The input is not null. */
+int layer_call(uint8_t command, narrow_options options, const void *input, size_t length, mte_tool_text *answer, mte_tool_result *found);
+
+#endif

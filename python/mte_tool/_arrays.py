@@ -1,0 +1,131 @@
+"""The same over numbers. Sizes are in bytes, 0 to 16,368; classes in granules of 16 bytes, 2 to 1,024, ascending. Of an entry that is
+refused Error.at is the index, in the order of the sizes."""
+
+import ctypes
+from ctypes import c_uint8, c_uint16, c_uint32, c_uint64
+from typing import Any, Iterable, List, Mapping, NamedTuple, Sequence
+
+from mte_tool import _c, _calls
+from mte_tool._calls import Cost, Verdict
+
+MOST_CLASSES, MOST_NEEDS, MOST_MOMENTS = 32, 1023, 1024
+
+
+class Table(NamedTuple):
+    """A table with its certificate."""
+
+    #: in granules of 16 bytes, ascending
+    classes: List[int]
+    #: what it wastes, or takes of memory, in bytes
+    bytes: int
+    #: its certificate, as many rows as the limit
+    rows: List[List[int]]
+    #: of a timeline the moments that the certificate names, each by the events before it
+    moments: List[int]
+    #: False only of a timeline, and then there is no certificate
+    is_least: bool
+    #: if it is not shown to be least: no table takes less than these bytes
+    bound: int
+
+
+def array(kind: Any, numbers: Iterable[int]) -> Any:
+    """An array of C. A number that it can't hold is its largest, which the library refuses."""
+    most = 2 ** (8 * ctypes.sizeof(kind)) - 1
+    taken = [number if 0 <= number <= most else most for number in numbers]
+    return (kind * len(taken))(*taken)
+
+
+def profile_of(profile: Mapping[int, int]) -> _c.Profile:
+    sizes = sorted(profile)
+    return _c.Profile(array(c_uint32, sizes), array(c_uint32, [profile[size] for size in sizes]), len(sizes))
+
+
+def history_of(history: Mapping[int, Sequence[int]], snapshots: int) -> _c.History:
+    sizes = sorted(history)
+    for size in sizes:
+        if len(history[size]) != snapshots:
+            raise ValueError(f"size {size} has {len(history[size])} counts, and not one for each of {snapshots} snapshots")
+    counts = array(c_uint32, [count for size in sizes for count in history[size]])
+    return _c.History(array(c_uint32, sizes), counts, len(sizes), snapshots)
+
+
+def timeline_of(sizes: Sequence[int], frees: Sequence[bool]) -> _c.Timeline:
+    if len(sizes) != len(frees):
+        raise ValueError(f"there are {len(sizes)} sizes, and of {len(frees)} it is said whether they are freed")
+    return _c.Timeline(array(c_uint32, sizes), array(c_uint8, map(bool, frees)), len(sizes))
+
+
+def cost_of(name: str, classes: Sequence[int], data: ctypes.Structure) -> Cost:
+    table = array(c_uint16, classes)
+    function = getattr(_c.library, f"mte_tool_{name}")
+    yes, result = _calls.made(lambda to: function(None, table, len(table), ctypes.byref(data), to))
+    return Cost(yes, result.bytes, result.at)
+
+
+def table_of(name: str, data: Any, limit: int, step: int, most_moments: int = 0) -> Table:
+    options, places = _calls.options(limit=limit, step=step), min(data.length, MOST_NEEDS)
+    classes = (c_uint16 * MOST_CLASSES)()
+    rows = (c_uint64 * (places * min(max(limit, 0), MOST_CLASSES)))()
+    moments = (c_uint32 * most_moments)()
+    room = [classes, len(classes), rows, len(rows), *([moments, len(moments)] if most_moments else [])]
+    function = getattr(_c.library, f"mte_tool_{name}")
+    yes, result = _calls.made(lambda to: function(ctypes.byref(options), ctypes.byref(data), *room, to))
+    places = result.places
+    certificate = [rows[row * places : (row + 1) * places] for row in range(limit)] if yes else []
+    return Table(classes[: result.classes], result.bytes, certificate, moments[: result.moments] if yes else [], yes, result.bound)
+
+
+def verdict_of(name: str, table: Table, data: ctypes.Structure, limit: int, step: int, has_moments: bool = False) -> Verdict:
+    options = _calls.options(limit=limit, step=step)
+    classes, rows = array(c_uint16, table.classes), array(c_uint64, [number for row in table.rows for number in row])
+    moments = array(c_uint32, table.moments)
+    claim = [classes, len(classes), table.bytes, rows, len(rows), *([moments, len(moments)] if has_moments else [])]
+    function = getattr(_c.library, f"mte_tool_{name}")
+    yes, result = _calls.made(lambda to: function(ctypes.byref(options), *claim, ctypes.byref(data), to))
+    return Verdict(yes, result.code)
+
+
+def score_profile(classes: Sequence[int], profile: Mapping[int, int]) -> Cost:
+    """What a table wastes on a profile: each size with how often it is requested, 1 to 1,000,000,000 times."""
+    return cost_of("score_profile", classes, profile_of(profile))
+
+
+def footprint_history(classes: Sequence[int], history: Mapping[int, Sequence[int]], snapshots: int) -> Cost:
+    """What a table takes of memory over a history: each size with how many of its blocks were live at each of 1 to 1,024 snapshots."""
+    return cost_of("footprint_history", classes, history_of(history, snapshots))
+
+
+def footprint_timeline(classes: Sequence[int], sizes: Sequence[int], frees: Sequence[bool]) -> Cost:
+    """What a table takes of memory over a timeline: the size of each event's block, and whether the event frees it. Blocks of more than
+    16,368 bytes count for nothing."""
+    return cost_of("footprint_timeline", classes, timeline_of(sizes, frees))
+
+
+def tune_profile(profile: Mapping[int, int], limit: int, step: int = 1) -> Table:
+    """The table of least waste on a profile, of at most LIMIT classes (1 to 32), each a multiple of STEP granules (1, 2, 4 or 8)."""
+    return table_of("tune_profile", profile_of(profile), limit, step)
+
+
+def fit_history(history: Mapping[int, Sequence[int]], snapshots: int, limit: int, step: int = 1) -> Table:
+    """The table of least footprint over a history."""
+    return table_of("fit_history", history_of(history, snapshots), limit, step)
+
+
+def fit_timeline(sizes: Sequence[int], frees: Sequence[bool], limit: int, step: int = 1) -> Table:
+    """The table of least footprint over a timeline; `is_least` says whether that is shown."""
+    return table_of("fit_timeline", timeline_of(sizes, frees), limit, step, MOST_MOMENTS)
+
+
+def check_profile(table: Table, profile: Mapping[int, int], limit: int, step: int = 1) -> Verdict:
+    """Whether a table's rows show that no table within the limit and step wastes less on a profile."""
+    return verdict_of("check_profile", table, profile_of(profile), limit, step)
+
+
+def check_fit_history(table: Table, history: Mapping[int, Sequence[int]], snapshots: int, limit: int, step: int = 1) -> Verdict:
+    """The same of a footprint over a history."""
+    return verdict_of("check_fit_history", table, history_of(history, snapshots), limit, step)
+
+
+def check_fit_timeline(table: Table, sizes: Sequence[int], frees: Sequence[bool], limit: int, step: int = 1) -> Verdict:
+    """The same over a timeline, by the moments that the table names."""
+    return verdict_of("check_fit_timeline", table, timeline_of(sizes, frees), limit, step, has_moments=True)

@@ -1,0 +1,107 @@
+"""The structures and functions of mte_tool.h, by ctypes."""
+
+import ctypes
+import ctypes.util
+import os
+from ctypes import c_char, c_char_p, c_int, c_size_t, c_uint8, c_uint16, c_uint32, c_uint64, c_void_p
+
+DONE, NO, REFUSED, OUT_OF_MEMORY, BAD_OPTION, MISUSE = range(6)
+NAMES = ("libmte_tool.so.1", "libmte_tool.so")
+
+
+class Sized(ctypes.Structure):
+    """A structure that begins with its own size."""
+
+    def __init__(self, **members: int):
+        super().__init__(size=ctypes.sizeof(self), **members)
+
+
+class Options(Sized):
+    _fields_ = [("size", c_size_t), *((name, c_uint64) for name in ("granules", "quarantine", "seed", "limit", "step"))]
+
+
+class Result(Sized):
+    _fields_ = [("size", c_size_t), ("code", c_uint32), ("classes", c_uint32), ("line", c_uint64), ("at", c_uint64), ("bytes", c_uint64),
+                ("bound", c_uint64), ("places", c_uint32), ("moments", c_uint32)]  # fmt: skip
+
+
+class Outcome(Sized):
+    _fields_ = [("size", c_size_t), ("value", c_uint64), *((name, c_uint32) for name in
+                ("code", "granule", "memory_tag", "pointer_tag", "granule_kind", "reserved"))]  # fmt: skip
+
+
+class Text(ctypes.Structure):
+    _fields_ = [("bytes", ctypes.POINTER(c_char)), ("length", c_size_t), ("room", c_size_t)]
+
+
+class Heap(ctypes.Structure):
+    _fields_ = [("handle", c_void_p), ("live", c_uint32)]
+
+
+class Profile(ctypes.Structure):
+    _fields_ = [("sizes", ctypes.POINTER(c_uint32)), ("counts", ctypes.POINTER(c_uint32)), ("length", c_size_t)]
+
+
+class History(ctypes.Structure):
+    _fields_ = [*Profile._fields_, ("snapshots", c_size_t)]
+
+
+class Timeline(ctypes.Structure):
+    _fields_ = [("sizes", ctypes.POINTER(c_uint32)), ("frees", ctypes.POINTER(c_uint8)), ("length", c_size_t)]
+
+
+def found() -> str:
+    """The library that MTE_TOOL_LIBRARY names, a file or the folder that has it; else the one beside this package; else the loader's."""
+    named = os.environ.get("MTE_TOOL_LIBRARY", "")
+    for folder in filter(os.path.isdir, (named, os.path.dirname(os.path.abspath(__file__)))):
+        for name in NAMES:
+            if os.path.exists(os.path.join(folder, name)):
+                return os.path.join(folder, name)
+    return named or NAMES[0]
+
+
+def loaded(path: str) -> ctypes.CDLL:
+    """The library at a path, with the types of its functions."""
+    try:
+        library = ctypes.CDLL(path)
+    except OSError as error:
+        raise ImportError(f"the library of mte_tool can't be loaded: {error}; MTE_TOOL_LIBRARY=FILE says where it is") from None
+    options, result, text = map(ctypes.POINTER, (Options, Result, Text))
+    heap, outcome = map(ctypes.POINTER, (Heap, Outcome))
+    classes, rows, moments = map(ctypes.POINTER, (c_uint16, c_uint64, c_uint32))
+    table, room = [classes, c_size_t], [classes, c_size_t, rows, c_size_t]
+    claim = [classes, c_size_t, c_uint64, rows, c_size_t]
+    profile, history, timeline = map(ctypes.POINTER, (Profile, History, Timeline))
+    commands = "score tune check footprint fit check_fit profile replay run"
+    types = {
+        **{name: [options, c_char_p, c_size_t, text, result] for name in commands.split()},
+        "score_profile": [options, *table, profile, result],
+        "footprint_history": [options, *table, history, result],
+        "footprint_timeline": [options, *table, timeline, result],
+        "tune_profile": [options, profile, *room, result],
+        "fit_history": [options, history, *room, result],
+        "fit_timeline": [options, timeline, *room, moments, c_size_t, result],
+        "check_profile": [options, *claim, profile, result],
+        "check_fit_history": [options, *claim, history, result],
+        "check_fit_timeline": [options, *claim, moments, c_size_t, timeline, result],
+        "append": [text, c_char_p, c_size_t],
+        "heap_new": [heap, options, *table, outcome],
+        "heap_malloc": [heap, c_size_t, outcome],
+        "heap_calloc": [heap, c_size_t, outcome],
+        "heap_realloc": [heap, c_uint64, c_size_t, outcome],
+        "heap_free": [heap, c_uint64, outcome],
+        "heap_load": [heap, c_uint64, c_char_p, c_size_t, outcome],
+        "heap_store": [heap, c_uint64, c_char_p, c_size_t, outcome],
+        "heap_addg": [heap, c_uint64, c_uint64, c_uint64, outcome],
+    }
+    for name, arguments in types.items():
+        function = getattr(library, f"mte_tool_{name}")
+        function.argtypes, function.restype = arguments, c_int
+    others = {"free": ([text], None), "heap_close": ([heap], None), "version": ([], c_char_p), "strerror": ([c_int], c_char_p)}
+    for name, (arguments, gives) in others.items():
+        function = getattr(library, f"mte_tool_{name}")
+        function.argtypes, function.restype = arguments, gives
+    return library
+
+
+library = loaded(found())

@@ -1,0 +1,41 @@
+//! The engines of mte_tool: the block sizes that lose the least for a program's requests, with certificates, and a heap with memory tags.
+//!
+//! The texts are those of the program's commands, whose formats docs/FORMATS.md has:
+//!
+//! ```
+//! let profile = b"16 500\n24 70\n100 3\n";
+//! let sheet = mte_tool::tune(profile, &mte_tool::Options::new(2))?;
+//! assert!(sheet.starts_with(b"classes 2 8\n"));
+//! assert!(mte_tool::check(&sheet, profile)?.is_optimal());
+//! # Ok::<(), mte_tool::Error>(())
+//! ```
+//!
+//! Whoever counts requests has numbers and no text:
+//!
+//! ```
+//! let profile = mte_tool::Profile { sizes: &[16, 24, 100], counts: &[500, 70, 3] };
+//! let table = mte_tool::tune_profile(profile, &mte_tool::Options::new(2))?;
+//! assert_eq!((&table.classes[..], table.bytes), (&[2, 8][..], 6196));
+//! # Ok::<(), mte_tool::Error>(())
+//! ```
+//!
+//! What can't be answered is an [`Error`], with the code and where it is:
+//!
+//! ```
+//! let error = mte_tool::tune(b"16 500\n16 1\n", &mte_tool::Options::new(2)).unwrap_err();
+//! assert_eq!((error.code, error.line, &error.to_string()[..]), (31, 2, "31 NotAscending line 2"));
+//! ```
+#![warn(missing_docs)]
+
+mod arrays;
+mod calls;
+mod heap;
+mod texts;
+
+pub use arrays::{
+    check_fit_history, check_fit_timeline, check_profile, fit_history, fit_timeline, footprint_history, footprint_timeline, score_profile,
+    tune_profile, History, Profile, Table, Timeline,
+};
+pub use calls::{sentence, version, Cost, End, Error, Options, Verdict};
+pub use heap::{Granule, Heap, Refusal};
+pub use texts::{check, check_fit, fit, footprint, profile, replay, run, score, tune, Fit, Text};

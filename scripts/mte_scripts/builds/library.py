@@ -1,0 +1,143 @@
+"""Proves and builds the library for C, and lays it out in a folder. `library --help` says all."""
+
+import os
+import shutil
+import subprocess
+
+from mte_scripts import manifest, private_folder, texts
+from mte_scripts.builds import static_libraries
+from mte_scripts.formats import INTERFACE, VERSION
+from mte_scripts.places import ROOT
+from mte_scripts.texts import Refused
+from mte_scripts.words import Words
+
+HELP = """\
+Prove and build the library for C, and lay it out in a folder.
+
+Usage: library DIR
+
+  DIR/include/mte_tool.h         the functions (docs/LIBRARY.md)
+  DIR/include/mte_tool.hpp       the same for C++
+  DIR/lib/libmte_tool.a          the static library, without a need of any other but the C library
+  DIR/lib/libmte_tool.so.1       the shared library, and a link libmte_tool.so to it for the linker
+  DIR/lib/pkgconfig/mte_tool.pc  for pkg-config
+
+Beside each library is its manifest, as `manifest --help` has it: of which sources it was proved and built.
+
+The proof is done once, and takes as long as that of the program. It needs the Rattle kit with its command rt, a C compiler (`cc`, or what
+CC names) and binutils.
+
+Exit status:
+  0  the library is there
+  2  the words are refused
+  3  a tool is missing, or the library could not be built
+
+Example:
+  scripts/library /opt/mte_tool
+"""
+
+SOURCES = os.path.join(ROOT, "library")
+HEADERS = ("mte_tool.h", "mte_tool.hpp")
+SHARED = f"libmte_tool.so.{INTERFACE}"
+PKG_CONFIG = f"""\
+prefix=${{pcfiledir}}/../..
+libdir=${{prefix}}/lib
+includedir=${{prefix}}/include
+Name: mte_tool
+Description: class tables with certificates, and a tagged heap; for processors with x86-64-v2
+Version: {VERSION}
+Cflags: -I${{includedir}}
+Libs: -L${{libdir}} -lmte_tool
+"""
+
+
+def compiler() -> str:
+    return os.environ.get("CC") or "cc"
+
+
+def compiled(folder: str, *flags: str) -> "list[str]":
+    """The objects of the files between the header and the proved functions."""
+    names = sorted(name[:-2] for name in os.listdir(SOURCES) if name.endswith(".c"))
+    for name in names:
+        # in the folder, so that no path of this machine can be in it
+        words = [compiler(), "-std=c99", "-O2", "-Wall", "-Wextra", "-fPIC", *flags, "-c", f"{name}.c", "-o", f"{folder}/{name}.o"]
+        static_libraries.run(words, cwd=SOURCES)
+    return [f"{folder}/{name}.o" for name in names]
+
+
+def shared(objects: "list[str]", path: str, *flags: str) -> None:
+    """A shared library of these objects, which exports the names of library/mte_tool.map."""
+    hardened = ["-Wl,-z,relro", "-Wl,-z,now", "-Wl,-z,text"]
+    names = [f"-Wl,--version-script={SOURCES}/mte_tool.map", f"-Wl,-soname,{SHARED}"]
+    static_libraries.run([compiler(), "-shared", *objects, *hardened, *names, *flags, "-o", path])
+
+
+def link(folder: str, proved: "list[str]") -> None:
+    """Both libraries in this folder, of the objects of what is proved. Each shows the functions of the header alone, so that no order of
+    libraries and no other library of the kit can disturb it."""
+    whole = f"{folder}/mte_tool.o"
+    static_libraries.run(["ld", "-r", *proved, *compiled(folder), "-o", whole])
+    static_libraries.run(["objcopy", "--wildcard", "--keep-global-symbol=mte_tool_*", whole])
+    static_libraries.run(["ar", "rcD", f"{folder}/libmte_tool.a", whole])
+    static_libraries.run(["ranlib", "-D", f"{folder}/libmte_tool.a"])
+    shared([whole], f"{folder}/{SHARED}", "-Wl,-z,defs")
+
+
+def proved_objects(folder: str) -> "list[str]":
+    """The proved code, and the kit's calls of malloc, realloc and free."""
+    texts.say("library", "proving and building mte_c")
+    static_libraries.make(folder, ["mte_c"])
+    static_libraries.run(["ar", "x", "libmte_c.a"], cwd=folder)
+    static_libraries.run(["ar", "x", f"{static_libraries.kit()}/c/liblibc_c.a", "heap.pic.o"], cwd=folder)
+    return [f"{folder}/mte_c.o", f"{folder}/heap.pic.o"]
+
+
+def lay_out(work: str, folder: str) -> None:
+    for below in ("include", "lib/pkgconfig"):
+        os.makedirs(f"{folder}/{below}", exist_ok=True)
+    for name in HEADERS:
+        shutil.copyfile(f"{ROOT}/include/{name}", f"{folder}/include/{name}")
+    for name in ("libmte_tool.a", SHARED):
+        shutil.copyfile(f"{work}/{name}", f"{folder}/lib/{name}")
+    with open(f"{folder}/lib/pkgconfig/mte_tool.pc", "w", encoding="ascii") as file:
+        file.write(PKG_CONFIG)
+    name = f"{folder}/lib/libmte_tool.so"
+    if os.path.lexists(name):
+        os.unlink(name)
+    os.symlink(SHARED, name)
+
+
+def put_manifests(folder: str, before: str) -> None:
+    """The manifests of both libraries, which were built of sources with the hash BEFORE; none where they have changed since."""
+    sources = manifest.sources_of(ROOT)
+    kit = static_libraries.run(["rt", "version"]).split("\n")[0]
+    for name in ("libmte_tool.a", SHARED):
+        path = f"{folder}/lib/{name}"
+        if os.path.exists(manifest.path_of(path)):
+            os.unlink(manifest.path_of(path))
+        if sources == before:
+            with open(manifest.path_of(path), "w", encoding="ascii") as file:
+                file.write(manifest.text_of(manifest.Manifest(manifest.hash_of(path), sources, kit, "proved")))
+    if sources != before:
+        texts.say("library", "the sources were changed while the library was built: it has no manifest")
+
+
+def make_library(words: "list[str]") -> None:
+    parser = Words(HELP)
+    parser.add_argument("folders", nargs="*")
+    folders = parser.take(words).folders
+    if len(folders) != 1:
+        parser.error(f"it takes one folder, and not {len(folders)}")
+    for tool in ("rt", compiler(), "ar", "ld", "objcopy", "ranlib"):
+        if not shutil.which(tool):
+            raise Refused(3, f"the library can't be built: the command {tool} is missing")
+    try:
+        os.makedirs(folders[0], exist_ok=True)
+        sources = manifest.sources_of(ROOT)
+        with private_folder.temporary() as work:
+            link(work, proved_objects(work))
+            lay_out(work, folders[0])
+        put_manifests(folders[0], sources)
+    except (subprocess.CalledProcessError, OSError) as error:
+        raise Refused(3, f"the library could not be built: {error}") from None
+    texts.say("library", f"built in {os.path.abspath(folders[0])}")

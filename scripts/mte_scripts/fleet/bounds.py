@@ -1,0 +1,147 @@
+"""Lower bounds of what every table takes, by certificates: a sheet or a fit that `check` or `check-fit` calls so is of the load itself,
+or of counts that are nowhere above it; then it bounds every table there from below, and nothing of how it was found has to be believed.
+
+Several loads are joined, each times a number of its own. Profiles add up. Of histories, no table takes more over one column, which has
+some moment of each member added up, than over the members: a class has its most blocks in each. So the columns at which the classes of
+some tables have the most blocks bound all tables. The fit over them is a further table; with its columns too, until a fit comes again,
+the bound is what the last one takes."""
+
+from collections.abc import Iterable, Sequence
+from typing import NamedTuple, Optional
+
+from mte_scripts import claims, texts
+from mte_scripts.fleet.loads import FORCED, GRANULE, Load
+from mte_scripts.tables import figures
+from mte_scripts.texts import LARGEST_SIZE, MOST_COUNT, MOST_SNAPSHOTS, Refused
+
+ROUNDS = 24  # of fits over more and more columns
+MOST_TABLES = MOST_SNAPSHOTS // texts.MOST_CLASSES
+
+
+class Among(NamedTuple):
+    """Which tables are meant: of at most so many classes, multiples of this step, and with class 1024 where it is wanted."""
+
+    limit: int
+    step: int
+    largest: bool
+
+    def words(self) -> list:
+        return ["--limit", str(self.limit), "--step", str(self.step)]
+
+
+class Bound(NamedTuple):
+    """What each table takes at least of a load, in bytes as Load.cost has them; who says so; and the table of the certificate."""
+
+    amount: int
+    judged: claims.Judged
+    classes: list
+
+
+class Certified(NamedTuple):
+    """A sheet or a fit, and the counts that it is of, both as texts; its cost without what forces a class; and the table."""
+
+    verdict: str
+    cost: int
+    classes: list
+    certificate: str
+    counts: str
+    forced: tuple
+
+
+def of(load: Load, among: Among) -> Bound:
+    """The bound of one load."""
+    if load.kind in ("history", "timeline") and load.most() <= MOST_COUNT:
+        timed = figures.over_time(load.kind, load.text, among.largest, among.limit, among.step)
+        cost = load.cost(timed.fit.classes)
+        judged = claims.Judged(load.kind, timed.verdict, among.limit, among.step, timed.fit.classes, load.name, cost, timed.forced)
+        between = claims.bound(judged)
+        return shown(Bound(cost or 0 if between is None else between, judged, timed.fit.classes))
+    divisor = -(-load.most() // MOST_COUNT)
+    if load.kind == "profile":
+        found = sheet([(1, load)], divisor, among)
+        kind, amount = ("profile" if divisor == 1 else "scaled"), load.fixed + divisor * found.cost
+        wasted = amount - load.fixed
+        return shown(Bound(amount, judged_of(kind, found, among, load.name, wasted), found.classes))
+    found = fit([(1, load)], divisor, among, [])
+    amount = divisor * found.cost
+    return shown(Bound(amount, judged_of("histories", found, among, load.name, amount), found.classes))
+
+
+def judged_of(kind: str, found: Certified, among: Among, name: str, cost: int) -> claims.Judged:
+    return claims.Judged(kind, found.verdict, among.limit, among.step, found.classes, name, cost, found.forced)
+
+
+def shown(bound: Bound) -> Bound:
+    """The same; where nothing shows it, the script ends with what the checker says."""
+    if not claims.holds(bound.judged) and claims.bound(bound.judged) is None:
+        raise Refused(3, claims.says(bound.judged))
+    return bound
+
+
+def sheet(parts: Iterable[tuple], divisor: int, among: Among) -> Certified:
+    """Of profiles, each times its number, added up, divided and rounded down: of what each table wastes there, times the numbers, the
+    sum is at least the divisor times the cost."""
+    sums: dict = {}
+    for factor, load in parts:
+        for size, count in load.counts.items():
+            sums[size] = sums.get(size, 0) + factor * count
+    counts = {size: count // divisor for size, count in sums.items() if count >= divisor}
+    tuned = figures.with_largest(counts) if among.largest else counts
+    text = figures.profile_text(tuned)
+    _, made = figures.run(["tune", *among.words()], text)
+    _, verdict = figures.run(["check"], f"{made}\n{text}")
+    found = texts.parse_sheet(made)
+    forced = () if tuned.get(LARGEST_SIZE) == counts.get(LARGEST_SIZE) else (FORCED,)
+    return Certified(verdict, found.waste, found.classes, f"{made}\n", text, forced)
+
+
+def fit(parts: Sequence[tuple], divisor: int, among: Among, seen: list, rounds: int = ROUNDS) -> Certified:
+    """The same of histories and timelines, and of their footprints. SEEN are tables whose columns are taken from the start; it gets
+    those that are found."""
+    if not seen:
+        seen += [each for each in first_tables(parts) if all(load.unserved(each) is None for _, load in parts)]
+    best: Optional[Certified] = None
+    for _ in range(rounds):
+        text, forced = history(columns(parts, divisor, seen[-MOST_TABLES:]), among)
+        _, made = figures.run(["fit", *among.words()], text)
+        found = texts.parse_fit(made)
+        cost = found.footprint - sum(GRANULE * each for each in forced)
+        if best is None or cost > best.cost:
+            best = Certified("", cost, found.classes, f"{made}\n", text, forced)
+        if found.classes in seen[-MOST_TABLES:] or any(load.unserved(found.classes) is not None for _, load in parts):
+            break
+        seen.append(found.classes)
+    assert best is not None
+    _, verdict = figures.run(["check-fit"], best.certificate + best.counts)
+    return best._replace(verdict=verdict)
+
+
+def first_tables(parts: Iterable[tuple]) -> list:
+    """Scudo's tables; and, as every size has to be served, one with the needs of the largest sizes."""
+    needs = sorted({-(-max(size, 1) // GRANULE) + 1 for _, load in parts for size in load.sizes})
+    spread = sorted({needs[-1], *(needs[len(needs) * at // 31] for at in range(31))})
+    return [spread, *(classes for _, classes in figures.other_tables([]))]
+
+
+def columns(parts: Iterable[tuple], divisor: int, tables: list) -> list:
+    """The columns of these tables, each size with its blocks."""
+    found: list[dict] = []
+    for classes in tables:
+        of_loads = [(factor, load.at_peaks(classes)) for factor, load in parts]
+        for at in range(len(classes)):
+            sums: dict = {}
+            for factor, peaks in of_loads:
+                for size, count in peaks[at].items():
+                    sums[size] = sums.get(size, 0) + factor * count
+            column = {size: count // divisor for size, count in sums.items() if count >= divisor}
+            if column and column not in found[-2 * texts.MOST_CLASSES :]:
+                found.append(column)
+    return found
+
+
+def history(found: list, among: Among) -> tuple:
+    """The text of a history of these columns, with a block that forces class 1024 where it is wanted; and the classes that are forced."""
+    sizes = sorted(set().union(*found))
+    made = texts.History(len(found), {size: [column.get(size, 0) for column in found] for size in sizes})
+    whole = figures.with_largest_block(made) if among.largest else made
+    return texts.history_text(whole), (FORCED,) if len(whole.counts) > len(sizes) else ()

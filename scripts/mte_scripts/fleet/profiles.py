@@ -1,0 +1,164 @@
+"""The profiles and histories in the rows of a fleet's database. `fleet_profiles --help` says all."""
+
+import argparse
+import os
+import re
+import sys
+
+from mte_scripts import texts
+from mte_scripts.fleet import rows
+from mte_scripts.texts import LARGEST_SIZE, MOST_SNAPSHOTS, Refused
+from mte_scripts.words import Words, some
+
+HELP = f"""\
+Make profiles and histories of the rows of a fleet's database, each count times its weight; or rows of a profile or a history.
+
+Usage: fleet_profiles [--by COLUMNS] [--program NAME] [--days FIRST..LAST] [--output FOLDER | --arrays] [ROWS..]
+       fleet_profiles --rows PROGRAM,BUILD,MACHINE,DAY[,WEIGHT] [PROFILE|HISTORY]
+                                          (standard input for `-`, or where there is no file)
+
+A row is a line of eight fields with tabs between:
+
+  program build machine day   what was counted where: three names, and a day as 2026-12-31; these four are the key of a load
+  weight                      for how many it stands, itself included: of one machine in n, or one request in n, it is n
+  moment                      0 in a profile; in a history the number of the moment, from 1 to {MOST_SNAPSHOTS:,}
+  size count                  as in a profile; {LARGEST_SIZE + 1} or `large` stands for all sizes above {LARGEST_SIZE:,}
+
+A count times its weight is unbiased if chance alone chose who is counted, with one chance in n for each, whatever its load. A row
+with the key, moment and size of an earlier one takes its place: a load may be there twice. A sum made by the database is a row too:
+of a machine with any name, and the weight 1.
+
+  --by COLUMNS       a profile for each program,build or other columns of program, build, machine and day; program,day where it is
+                     left out
+  --program NAME     only the rows of this program
+  --days FIRST..LAST only the rows of these days
+  --output FOLDER    make a new folder, with a folder in it for each value of the columns but the last, and in that a file for each
+                     value of the last one: FOLDER/redis/2026-12-31.profile, or .history of moments
+  --arrays           print each load as one row, with its moments, sizes and counts as arrays: for ClickHouse
+  --rows KEY         print the rows of one profile or history for the database; the weight is 1 where it is left out
+
+Without --output, all rows that are left are one profile, or one history, which is printed. The moments of machines are added up by
+their numbers: they have to be taken at the same stages. fleet_regret and fleet_table take rows as they are, with each machine by
+itself.
+
+Exit status:
+  0  the profiles, the histories or the rows are made
+  2  the words or a row are refused; nothing is made
+  3  there is no row, or the output can't be made
+
+Examples:
+  fleet_profiles --rows redis,7.2,web-17,2026-12-31,100 app.profile >> rows.tsv
+  fleet_profiles --output days rows.tsv
+"""
+
+UNSAFE = re.compile(r"[^A-Za-z0-9._+@=,-]")
+
+
+class Days(argparse.Action):
+    def __call__(self, parser, namespace, values, option_string=None):
+        first, dots, last = values.partition("..")
+        if not dots or not all(rows.DAY.fullmatch(day) for day in (first, last)) or first > last:
+            raise Refused(2, f"--days takes a first and a last day as 2026-12-01..2026-12-31, and not {values}")
+        namespace.days = (first, last)
+
+
+def columns(word: str) -> list:
+    chosen = word.split(",")
+    if len(set(chosen)) < len(chosen) or not set(chosen) <= set(rows.COLUMNS[:4]):
+        raise argparse.ArgumentTypeError(f"takes columns of {', '.join(rows.COLUMNS[:4])} with commas between, and not {word}")
+    return chosen
+
+
+def texts_of(records: list) -> list:
+    """The profile and the history of records, each with its ending, as far as there are such."""
+    found = []
+    profile, histories = rows.profile_of(records), rows.histories_of(records)
+    if profile:
+        found.append((".profile", texts.profile_text(profile)))
+    if histories:
+        found.append((".history", texts.history_text(rows.added(histories))))
+    return found
+
+
+def name_of(value: str) -> str:
+    """A value as the name of a file, with other characters than these as their numbers."""
+    name = UNSAFE.sub(lambda match: "".join(f"%{byte:02X}" for byte in match[0].encode()), value)
+    return name.replace(".", "%2E", 1) if name.startswith(".") else name
+
+
+def write_folder(folder: str, groups: list) -> int:
+    """A file for each group, where no file was before. All texts are made before the first is written."""
+    made = [
+        (os.path.join(folder, *map(name_of, values)) + ending, text) for values, records in groups for ending, text in texts_of(records)
+    ]
+    try:
+        os.mkdir(folder)
+        for path, text in made:
+            os.makedirs(os.path.dirname(path), exist_ok=True)
+            with open(path, "x", encoding="ascii") as file:
+                file.write(text)
+    except FileExistsError as error:
+        raise Refused(3, f"{error.filename} is there already: move it away, or name another folder") from None
+    except OSError as error:
+        raise Refused(3, f"{error.filename or folder} can't be written: {error.strerror}") from None
+    return len(made)
+
+
+def array_rows(found: dict) -> str:
+    """Each load as one row with arrays, in the order of the keys."""
+    lines = []
+    for key, record in sorted(found.items()):
+        cells = [line.rsplit("\t", 3)[1:] for line in rows.text_of(key, record.weight, record.moments).splitlines()]
+        arrays = (f"[{','.join(column)}]" for column in zip(*cells))
+        lines.append("\t".join([*key, str(record.weight), *arrays]) + "\n")
+    return "".join(lines)
+
+
+def write_rows(word: str, files: list) -> None:
+    """The rows of one profile or history."""
+    values = word.split(",")
+    if len(values) not in (4, 5) or len(values) == 5 and not re.fullmatch("[0-9]{1,10}", values[4]):
+        raise Refused(2, f"--rows takes PROGRAM,BUILD,MACHINE,DAY and perhaps a weight, with commas between, and not {word}")
+    if len(files) > 1:
+        raise Refused(2, f"--rows takes one profile or history, so there is no place for {files[1]}")
+    found = texts.read_either(files[0])
+    if isinstance(found, texts.History):
+        moments = {at + 1: {size: counts[at] for size, counts in found.counts.items()} for at in range(found.snapshots)}
+    else:
+        moments = {0: found}
+    text = rows.text_of(rows.Key(*values[:4]), int(values[4]) if len(values) == 5 else 1, moments)
+    if not text:
+        raise Refused(3, "there is no request to count")
+    rows.add({}, text.encode(), "--rows")  # refuses what would be refused there
+    texts.write(text)
+
+
+def main(words: list) -> None:
+    parser = Words(HELP)
+    parser.add_argument("--by", type=columns, default=["program", "day"])
+    parser.add_argument("--program", type=some)
+    parser.add_argument("--days", action=Days)
+    parser.add_argument("--output", type=some)
+    parser.add_argument("--arrays", action="store_true")
+    parser.add_argument("--rows", type=some)
+    parser.add_argument("files", nargs="*")
+    given = parser.take(words, once=True)
+    files = given.files or ["-"]
+    if not given.files and sys.stdin is not None and sys.stdin.isatty():
+        texts.say("fleet_profiles", "reading standard input; Ctrl-D ends it")
+    if given.rows:
+        return write_rows(given.rows, files)
+    found = rows.read(files)
+    first, last = given.days or ("", "~")
+    kept = {key: record for key, record in found.items() if given.program in (None, key.program) and first <= key.day <= last}
+    if not kept:
+        raise Refused(3, f"none of the {len(found)} loads is of this program and these days")
+    if given.arrays:
+        return texts.write(array_rows(kept))
+    if given.output:
+        made = write_folder(given.output, list(rows.grouped(kept, given.by)))
+        return texts.say("fleet_profiles", f"{made} files in {given.output}")
+    whole = texts_of(list(kept.values()))
+    if len(whole) > 1:
+        raise Refused(2, "there are rows of profiles and of histories: --output makes a file of each")
+    return texts.write(whole[0][1])

@@ -1,0 +1,189 @@
+"""How far a table is above a bound of all tables, day by day. `fleet_regret --help` says all."""
+
+import json
+import math
+import textwrap
+from collections.abc import Iterable
+from typing import NamedTuple, Optional
+
+from mte_scripts import claims, texts
+from mte_scripts.fleet import bounds, loads, options, regret_picture
+from mte_scripts.tables import figures
+from mte_scripts.texts import Refused
+from mte_scripts.words import Words, some
+
+HELP = f"""\
+Say {claims.TEMPLATES["regret.help"]}, by a certificate for
+each day; for a nightly job.
+
+Usage: fleet_regret [OPTION..] TABLE LOAD..       (standard input for `-`)
+
+TABLE is a file whose first line is a class line: a sheet, a fit, what fleet_table writes, or that line alone. A LOAD is
+
+  - a profile: what the table's blocks take counts, with their headers and the bytes that were requested
+  - a history or a timeline: the footprint counts, the most memory of the classes over time
+  - rows of the fleet's database (fleet_profiles --help has their form): of each program and day what its machines counted. Over
+    histories, the footprint is the sum of each machine's by itself, times its weight
+
+{options.AMONG_HELP}
+  --limit-percent X  end with status 1 where the table is more than X percent above the bound of a load, or does not serve one
+  --json             print all as JSON, with a sentence for each load
+  --plot FILE        draw the percentages over the days into FILE too, as SVG, a line for each program: of a file its folder's name
+
+The bound of a load is what each table takes at least. It is of a sheet that `mte_tool check` accepts, or of a fit that `check-fit`
+accepts, of the load itself or of counts that are nowhere above it. So nothing of how it was found has to be believed. A percentage
+is rounded up. The sentences at the end are of the load that is farthest above its bound.
+
+MTE_TOOL=PATH in the environment takes the program at PATH in place of the built one; the sentences say so.
+
+Exit status:
+  0  all is printed; with --limit-percent, the table is within it everywhere
+  1  with --limit-percent: it is not
+  2  the words, the table or a load are refused
+  3  the program mte_tool could not run, a load counts nothing, or the output can't be written
+
+Examples:
+  fleet_regret examples/scudo.classes examples/sqlite.profile examples/jq.profile
+  fleet_regret in_use.classes --limit-percent 2 --plot regret.svg days/redis/*.profile
+"""
+
+WIDTH = 80
+HUNDREDTHS = 10**4  # of a percent, in a whole
+
+
+class Regret(NamedTuple):
+    """What a table takes of a load, and what each table takes at least, in bytes; by how many percent at most it is above, rounded up."""
+
+    load: loads.Load
+    bound: bounds.Bound
+    cost: Optional[int]
+    above: Optional[float]
+    unserved: Optional[int]  # the least size that the table does not serve
+
+    @property
+    def own(self) -> Optional[int]:
+        """The waste or the footprint of the table."""
+        return None if self.cost is None else self.cost - self.load.fixed
+
+    def sentences(self, name: str) -> str:
+        """What is known of the load's bound, and of the table beside it."""
+        said = claims.regret(self.bound.judged, name, self.own, self.above, self.unserved)
+        return f"{claims.sentence(self.bound.judged, texts.trust())} {said}"
+
+
+def percent_above(cost: int, bound: int) -> float:
+    """By how many percent a cost is above a bound, rounded up to hundredths; without end where the bound says nothing."""
+    return -((bound - cost) * HUNDREDTHS // bound) / 100 if bound > 0 else math.inf
+
+
+def regret_of(load: loads.Load, classes: list, among: bounds.Among) -> Regret:
+    bound = bounds.of(load, among)
+    cost = load.cost(classes)
+    return Regret(load, bound, cost, None if cost is None else percent_above(cost, bound.amount), load.unserved(classes))
+
+
+def is_within(found: Iterable[Regret], limit: Optional[float]) -> bool:
+    return limit is None or all(each.above is not None and each.above <= limit for each in found)
+
+
+def farthest(found: Iterable[Regret]) -> Regret:
+    """The load that is farthest above its bound, or that is not served."""
+    return max(found, key=lambda each: math.inf if each.above is None else each.above)
+
+
+def table_text(found: list) -> str:
+    """The loads in columns."""
+    rows = [("Load", "table, bytes", "bound, bytes", claims.TEMPLATES["regret.column"])]
+    for each in found:
+        cost = "not served" if each.cost is None else figures.number(each.cost)
+        above = "" if each.above is None else f"{each.above:,.2f}%"
+        rows.append((each.load.name, cost, figures.number(each.bound.amount), above))
+    widths = [max(len(row[column]) for row in rows) for column in range(4)]
+    name = min(widths[0], max(WIDTH - sum(widths[1:]) - 6, 12))
+    lines = []
+    for row in rows:
+        first = row[0] if len(row[0]) <= name else ".." + row[0][2 - name :]
+        cells = [word.rjust(width) for word, width in zip(row[1:], widths[1:])]
+        lines.append("  ".join([first.ljust(name), *cells]).rstrip() + "\n")
+    return "".join(lines)
+
+
+def summary(found: list, name: str, limit: Optional[float]) -> str:
+    lines = [table_text(found), "\n", wrapped(farthest(found).sentences(name))]
+    if len(found) > 1:
+        lines.append("Each line has its own certificate; --json has its sentence.\n")
+    for each in found if limit is not None else []:
+        if not is_within([each], limit):
+            why = "it does not serve all sizes" if each.above is None else f"{each.above:,.2f}% is above the limit of {limit:g}%"
+            lines.append(wrapped(f"! {each.load.name}: {why}"))
+    return "".join(lines)
+
+
+def wrapped(text: str) -> str:
+    return "".join(f"{line}\n" for line in textwrap.wrap(text, WIDTH, break_long_words=False, break_on_hyphens=False))
+
+
+def as_json(found: list, name: str, classes: list, among: bounds.Among, limit: Optional[float]) -> str:
+    trust = texts.trust()
+    each_load = [
+        {
+            "name": each.load.name,
+            "program": each.load.program,
+            "day": each.load.day,
+            "kind": each.load.kind,
+            "table_bytes": each.cost,
+            "bound_bytes": each.bound.amount,
+            "above_percent": None if each.above == math.inf else each.above,
+            "unserved_bytes": each.unserved,
+            "sentences": each.sentences(name),
+        }
+        for each in found
+    ]
+    whole = {
+        "table": name,
+        "classes": classes,
+        "among": {"limit": among.limit, "step": among.step, "largest": among.largest},
+        "is_proved": trust.is_proved,
+        "why_not": trust.why,
+        "limit_percent": limit,
+        "is_within": is_within(found, limit),
+        "loads": each_load,
+    }
+    return json.dumps(whole, indent=1) + "\n"
+
+
+def write_file(path: str, text: str) -> None:
+    """A file beside what is printed."""
+    try:
+        with open(path, "w", encoding="utf-8") as file:
+            file.write(text)
+    except OSError as error:
+        raise Refused(3, f"{path} can't be written: {error.strerror}") from None
+
+
+def main(words: list) -> int:
+    parser = Words(HELP)
+    options.add_among(parser)
+    parser.add_argument("--limit-percent", type=options.decimal(0, 1_000_000, "a percentage"))
+    parser.add_argument("--json", action="store_true")
+    parser.add_argument("--plot", type=some)
+    parser.add_argument("names", nargs="*")
+    given = parser.take(words, once=True)
+    if len(given.names) < 2:
+        raise Refused(2, "name a table, and then the loads of its days; --help says more")
+    if given.names.count("-") > 1:
+        raise Refused(2, "standard input can be named once")
+    among = options.among(given)
+    classes = texts.class_line(given.names[0])
+    name = texts.printable(figures.without_ending(given.names[0], ".classes", ".sheet", ".fit"))
+    found = [regret_of(load, classes, among) for load in loads.read(given.names[1:])]
+    if given.plot:
+        title = claims.TEMPLATES["regret.title"].format(table=name)
+        points = [(each.load.program, each.load.day, each.above) for each in found if each.above is not None]
+        note = "" if texts.trust().is_proved else claims.not_proved(texts.trust())
+        write_file(given.plot, regret_picture.svg(title, points, given.limit_percent, note))
+    if given.json:
+        texts.write(as_json(found, name, classes, among, given.limit_percent))
+    else:
+        texts.write(summary(found, name, given.limit_percent))
+    return 0 if is_within(found, given.limit_percent) else 1

@@ -1,0 +1,284 @@
+/* Each misuse of the library that can be seen, and options and results of other sizes, as other versions of the interface have. The first
+   thing that goes wrong ends the run with status 1, and its line. */
+#include <mte_tool.h>
+
+#include <stdio.h>
+#include <stdlib.h>
+#include <string.h>
+
+#define WANT(condition)                              \
+    do {                                             \
+        if (!(condition)) {                          \
+            fprintf(stderr, "line %d\n", __LINE__);  \
+            exit(1);                                 \
+        }                                            \
+    } while (0)
+
+static const char profile[] = "16 1\n";
+enum { LENGTH = sizeof profile - 1 };
+
+typedef int command(const mte_tool_options *, const void *, size_t, mte_tool_text *, mte_tool_result *);
+static command *const commands[] = {mte_tool_score, mte_tool_tune,    mte_tool_check,  mte_tool_footprint, mte_tool_fit,
+                                    mte_tool_check_fit, mte_tool_profile, mte_tool_replay, mte_tool_run};
+
+static void nulls(void) {
+    mte_tool_options options = MTE_TOOL_OPTIONS(2);
+    mte_tool_text text = MTE_TOOL_TEXT;
+    size_t i;
+    for (i = 0; i < sizeof commands / sizeof *commands; i++) {
+        WANT(commands[i](&options, NULL, 1, &text, NULL) == MTE_TOOL_MISUSE && !text.bytes);
+        WANT(commands[i](&options, profile, LENGTH, NULL, NULL) == MTE_TOOL_MISUSE);
+    }
+    WANT(mte_tool_tune(&options, NULL, 0, &text, NULL) == MTE_TOOL_DONE && text.length > 0 && !memcmp(text.bytes, "classes", 7));
+    WANT(mte_tool_tune(&options, NULL, 1, &text, NULL) == MTE_TOOL_MISUSE && text.length > 0); /* it stays */
+    mte_tool_free(&text);
+    mte_tool_free(&text);
+    mte_tool_free(NULL);
+    WANT(mte_tool_append(&text, NULL, 1) == MTE_TOOL_MISUSE && mte_tool_append(NULL, profile, LENGTH) == MTE_TOOL_MISUSE);
+    WANT(mte_tool_append(&text, NULL, 0) == MTE_TOOL_DONE && text.length == 0 && !text.bytes);
+    WANT(mte_tool_append(&text, profile, LENGTH) == MTE_TOOL_DONE);
+    WANT(mte_tool_append(&text, profile, (size_t)-1 - LENGTH) == MTE_TOOL_OUT_OF_MEMORY && text.length == LENGTH);
+    WANT(!strcmp(text.bytes, profile));
+    mte_tool_free(&text);
+    /* an empty answer is the empty text */
+    WANT(mte_tool_profile(NULL, NULL, 0, &text, NULL) == MTE_TOOL_DONE && !text.bytes && text.length == 0);
+    WANT(!strcmp(mte_tool_version(), MTE_TOOL_VERSION) && mte_tool_strerror(-1) && mte_tool_strerror(19));
+}
+
+/* what comes after is the beginning of no input, and an answer goes where the next one is put */
+static void apart(void) {
+    mte_tool_options options = MTE_TOOL_OPTIONS(2);
+    mte_tool_text text = MTE_TOOL_TEXT;
+    mte_tool_result result = MTE_TOOL_RESULT;
+    WANT(mte_tool_append(&text, "x\n", 2) == MTE_TOOL_DONE);
+    WANT(mte_tool_tune(&options, profile, LENGTH, &text, NULL) == MTE_TOOL_DONE && !strncmp(text.bytes, "classes 2\n", 10));
+    /* the sheet and the profile that it was made for; then its verdict takes their place */
+    WANT(mte_tool_append(&text, profile, LENGTH) == MTE_TOOL_DONE);
+    WANT(mte_tool_check(NULL, text.bytes, text.length, &text, &result) == MTE_TOOL_DONE && !strcmp(text.bytes, "optimal\n"));
+    WANT(mte_tool_tune(&options, "x\n", 2, &text, &result) == MTE_TOOL_REFUSED && !strcmp(text.bytes, "30 BadLine line 1"));
+    WANT(result.code == 30 && result.line == 1);
+    options.limit = 0;
+    WANT(mte_tool_tune(&options, profile, LENGTH, &text, &result) == MTE_TOOL_BAD_OPTION && !text.bytes);
+    WANT(result.code == 0 && result.line == 0);
+    WANT(mte_tool_score(NULL, "classes 2\n32 1\n", 15, &text, &result) == MTE_TOOL_NO && result.at == 32 && result.bytes == 0);
+    WANT(mte_tool_score(NULL, "classes 4\n32 1\n", 15, &text, &result) == MTE_TOOL_DONE && result.bytes == 16 && result.at == 0);
+    mte_tool_free(&text);
+}
+
+/* the options of an older and of a newer caller */
+static void option_sizes(void) {
+    struct {
+        mte_tool_options known;
+        uint64_t new_one, newer_one;
+    } newer = {MTE_TOOL_OPTIONS(2), 0, 0};
+    static const char trace[] = "classes 4\nmalloc 1 16\nload 1 0 1\n";
+    mte_tool_text plain = MTE_TOOL_TEXT, text = MTE_TOOL_TEXT;
+    mte_tool_options *options = &newer.known;
+    size_t size;
+    WANT(mte_tool_replay(options, trace, sizeof trace - 1, &plain, NULL) == MTE_TOOL_DONE);
+    WANT(mte_tool_replay(NULL, trace, sizeof trace - 1, &text, NULL) == MTE_TOOL_DONE && !strcmp(plain.bytes, text.bytes));
+    WANT(mte_tool_tune(NULL, profile, LENGTH, &text, NULL) == MTE_TOOL_BAD_OPTION); /* a limit has no default */
+    /* what an older caller lacks has its default: here all that is not within the size is wrong */
+    memset((char *)options + sizeof(size_t), 0xee, sizeof *options - sizeof(size_t));
+    options->size = sizeof(size_t);
+    WANT(mte_tool_replay(options, trace, sizeof trace - 1, &text, NULL) == MTE_TOOL_DONE && !strcmp(plain.bytes, text.bytes));
+    WANT(mte_tool_tune(options, profile, LENGTH, &text, NULL) == MTE_TOOL_BAD_OPTION);
+    options->size = offsetof(mte_tool_options, step);
+    options->limit = 2;
+    WANT(mte_tool_tune(options, profile, LENGTH, &text, NULL) == MTE_TOOL_DONE && strstr(text.bytes, "limit 2\nwaste"));
+    options->size = sizeof *options; /* now the step is read */
+    WANT(mte_tool_tune(options, profile, LENGTH, &text, NULL) == MTE_TOOL_BAD_OPTION);
+    /* what a newer caller has is let pass if it is 0 */
+    newer.known = (mte_tool_options)MTE_TOOL_OPTIONS(2);
+    options->size = sizeof newer;
+    WANT(mte_tool_tune(options, profile, LENGTH, &text, NULL) == MTE_TOOL_DONE);
+    newer.newer_one = (uint64_t)1 << 63;
+    WANT(mte_tool_tune(options, profile, LENGTH, &text, NULL) == MTE_TOOL_BAD_OPTION);
+    WANT(mte_tool_score(options, "classes 2\n16 1\n", 15, &text, NULL) == MTE_TOOL_BAD_OPTION); /* which reads none */
+    options->size -= sizeof newer.newer_one;
+    WANT(mte_tool_tune(options, profile, LENGTH, &text, NULL) == MTE_TOOL_DONE);
+    /* sizes that nobody set */
+    for (size = 0; size < 8192; size++)
+        if (size < sizeof(size_t) || size % 8 || size > 4096) {
+            options->size = size;
+            WANT(mte_tool_tune(options, profile, LENGTH, &text, NULL) == MTE_TOOL_MISUSE && text.length > 0);
+        }
+    mte_tool_free(&plain);
+    mte_tool_free(&text);
+}
+
+/* the results of an older and of a newer caller */
+static void result_sizes(void) {
+    struct {
+        mte_tool_result known;
+        uint64_t new_one[4];
+    } newer;
+    mte_tool_text text = MTE_TOOL_TEXT;
+    size_t size, i;
+    for (size = 0; size <= sizeof newer + 8; size++) {
+        int is_good = size >= 8 && size <= sizeof newer && size % 8 == 0, end;
+        memset(&newer, 0xee, sizeof newer);
+        newer.known.size = size == sizeof newer + 8 ? (size_t)-8 : size;
+        end = mte_tool_tune(NULL, "x", 1, &text, &newer.known);
+        WANT(end == (is_good ? MTE_TOOL_BAD_OPTION : MTE_TOOL_MISUSE));
+        newer.known.size = size == sizeof newer + 8 ? (size_t)-8 : size;
+        for (i = sizeof(size_t); i < sizeof newer; i++)
+            WANT(((unsigned char *)&newer)[i] == (is_good && i < size ? 0 : 0xee));
+    }
+    memset(&newer, 0xee, sizeof newer);
+    newer.known.size = offsetof(mte_tool_result, line);
+    WANT(mte_tool_profile(NULL, "x\n", 2, &text, &newer.known) == MTE_TOOL_REFUSED && newer.known.code == 70);
+    WANT(newer.known.line == 0xeeeeeeeeeeeeeeee);
+    newer.known.size = sizeof newer;
+    WANT(mte_tool_profile(NULL, "x\n", 2, &text, &newer.known) == MTE_TOOL_REFUSED && newer.known.line == 1 && newer.new_one[3] == 0);
+    mte_tool_free(&text);
+}
+
+static int heap_end(mte_tool_heap *heap, uint64_t address, void *room, size_t length) {
+    return mte_tool_heap_load(heap, address, room, length, NULL);
+}
+
+static void heaps(void) {
+    static const uint16_t classes[] = {2, 4}, wrong[] = {4, 2};
+    mte_tool_options options = MTE_TOOL_OPTIONS(0), bad = MTE_TOOL_OPTIONS(0);
+    mte_tool_heap heap = MTE_TOOL_HEAP;
+    mte_tool_outcome p = MTE_TOOL_OUTCOME, q = MTE_TOOL_OUTCOME, sized = MTE_TOOL_OUTCOME;
+    uint8_t bytes[65] = {1, 2, 3};
+    const uint64_t no_tag = 0xffffffffffffff;
+    WANT(mte_tool_heap_malloc(&heap, 1, &p) == MTE_TOOL_MISUSE && mte_tool_heap_free(&heap, 0, &p) == MTE_TOOL_MISUSE);
+    WANT(mte_tool_heap_realloc(&heap, 0, 1, &p) == MTE_TOOL_MISUSE && mte_tool_heap_addg(&heap, 0, 0, 0, &p) == MTE_TOOL_MISUSE);
+    WANT(heap_end(&heap, 0, bytes, 1) == MTE_TOOL_MISUSE && mte_tool_heap_store(&heap, 0, bytes, 1, NULL) == MTE_TOOL_MISUSE);
+    WANT(mte_tool_heap_new(NULL, &options, classes, 2, NULL) == MTE_TOOL_MISUSE);
+    WANT(mte_tool_heap_new(&heap, &options, NULL, 2, NULL) == MTE_TOOL_MISUSE);
+    WANT(mte_tool_heap_calloc(NULL, 1, NULL) == MTE_TOOL_MISUSE);
+    bad.seed = 0;
+    WANT(mte_tool_heap_new(&heap, &bad, classes, 2, NULL) == MTE_TOOL_BAD_OPTION && !heap.live);
+    WANT(mte_tool_heap_new(&heap, NULL, wrong, 2, &p) == MTE_TOOL_REFUSED && p.code == 22 && !heap.live && !heap.handle);
+    WANT(mte_tool_heap_new(&heap, NULL, classes, 2, &p) == MTE_TOOL_DONE && heap.live == 1 && p.code == 0);
+    WANT(mte_tool_heap_new(&heap, NULL, classes, 2, NULL) == MTE_TOOL_MISUSE && heap.live == 1);
+    WANT(mte_tool_heap_malloc(&heap, 40, &p) == MTE_TOOL_DONE && p.value >> 56 != 0 && p.code == 0);
+    WANT(mte_tool_heap_malloc(&heap, 64, &q) == MTE_TOOL_NO && q.code == 61 && q.value == 0);
+    WANT(mte_tool_heap_malloc(&heap, (size_t)-1, &q) == MTE_TOOL_NO && q.code == 60);
+    WANT(heap_end(&heap, p.value, bytes, 0) == MTE_TOOL_BAD_OPTION && heap_end(&heap, p.value, bytes, 65) == MTE_TOOL_BAD_OPTION);
+    WANT(heap_end(&heap, p.value, NULL, 1) == MTE_TOOL_MISUSE && heap_end(&heap, p.value & no_tag, bytes, 1) == MTE_TOOL_MISUSE);
+    WANT(bytes[0] == 1 && mte_tool_heap_store(&heap, p.value & no_tag, bytes, 1, NULL) == MTE_TOOL_MISUSE);
+    WANT(mte_tool_heap_load(&heap, 0, bytes, 1, &q) == MTE_TOOL_NO && q.code == 50);
+    WANT(mte_tool_heap_load(&heap, p.value ^ ((uint64_t)1 << 60), bytes, 1, &q) == MTE_TOOL_NO && q.code == 50);
+    WANT(mte_tool_heap_load(&heap, p.value + 48, bytes, 1, &q) == MTE_TOOL_NO && q.code == 52 && q.pointer_tag == p.value >> 56);
+    WANT(q.memory_tag != q.pointer_tag);
+    /* a smaller outcome gets what it has room for, and a wrong one does nothing */
+    sized.size = offsetof(mte_tool_outcome, code);
+    WANT(mte_tool_heap_load(&heap, p.value + 48, bytes, 1, &sized) == MTE_TOOL_NO && sized.code == 0);
+    sized.size = 12;
+    WANT(mte_tool_heap_free(&heap, p.value, &sized) == MTE_TOOL_MISUSE && heap_end(&heap, p.value, bytes, 1) == MTE_TOOL_DONE);
+    WANT(mte_tool_heap_addg(&heap, p.value, 64, 0, NULL) == MTE_TOOL_BAD_OPTION);
+    WANT(mte_tool_heap_addg(&heap, p.value, 0, 16, NULL) == MTE_TOOL_BAD_OPTION);
+    WANT(mte_tool_heap_addg(&heap, p.value, 1, 0, &q) == MTE_TOOL_DONE && q.value == p.value + 16);
+    WANT(mte_tool_heap_realloc(&heap, p.value, 20, &p) == MTE_TOOL_DONE);
+    WANT(mte_tool_heap_free(&heap, p.value + 16, &q) == MTE_TOOL_NO && q.code == 63);
+    WANT(mte_tool_heap_free(&heap, p.value, &q) == MTE_TOOL_DONE && q.code == 0);
+    WANT(mte_tool_heap_free(&heap, p.value, &q) == MTE_TOOL_NO && q.code == 64);
+    WANT(mte_tool_heap_free(&heap, 0, NULL) == MTE_TOOL_DONE && mte_tool_heap_realloc(&heap, 1, 1, &q) == MTE_TOOL_NO && q.code == 63);
+    mte_tool_heap_close(&heap);
+    mte_tool_heap_close(&heap);
+    mte_tool_heap_close(NULL);
+    WANT(!heap.live && !heap.handle);
+}
+
+/* a number that is above the range of its option is refused, whatever its lowest bits are */
+static void wide(void) {
+    static const uint16_t classes[] = {2, 4};
+    static const uint32_t numbers[] = {16}, one[] = {1};
+    static const uint8_t frees[] = {0};
+    mte_tool_profile_arrays counted = {numbers, one, 1};
+    mte_tool_history_arrays history = {numbers, one, 1, 1};
+    mte_tool_timeline_arrays timeline = {numbers, frees, 1};
+    mte_tool_text text = MTE_TOOL_TEXT;
+    mte_tool_heap heap = MTE_TOOL_HEAP;
+    mte_tool_options chosen = MTE_TOOL_OPTIONS(264);
+    uint16_t room[300];
+    int field, bit;
+    WANT(mte_tool_tune(&chosen, profile, LENGTH, &text, NULL) == MTE_TOOL_BAD_OPTION && text.length == 0);
+    for (field = 0; field < 5; field++)
+        for (bit = field < 2 ? 23 : field == 2 ? 16 : 6; bit < 64; bit++) {
+            mte_tool_options good = MTE_TOOL_OPTIONS(8), bad = MTE_TOOL_OPTIONS(8);
+            uint64_t *fields[] = {&bad.granules, &bad.quarantine, &bad.seed, &bad.limit, &bad.step};
+            *fields[field] += (uint64_t)1 << bit;
+            if (bit % 16 == 0) WANT(mte_tool_run(&good, NULL, 0, &text, NULL) == MTE_TOOL_DONE);
+            WANT(mte_tool_run(&bad, NULL, 0, &text, NULL) == MTE_TOOL_BAD_OPTION && text.length == 0);
+            if (field < 3) {
+                WANT(mte_tool_replay(&bad, "classes 2\n", 10, &text, NULL) == MTE_TOOL_BAD_OPTION);
+                WANT(mte_tool_heap_new(&heap, &bad, classes, 2, NULL) == MTE_TOOL_BAD_OPTION && !heap.live);
+            } else {
+                WANT(mte_tool_tune(&bad, profile, LENGTH, &text, NULL) == MTE_TOOL_BAD_OPTION);
+                WANT(mte_tool_fit(&bad, "snapshots 1\n", 12, &text, NULL) == MTE_TOOL_BAD_OPTION);
+                WANT(mte_tool_tune_profile(&bad, &counted, room, 300, NULL, 0, NULL) == MTE_TOOL_BAD_OPTION);
+                WANT(mte_tool_fit_history(&bad, &history, room, 300, NULL, 0, NULL) == MTE_TOOL_BAD_OPTION);
+                WANT(mte_tool_fit_timeline(&bad, &timeline, room, 300, NULL, 0, NULL, 0, NULL) == MTE_TOOL_BAD_OPTION);
+                WANT(mte_tool_check_profile(&bad, classes, 2, 0, NULL, 0, &counted, NULL) == MTE_TOOL_BAD_OPTION);
+                WANT(mte_tool_check_fit_history(&bad, classes, 2, 0, NULL, 0, &history, NULL) == MTE_TOOL_BAD_OPTION);
+                WANT(mte_tool_check_fit_timeline(&bad, classes, 2, 0, NULL, 0, NULL, 0, &timeline, NULL) == MTE_TOOL_BAD_OPTION);
+            }
+        }
+    WANT(mte_tool_heap_new(&heap, NULL, classes, 2, NULL) == MTE_TOOL_DONE);
+    for (bit = 6; bit < 64; bit++) {
+        WANT(mte_tool_heap_addg(&heap, 0, (uint64_t)1 << bit, 0, NULL) == MTE_TOOL_BAD_OPTION);
+        WANT(mte_tool_heap_addg(&heap, 0, 0, ((uint64_t)1 << bit) + 1, NULL) == MTE_TOOL_BAD_OPTION);
+    }
+    mte_tool_heap_close(&heap);
+    mte_tool_free(&text);
+}
+
+/* null for arrays with numbers, too little room, and a wrong result */
+static void arrays(void) {
+    static const uint16_t classes[] = {2, 4};
+    static const uint32_t sizes[] = {16, 40}, counts[] = {1, 2, 3, 4};
+    static const uint8_t frees[] = {0, 0};
+    static const uint64_t rows[3] = {0, 0, 0};
+    mte_tool_options options = MTE_TOOL_OPTIONS(2);
+    mte_tool_profile_arrays no_sizes = {NULL, counts, 2}, no_counts = {sizes, NULL, 2}, counted = {sizes, counts, 2};
+    mte_tool_history_arrays no_history = {sizes, NULL, 2, 2}, history = {sizes, counts, 2, 2}, empty = {NULL, NULL, 0, 2};
+    mte_tool_timeline_arrays no_frees = {sizes, NULL, 2}, timeline = {sizes, frees, 2}, no_events = {NULL, NULL, 0};
+    mte_tool_result wrong = MTE_TOOL_RESULT, result = MTE_TOOL_RESULT;
+    uint16_t room[2];
+    wrong.size = 9;
+    WANT(mte_tool_score_profile(NULL, NULL, 1, &counted, NULL) == MTE_TOOL_MISUSE);
+    WANT(mte_tool_score_profile(NULL, classes, 2, NULL, NULL) == MTE_TOOL_MISUSE);
+    WANT(mte_tool_score_profile(NULL, classes, 2, &no_sizes, NULL) == MTE_TOOL_MISUSE);
+    WANT(mte_tool_score_profile(NULL, classes, 2, &no_counts, NULL) == MTE_TOOL_MISUSE);
+    WANT(mte_tool_score_profile(NULL, classes, 2, &counted, &wrong) == MTE_TOOL_MISUSE);
+    WANT(mte_tool_tune_profile(&options, &counted, NULL, 2, NULL, 0, NULL) == MTE_TOOL_MISUSE);
+    WANT(mte_tool_tune_profile(&options, &counted, room, 1, NULL, 0, NULL) == MTE_TOOL_MISUSE);
+    WANT(mte_tool_tune_profile(&options, &counted, room, 2, NULL, 1, NULL) == MTE_TOOL_MISUSE);
+    WANT(mte_tool_check_profile(&options, classes, 2, 0, NULL, 1, &counted, NULL) == MTE_TOOL_MISUSE);
+    WANT(mte_tool_check_profile(&options, classes, 2, 0, rows, 3, &counted, NULL) == MTE_TOOL_MISUSE);
+    WANT(mte_tool_footprint_history(NULL, NULL, 1, &history, NULL) == MTE_TOOL_MISUSE);
+    WANT(mte_tool_footprint_history(NULL, classes, 2, &no_history, NULL) == MTE_TOOL_MISUSE);
+    WANT(mte_tool_footprint_history(NULL, classes, 2, NULL, NULL) == MTE_TOOL_MISUSE);
+    WANT(mte_tool_footprint_history(NULL, classes, 2, &history, &wrong) == MTE_TOOL_MISUSE);
+    WANT(mte_tool_footprint_history(NULL, NULL, 0, &empty, &result) == MTE_TOOL_DONE && result.bytes == 0);
+    WANT(mte_tool_footprint_timeline(NULL, classes, 2, &no_frees, NULL) == MTE_TOOL_MISUSE);
+    WANT(mte_tool_footprint_timeline(NULL, classes, 2, NULL, NULL) == MTE_TOOL_MISUSE);
+    WANT(mte_tool_footprint_timeline(NULL, NULL, 0, &no_events, &result) == MTE_TOOL_DONE && result.bytes == 0);
+    WANT(mte_tool_fit_history(&options, &history, NULL, 2, NULL, 0, NULL) == MTE_TOOL_MISUSE);
+    WANT(mte_tool_fit_history(&options, &history, room, 1, NULL, 0, NULL) == MTE_TOOL_MISUSE);
+    WANT(mte_tool_fit_history(&options, &history, room, 2, NULL, 1, NULL) == MTE_TOOL_MISUSE);
+    WANT(mte_tool_fit_history(&options, &history, room, 2, NULL, 0, &wrong) == MTE_TOOL_MISUSE);
+    WANT(mte_tool_fit_timeline(&options, &timeline, room, 1, NULL, 0, NULL, 0, NULL) == MTE_TOOL_MISUSE);
+    WANT(mte_tool_fit_timeline(&options, &timeline, room, 2, NULL, 0, NULL, 1, NULL) == MTE_TOOL_MISUSE);
+    WANT(mte_tool_fit_timeline(&options, &timeline, room, 2, NULL, 0, NULL, 0, &result) == MTE_TOOL_DONE && result.moments > 0);
+    WANT(mte_tool_check_fit_history(&options, NULL, 2, 0, NULL, 0, &history, NULL) == MTE_TOOL_MISUSE);
+    WANT(mte_tool_check_fit_history(&options, classes, 2, 0, rows, 3, &history, NULL) == MTE_TOOL_MISUSE);
+    WANT(mte_tool_check_fit_timeline(&options, classes, 2, 0, NULL, 0, NULL, 1, &timeline, NULL) == MTE_TOOL_MISUSE);
+}
+
+int main(void) {
+    nulls();
+    apart();
+    option_sizes();
+    result_sizes();
+    heaps();
+    wide();
+    arrays();
+    return 0;
+}
