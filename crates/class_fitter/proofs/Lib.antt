@@ -4,3 +4,4 @@ pub mod Numbers
 pub mod OneFit
 pub mod Places
 pub mod SoFar
+pub mod TimelineLemmas

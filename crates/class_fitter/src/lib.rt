@@ -6,6 +6,8 @@ mod ends;
 mod filling;
 mod fitting;
 mod place;
+mod timelines;
 
 pub use filling::fill_places;
 pub use fitting::{Fitted, fit};
+pub use timelines::{Found, MOST_ROUNDS, fit_over};

@@ -6,3 +6,4 @@ pub mod UpTo
 pub mod Verdicts
 pub mod Narrow
 pub mod Bounds
+pub mod TimelineLemmas

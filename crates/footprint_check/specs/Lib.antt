@@ -2,3 +2,4 @@ pub mod Bounds
 pub mod CallCounts
 pub mod RowConditions
 pub mod SnapshotSums
+pub mod Timelines

@@ -4,12 +4,11 @@ ghost use Rattle.history_count.specs.FaultText.{shown_history_fault};
 ghost use Rattle.line_text.specs.Numbers.{leading_number_of};
 ghost use Rattle.mte_engine.specs.FaultLines.{line_of_fault};
 ghost use Rattle.mte_engine.specs.FaultText.{shown_input_fault};
-ghost use Rattle.timeline_count.specs.FaultText.{shown_timeline_fault};
+ghost use Rattle.history_count.specs.Timelines.FaultText.{shown_timeline_fault};
 ghost use Rattle.trace_reader.specs.FaultText.{shown_trace_fault};
 
-use history_count::HistoryFault;
+use history_count::{HistoryFault, TimelineFault};
 use mte_engine::InputFault;
-use timeline_count::TimelineFault;
 use trace_reader::TraceFault;
 
 /// The code of a fault: the number at the start of its text.

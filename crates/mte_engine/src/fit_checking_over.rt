@@ -6,16 +6,16 @@ ghost use Rattle.line_text.specs.Lines.{lines};
 ghost use Rattle.mte_engine.specs.CheckFitOver.{IsCheckedOver, begins_moments, moments_and_timeline, moments_part, over_verdict_text};
 ghost use Rattle.mte_engine.specs.Outcome.{GivesAnswer};
 ghost use Rattle.mte_engine.specs.Parts.{AnswersPart, AreFewLines, GivesPart};
-ghost use Rattle.timeline_check.specs.MomentsLine.{moments_of};
+ghost use Rattle.footprint_check.specs.Timelines.MomentsLine.{moments_of};
 
 use crate::engine::Status;
 use crate::fault::{AnswerError, InputFault};
 use crate::input_parts::read_timeline;
 use byte_streams::Text;
+use footprint_check::{OverVerdict, check_over, moments_in, names_moments};
 use line_text::lines_in;
 use potential_check::Fit;
 use std::alloc::{AllocError, Global};
-use timeline_check::{OverVerdict, check_over, moments_in, names_moments};
 
 /// Whether a text begins with the line of a fit's moments.
 pub(crate) fn begins_moments(text: &[u8]) -> bool

@@ -11,11 +11,11 @@ use crate::engine::Status;
 use crate::fault::AnswerError;
 use crate::input_parts::read_timeline;
 use crate::sheet_writing::SheetText;
+use class_fitter::{Found, MOST_ROUNDS, fit_over};
 use class_table::ClassTable;
+use footprint_check::MOMENTS;
 use potential_check::{Fit, append_line, append_table, write_fit};
 use std::alloc::{AllocError, Global};
-use timeline_check::MOMENTS;
-use timeline_fitter::{Found, MOST_ROUNDS, fit_over};
 
 /// The answer to a timeline's text.
 pub(crate) fn fit_over_text(
