@@ -1,5 +1,5 @@
 //! Sizes, tables of classes and profiles.
-use super::support::same;
+use crate::tests::support::same;
 use class_table::{ClassTable, TableError, loss, need, serves};
 use profile_count::{CountFull, GREATEST_COUNT, Profile};
 use std::process::Abort;

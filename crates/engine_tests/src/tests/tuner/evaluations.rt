@@ -3,7 +3,7 @@ ghost use Rattle.std.specs.Prelude.{◌≡◌, ℕ, ◌+◌, ◌-◌, ◌*◌, �
 ghost use Rattle.std.proofs.Common.{arith};
 ghost use Rattle.std.proofs.Math.Nat.{mul-le-mul};
 
-use super::support::same;
+use crate::tests::support::same;
 use class_table::is_step;
 use class_tuner::{CostSource, Costs, fill_rows, tune};
 use profile_count::Profile;

@@ -1,5 +1,5 @@
 //! Lines, words and numbers.
-use super::support::same;
+use crate::tests::support::same;
 use line_text::{
     Number, SignedNumber, hex_byte_in, hex_digits, lines_in, number_in, signed_in, words_in,
 };

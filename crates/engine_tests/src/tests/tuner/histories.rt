@@ -1,5 +1,5 @@
 //! Histories, worked by hand.
-use super::support::same;
+use crate::tests::support::same;
 use class_table::{ClassTable, LARGEST_COUNTED};
 use history_count::History;
 use std::process::Abort;

@@ -1,5 +1,5 @@
 //! Verdicts on small sheets, worked by hand; some of them no reader gives.
-use super::support::same;
+use crate::tests::support::same;
 use class_table::ClassTable;
 use potential_check::{Refusal, Rows, Sheet, Verdict, check};
 use profile_count::Profile;
