@@ -4,11 +4,11 @@ use Rattle.std.specs.Prelude.{◌≡◌, ℕ, ◌+◌, Bool, false, List, [], �
 use Rattle.line_text.specs.Lines.{ended, lines}
 use Rattle.potential_check.specs.FitText.{fit_of_lines}
 use Rattle.potential_check.specs.Leading.{leading_lines, lines_after}
-use Rattle.footprint_check.specs.Timelines.MomentsLine.{moments_of, names_moments}
-use Rattle.footprint_check.specs.Timelines.RefusalText.{shown_over_refusal}
-use Rattle.footprint_check.specs.Timelines.Verdicts.{IsOverVerdict}
-use Rattle.footprint_check.specs.declared.timelines.verdict.OverVerdict.{OverVerdict}
-use Rattle.footprint_check.specs.declared.timelines.verdict.OverVerdict.TheVariants.{Optimal, Refused}
+use Rattle.potential_check.specs.Footprints.Timelines.MomentsLine.{moments_of, names_moments}
+use Rattle.potential_check.specs.Footprints.Timelines.RefusalText.{shown_over_refusal}
+use Rattle.potential_check.specs.Footprints.Timelines.Verdicts.{IsOverVerdict}
+use Rattle.potential_check.specs.declared.footprints.timelines.verdict.OverVerdict.{OverVerdict}
+use Rattle.potential_check.specs.declared.footprints.timelines.verdict.OverVerdict.TheVariants.{Optimal, Refused}
 use Rattle.history_count.specs.Timelines.TimelineText.{timeline_of_lines}
 use Rattle.tuner_theory.specs.Fits.{Fit}
 use Rattle.tuner_theory.specs.Timelines.{IsLeastOver}

@@ -1,6 +1,6 @@
 use Rattle.std.proofs.Common.{◌≡◌, ◌+◌, ◌∷◌, refl, sym, ◌∙◌}
 use Rattle.line_text.specs.Lines.{lines}
-use Rattle.footprint_check.specs.Timelines.MomentsLine.{moments_of}
+use Rattle.potential_check.specs.Footprints.Timelines.MomentsLine.{moments_of}
 use Rattle.history_count.specs.Timelines.TimelineText.{timeline_of_lines}
 use Rattle.mte_engine.specs.CheckFitOver.{moments_part}
 use Rattle.mte_engine.specs.Parts.{timeline_part}

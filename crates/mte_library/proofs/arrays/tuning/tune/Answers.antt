@@ -1,5 +1,5 @@
 use Rattle.std.proofs.Common.{arith, refl, rules}
-use Rattle.certificates.specs.SheetView.{sheet_of}
+use Rattle.potential_check.specs.Certificates.SheetView.{sheet_of}
 use Rattle.mte_library.proofs.arrays.tuning.tune.Goals as goal
 
 pub put_rows-requires-clause-shape : goal.put_rows-requires-clause-shape
