@@ -14,14 +14,6 @@ use crate::commands::{Ended, Ending, Options};
 use handed_text::{DONE, HandedText, MISUSE, OUT_OF_MEMORY};
 use std::alloc::Global;
 
-/// The version of this interface.
-#[unsafe(no_mangle)]
-pub extern "C" fn mte_c_version() -> u32
-    ensures { result ≡ 2 }
-{
-    2
-}
-
 /// Runs the command of this number (`Options::call`) with the options that are its own.
 #[unsafe(no_mangle)]
 pub extern "C" fn mte_c_call(
