@@ -9,7 +9,7 @@ from collections.abc import Callable, Iterable
 from typing import NamedTuple, Optional
 
 from mte_scripts import texts
-from mte_scripts.fleet import options, regret, samples
+from mte_scripts.fleet import loads, options, regret, samples
 from mte_scripts.fleet.samples import Difference, Group
 from mte_scripts.running import Refused
 from mte_scripts.words import Words, between, some
@@ -18,22 +18,24 @@ HELP = """\
 Plan the trial of a new table on some machines beside others, and read its result: difference, interval and verdict.
 
 Usage: fleet_trial assign [--seed N] [MACHINES]
+       fleet_trial predict [--json] OLD NEW LOAD..
        fleet_trial plan --saving PERCENT (--spread PERCENT | --pilot RESULT) [--machines N] [--level P] [--power P]
        fleet_trial read [--predicted PERCENT] [--level P] [--json] [RESULT]
                                           (standard input for `-`, or where there is no file)
 
 assign takes lines of a program and a machine, with a tab between, and adds a third field, `control` or `tuned`: by chance, half of
-each program's machines each. plan says how many machines each group wants. read says what a result shows.
+each program's machines each. predict says how much less a machine takes with the table in the file NEW than with OLD, by the
+footprints of histories, timelines or rows of these, as of fleet_regret: where the allocator gives nothing back, the resident set
+falls by that. plan says how many machines each group wants. read says what a result shows.
 
   --seed N           assign: another choice; the same seed gives the same groups; 1 where it is left out
-  --saving PERCENT   plan: the saving that is to show, as a share of the resident set: what fleet_regret of the old and the new
-                     table predicts
+  --saving PERCENT   plan: the saving that is to show, as a share of the resident set
   --spread PERCENT   plan: the standard deviation of the resident sets of a program's machines, as a share of the mean
   --pilot RESULT     plan: measures this of any machines' values before the trial
   --machines N       plan: says also which saving N machines in each group show
   --predicted PERCENT
                      read: says also whether the predicted saving is within the interval
-  --json             read: print all as JSON
+  --json             predict, read: print all as JSON
   --level P          the chance that an interval has the true value, in percent; 95 where it is left out
   --power P          plan: the chance that the trial shows the saving, if it is so large, in percent; 90 where it is left out
 
@@ -48,9 +50,9 @@ throughout, and the groups are large enough for their means to be normal, some 3
 of all programs together: look once, at the end of the planned days.
 
 Exit status:
-  0  assign, plan: it is printed; read: a saving is shown
+  0  assign, predict, plan: it is printed; read: a saving is shown
   1  read: no saving is shown
-  2  the words or a line are refused
+  2  the words, a table, a load or a line are refused
   3  a group of a program has fewer than 5 machines, or the output can't be written
 
 Examples:
@@ -212,8 +214,7 @@ def text_of(result: Read, predicted: Optional[float], is_change: bool) -> str:
         interval = f"{each.low:,.0f} to {each.high:,.0f}"
         cells = (f"{first.number} + {second.number}", f"{first.mean:,.0f}", f"{second.mean:,.0f}", f"{each.mean:,.0f}", interval)
         rows.append((texts.printable(program), *cells))
-    widths = [max(map(len, column)) for column in zip(*rows)]
-    lines = ["  ".join([row[0].ljust(widths[0]), *(cell.rjust(width) for cell, width in zip(row[1:], widths[1:]))]) + "\n" for row in rows]
+    lines = [columns(rows)]
     said = f"Over all, each program with its share of the machines: the tuned ones take {result.whole.mean:,.0f} KiB less of "
     said += f"{result.mean:,.0f}, {percents(result.shares)}. {verdict(result)}"
     lines += ["\n", regret.wrapped(said)]
@@ -275,6 +276,64 @@ def plan_text(saving: float, spread: float, given) -> str:
     return "".join(lines)
 
 
+class Predicted(NamedTuple):
+    """Of a program: for how many machines it is, and what one takes with the old and with the new table, in KiB."""
+
+    program: str
+    machines: int
+    old: float
+    new: float
+
+
+def predicted(old: list, new: list, given: Iterable[loads.Load]) -> list[Predicted]:
+    """The means of the machines of each program, over all days."""
+    sums: dict[str, list] = {}
+    for load in given:
+        if load.kind == "profile":
+            raise Refused(2, f"{load.name} is a profile, which has no footprint: give histories or timelines")
+        costs = [load.cost(classes) for classes in (old, new)]
+        if None in costs:
+            raise Refused(2, f"a table does not serve all sizes of {load.name}")
+        own = sums.setdefault(load.program, [0, 0, 0])
+        sums[load.program] = [own[0] + load.machines, own[1] + (costs[0] or 0), own[2] + (costs[1] or 0)]
+    return [
+        Predicted(program, machines, was / machines / 1024, now / machines / 1024) for program, (machines, was, now) in sorted(sums.items())
+    ]
+
+
+def predict(words: list) -> int:
+    parser = Words(HELP)
+    parser.add_argument("--json", action="store_true")
+    parser.add_argument("names", nargs="*")
+    given = parser.take(words, once=True)
+    if len(given.names) < 3 or given.names.count("-") > 1:
+        raise Refused(2, "predict takes the old table, the new one and the loads; --help says more")
+    old, new = (texts.class_line(name) for name in given.names[:2])
+    found = predicted(old, new, loads.read(given.names[2:]))
+    machines = sum(each.machines for each in found)
+    whole_old, whole_new = sum(each.machines * each.old for each in found), sum(each.machines * each.new for each in found)
+    whole = Predicted("all", machines, whole_old / machines, whole_new / machines)
+    if given.json:
+        each_row = [{**each._asdict(), "saving_kib": each.old - each.new} for each in (*found, whole)]
+        texts.write(json.dumps({"programs": each_row[:-1], "all": each_row[-1]}, indent=1) + "\n")
+        return 0
+    rows = [("Program", "machines", "old, KiB", "new, KiB", "saving, KiB")]
+    for each in (*found, whole):
+        rows.append(
+            (texts.printable(each.program), f"{each.machines:,}", f"{each.old:,.0f}", f"{each.new:,.0f}", f"{each.old - each.new:,.0f}")
+        )
+    texts.write(columns(rows))
+    return 0
+
+
+def columns(rows: list) -> str:
+    """Rows of cells, all but the first to the right."""
+    widths = [max(map(len, column)) for column in zip(*rows)]
+    return "".join(
+        "  ".join([row[0].ljust(widths[0]), *(cell.rjust(width) for cell, width in zip(row[1:], widths[1:]))]) + "\n" for row in rows
+    )
+
+
 def file_of(given) -> str:
     if len(given.names) > 1:
         raise Refused(2, f"there is one file, so no place for {given.names[1]}")
@@ -332,10 +391,10 @@ def read_result(words: list) -> int:
 
 
 def main(words: list) -> int:
-    steps = {"assign": assign, "plan": plan, "read": read_result}
+    steps = {"assign": assign, "predict": predict, "plan": plan, "read": read_result}
     if words[:1] in (["-h"], ["--help"]):
         texts.write_help(HELP)
         return 0
     if not words or words[0] not in steps:
-        raise Refused(2, "the first word is assign, plan or read; --help says more")
+        raise Refused(2, "the first word is assign, predict, plan or read; --help says more")
     return steps[words[0]](words[1:])
