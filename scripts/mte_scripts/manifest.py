@@ -79,13 +79,18 @@ def sources_of(root: str) -> str:
 
 
 def verdict_in(log: str, crate: str) -> str:
-    """The verdict on a crate in what `rt ci` or `rt run` printed: the line before `rt: CRATE proved`, or of one crate alone the last one.
-    It is empty where there is none, as of a crate that an earlier run has proved."""
-    lines = log.splitlines()
-    verdicts = [at for at, line in enumerate(lines) if line.startswith("logic=proved ")]
-    if any(re.fullmatch(r"rt: \w+ (proved|is kept: .*)", line) for line in lines):
-        verdicts = [at for at in verdicts if lines[at + 1 : at + 2] == [f"rt: {crate} proved"]]
-    return lines[verdicts[-1]] if verdicts else ""
+    """The verdict on a crate in what rt printed: of `rt ci` the last one above the line `rt: CRATE proved`, and of a run of one crate the
+    last one. It is empty where there is none, as of a crate that an earlier run has proved."""
+    verdict = ""
+    ends = 0
+    for line in log.splitlines():
+        if line.startswith("logic=proved "):
+            verdict = line
+        elif line == f"rt: {crate} proved":
+            return verdict
+        elif re.fullmatch(r"rt: \w+ (proved|is kept: .*)", line):
+            verdict, ends = "", ends + 1
+    return "" if ends else verdict
 
 
 def write(root: str, program: str, before: str, log: str = "") -> None:

@@ -28,8 +28,8 @@ cp examples/callers/* .
 cc check_sheet.c $(pkg-config --cflags --libs mte_tool) -o check && ./check jq.sheet examples/jq.profile
 c++ -std=c++20 make_header.cpp $(pkg-config --cflags --libs mte_tool) -o header && ./header 8 < examples/jq.profile
 go run tune.go 8 < examples/jq.profile | cmp - jq.sheet
-mkdir -p caller/src && cp tune.rs caller/src/main.rs
 for each in /tmp/packages/*.crate; do tar -xf $each; done
+mkdir -p caller/src && cp mte-tool-[0-9]*/examples/tune.rs caller/src/main.rs
 printf '[package]\nname = "caller"\nversion = "0.1.0"\nedition = "2021"\n' > caller/Cargo.toml
 printf '[dependencies]\nmte-tool = { path = "../%s" }\n' mte-tool-[0-9]* >> caller/Cargo.toml
 printf '[patch.crates-io]\nmte-tool-sys = { path = "../%s" }\n' mte-tool-sys-* >> caller/Cargo.toml

@@ -15,7 +15,7 @@ SHEET = "mte_tool tune --limit 8 < examples/jq.profile > jq.sheet"
 CMAKE = """\
 cmake_minimum_required(VERSION 3.13)
 project(caller C)
-find_package(mte_tool 0.1 REQUIRED)
+find_package(mte_tool 1.0 REQUIRED)
 add_executable(check examples/callers/check_sheet.c)
 target_link_libraries(check mte_tool::mte_tool)
 add_executable(check_static examples/callers/check_sheet.c)

@@ -8,3 +8,4 @@ pub mod ReadOff
 pub mod Rows
 pub mod Tried
 pub mod Tunings
+pub mod FitLemmas

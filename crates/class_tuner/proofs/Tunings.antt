@@ -3,7 +3,7 @@ use Rattle.std.proofs.Common.{◌≡◌, ℕ, ◌≤◌, List, refl, sym, ◌∙
 use Rattle.class_table.specs.Tables.{IsLegalTable}
 use Rattle.class_table.specs.declared.table.TheConstants.{MOST_CLASSES}
 use Rattle.class_tuner.specs.Tuned.{IsTuned}
-use Rattle.certificates.specs.Spanned.{IsSpanned, Spanned}
+use Rattle.potential_check.specs.Certificates.Spanned.{IsSpanned, Spanned}
 use Rattle.tuner_theory.specs.Best.{IsCanonical}
 use Rattle.tuner_theory.specs.Intervals.{IsSumOfIntervals}
 use Rattle.tuner_theory.specs.Rows.{IsFilled, number_at}

@@ -3,3 +3,4 @@ pub mod Filling
 pub mod SourceChanges
 pub mod Tuned
 pub mod Windows
+pub mod Fits

@@ -1,7 +1,7 @@
 -- The result of a tuner.
 use Rattle.std.specs.Prelude.{◌≡◌, ℕ, ◌<◌, ◌≤◌, List}
 use Rattle.class_tuner.specs.CallCounts.{calls_of}
-use Rattle.certificates.specs.declared.sheet.Sheet.{Sheet as Written}
+use Rattle.potential_check.specs.declared.certificates.sheet.Sheet.{Sheet as Written}
 use Rattle.tuner_theory.specs.Best.{IsCanonical}
 use Rattle.tuner_theory.specs.Potentials.{AreValidPotentials}
 use Rattle.tuner_theory.specs.Rests.{IsRest}

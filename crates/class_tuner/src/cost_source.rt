@@ -4,7 +4,7 @@ ghost use Rattle.class_tuner.specs.Windows.{IsWindowAfter};
 ghost use Rattle.tuner_theory.specs.Rows.{IsLeastWithin};
 ghost use Rattle.tuner_theory.specs.Spans.{IsCrossing};
 
-use certificates::number_in_row;
+use potential_check::number_in_row;
 
 /// A source of the costs of spans, which counts its calls. A span goes from a place to a later one. Places are counted from 1, and place 0
 /// is before them all. Code over any source knows costs by `at` and `least_end` alone.

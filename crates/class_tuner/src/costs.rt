@@ -1,11 +1,11 @@
 ghost use Rattle.std.specs.Prelude.{◌≡◌, ℕ, ◌^◌, ◌<◌, ◌≤◌, IfOk, refl};
-ghost use Rattle.certificates.specs.Spanned.{IsSpanned};
+ghost use Rattle.potential_check.specs.Certificates.Spanned.{IsSpanned};
 ghost use Rattle.tuner_theory.specs.Spans.{IsCrossing, places, span_waste};
 ghost use Rattle.class_table.specs.Steps.{IsStep};
 
 use crate::cost_source::CostSource;
-use certificates::Spans;
 use class_table::MOST_NEEDS;
+use potential_check::Spans;
 use profile_count::Profile;
 use std::alloc::{AllocError, Global};
 

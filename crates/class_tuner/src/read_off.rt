@@ -6,8 +6,8 @@ ghost use Rattle.tuner_theory.specs.Spans.{places};
 ghost use Rattle.tuner_theory.specs.Tuned.{tuned_table};
 
 use arrayvec::ArrayVec;
-use certificates::Spans;
 use class_table::{ClassTable, MOST_CLASSES};
+use potential_check::Spans;
 
 /// The table that the ends give. Start at place 0 in row `limit`. The need at that place's end is a class. Go on from that end in the row
 /// before, until the last place is an end.

@@ -5,3 +5,4 @@ mod engines;
 mod memory;
 mod streams;
 mod support;
+mod tuner;

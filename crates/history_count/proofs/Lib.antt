@@ -15,3 +15,4 @@ pub mod RowEntries
 pub mod SizeLines
 pub mod SpelledIsRead
 pub mod SpreadLines
+pub mod TimelineLemmas

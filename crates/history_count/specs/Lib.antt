@@ -4,3 +4,4 @@ pub mod Histories
 pub mod HistoryText
 pub mod LineView
 pub mod TakenCounts
+pub mod Timelines

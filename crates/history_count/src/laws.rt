@@ -1,9 +1,11 @@
-//! What holds for every history's text. Each law is the contract of a function that does nothing.
+//! What holds for every history's text, and in `timelines` for every timeline's. Each law is the contract of a function that does nothing.
 ghost use Rattle.std.specs.Prelude.{◌≡◌, ◌↔◌, ◌-◌, ◌≤◌, ℕ, List, length, max, take, Ok};
 ghost use Rattle.line_text.specs.FirstFault.{IsFirstFault};
 ghost use Rattle.line_text.specs.Lines.{lines, text_of};
 ghost use Rattle.history_count.specs.Histories.{History};
 ghost use Rattle.history_count.specs.HistoryText.{IsRefusedAt, SpellsHistory, history_of};
+
+pub mod timelines;
 
 /// A text that is read as a history is that history's text, and the text is read as the history.
 pub fn law_history_text()

@@ -1,5 +1,5 @@
-//! Histories: how many blocks of each size were live at each of some snapshots. They are read from a text; and what a class table takes of
-//! memory over one.
+//! Histories: how many blocks of each size were live at each of some snapshots; and timelines: the requests and frees of a run in their
+//! order, by size alone. They are read from texts; and what a class table takes of memory over one.
 #![tactic(auto)]
 
 mod counted_lines;
@@ -10,8 +10,13 @@ pub mod laws;
 mod line;
 mod of_snapshots;
 mod reading;
+mod timelines;
 
 pub use fault::{HistoryError, HistoryFault};
 pub use footprint::{blocks_between, line_from};
 pub use history::{History, Lines};
+pub use timelines::{
+    Footprint, TIMELINE, Timeline, TimelineError, TimelineFault, footprint_over, largest_moment,
+    snapshots_at, unserved_over,
+};
 pub use tuner_theory::MOST_SNAPSHOTS;

@@ -1,7 +1,7 @@
 //! `score`, `tune` and `check` over arrays.
-ghost use Rattle.mte_arrays.specs.Shown.{Checks, Scores, Tunes};
+ghost use Rattle.mte_library.specs.Arrays.Shown.{Checks, Scores, Tunes};
 
-use mte_arrays::Numbers;
+use mte_library::arrays::Numbers;
 use std::alloc::Global;
 
 /// What a table wastes on a profile.
@@ -14,7 +14,7 @@ pub extern "C" fn mte_arrays_score(
 ) -> Numbers
     ensures { Scores classes.now sizes.now counts.now result }
 {
-    Numbers::of_score(mte_arrays::score(alloc, classes, sizes, counts))
+    Numbers::of_score(mte_library::arrays::score(alloc, classes, sizes, counts))
 }
 
 /// The table of least waste for a profile, with its certificate.
@@ -30,7 +30,7 @@ pub extern "C" fn mte_arrays_tune(
 ) -> Numbers
     ensures { Tunes limit step sizes.now counts.now classes.old rows.old classes.new rows.new result }
 {
-    Numbers::of_tuned(mte_arrays::tune(alloc, limit, step, sizes, counts, classes, rows))
+    Numbers::of_tuned(mte_library::arrays::tune(alloc, limit, step, sizes, counts, classes, rows))
 }
 
 /// The verdict on a sheet.
@@ -47,5 +47,7 @@ pub extern "C" fn mte_arrays_check(
 ) -> Numbers
     ensures { Checks limit step waste classes.now rows.now sizes.now counts.now result }
 {
-    Numbers::of_verdict(mte_arrays::check(alloc, limit, step, waste, classes, rows, sizes, counts))
+    Numbers::of_verdict(mte_library::arrays::check(
+        alloc, limit, step, waste, classes, rows, sizes, counts,
+    ))
 }

@@ -1,9 +1,9 @@
 //! The heap.
 ghost use Rattle.std.specs.Prelude.{◌≡◌, None};
-ghost use Rattle.mte_heap.specs.Calls.{IsAddg, IsCalloc, IsFree, IsLoad, IsMalloc, IsRealloc, IsStore, Makes, Performs, config_of};
-ghost use Rattle.mte_heap.specs.Held.{heap_of};
+ghost use Rattle.mte_library.specs.Heap.Calls.{IsAddg, IsCalloc, IsFree, IsLoad, IsMalloc, IsRealloc, IsStore, Makes, Performs, config_of};
+ghost use Rattle.mte_library.specs.Heap.Held.{heap_of};
 
-use mte_heap::{HandedHeap, Outcome, Settings};
+use mte_library::heap::{HandedHeap, Outcome, Settings};
 use std::alloc::Global;
 
 /// Makes a heap over the table of these classes, in granules.
@@ -16,7 +16,7 @@ pub extern "C" fn mte_heap_new(
 ) -> Outcome
     ensures { Makes (config_of settings) classes.now (heap_of heap.old) (heap_of heap.new) result }
 {
-    mte_heap::new(alloc, settings, classes, heap)
+    mte_library::heap::new(alloc, settings, classes, heap)
 }
 
 /// Gives out a chunk of `n` bytes.
@@ -24,7 +24,7 @@ pub extern "C" fn mte_heap_new(
 pub extern "C" fn mte_heap_malloc(alloc: Global, heap: &mut HandedHeap, n: u32) -> Outcome
     ensures { Performs (heap_of heap.old) (heap_of heap.new) result (IsMalloc n result) }
 {
-    mte_heap::malloc(alloc, heap, n)
+    mte_library::heap::malloc(alloc, heap, n)
 }
 
 /// As `mte_heap_malloc`, with all bytes of the chunk's granules set to 0.
@@ -32,7 +32,7 @@ pub extern "C" fn mte_heap_malloc(alloc: Global, heap: &mut HandedHeap, n: u32) 
 pub extern "C" fn mte_heap_calloc(alloc: Global, heap: &mut HandedHeap, n: u32) -> Outcome
     ensures { Performs (heap_of heap.old) (heap_of heap.new) result (IsCalloc n result) }
 {
-    mte_heap::calloc(alloc, heap, n)
+    mte_library::heap::calloc(alloc, heap, n)
 }
 
 /// Changes the size of the chunk at an address to `n` bytes.
@@ -45,7 +45,7 @@ pub extern "C" fn mte_heap_realloc(
 ) -> Outcome
     ensures { Performs (heap_of heap.old) (heap_of heap.new) result (IsRealloc address n result) }
 {
-    mte_heap::realloc(alloc, heap, address, n)
+    mte_library::heap::realloc(alloc, heap, address, n)
 }
 
 /// Frees the chunk at an address.
@@ -53,7 +53,7 @@ pub extern "C" fn mte_heap_realloc(
 pub extern "C" fn mte_heap_free(alloc: Global, heap: &mut HandedHeap, address: u64) -> Outcome
     ensures { Performs (heap_of heap.old) (heap_of heap.new) result (IsFree address result) }
 {
-    mte_heap::free(alloc, heap, address)
+    mte_library::heap::free(alloc, heap, address)
 }
 
 /// Loads from an address on, as many bytes as the room has.
@@ -66,7 +66,7 @@ pub extern "C" fn mte_heap_load(
 ) -> Outcome
     ensures { Performs (heap_of heap.old) (heap_of heap.new) result (IsLoad address room.old room.new result) }
 {
-    mte_heap::load(alloc, heap, address, room)
+    mte_library::heap::load(alloc, heap, address, room)
 }
 
 /// Stores these bytes from an address on.
@@ -79,7 +79,7 @@ pub extern "C" fn mte_heap_store(
 ) -> Outcome
     ensures { Performs (heap_of heap.old) (heap_of heap.new) result (IsStore address bytes.now result) }
 {
-    mte_heap::store(alloc, heap, address, bytes)
+    mte_library::heap::store(alloc, heap, address, bytes)
 }
 
 /// ADDG: the address `u6` granules (0 to 63) further up, under the tag that the offset `u4` (0 to 15) chooses.
@@ -93,7 +93,7 @@ pub extern "C" fn mte_heap_addg(
 ) -> Outcome
     ensures { Performs (heap_of heap.old) (heap_of heap.new) result (IsAddg address u6 u4 result) }
 {
-    mte_heap::addg(alloc, heap, address, u6, u4)
+    mte_library::heap::addg(alloc, heap, address, u6, u4)
 }
 
 /// Frees the heap. The empty handle is left.
@@ -101,5 +101,5 @@ pub extern "C" fn mte_heap_addg(
 pub extern "C" fn mte_heap_close(alloc: Global, heap: &mut HandedHeap)
     ensures { heap_of heap.new ≡ None }
 {
-    mte_heap::close(alloc, heap);
+    mte_library::heap::close(alloc, heap);
 }

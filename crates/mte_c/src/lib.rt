@@ -5,14 +5,14 @@
 
 ghost use Rattle.std.specs.Prelude.{◌≡◌, ◌⊎◌, ◌++◌, [], drop, false, length, min, true, ◌-◌};
 ghost use Rattle.handed_text.specs.Bytes.{bytes_of, filled, is_answer_of};
-ghost use Rattle.mte_calls.specs.Ending.{AnswersIfCall};
-ghost use Rattle.mte_calls.specs.Settings.{call_of};
+ghost use Rattle.mte_library.specs.Commands.Ending.{AnswersIfCall};
+ghost use Rattle.mte_library.specs.Commands.Settings.{call_of};
 
 mod arrays;
 mod heap;
 
 use handed_text::{DONE, HandedText, MISUSE, OUT_OF_MEMORY};
-use mte_calls::{Ended, Ending, Options};
+use mte_library::commands::{Ended, Ending, Options};
 use std::alloc::Global;
 
 /// The version of this interface.
@@ -35,7 +35,7 @@ pub extern "C" fn mte_c_call(
     ensures { AnswersIfCall (call_of options command) text.old input.now text.new result }
 {
     match options.call(command) {
-        Some(call) => Ending::of(mte_calls::call(alloc, call, input, text)),
+        Some(call) => Ending::of(mte_library::commands::call(alloc, call, input, text)),
         None => Ending::of(Ended::Misuse),
     }
 }

@@ -38,7 +38,7 @@ use Rattle.mte_engine.specs.declared.fault.InputFault.TheVariants.{TooLong, Tabl
 use Rattle.class_table.specs.FaultText.{shown_table_error}
 use Rattle.history_count.specs.FaultText.{shown_history_fault}
 use Rattle.profile_count.specs.FaultText.{shown_profile_fault}
-use Rattle.timeline_count.specs.FaultText.{shown_timeline_fault}
+use Rattle.history_count.specs.Timelines.FaultText.{shown_timeline_fault}
 use Rattle.trace_reader.specs.FaultText.{shown_trace_fault}
 use Rattle.mte_engine.proofs.SheetLinesSettled.{after_alike, leading_lines-cut, leading_lines-lines, leading_lines-settled}
 

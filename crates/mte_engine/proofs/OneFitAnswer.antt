@@ -1,6 +1,6 @@
 -- One answer of `fit` to an input, since a history has one fit.
 use Rattle.std.proofs.Common.{◌≡◌, ℕ, List, Result, Ok, Err, ap, sym, subst, ◌∙◌}
-use Rattle.class_fitter.proofs.LawLemmas.{one_fit}
+use Rattle.class_tuner.proofs.FitLemmas.LawLemmas.{one_fit}
 use Rattle.history_count.specs.Histories.{History}
 use Rattle.potential_check.specs.FitText.{fit_text}
 use Rattle.tuner_theory.specs.Fits.{Fit}

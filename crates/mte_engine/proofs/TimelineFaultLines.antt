@@ -1,8 +1,8 @@
 -- A timeline as a part of an input: its first fault is in the line of the refusal.
 use Rattle.std.proofs.Common.{◌≡◌, ◌+◌, [], refl}
 use Rattle.line_text.specs.Lines.{lines}
-use Rattle.timeline_count.specs.TimelineText.{SpellsTimeline, events_from, head_line, timeline_of_lines}
-use Rattle.timeline_count.proofs.LawLemmas.{first_fault_is_refused, spelled_timeline_is_read, timeline_is_spelled}
+use Rattle.history_count.specs.Timelines.TimelineText.{SpellsTimeline, events_from, head_line, timeline_of_lines}
+use Rattle.history_count.proofs.TimelineLemmas.LawLemmas.{first_fault_is_refused, spelled_timeline_is_read, timeline_is_spelled}
 use Rattle.mte_engine.specs.Parts.{timeline_part}
 use Rattle.mte_engine.specs.declared.fault.InputFault.TheVariants.{Timeline}
 use Rattle.mte_engine.proofs.FaultLines.{IsPart}

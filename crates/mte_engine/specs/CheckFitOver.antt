@@ -4,12 +4,12 @@ use Rattle.std.specs.Prelude.{◌≡◌, ℕ, ◌+◌, Bool, false, List, [], �
 use Rattle.line_text.specs.Lines.{ended, lines}
 use Rattle.potential_check.specs.FitText.{fit_of_lines}
 use Rattle.potential_check.specs.Leading.{leading_lines, lines_after}
-use Rattle.timeline_check.specs.MomentsLine.{moments_of, names_moments}
-use Rattle.timeline_check.specs.RefusalText.{shown_over_refusal}
-use Rattle.timeline_check.specs.Verdicts.{IsOverVerdict}
-use Rattle.timeline_check.specs.declared.verdict.OverVerdict.{OverVerdict}
-use Rattle.timeline_check.specs.declared.verdict.OverVerdict.TheVariants.{Optimal, Refused}
-use Rattle.timeline_count.specs.TimelineText.{timeline_of_lines}
+use Rattle.potential_check.specs.Footprints.Timelines.MomentsLine.{moments_of, names_moments}
+use Rattle.potential_check.specs.Footprints.Timelines.RefusalText.{shown_over_refusal}
+use Rattle.potential_check.specs.Footprints.Timelines.Verdicts.{IsOverVerdict}
+use Rattle.potential_check.specs.declared.footprints.timelines.verdict.OverVerdict.{OverVerdict}
+use Rattle.potential_check.specs.declared.footprints.timelines.verdict.OverVerdict.TheVariants.{Optimal, Refused}
+use Rattle.history_count.specs.Timelines.TimelineText.{timeline_of_lines}
 use Rattle.tuner_theory.specs.Fits.{Fit}
 use Rattle.tuner_theory.specs.Timelines.{IsLeastOver}
 use Rattle.tuner_theory.specs.declared.size_event.SizeEvent.{SizeEvent}

@@ -9,7 +9,7 @@ use Rattle.potential_check.specs.FitText.{SpellsFit}
 use Rattle.potential_check.specs.Leading.{leading_lines, lines_after}
 use Rattle.potential_check.specs.SheetText.{SpellsSheet}
 use Rattle.profile_count.specs.ProfileText.{SpellsProfile}
-use Rattle.timeline_count.specs.TimelineText.{SpellsTimeline}
+use Rattle.history_count.specs.Timelines.TimelineText.{SpellsTimeline}
 use Rattle.tuner_theory.specs.Fits.{Fit}
 use Rattle.tuner_theory.specs.Sheets.{Sheet}
 use Rattle.tuner_theory.specs.Profiles.{Profile as Counted}

@@ -4,7 +4,7 @@ use Rattle.std.specs.Fmt.{decimal}
 use Rattle.class_table.specs.FaultText.{shown_table_error}
 use Rattle.history_count.specs.FaultText.{shown_history_fault}
 use Rattle.profile_count.specs.FaultText.{shown_profile_fault}
-use Rattle.timeline_count.specs.FaultText.{shown_timeline_fault}
+use Rattle.history_count.specs.Timelines.FaultText.{shown_timeline_fault}
 use Rattle.trace_reader.specs.FaultText.{shown_trace_fault}
 use Rattle.mte_engine.specs.declared.fault.InputFault.{InputFault}
 use Rattle.mte_engine.specs.declared.fault.InputFault.TheVariants.{TooLong, Table, BadSheet, BadFit, Profile, History, Timeline, Trace}

@@ -1,6 +1,6 @@
 -- The answers of `fit`: the table of least footprint over a history, with its certificate.
 use Rattle.std.specs.Prelude.{◌≡◌, ℕ, List, Result, Ok, Err}
-use Rattle.class_fitter.specs.Fitted.{IsFitOf}
+use Rattle.class_tuner.specs.Fits.Fitted.{IsFitOf}
 use Rattle.history_count.specs.Histories.{History}
 use Rattle.history_count.specs.HistoryText.{history_of}
 use Rattle.potential_check.specs.FitText.{fit_text}

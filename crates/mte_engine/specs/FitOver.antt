@@ -4,9 +4,9 @@ use Rattle.class_table.specs.ClassLine.{class_line}
 use Rattle.class_table.specs.NamedLines.{named_line}
 use Rattle.line_text.specs.Lines.{ended, lines, text_of}
 use Rattle.potential_check.specs.FitText.{fit_text}
-use Rattle.timeline_check.specs.MomentsLine.{moments_line}
-use Rattle.timeline_count.specs.TimelineText.{timeline_of}
-use Rattle.timeline_fitter.specs.Found.{IsBetween, IsLeastFit}
+use Rattle.potential_check.specs.Footprints.Timelines.MomentsLine.{moments_line}
+use Rattle.history_count.specs.Timelines.TimelineText.{timeline_of}
+use Rattle.class_tuner.specs.Fits.Timelines.Found.{IsBetween, IsLeastFit}
 use Rattle.tuner_theory.specs.Fits.{Fit}
 use Rattle.tuner_theory.specs.declared.size_event.SizeEvent.{SizeEvent}
 use Rattle.mte_engine.specs.Fit.{FitAnswers}

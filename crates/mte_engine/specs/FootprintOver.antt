@@ -3,8 +3,8 @@
 use Rattle.std.specs.Prelude.{◌≡◌, ◌⊎◌, ℕ, List, [], ◌∷◌, codes, drop, MatchBool, Result, Ok, Err}
 use Rattle.class_table.specs.NamedLines.{named_line}
 use Rattle.line_text.specs.Lines.{ended, lines}
-use Rattle.timeline_count.specs.Requests.{IsLeastUnserved}
-use Rattle.timeline_count.specs.TimelineText.{timeline_of_lines}
+use Rattle.history_count.specs.Timelines.Requests.{IsLeastUnserved}
+use Rattle.history_count.specs.Timelines.TimelineText.{timeline_of_lines}
 use Rattle.tuner_theory.specs.Histories.{peaks}
 use Rattle.tuner_theory.specs.Timelines.{footprint_over, moments}
 use Rattle.tuner_theory.specs.Waste.{Serves}

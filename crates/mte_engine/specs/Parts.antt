@@ -7,7 +7,7 @@ use Rattle.class_table.specs.declared.fault.TableError.TheVariants.{BadLine}
 use Rattle.history_count.specs.Histories.{History as CountedHistory}
 use Rattle.history_count.specs.declared.fault.HistoryFault.{HistoryFault}
 use Rattle.profile_count.specs.declared.fault.ProfileFault.{ProfileFault}
-use Rattle.timeline_count.specs.declared.fault.TimelineFault.{TimelineFault}
+use Rattle.history_count.specs.declared.timelines.fault.TimelineFault.{TimelineFault}
 use Rattle.tuner_theory.specs.Fits.{Fit}
 use Rattle.tuner_theory.specs.Sheets.{Sheet}
 use Rattle.tuner_theory.specs.Profiles.{Profile as Counted}

@@ -1,7 +1,7 @@
 -- Whether an input has a timeline.
 use Rattle.std.specs.Prelude.{ℕ, Bool, false, List, [], ◌∷◌}
 use Rattle.std.specs.Str.{bytes_eq}
-use Rattle.timeline_count.specs.TimelineText.{head_line}
+use Rattle.history_count.specs.Timelines.TimelineText.{head_line}
 
 -- The first of these lines is that of a timeline.
 abbrev pub begins_timeline : List (List ℕ) → Bool

@@ -7,11 +7,10 @@ ghost use Rattle.mte_engine.specs.declared.fault.ToolFault.TheVariants.{OutOfMem
 
 use byte_streams::{Failure, ReadError};
 use class_table::TableError;
-use history_count::HistoryFault;
+use history_count::{HistoryFault, TimelineFault};
 use profile_count::ProfileFault;
 use std::alloc::{AllocError, AllocFailed};
 use std::fmt;
-use timeline_count::TimelineFault;
 use trace_reader::TraceFault;
 
 /// What is wrong with the bytes of an input. Each is shown as its code, its name and, if it has one, its line. The input's first line is

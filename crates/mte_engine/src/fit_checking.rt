@@ -1,7 +1,7 @@
 //! `check-fit`: the verdict on a fit, whoever wrote it, over a history or over every moment of a timeline.
 ghost use Rattle.std.specs.Prelude.{◌≡◌, IfOk};
 ghost use Rattle.byte_streams.specs.TextLeft.{text_left};
-ghost use Rattle.certificates.specs.FitView.{fit_of};
+ghost use Rattle.potential_check.specs.Certificates.FitView.{fit_of};
 ghost use Rattle.history_count.specs.HistoryText.{history_of};
 ghost use Rattle.mte_engine.specs.Check.{verdict_text_by};
 ghost use Rattle.mte_engine.specs.CheckFit.{IsFitChecked};
@@ -15,8 +15,7 @@ use crate::fault::{AnswerError, ToolFault};
 use crate::fit_checking_over::{begins_moments, check_timeline};
 use crate::input_parts::{read_fit_first, read_history};
 use byte_streams::{ByteSink, ByteSource, Text, WholeText};
-use footprint_check::check_fit as verdict_on;
-use potential_check::{Fit, Verdict};
+use potential_check::{Fit, Verdict, check_fit as verdict_on};
 use std::alloc::{AllocError, Global};
 use tuner_theory::FitRefusal;
 

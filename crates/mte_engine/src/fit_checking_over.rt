@@ -1,21 +1,20 @@
 //! `check-fit` over a timeline: the verdict on a fit with the moments that it names.
 ghost use Rattle.std.specs.Prelude.{◌≡◌, ◌+◌, Ok, Err, IfOk, MatchResult, ℕ, List};
 ghost use Rattle.byte_streams.specs.TextLeft.{text_left};
-ghost use Rattle.certificates.specs.FitView.{fit_of};
+ghost use Rattle.potential_check.specs.Certificates.FitView.{fit_of};
 ghost use Rattle.line_text.specs.Lines.{lines};
 ghost use Rattle.mte_engine.specs.CheckFitOver.{IsCheckedOver, begins_moments, moments_and_timeline, moments_part, over_verdict_text};
 ghost use Rattle.mte_engine.specs.Outcome.{GivesAnswer};
 ghost use Rattle.mte_engine.specs.Parts.{AnswersPart, AreFewLines, GivesPart};
-ghost use Rattle.timeline_check.specs.MomentsLine.{moments_of};
+ghost use Rattle.potential_check.specs.Footprints.Timelines.MomentsLine.{moments_of};
 
 use crate::engine::Status;
 use crate::fault::{AnswerError, InputFault};
 use crate::input_parts::read_timeline;
 use byte_streams::Text;
 use line_text::lines_in;
-use potential_check::Fit;
+use potential_check::{Fit, OverVerdict, check_over, moments_in, names_moments};
 use std::alloc::{AllocError, Global};
-use timeline_check::{OverVerdict, check_over, moments_in, names_moments};
 
 /// Whether a text begins with the line of a fit's moments.
 pub(crate) fn begins_moments(text: &[u8]) -> bool

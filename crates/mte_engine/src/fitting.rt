@@ -88,7 +88,7 @@ fn fit_text(
     ensures { GivesAnswer sheet_left (FitAnswers limit step text.now) result }
 {
     let history = read_history(alloc, text, 0)?;
-    let fitted = class_fitter::fit(alloc, &history, limit, step)?;
+    let fitted = class_tuner::fit(alloc, &history, limit, step)?;
     let output = SheetText::of_fit(alloc, fitted.into_fit())?;
     Ok((output, Status::Done))
 }

@@ -1,6 +1,6 @@
 //! `fit` over a timeline: the class table of least footprint over every moment of it.
 ghost use Rattle.std.specs.Prelude.{◌≡◌, ◌++◌, IfOk};
-ghost use Rattle.certificates.specs.FitView.{fit_of};
+ghost use Rattle.potential_check.specs.Certificates.FitView.{fit_of};
 ghost use Rattle.line_text.specs.Lines.{text_of};
 ghost use Rattle.mte_engine.specs.FitOver.{FitOverAnswers, between_lines, least_text};
 ghost use Rattle.mte_engine.specs.Outcome.{GivesAnswer};
@@ -12,10 +12,9 @@ use crate::fault::AnswerError;
 use crate::input_parts::read_timeline;
 use crate::sheet_writing::SheetText;
 use class_table::ClassTable;
-use potential_check::{Fit, append_line, append_table, write_fit};
+use class_tuner::{Found, MOST_ROUNDS, fit_over};
+use potential_check::{Fit, MOMENTS, append_line, append_table, write_fit};
 use std::alloc::{AllocError, Global};
-use timeline_check::MOMENTS;
-use timeline_fitter::{Found, MOST_ROUNDS, fit_over};
 
 /// The answer to a timeline's text.
 pub(crate) fn fit_over_text(

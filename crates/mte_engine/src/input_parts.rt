@@ -5,26 +5,25 @@ ghost use Rattle.class_table.specs.ClassLine.{table_of_line};
 ghost use Rattle.history_count.specs.HistoryText.{history_of};
 ghost use Rattle.profile_count.specs.ProfileText.{profile_of};
 ghost use Rattle.potential_check.specs.FitText.{fit_of_lines};
-ghost use Rattle.certificates.specs.FitView.{fit_of};
+ghost use Rattle.potential_check.specs.Certificates.FitView.{fit_of};
 ghost use Rattle.potential_check.specs.Leading.{leading_lines, lines_after};
-ghost use Rattle.certificates.specs.SheetView.{sheet_of};
+ghost use Rattle.potential_check.specs.Certificates.SheetView.{sheet_of};
 ghost use Rattle.potential_check.specs.SheetText.{sheet_of_lines};
 ghost use Rattle.tuner_theory.specs.Fits.{Fit};
 ghost use Rattle.tuner_theory.specs.Sheets.{Sheet};
-ghost use Rattle.timeline_count.specs.TimelineText.{timeline_of};
+ghost use Rattle.history_count.specs.Timelines.TimelineText.{timeline_of};
 ghost use Rattle.mte_engine.specs.Parts.{AreFewLines, GivesPart, fit_part, history_part, table_part, sheet_part, profile_part, timeline_part};
 ghost use Rattle.mte_engine.specs.Timelines.{begins_timeline};
 
 use crate::fault::{AnswerError, InputFault};
 use class_table::ClassTable;
-use history_count::{History, HistoryError};
+use history_count::{History, HistoryError, TIMELINE, Timeline, TimelineError};
 use line_text::lines_in;
 use potential_check::{
     FitError, LeadingFit, LeadingSheet, SheetError, read_leading_fit, read_leading_sheet,
 };
 use profile_count::{Profile, ProfileError};
 use std::alloc::Global;
-use timeline_count::{TIMELINE, Timeline, TimelineError};
 
 /// The table that the first line of an input spells. `line` is that line without its newline.
 pub fn read_table(line: &[u8]) -> Result<ClassTable, AnswerError>

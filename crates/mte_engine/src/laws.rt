@@ -32,7 +32,7 @@ ghost use Rattle.mte_engine.specs.Fit.{FitAnswers};
 ghost use Rattle.mte_engine.specs.FitOver.{FitOverAnswers};
 ghost use Rattle.mte_engine.specs.Footprint.{FootprintAnswers};
 ghost use Rattle.mte_engine.specs.FootprintOver.{FootprintOverAnswers};
-ghost use Rattle.timeline_count.specs.TimelineText.{SpellsTimeline};
+ghost use Rattle.history_count.specs.Timelines.TimelineText.{SpellsTimeline};
 ghost use Rattle.mte_engine.specs.Outcome.{Answer};
 ghost use Rattle.mte_engine.specs.Replay.{ReplayAnswers, report_on};
 ghost use Rattle.mte_engine.specs.Run.{IsTunedRun, RunAnswers};

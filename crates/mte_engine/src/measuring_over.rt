@@ -10,9 +10,9 @@ use crate::input_parts::{read_table, read_timeline};
 use crate::scoring::numbered_line;
 use byte_streams::Text;
 use class_table::{ClassTable, TableError};
+use history_count::{Timeline, footprint_over, unserved_over};
 use line_text::lines_in;
 use std::alloc::{AllocError, Global};
-use timeline_count::{Timeline, footprint_over, unserved_over};
 
 /// The answer to a text with a timeline.
 pub(crate) fn footprint_over_text(alloc: Global, text: &[u8]) -> Result<(Text, Status), AnswerError>

@@ -1,9 +1,9 @@
 //! The text of a sheet or a fit, as an engine writes it: in pieces, so that few pages of memory are touched.
 ghost use Rattle.std.specs.Prelude.{◌≡◌, ◌≤◌, ◌++◌, drop, length, vec_capacity, vec_len, IfOk};
 ghost use Rattle.potential_check.specs.FitText.{fit_text};
-ghost use Rattle.certificates.specs.FitView.{fit_of};
+ghost use Rattle.potential_check.specs.Certificates.FitView.{fit_of};
 ghost use Rattle.potential_check.specs.SheetText.{sheet_text};
-ghost use Rattle.certificates.specs.SheetView.{sheet_of};
+ghost use Rattle.potential_check.specs.Certificates.SheetView.{sheet_of};
 ghost use Rattle.mte_engine.specs.RowLines.{AreShort, row_lines};
 ghost use Rattle.mte_engine.specs.declared.sheet_writing.TheConstants.{PIECE};
 

@@ -1,7 +1,7 @@
 -- The edges of a part of a row, from those of the parts on both sides of its middle place.
 use Rattle.std.proofs.Common.{ℕ, ◌+◌, ◌<◌, ◌≤◌, List, slice_index, arith}
 use Rattle.potential_check.specs.RowConditions.{EdgesHoldWithin, edge_bound}
-use Rattle.certificates.specs.Spanned.{Spanned}
+use Rattle.potential_check.specs.Certificates.Spanned.{Spanned}
 use Rattle.tuner_theory.specs.Spans.{places}
 use Rattle.tuner_theory.proofs.LawLemmas.{places_cross}
 use Rattle.class_table.specs.Steps.{IsStep}

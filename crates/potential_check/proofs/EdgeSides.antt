@@ -1,9 +1,9 @@
 -- The two sides of an edge, with what is at hand of its two places.
 use Rattle.std.proofs.Common.{◌≡◌, ℕ, ◌+◌, ◌-◌, ◌*◌, ◌^◌, ◌<◌, ◌≤◌, List, arith}
-use Rattle.certificates.proofs.LawLemmas.{payload_fits, span_balance}
+use Rattle.potential_check.proofs.CertificateLemmas.LawLemmas.{payload_fits, span_balance}
 use Rattle.potential_check.specs.EdgeWalk.{IsEnd, IsStart}
 use Rattle.potential_check.specs.RowConditions.{edge_bound}
-use Rattle.certificates.specs.Spanned.{Spanned}
+use Rattle.potential_check.specs.Certificates.Spanned.{Spanned}
 use Rattle.potential_check.specs.declared.edge_walk.End.{End}
 use Rattle.potential_check.specs.declared.edge_walk.Start.{Start}
 

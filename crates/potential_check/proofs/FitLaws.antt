@@ -3,7 +3,7 @@ use Rattle.std.proofs.Common.{◌≡◌, ℕ, List, Result, Ok, Err, refl, subst
 use Rattle.line_text.specs.FirstFault.{IsFirstFault}
 use Rattle.line_text.specs.Lines.{lines}
 use Rattle.potential_check.specs.FitText.{SpellsFit, fit_in}
-use Rattle.certificates.specs.FitView.{fit_of_sheet}
+use Rattle.potential_check.specs.Certificates.FitView.{fit_of_sheet}
 use Rattle.potential_check.specs.SheetText.{read_by}
 use Rattle.potential_check.specs.declared.cost.Cost.TheVariants.{Footprint}
 use Rattle.potential_check.proofs.ReadIsSpelled.{read_is_spelled}

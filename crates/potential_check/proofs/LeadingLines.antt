@@ -12,8 +12,8 @@ use Rattle.potential_check.specs.declared.fault.SheetError.{SheetError}
 use Rattle.potential_check.specs.declared.fault.SheetError.TheVariants.{OutOfMemory, Line}
 use Rattle.potential_check.specs.declared.leading_sheet.LeadingSheet.{LeadingSheet}
 use Rattle.potential_check.specs.declared.reading.Head.{Head}
-use Rattle.certificates.specs.declared.sheet.Sheet.{Sheet as Held}
-use Rattle.certificates.specs.SheetView.{sheet_of}
+use Rattle.potential_check.specs.declared.certificates.sheet.Sheet.{Sheet as Held}
+use Rattle.potential_check.specs.Certificates.SheetView.{sheet_of}
 use Rattle.potential_check.proofs.ReadIsSpelled.{head_and}
 use Rattle.tuner_theory.specs.Sheets.{Sheet}
 

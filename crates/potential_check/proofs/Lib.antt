@@ -14,3 +14,5 @@ pub mod SheetFaults
 pub mod SheetLines
 pub mod SpelledIsRead
 pub mod TightEnds
+pub mod FootprintLemmas
+pub mod CertificateLemmas

@@ -6,7 +6,7 @@ use Rattle.std.proofs.lemmas.List.{get_or_default, get_or_past}
 use Rattle.std.proofs.lemmas.List.Sorted.{all_adjacent_more}
 use Rattle.std.proofs.lemmas.Option.{get_or_from_slice_get, slice_get_within}
 use Rattle.potential_check.specs.RowConditions.{EdgesHold, IsBoundedRow, StageDropHolds}
-use Rattle.certificates.specs.Spanned.{IsSpanned, Spanned}
+use Rattle.potential_check.specs.Certificates.Spanned.{IsSpanned, Spanned}
 use Rattle.tuner_theory.proofs.LawLemmas.{spans_fit}
 use Rattle.tuner_theory.specs.Rows.{number_at}
 use Rattle.tuner_theory.specs.Sheets.{IsVerdict, Meets, MeetsBefore, Sheet}

@@ -3,7 +3,7 @@ use Rattle.std.proofs.Common.{◌≡◌, ℕ, ◌+◌, ◌<◌, ◌≤◌, List,
 use Rattle.std.proofs.lemmas.Bool.{cases_lt}
 use Rattle.std.proofs.lemmas.List.{get_or_past}
 use Rattle.potential_check.specs.RowConditions.{EdgesHold, HasTightEnd, IsTightEnd, edge_bound}
-use Rattle.certificates.specs.Spanned.{Spanned}
+use Rattle.potential_check.specs.Certificates.Spanned.{Spanned}
 use Rattle.tuner_theory.specs.Spans.{places}
 use Rattle.tuner_theory.proofs.LawLemmas.{places_cross}
 use Rattle.class_table.specs.Steps.{IsStep}

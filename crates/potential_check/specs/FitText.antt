@@ -2,14 +2,14 @@
 use Rattle.std.specs.Prelude.{◌≡◌, ℕ, List, Result, Ok, Err}
 use Rattle.line_text.specs.FirstFault.{◌>>=◌}
 use Rattle.line_text.specs.Lines.{lines}
-use Rattle.certificates.specs.FitView.{fit_of, fit_of_sheet}
+use Rattle.potential_check.specs.Certificates.FitView.{fit_of, fit_of_sheet}
 use Rattle.potential_check.specs.SheetText.{SpellsBy, read_by, text_by}
 use Rattle.potential_check.specs.declared.cost.Cost.TheVariants.{Footprint}
 use Rattle.potential_check.specs.declared.fault.FitError.{FitError}
 use Rattle.potential_check.specs.declared.fault.FitError.TheVariants.{OutOfMemory, Line}
 use Rattle.potential_check.specs.declared.fault.SheetError.{SheetError}
 use Rattle.potential_check.specs.declared.fault.SheetError.TheVariants.{OutOfMemory as NoMemory, Line as SheetLine}
-use Rattle.certificates.specs.declared.fit.Fit.{Fit as Written}
+use Rattle.potential_check.specs.declared.certificates.fit.Fit.{Fit as Written}
 use Rattle.tuner_theory.specs.Fits.{Fit, sheet_of_fit}
 
 abbrev pub fit_text : Fit → List ℕ

@@ -3,8 +3,8 @@ use Rattle.std.specs.Prelude.{◌≡◌, ◌≤◌, ℕ, ◌+◌, Bool, true, Li
 use Rattle.std.specs.List.{take_while}
 use Rattle.line_text.specs.Lines.{lines}
 use Rattle.potential_check.specs.FitText.{fit_of_lines}
-use Rattle.certificates.specs.FitView.{fit_of}
-use Rattle.certificates.specs.SheetView.{sheet_of}
+use Rattle.potential_check.specs.Certificates.FitView.{fit_of}
+use Rattle.potential_check.specs.Certificates.SheetView.{sheet_of}
 use Rattle.potential_check.specs.SheetText.{head_line_count, is_named, read_by}
 use Rattle.potential_check.specs.declared.cost.Cost.{Cost}
 use Rattle.potential_check.specs.declared.cost.Cost.TheVariants.{Waste}

@@ -6,3 +6,5 @@ pub mod SheetOnCounts
 pub mod SheetText
 pub mod Spaced
 pub mod EdgeWalk
+pub mod Footprints
+pub mod Certificates

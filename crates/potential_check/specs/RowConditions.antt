@@ -1,6 +1,6 @@
 -- What bounds the numbers of a certificate's rows: the first row by itself, a later row beside the row before it.
 use Rattle.std.specs.Prelude.{◌≡◌, ℕ, ◌+◌, ◌<◌, ◌≤◌, ◌^◌, List, length, slice_index}
-use Rattle.certificates.specs.Spanned.{IsSpanned, Spanned}
+use Rattle.potential_check.specs.Certificates.Spanned.{IsSpanned, Spanned}
 use Rattle.tuner_theory.specs.Spans.{places, span_waste}
 
 -- No number is more than what one class for all needs above its place wastes.

@@ -2,14 +2,14 @@
 ghost use Rattle.std.specs.Prelude.{◌≡◌, ◌↔◌, IfNone, IfOk, IfSome, IsTrue};
 ghost use Rattle.class_table.specs.Steps.{IsStep};
 ghost use Rattle.class_table.specs.Tables.{FitsStep, IsLegalTable};
-ghost use Rattle.certificates.specs.SheetView.{sheet_of};
+ghost use Rattle.potential_check.specs.Certificates.SheetView.{sheet_of};
 ghost use Rattle.tuner_theory.specs.Best.{IsBest};
 ghost use Rattle.tuner_theory.specs.Sheets.{IsVerdict, MeetsBefore};
 ghost use Rattle.tuner_theory.specs.declared.verdict.Refusal.TheVariants.{Shape};
 ghost use Rattle.tuner_theory.specs.declared.verdict.Verdict.TheVariants.{Optimal, Refused};
 
+use crate::certificates::{Sheet, Spans};
 use crate::sheet_on_spans::SheetOnSpans;
-use certificates::{Sheet, Spans};
 use class_table::is_step;
 use profile_count::Profile;
 use std::alloc::{AllocError, Global};

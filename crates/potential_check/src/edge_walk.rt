@@ -7,7 +7,7 @@ ghost use Rattle.potential_check.specs.EdgeWalk.{IsEnd, IsStart};
 ghost use Rattle.potential_check.specs.RowConditions.{AreTight, EdgesHold, HasTightEnd, IsBoundedRow, IsTightEnd, edge_bound};
 ghost use Rattle.tuner_theory.specs.Spans.{places};
 
-use certificates::{Spans, number_in_row};
+use crate::certificates::{Spans, number_in_row};
 use class_table::GRANULE_BYTES;
 
 // a place of a row, with the number there and the sums up to it

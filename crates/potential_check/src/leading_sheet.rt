@@ -1,4 +1,4 @@
-use certificates::{Fit, Sheet};
+use crate::certificates::{Fit, Sheet};
 
 /// A sheet at the start of a text.
 #[derive(Debug, Drop)]

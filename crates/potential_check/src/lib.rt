@@ -1,10 +1,13 @@
-//! The checker of sheets, and the texts of sheets and fits.
+//! Sheets and fits, which show a class table to be a best one: as values, in `certificates`, and as texts; and their checkers, that of fits
+//! in `footprints`.
 #![tactic(auto)]
 
+mod certificates;
 mod checker;
 mod cost;
 mod edge_walk;
 mod fault;
+mod footprints;
 pub mod laws;
 mod leading_sheet;
 mod reading;
@@ -16,6 +19,11 @@ mod writing;
 pub use certificates::{Fit, Rows, Sheet, Spans, number_in_row};
 pub use checker::check;
 pub use fault::{FitError, SheetError};
+pub use footprints::{
+    BLOCK, HistorySpans, MOMENTS, OverRefusal, OverVerdict, RowTests, SpanCosts, WHOLE_SLACK,
+    check_fit, check_over, history_over, lower_slack, moments_in, names_moments, no_bounds,
+    test_rows,
+};
 pub use leading_sheet::{LeadingFit, LeadingSheet};
 pub use reading::{read_fit, read_leading_fit, read_leading_sheet, read_sheet};
 pub use tuner_theory::{Refusal, Verdict};

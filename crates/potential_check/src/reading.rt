@@ -4,19 +4,19 @@ ghost use Rattle.std.specs.List.{take_while};
 ghost use Rattle.std.specs.Option.{ok_or, option_map};
 ghost use Rattle.line_text.specs.Lines.{lines};
 ghost use Rattle.potential_check.specs.FitText.{GivesFit, fit_in};
-ghost use Rattle.certificates.specs.FitView.{fit_of, fit_of_sheet};
+ghost use Rattle.potential_check.specs.Certificates.FitView.{fit_of, fit_of_sheet};
 ghost use Rattle.potential_check.specs.Leading.{GivesLeading, GivesLeadingBy, GivesLeadingFit, is_row_line};
-ghost use Rattle.certificates.specs.SheetView.{sheet_of};
+ghost use Rattle.potential_check.specs.Certificates.SheetView.{sheet_of};
 ghost use Rattle.potential_check.specs.SheetText.{Gives, IsNextNamed, IsWithinLimits, cost_in, cost_number, head_line_count, head_of_lines, is_named, line_at, read_by, rows_from, sheet_in, step_at};
 ghost use Rattle.tuner_theory.specs.Fits.{sheet_of_fit};
 
+use crate::certificates::{Fit, Rows, Sheet};
 use crate::cost::Cost;
 use crate::fault::{FitError, SheetError};
 use crate::leading_sheet::{LeadingFit, LeadingSheet};
 use crate::sheet_line::{
     ROW, STEP, cost_in, limit_in, row_of_words, step_of_words, table_in, words_after,
 };
-use certificates::{Fit, Rows, Sheet};
 use class_table::{ClassTable, MOST_CLASSES};
 use line_text::{Lines, Words, lines_in};
 use std::alloc::Global;

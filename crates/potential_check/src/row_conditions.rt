@@ -5,8 +5,8 @@ ghost use Rattle.class_table.specs.Steps.{IsStep};
 ghost use Rattle.potential_check.specs.RowConditions.{EdgesHold, EdgesHoldWithin, IsBoundedRow, LastClassHolds, StageDropHolds, edge_bound};
 ghost use Rattle.tuner_theory.specs.Spans.{places};
 
+use crate::certificates::{Spans, number_in_row};
 use crate::edge_walk::is_tight_row;
-use certificates::{Spans, number_in_row};
 use std::ops::Range;
 
 /// Whether no number of a row is more than what one class for all needs above its place wastes.

@@ -2,14 +2,14 @@
 ghost use Rattle.std.specs.Prelude.{◌≡◌, ◌↔◌, All, length, IfNone, IfSome, IsTrue};
 ghost use Rattle.std.specs.List.{AllAdjacentBelow};
 ghost use Rattle.potential_check.specs.RowConditions.{EdgesHold, IsBoundedRow, StageDropHolds};
-ghost use Rattle.certificates.specs.SheetView.{sheet_of};
+ghost use Rattle.potential_check.specs.Certificates.SheetView.{sheet_of};
 ghost use Rattle.tuner_theory.specs.Sheets.{IsVerdict, Meets, MeetsBefore};
 ghost use Rattle.tuner_theory.specs.Spans.{places};
 ghost use Rattle.tuner_theory.specs.declared.verdict.Refusal.TheVariants.{Edge, LastClass, NotTight, Shape, StageDrop};
 ghost use Rattle.tuner_theory.specs.declared.verdict.Verdict.TheVariants.{Optimal, Refused};
 
+use crate::certificates::{Rows, Sheet, Spans};
 use crate::row_conditions::{edges_hold, last_class_holds, stage_drop_holds};
-use certificates::{Rows, Sheet, Spans};
 use std::marker::Model;
 use tuner_theory::Refusal;
 
@@ -23,7 +23,7 @@ pub(crate) struct SheetOnSpans<'a> {
 impl<'a> Model for SheetOnSpans<'a> {
     ghost use Rattle.std.specs.Prelude.{◌≡◌};
     ghost use Rattle.potential_check.specs.SheetOnCounts.{SheetOnCounts};
-    ghost use Rattle.certificates.specs.SheetView.{sheet_of};
+    ghost use Rattle.potential_check.specs.Certificates.SheetView.{sheet_of};
 
     ghost Value = { SheetOnCounts };
 

@@ -25,7 +25,7 @@ PROMISES = {
     "hardening": ("Hardening", [("replay_core", "laws")]),
     "bounded": (
         "Canonical and bounded",
-        [("mte_engine", "law_one_answer"), ("class_tuner", "fill_rows"), ("class_tuner", "tune"), ("class_fitter", "fit")],
+        [("mte_engine", "law_one_answer"), ("class_tuner", "fill_rows"), ("class_tuner", "tune"), ("class_tuner", "fit")],
     ),
 }
 PROGRAM = {"program": ("The whole program, on its own streams", [("mte_tool", "program.run")])}

@@ -13,7 +13,7 @@ from mte_scripts.packaging.tree import Tree, run
 from mte_scripts.texts import Refused
 
 # packages of an older shape, which had the files of all
-ONCE = "1.0.0+git20270000"  # a date of eight digits is below one with its time
+ONCE = "1.0.0~"
 
 
 # the nodes of library/mte_tool.map, with the first version of the packages that has each

@@ -182,7 +182,7 @@ def collect(options: argparse.Namespace, work: str) -> Parts:
         texts.say("package", f"nothing is proved of the library: {unproved}")
         library_words = f"the library for C was built elsewhere, and nothing is proved of it: {unproved}"
     elif library:
-        library_words = "the engines of the library for C were proved and built from these sources"
+        library_words = "the library for C was proved and built from these sources"
     modules, page_words = page_of(options)
     origins: "list[str]" = [origin]
     left_out: "list[str]" = []

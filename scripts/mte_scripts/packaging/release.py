@@ -57,7 +57,8 @@ Whoever has this kit and these tools builds the same files by `scripts/release F
 
 {tools}
 """
-COUNTS = re.compile(r"(?m)^.*?\b(\d+) passed, (\d+) failed\b.*$")
+# what .ci/run prints of the scripts' tests, and of rt
+COUNTS = re.compile(r"(?m)^(?:all: |rt: )?(\d+) passed, (\d+) failed\b.*$")
 
 
 def want_clean() -> None:
@@ -71,7 +72,7 @@ def counts_in(path: "str | None") -> str:
     if path is None:
         return "The counts of the gate, `.ci/run`, were not given."
     text = texts.read(path).decode(errors="replace")
-    lines = [found for found in COUNTS.finditer(text) if not found[0].startswith((" ", "FAILED"))]
+    lines = list(COUNTS.finditer(text))
     if not lines:
         raise Refused(2, f"{path} has no line `N passed, M failed`: name the file that has what .ci/run printed")
     if failed := [found[0] for found in lines if found[2] != "0"]:

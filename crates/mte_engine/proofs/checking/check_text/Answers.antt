@@ -3,7 +3,7 @@ use Rattle.std.proofs.lemmas.Result.{err_from_is_err_and}
 use Rattle.line_text.specs.Lines.{lines}
 use Rattle.profile_count.specs.ProfileText.{profile_of_lines}
 use Rattle.potential_check.specs.SheetText.{sheet_of_lines}
-use Rattle.certificates.specs.SheetView.{sheet_of}
+use Rattle.potential_check.specs.Certificates.SheetView.{sheet_of}
 use Rattle.potential_check.specs.Leading.{leading_lines, lines_after}
 use Rattle.mte_engine.specs.Check.{CheckAnswers}
 use Rattle.mte_engine.specs.Parts.{profile_part, sheet_part}

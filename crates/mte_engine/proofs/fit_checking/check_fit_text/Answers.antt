@@ -1,7 +1,7 @@
 use Rattle.std.proofs.Common.{sym, ◌∙◌}
 use Rattle.std.proofs.lemmas.Result.{err_from_is_err_and}
 use Rattle.byte_streams.specs.TextLeft.{text_left}
-use Rattle.certificates.specs.FitView.{fit_of}
+use Rattle.potential_check.specs.Certificates.FitView.{fit_of}
 use Rattle.line_text.specs.Lines.{lines}
 use Rattle.mte_engine.proofs.EitherFit.{fit_refused, history_answers, over_answers}
 use Rattle.mte_engine.proofs.fit_checking.check_fit_text.Goals as goal

@@ -1,7 +1,7 @@
 use Rattle.std.proofs.Common.{◌≡◌, ◌+◌, ◌∷◌, refl, sym, ◌∙◌}
 use Rattle.line_text.specs.Lines.{lines}
-use Rattle.timeline_check.specs.MomentsLine.{moments_of}
-use Rattle.timeline_count.specs.TimelineText.{timeline_of_lines}
+use Rattle.potential_check.specs.Footprints.Timelines.MomentsLine.{moments_of}
+use Rattle.history_count.specs.Timelines.TimelineText.{timeline_of_lines}
 use Rattle.mte_engine.specs.CheckFitOver.{moments_part}
 use Rattle.mte_engine.specs.Parts.{timeline_part}
 use Rattle.mte_engine.proofs.LeadingAnd.{both_read}

@@ -1,7 +1,7 @@
 use Rattle.std.proofs.Common.{◌∙◌, ap, subst, List, ℕ}
-use Rattle.certificates.specs.FitView.{fit_of}
+use Rattle.potential_check.specs.Certificates.FitView.{fit_of}
 use Rattle.potential_check.specs.FitText.{fit_text}
-use Rattle.certificates.specs.declared.fit.Fit.{Fit}
+use Rattle.potential_check.specs.declared.certificates.fit.Fit.{Fit}
 use Rattle.tuner_theory.proofs.FootprintLawLemmas.{peaks_are_counts}
 use Rattle.tuner_theory.proofs.LawLemmas.{few_places}
 use Rattle.history_count.specs.Histories.{History}

@@ -1,6 +1,6 @@
 use Rattle.history_count.specs.HistoryText.{SpellsHistory, history_of_lines}
 use Rattle.profile_count.specs.ProfileText.{SpellsProfile, profile_of_lines}
-use Rattle.timeline_count.specs.TimelineText.{SpellsTimeline, timeline_of_lines}
+use Rattle.history_count.specs.Timelines.TimelineText.{SpellsTimeline, timeline_of_lines}
 use Rattle.mte_engine.specs.Parts.{history_part, profile_part, timeline_part}
 use Rattle.mte_engine.proofs.FaultLines.{after_table_at_first, alone_at_first, check_profile_at_first, profile_is_part, replay_at_first, shown_with_line}
 use Rattle.mte_engine.proofs.HistoryFaultLines.{check_fit_history_at_first, history_is_part}

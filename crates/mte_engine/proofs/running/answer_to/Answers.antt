@@ -1,8 +1,8 @@
 use Rattle.std.proofs.Common.{ap, ◌∙◌, List, ℕ, ◌++◌}
 use Rattle.std.proofs.lemmas.Result.{err_from_is_err_and}
-use Rattle.certificates.specs.SheetView.{sheet_of}
+use Rattle.potential_check.specs.Certificates.SheetView.{sheet_of}
 use Rattle.potential_check.specs.SheetText.{sheet_text}
-use Rattle.certificates.specs.declared.sheet.Sheet.{Sheet}
+use Rattle.potential_check.specs.declared.certificates.sheet.Sheet.{Sheet}
 use Rattle.mte_engine.specs.Replay.{report_on}
 use Rattle.mte_engine.specs.ReportLeft.{report_left}
 use Rattle.mte_engine.proofs.RunAnswers.{run_refused, run_written}

@@ -1,7 +1,7 @@
 use Rattle.std.proofs.Common.{◌∙◌, ap, List, ℕ}
-use Rattle.certificates.specs.SheetView.{sheet_of}
+use Rattle.potential_check.specs.Certificates.SheetView.{sheet_of}
 use Rattle.potential_check.specs.SheetText.{sheet_text}
-use Rattle.certificates.specs.declared.sheet.Sheet.{Sheet}
+use Rattle.potential_check.specs.declared.certificates.sheet.Sheet.{Sheet}
 use Rattle.tuner_theory.proofs.LawLemmas.{few_places}
 use Rattle.mte_engine.specs.declared.engine.Status.TheVariants.{Done}
 use Rattle.mte_engine.proofs.RowLines.{short_rows}

@@ -1,5 +1,5 @@
 use Rattle.tuner_theory.proofs.LawLemmas.{optimal_is_best}
-use Rattle.certificates.specs.SheetView.{sheet_of}
+use Rattle.potential_check.specs.Certificates.SheetView.{sheet_of}
 use Rattle.potential_check.proofs.checker.check.Goals as goal
 
 pub returns-in-Some-refusal-clause-verdict : goal.returns-in-Some-refusal-clause-verdict

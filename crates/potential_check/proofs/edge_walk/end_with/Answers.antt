@@ -1,5 +1,5 @@
 use Rattle.std.proofs.Common.{◌≤◌, ◌^◌, arith}
-use Rattle.certificates.proofs.LawLemmas.{payload_fits}
+use Rattle.potential_check.proofs.CertificateLemmas.LawLemmas.{payload_fits}
 use Rattle.potential_check.proofs.edge_walk.end_with.Goals as goal
 
 pub overflow_mul-result : goal.overflow_mul-result

@@ -1,5 +1,5 @@
 use mathlib.Core.Logic.Iff
-use Rattle.certificates.specs.SheetView.{sheet_of}
+use Rattle.potential_check.specs.Certificates.SheetView.{sheet_of}
 use Rattle.potential_check.proofs.RowConditions.{edges-met, rows-bounded}
 use Rattle.potential_check.proofs.sheet_on_spans.SheetOnSpans.meets_edge.Goals as goal
 

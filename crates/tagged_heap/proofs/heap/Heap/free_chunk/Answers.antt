@@ -7,7 +7,7 @@ use Rattle.tagged_heap.specs.Representation.{IsKept}
 use Rattle.tagged_heap.proofs.Kept.{class_most}
 use Rattle.tagged_heap.proofs.TakingBack.{live_fits, live_header, retire_room, can_be_put, kept_freed, freed_held, freed_shown}
 use Rattle.tagged_heap.proofs.heap.Heap.free_chunk.Goals as goal
-use Rattle.tagged_heap.proofs.heap.Heap.free_chunk.Goals.{After-self, After-put_at, After-from}
+use Rattle.tagged_heap.proofs.heap.Heap.free_chunk.Goals.{After-put_at, After-from}
 
 pub overflow_mul-bytes : goal.overflow_mul-bytes
 overflow_mul-bytes c =

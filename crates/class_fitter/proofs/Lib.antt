@@ -1,6 +1,0 @@
-pub mod LawLemmas
-pub mod Fits
-pub mod Numbers
-pub mod OneFit
-pub mod Places
-pub mod SoFar

@@ -1,0 +1,113 @@
+-- One place of the rows, row by row.
+use Rattle.std.proofs.Common.{◌≡◌, ℕ, suc, ◌+◌, ◌-◌, ◌^◌, ◌<◌, ◌≤◌, List, [], slice_index, slice_index_or, slice_set, arith, ap, ◌∙◌, inl, inr}
+use Rattle.std.proofs.lemmas.Bool.{cases_lt}
+use Rattle.class_tuner.specs.Fits.PlaceByPlace.{AreCostsFrom, AreLeastRowsFrom, AreRowsSoFar, IsPlaceFilled, end_cost}
+use Rattle.class_tuner.proofs.FitLemmas.Numbers.{set-here, set-other_place, set-other_row, set-shape, set-small}
+use Rattle.tuner_theory.specs.Rows.{IsFilled, IsLeastEnd, number_at}
+use Rattle.tuner_theory.proofs.Sheets.{rows-end}
+
+-- a least end, by costs that are the same at later places
+pub least-same : (f g : ℕ → ℕ) (place d end : ℕ) → ((j : ℕ) → place < j → j ≤ d → f j ≡ g j) → IsLeastEnd f place d end →
+    IsLeastEnd g place d end
+least-same f g place d end same l = grind arith
+
+-- the rows with a number set, and their ends with an end set
+abbrev pub with_number : List (List ℕ) → ℕ → ℕ → ℕ → List (List ℕ)
+with_number rows k place v = slice_set rows k (slice_set (slice_index_or rows k []) place v)
+
+module _ (costs : List ℕ) (d limit place : ℕ) (rows ends : List (List ℕ)) (from : AreCostsFrom d place costs)
+    (so_far : AreRowsSoFar d limit rows ends) where
+  pub so_far-set : (k v w : ℕ) → k < limit → v ≤ slice_index costs d
+      → AreRowsSoFar d limit (with_number rows k place v) (with_number ends k place w)
+  so_far-set k v w lt le = record {
+    rows_shape = set-shape rows limit d so_far.rows_shape k place v lt from.within;
+    ends_shape = set-shape ends limit d so_far.ends_shape k place w lt from.within;
+    small = set-small rows limit d so_far.rows_shape k place v lt from.within (2 ^ 60)
+        (omega (arith, from.small d from.within (omega arith))) so_far.small;
+  }
+
+  pub place-first : 1 ≤ limit
+      → IsPlaceFilled costs d place 1 rows (with_number rows 0 place (slice_index costs d)) ends (with_number ends 0 place d)
+  place-first some = record {
+    rows_kept = λ m j ne. set-other_place rows limit d so_far.rows_shape 0 place (slice_index costs d) some from.within m j ne;
+    ends_kept = λ m j ne. set-other_place ends limit d so_far.ends_shape 0 place d some from.within m j ne;
+    first = (
+      set-here rows limit d so_far.rows_shape 0 place (slice_index costs d) some from.within,
+      set-here ends limit d so_far.ends_shape 0 place d some from.within,
+    );
+    later = λ m one lt. absurd (omega arith);
+  }
+
+  pub place-more : (old_rows old_ends : List (List ℕ)) (k number end : ℕ) (before : List ℕ) → 1 ≤ k → k < limit
+      → before ≡ slice_index_or rows (k - 1) []
+      → IsPlaceFilled costs d place k old_rows rows old_ends ends
+      → IsLeastEnd (end_cost costs (slice_index before)) place d end → number ≡ end_cost costs (slice_index before) end
+      → IsPlaceFilled costs d place (suc k) old_rows (with_number rows k place number) old_ends (with_number ends k place end)
+  place-more old_rows old_ends k number end before one lt read filled least value = record {
+    rows_kept = λ m j ne.
+        set-other_place rows limit d so_far.rows_shape k place number lt from.within m j ne ∙ filled.rows_kept m j ne;
+    ends_kept = λ m j ne.
+        set-other_place ends limit d so_far.ends_shape k place end lt from.within m j ne ∙ filled.ends_kept m j ne;
+    first = (
+      set-other_row rows limit d so_far.rows_shape k place number lt from.within 1 place (λ e. omega (arith, e)) ∙ filled.first.0,
+      set-other_row ends limit d so_far.ends_shape k place end lt from.within 1 place (λ e. omega (arith, e)) ∙ filled.first.1,
+    );
+    later = later;
+  }
+    where
+      same : (j : ℕ) → place < j → j ≤ d → end_cost costs (slice_index before) j ≡ end_cost costs (number_at old_rows k) j
+      same j after within =
+          omega (arith, ap (λ (b : List ℕ). slice_index b j) read, filled.rows_kept k j (λ e. omega (arith, e)))
+
+      later : (m : ℕ) → 1 ≤ m → m < suc k
+          → IsLeastEnd (end_cost costs (number_at old_rows m)) place d (number_at (with_number ends k place end) (suc m) place)
+          × (number_at (with_number rows k place number) (suc m) place
+          ≡ end_cost costs (number_at old_rows m) (number_at (with_number ends k place end) (suc m) place))
+      later m some below =
+          elim (cases_lt m k) [
+            | inl inside ↦ (let old = filled.later m some inside in
+                rw (
+                  set-other_row rows limit d so_far.rows_shape k place number lt from.within (suc m) place (λ e. omega (arith, e)),
+                  set-other_row ends limit d so_far.ends_shape k place end lt from.within (suc m) place (λ e. omega (arith, e)),
+                ) old)
+            | inr past ↦ (let here : m ≡ k = omega arith in
+                rw (
+                  here,
+                  set-here rows limit d so_far.rows_shape k place number lt from.within,
+                  set-here ends limit d so_far.ends_shape k place end lt from.within,
+                ) (least-same _ _ place d end same least, value ∙ same end least.from least.to))
+          ]
+
+-- ---- from this place on
+
+pub rows-from : (cost : ℕ → ℕ → ℕ) (costs : List ℕ) (d limit i : ℕ) (rows rows' ends ends' : List (List ℕ)) → i < d
+    → ((j : ℕ) → i < j → j ≤ d → slice_index costs j ≡ cost i j)
+    → AreLeastRowsFrom cost d limit (i + 1) (number_at rows) (number_at ends)
+    → IsPlaceFilled costs d i limit rows rows' ends ends'
+    → AreLeastRowsFrom cost d limit i (number_at rows') (number_at ends')
+rows-from cost costs d limit i rows rows' ends ends' inside costs_are later filled = record { first_row = first_row; later_row = later_row }
+  where
+    first_row : (m : ℕ) → 1 ≤ limit → i ≤ m → m < d → (number_at rows' 1 m ≡ cost m d) × (number_at ends' 1 m ≡ d)
+    first_row m some from lt =
+        grind (arith, later.first_row m some, filled.rows_kept 1 m, filled.ends_kept 1 m, filled.first, costs_are d inside)
+
+    later_row : (k m : ℕ) → 1 ≤ k → k < limit → i ≤ m → m < d
+        → IsLeastEnd (λ j. cost m j + number_at rows' k j) m d (number_at ends' (suc k) m)
+        × (number_at rows' (suc k) m ≡ cost m (number_at ends' (suc k) m) + number_at rows' k (number_at ends' (suc k) m))
+    later_row k m one few from lt =
+        elim (cases_lt i m) [
+          | inl after ↦ (let old = later.later_row k m one few (omega arith) lt in
+              let same : (j : ℕ) → m < j → j ≤ d → cost m j + number_at rows k j ≡ cost m j + number_at rows' k j =
+              (λ j past to. grind (arith, filled.rows_kept k j)) in
+              rw (filled.rows_kept (suc k) m (λ e. omega (arith, e)), filled.ends_kept (suc k) m (λ e. omega (arith, e)))
+              (least-same _ _ m d _ same old.0, old.1 ∙ same _ old.0.from old.0.to))
+          | inr not ↦ (let here : m ≡ i = omega arith in
+              let new = filled.later k one few in
+              let same : (j : ℕ) → i < j → j ≤ d → end_cost costs (number_at rows k) j ≡ cost i j + number_at rows' k j =
+              (λ j past to. grind (arith, costs_are j, filled.rows_kept k j)) in
+              rw here (least-same _ _ i d _ same new.0, new.1 ∙ same _ new.0.from new.0.to))
+        ]
+
+pub all-filled : (cost : ℕ → ℕ → ℕ) (d limit : ℕ) (rows ends : List (List ℕ)) → AreRowsSoFar d limit rows ends
+    → AreLeastRowsFrom cost d limit 0 (number_at rows) (number_at ends) → IsFilled cost d limit rows ends
+all-filled cost d limit rows ends so_far from = grind (arith, rows-end)

@@ -1,0 +1,116 @@
+-- What a round shows, and what is kept of all of them.
+use Rattle.std.proofs.Common.{◌≡◌, ◌≤◌, ℕ, List, [], ◌∷◌, All, length, max, sym, subst, ◌∙◌, arith, refl}
+use Rattle.std.specs.List.{Contains}
+use Rattle.std.proofs.lemmas.List.{get_or_default}
+use Rattle.std.proofs.lemmas.List.Elements.{All-cons, All-nil}
+use Rattle.class_tuner.specs.Fits.Fitted.{IsFitOf}
+use Rattle.class_table.specs.Tables.{IsLegalTable}
+use Rattle.history_count.specs.Timelines.LiveBlocks.{AreFirsts}
+use Rattle.history_count.specs.Timelines.Requests.{Decides}
+use Rattle.tuner_theory.specs.Best.{IsCandidate}
+use Rattle.tuner_theory.specs.Fits.{Fit}
+use Rattle.tuner_theory.specs.Histories.{peaks}
+use Rattle.tuner_theory.specs.Timelines.{AreMoments, IsTimeline, footprint_over, history_at, moments}
+use Rattle.tuner_theory.specs.Waste.{Serves}
+use Rattle.tuner_theory.specs.declared.most_snapshots.TheConstants.{MOST_SNAPSHOTS}
+use Rattle.tuner_theory.specs.declared.size_event.SizeEvent.{SizeEvent}
+use Rattle.tuner_theory.proofs.TimelineCanonical.{canonical_over}
+use Rattle.tuner_theory.proofs.Timelines.{fit_bounds_timeline}
+use Rattle.class_tuner.specs.Fits.Timelines.Found.{IsBetween, IsLeastFit}
+
+-- Some moments, with the one that decides what serves.
+pub record AreDeciding (events : List SizeEvent) (numbers : List ℕ) (moment : ℕ) : Type 0 where
+  pub are : AreMoments events numbers
+  pub kept : Contains numbers moment
+
+-- further moments are those of the timeline
+pub firsts-within : (events : List SizeEvent) (classes firsts : List ℕ) → AreFirsts events classes firsts
+    → All (λ number. number ≤ length events) firsts
+firsts-within events classes firsts are k d lt =
+    omega (arith, (are.first k (omega (arith, are.len))).within, get_or_default firsts k d 0 lt)
+
+pub one-moment : (events : List SizeEvent) (numbers : List ℕ) (moment : ℕ) → moment ≤ length events → numbers ≡ moment ∷ []
+    → AreDeciding events numbers moment
+one-moment events numbers moment within is = rw is (record {
+  are = record {
+    some = omega arith;
+    few = omega arith;
+    within = All-cons (λ number. number ≤ length events) moment [] within (All-nil (λ number. number ≤ length events));
+  };
+  kept = (0, omega arith, refl);
+})
+
+some-kept : (numbers : List ℕ) (moment : ℕ) → Contains numbers moment → 1 ≤ length numbers
+some-kept numbers moment kept = omega (arith, kept.1)
+
+pub more-moments : (events : List SizeEvent) (numbers : List ℕ) (moment : ℕ) → length numbers ≤ MOST_SNAPSHOTS
+    → All (λ number. number ≤ length events) numbers → Contains numbers moment → AreDeciding events numbers moment
+more-moments events numbers moment few within kept = record {
+  are = record { some = some-kept numbers moment kept; few = few; within = within };
+  kept = kept;
+}
+
+-- What a round over such moments has.
+pub record IsRound (events : List SizeEvent) (numbers : List ℕ) (moment step limit : ℕ) (fit : Fit) (takes : ℕ) : Type 0 where
+  pub over : AreDeciding events numbers moment
+  pub fitted : IsFitOf (history_at events numbers) step limit fit
+  pub legal : IsLegalTable 1 fit.table
+  pub taken : takes ≡ footprint_over events fit.table
+
+module _ (events : List SizeEvent) (moment step limit : ℕ) (timeline : IsTimeline events) (decides : Decides events moment) where
+  pub round-serves : (numbers : List ℕ) (fit : Fit) (takes : ℕ) → IsRound events numbers moment step limit fit takes
+      → Serves (peaks (moments events)) fit.table
+  round-serves numbers fit takes round =
+      let kept = round.over.kept in
+      decides numbers fit.table kept.0 kept.1 (get_or_default numbers kept.0 0 moment kept.1 ∙ kept.2)
+      round.fitted.fitted.best.candidate.serving
+
+  pub round-candidate : (numbers : List ℕ) (fit : Fit) (takes : ℕ) → IsRound events numbers moment step limit fit takes
+      → IsCandidate (peaks (moments events)) step limit fit.table
+  round-candidate numbers fit takes round = record {
+    legal = round.fitted.fitted.best.candidate.legal;
+    few = round.fitted.fitted.best.candidate.few;
+    serving = round-serves numbers fit takes round;
+  }
+
+  pub round-bounds : (numbers : List ℕ) (fit : Fit) (takes : ℕ) → IsRound events numbers moment step limit fit takes → (other : List ℕ)
+      → IsCandidate (peaks (moments events)) step limit other → fit.footprint ≤ footprint_over events other
+  round-bounds numbers fit takes round other candidate =
+      let of_step = subst (λ (s : ℕ). IsCandidate (peaks (moments events)) s limit other) (sym round.fitted.for_step) candidate in
+      let of_limit = subst (λ (l : ℕ). IsCandidate (peaks (moments events)) fit.step l other) (sym round.fitted.for_limit) of_step in
+      fit_bounds_timeline events numbers fit other timeline round.over.are round.legal round.fitted.optimal of_limit
+
+  -- a round whose table takes no more over the whole timeline
+  pub round-least : (numbers : List ℕ) (fit : Fit) (takes : ℕ) → IsRound events numbers moment step limit fit takes
+      → takes ≡ fit.footprint → IsLeastFit events step limit numbers fit
+  round-least numbers fit takes round tight =
+      let over : footprint_over events fit.table ≡ fit.footprint = sym round.taken ∙ tight in
+      record {
+        are = round.over.are;
+        over_moments = round.fitted;
+        takes = over;
+        fitted = canonical_over events numbers step limit fit.table round.over.are round.fitted.fitted
+            (round-serves numbers fit takes round) (over ∙ round.fitted.takes);
+      }
+
+  -- the first round
+  pub between-first : (numbers : List ℕ) (fit : Fit) (takes : ℕ) → IsRound events numbers moment step limit fit takes
+      → IsBetween events step limit fit.table takes fit.footprint
+  between-first numbers fit takes round = record {
+    candidate = round-candidate numbers fit takes round;
+    taken = round.taken;
+    bound = round-bounds numbers fit takes round;
+  }
+
+  -- one round more: its table or the one before it, and the greater bound
+  pub between-more : (numbers : List ℕ) (fit : Fit) (takes : ℕ) (table : List ℕ) (best least : ℕ)
+      → IsRound events numbers moment step limit fit takes → IsBetween events step limit table best least
+      → IsBetween events step limit table best (max least fit.footprint)
+      × IsBetween events step limit fit.table takes (max least fit.footprint)
+  between-more numbers fit takes table best least round before =
+      let bound : (other : List ℕ) → IsCandidate (peaks (moments events)) step limit other
+      → max least fit.footprint ≤ footprint_over events other =
+      λ other candidate. omega (arith, before.bound other candidate, round-bounds numbers fit takes round other candidate) in (
+        record { candidate = before.candidate; taken = before.taken; bound = bound },
+        record { candidate = round-candidate numbers fit takes round; taken = round.taken; bound = bound },
+      )

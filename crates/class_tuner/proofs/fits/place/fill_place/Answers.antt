@@ -1,0 +1,75 @@
+use Rattle.std.proofs.Common.{◌≡◌, ℕ, ◌-◌, ◌<◌, List, [], length, slice_index, slice_index_or, add-one, arith, ap, sym, ◌∙◌}
+use Rattle.tuner_theory.proofs.Lists.{lists-length, row-read}
+use Rattle.class_tuner.proofs.FitLemmas.Places.{place-more, so_far-set}
+use Rattle.potential_check.proofs.FootprintLemmas.LawLemmas.{bounds-same, row_bounds-set}
+use Rattle.tuner_theory.specs.Lists.{lists_of}
+use Rattle.tuner_theory.specs.Rows.{number_at}
+use Rattle.class_tuner.proofs.fits.place.fill_place.Goals as goal
+
+pub least_end_in-number-requires-clause-costs : goal.least_end_in-number-requires-clause-costs
+least_end_in-number-requires-clause-costs c =
+    let so_far = c.loop-k.invariant.rows in
+    let read = row-read c.loop-k.rows (c.loop-k.k - 1) c.index-rows-k.result c.deref-in-loop-k.result.now
+    (omega (arith, so_far.rows_shape.row_count)) c.deref-in-loop-k.ensures.value in
+    let size : length c.deref-in-loop-k.result.now ≡ c.args.places = ap length read ∙ so_far.rows_shape.row_lengths (c.loop-k.k - 1) []
+    (omega (arith, so_far.rows_shape.row_count)) in
+    rw size c.requires.costs
+
+pub least_end_in-number-requires-clause-slack : goal.least_end_in-number-requires-clause-slack
+least_end_in-number-requires-clause-slack c =
+    let so_far = c.loop-k.invariant.rows in
+    let read = row-read c.loop-k.rows (c.loop-k.k - 1) c.index-rows-k.result c.deref-in-loop-k.result.now
+    (omega (arith, so_far.rows_shape.row_count)) c.deref-in-loop-k.ensures.value in
+    let size : length c.deref-in-loop-k.result.now ≡ c.args.places = ap length read ∙ so_far.rows_shape.row_lengths (c.loop-k.k - 1) []
+    (omega (arith, so_far.rows_shape.row_count)) in
+    rw size c.requires.slack
+
+pub least_end_in-number-requires-clause-small : goal.least_end_in-number-requires-clause-small
+least_end_in-number-requires-clause-small c = λ j.
+    let so_far = c.loop-k.invariant.rows in
+    let read = row-read c.loop-k.rows (c.loop-k.k - 1) c.index-rows-k.result c.deref-in-loop-k.result.now
+    (omega (arith, so_far.rows_shape.row_count)) c.deref-in-loop-k.ensures.value in
+    rw read (so_far.small c.loop-k.k j)
+
+pub least_end_in-number-requires-clause-bounds : goal.least_end_in-number-requires-clause-bounds
+least_end_in-number-requires-clause-bounds c =
+    let so_far = c.loop-k.invariant.rows in
+    let k = c.loop-k.k in
+    let row = c.deref-in-loop-k.result.now in
+    let read = row-read c.loop-k.rows (k - 1) c.index-rows-k.result row
+    (omega (arith, so_far.rows_shape.row_count)) c.deref-in-loop-k.ensures.value in
+    let size : length row ≡ c.args.places = ap length read ∙ so_far.rows_shape.row_lengths (k - 1) []
+    (omega (arith, so_far.rows_shape.row_count)) in
+    let same : (j : ℕ) → c.args.place < j → number_at (lists_of c.args.rows.now) k j ≡ slice_index row j =
+    (λ j past. sym (ap (λ (b : List ℕ). slice_index b j) read ∙ c.loop-k.invariant.filled.rows_kept k j (λ e. omega (arith, e)))) in
+    rw size (bounds-same c.args.costs.now c.args.slack.now c.args.place c.args.places (number_at (lists_of c.args.rows.now) k)
+    (slice_index row) (slice_index_or (lists_of c.loop-k.bounds) k []) same (c.loop-k.invariant.bounds.each k (omega arith) (omega arith)))
+
+pub loop-k-preserved : goal.loop-k-preserved
+loop-k-preserved c =
+    let so_far = c.loop-k.invariant.rows in
+    let k = c.loop-k.k in
+    let row = c.deref-in-loop-k.result.now in
+    let read = row-read c.loop-k.rows (k - 1) c.index-rows-k.result row
+    (omega (arith, so_far.rows_shape.row_count)) c.deref-in-loop-k.ensures.value in
+    let size : length row ≡ c.args.places = ap length read ∙ so_far.rows_shape.row_lengths (k - 1) []
+    (omega (arith, so_far.rows_shape.row_count)) in
+    let same : (j : ℕ) → c.args.place < j → slice_index row j ≡ number_at (lists_of c.args.rows.now) k j =
+    (λ j past. ap (λ (b : List ℕ). slice_index b j) read ∙ c.loop-k.invariant.filled.rows_kept k j (λ e. omega (arith, e))) in
+    let found = c.least_end_in-number in
+    let bounds = rw size at found.ensures.bounds in
+    rw (c.set_number-in-loop-k.ensures, c.set_end-in-loop-k.ensures, add-one) (record {
+      rows = so_far-set c.args.costs.now c.args.places c.args.limit c.args.place (lists_of c.loop-k.rows) (lists_of c.loop-k.ends)
+          c.requires.costs so_far k found.result.0 found.result.1 (omega arith)
+          (omega (arith, found.ensures.small, ap (slice_index c.args.costs.now) size));
+      filled = place-more c.args.costs.now c.args.places c.args.limit c.args.place (lists_of c.loop-k.rows) (lists_of c.loop-k.ends)
+          c.requires.costs so_far (lists_of c.args.rows.now) (lists_of c.args.ends.now) k found.result.0
+          found.result.1 row (omega arith) (omega arith) read c.loop-k.invariant.filled
+          (rw size at found.ensures.least) found.ensures.value;
+      bounds = row_bounds-set c.args.costs.now c.args.slack.now c.args.place c.args.places c.args.limit
+          (number_at (lists_of c.args.rows.now)) (lists_of c.loop-k.bounds) (lists_of found.new.bounds) k
+          (lists-length found.new.bounds ∙ (omega arith ∙ sym (lists-length c.loop-k.bounds))) found.ensures.others
+          (bounds-same c.args.costs.now c.args.slack.now c.args.place c.args.places (slice_index row)
+          (number_at (lists_of c.args.rows.now) k) (slice_index_or (lists_of found.new.bounds) k []) same bounds)
+          c.loop-k.invariant.bounds;
+    })

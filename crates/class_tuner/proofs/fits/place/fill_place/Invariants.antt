@@ -1,0 +1,12 @@
+use Rattle.potential_check.specs.Footprints.Bounds.{AreRowBounds}
+use Rattle.class_tuner.specs.Fits.PlaceByPlace.{AreRowsSoFar, IsPlaceFilled}
+use Rattle.tuner_theory.specs.Lists.{lists_of}
+use Rattle.tuner_theory.specs.Rows.{number_at}
+use Rattle.class_tuner.proofs.fits.place.fill_place.Given as goal
+
+abbrev pub invariant-loop-k : goal.invariant-loop-k
+invariant-loop-k l = record {
+  rows : AreRowsSoFar l.places l.limit (lists_of l.rows) (lists_of l.ends);
+  filled : IsPlaceFilled l.costs l.places l.place l.k (lists_of l.fn.rows) (lists_of l.rows) (lists_of l.fn.ends) (lists_of l.ends);
+  bounds : AreRowBounds l.costs l.slack l.place l.places l.limit (number_at (lists_of l.fn.rows)) (lists_of l.bounds);
+}

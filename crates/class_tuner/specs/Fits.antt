@@ -1,0 +1,4 @@
+pub mod Ends
+pub mod Fitted
+pub mod PlaceByPlace
+pub mod Timelines

@@ -1,0 +1,71 @@
+//! One round: a fit over some moments, and what its table takes over the whole timeline.
+ghost use Rattle.std.specs.Prelude.{◌≡◌, ◌≤◌, ◌⊎◌, IfOk, IsTrue, ◌↔◌, length, All};
+ghost use Rattle.potential_check.specs.Certificates.FitView.{fit_of};
+ghost use Rattle.class_tuner.specs.Fits.Fitted.{IsFitOf};
+ghost use Rattle.class_table.specs.Steps.{IsStep};
+ghost use Rattle.class_table.specs.Tables.{IsLegalTable};
+ghost use Rattle.history_count.specs.Timelines.LiveBlocks.{AreFirsts};
+ghost use Rattle.tuner_theory.specs.Timelines.{AreMoments, IsTimeline, footprint_over, history_at};
+
+use crate::fits::fit;
+use class_table::MOST_CLASSES;
+use history_count::footprint_over;
+use potential_check::{Fit, history_over};
+use std::alloc::{AllocError, Global};
+use tuner_theory::SizeEvent;
+
+/// A fit over some moments.
+#[derive(Debug, Drop)]
+pub(crate) struct Round {
+    /// The fit.
+    pub(crate) fit: Fit,
+    /// What its table takes over the whole timeline, in bytes.
+    pub(crate) takes: u64,
+    /// For each of its classes the first moment at which most of its blocks are live.
+    pub(crate) firsts: Vec<usize>,
+}
+
+impl Round {
+    /// Whether its table takes no more over the whole timeline than over its moments.
+    pub(crate) fn is_tight(&self) -> bool
+        ensures { IsTrue result ↔ (self.now.takes ≡ self.now.fit.footprint) }
+    {
+        self.takes == self.fit.footprint
+    }
+}
+
+/// The round of some moments. The only error is that the allocator refuses memory.
+pub(crate) fn round_over(
+    alloc: Global,
+    events: &[SizeEvent],
+    numbers: &[usize],
+    limit: u8,
+    step: u8,
+) -> Result<Round, AllocError>
+    requires some { 1 ≤ limit }
+    requires few { limit ≤ MOST_CLASSES }
+    requires step { IsStep step }
+    requires timeline { IsTimeline events.now }
+    requires moments { AreMoments events.now numbers.now }
+    ensures fitted { IfOk result (λ round. IsFitOf (history_at events.now numbers.now) step limit (fit_of round.fit)) }
+    ensures takes { IfOk result (λ round. round.takes ≡ footprint_over events.now round.fit.table) }
+    ensures firsts { IfOk result (λ round. AreFirsts events.now round.fit.table round.firsts.items) }
+    ensures legal { IfOk result (λ round. IsLegalTable 1 round.fit.table) }
+{
+    let history = history_over(alloc, events, numbers)?;
+    let fit = fit(alloc, &history, limit, step)?.into_fit();
+    let _classes = fit.table.len();
+    let taken = footprint_over(alloc, events, &fit.table)?;
+    Ok(Round {
+        fit,
+        takes: taken.bytes,
+        firsts: taken.firsts,
+    })
+}
+
+/// The one of two rounds whose table takes less.
+pub(crate) fn better(one: Round, other: Round) -> Round
+    ensures { (result ≡ one) ⊎ (result ≡ other) }
+{
+    if other.takes < one.takes { other } else { one }
+}

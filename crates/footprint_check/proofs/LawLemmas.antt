@@ -1,3 +1,0 @@
--- What the proofs of the crates above cite: of the number of spans, and of the bounds of blocks of ends.
-pub use Rattle.footprint_check.proofs.Bounds.{bounds-same, bounds-set, row-others, row-same, row_bounds-next, row_bounds-same, row_bounds-set, slack-narrowed}
-pub use Rattle.footprint_check.proofs.CallCounts.{spans_of_places}

@@ -1,5 +1,0 @@
-use Rattle.std.proofs.Common.{◌-◌, ◌<◌, ◌≤◌, ℕ, slice_index}
-use Rattle.footprint_check.proofs.slack.least_growth.Given as goal
-
-abbrev pub invariant-loop-j : goal.invariant-loop-j
-invariant-loop-j l = record { least : (m : ℕ) → l.start ≤ m → m < l.j → l.growth ≤ slice_index l.costs m - slice_index l.older m }

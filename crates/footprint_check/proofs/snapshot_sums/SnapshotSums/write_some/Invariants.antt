@@ -1,7 +1,0 @@
-use Rattle.footprint_check.specs.SnapshotSums.{AreWritten}
-use Rattle.footprint_check.proofs.snapshot_sums.SnapshotSums.write_some.Given as goal
-
-abbrev pub invariant-loop-j : goal.invariant-loop-j
-invariant-loop-j l = record {
-  written : AreWritten l.self.history.now.snapshots l.self.spans.now.counts l.self.spans.now.step l.i l.j l.costs;
-}

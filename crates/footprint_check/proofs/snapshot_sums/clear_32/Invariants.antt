@@ -1,8 +1,0 @@
-use Rattle.std.proofs.Common.{◌≡◌, ◌<◌, ℕ, length, slice_index}
-use Rattle.footprint_check.proofs.snapshot_sums.clear_32.Given as goal
-
-abbrev pub invariant-loop-j : goal.invariant-loop-j
-invariant-loop-j l = record {
-  size : length l.numbers ≡ length l.fn.numbers;
-  zeros : (k : ℕ) → k < l.j → slice_index l.numbers k ≡ 0;
-}

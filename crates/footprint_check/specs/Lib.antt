@@ -1,4 +1,0 @@
-pub mod Bounds
-pub mod CallCounts
-pub mod RowConditions
-pub mod SnapshotSums

@@ -1,0 +1,167 @@
+-- The requested sizes, one event more.
+use Rattle.std.proofs.Common.{◌≡◌, ◌≢◌, ℕ, suc, ◌+◌, ◌-◌, ◌<◌, ◌≤◌, ◌⊎◌, List, length, take, slice_index, get_or, arith, refl, ap, ◌∙◌, inl, inr, add-one, None, IsSome}
+use Rattle.std.proofs.lemmas.Bool.{cases_lt}
+use Rattle.std.proofs.lemmas.Bool.Decides.{eqb_tells, nat_tests}
+use Rattle.std.proofs.lemmas.List.{take_all}
+use Rattle.class_table.specs.Sizes.{largest_counted}
+use Rattle.class_table.specs.Tables.{class_for}
+use Rattle.tuner_theory.specs.Timelines.{IsTimeline, requested, snapshot_at}
+use Rattle.tuner_theory.specs.declared.size_event.SizeEvent.{SizeEvent}
+use Rattle.tuner_theory.specs.declared.size_event.SizeEvent.TheVariants.{Request, Free}
+use Rattle.tuner_theory.proofs.Timelines.{live-at}
+use Rattle.tuner_theory.proofs.TimelineSteps.{frees_at, freed-more, largest_is_live, requested-more, requested_sizes, requests_at}
+use Rattle.history_count.specs.Timelines.Requests.{Decides, IsLargestSoFar, IsLeastSoFar, IsLeastUnserved}
+
+-- how many requests of a size there are after one event more
+requested-next : (events : List SizeEvent) (k n : ℕ) (event : SizeEvent) → k < length events → get_or events k (Request 0) ≡ event
+    → requested (take (k + 1) events) n ≡ requested (take k events) n + requests_at n event
+requested-next events k n event lt is =
+    ap (λ j. requested (take j events) n) (add-one k) ∙ requested-more events k n (Request 0) lt
+    ∙ ap (λ e. requested (take k events) n + requests_at n e) is
+
+own-request : (n : ℕ) → requests_at n (Request n) ≡ 1
+own-request n = grind (arith, nat_tests)
+
+other-request : (m n : ℕ) → m ≢ n → requests_at m (Request n) ≡ 0
+other-request m n other = grind (arith, nat_tests)
+
+requested-still : (events : List SizeEvent) (k m n : ℕ) → k < length events → get_or events k (Request 0) ≡ Request n → m ≢ n
+    → requested (take (k + 1) events) m ≡ requested (take k events) m
+requested-still events k m n lt is other = omega (arith, requested-next events k m (Request n) lt is, other-request m n other)
+
+requested-free : (events : List SizeEvent) (k m n : ℕ) → k < length events → get_or events k (Request 0) ≡ Free n
+    → requested (take (k + 1) events) m ≡ requested (take k events) m
+requested-free events k m n lt is = omega (arith, requested-next events k m (Free n) lt is)
+
+-- ---- the largest one
+
+pub largest_none : (events : List SizeEvent) → IsLargestSoFar events 0 0 0
+largest_none events = record {
+  within = omega arith;
+  counted = omega arith;
+  below = λ n le some. absurd (omega (arith, some));
+  live = λ some. absurd (omega arith);
+}
+
+pub largest_request : (events : List SizeEvent) (k above moment n : ℕ) → IsTimeline events → k < length events
+    → IsLargestSoFar events k above moment → get_or events k (Request 0) ≡ Request n → above ≤ n → n ≤ largest_counted
+    → IsLargestSoFar events (k + 1) (n + 1) (k + 1)
+largest_request events k above moment n timeline lt found is larger counted = record {
+  within = omega arith;
+  counted = omega arith;
+  below = λ m le some. elim (eqb_tells m n) [
+    | inl same ↦ omega (arith, same.1)
+    | inr differs ↦ omega (arith, found.below m le (omega (arith, some, requested-still events k m n lt is differs.1)))
+  ];
+  live = λ _.
+      let here : n + 1 - 1 ≡ n = omega arith in
+      rw here (omega (
+        arith,
+        ap (λ j. slice_index (snapshot_at events j) n) (add-one k),
+        live-at events (suc k) n 0 counted,
+        requested-more events k n (Request 0) lt,
+        freed-more events k n (Request 0) lt,
+        timeline.live k n counted,
+        own-request n,
+        ap (requests_at n) is,
+        no-free n (get_or events k (Request 0)) is,
+      ));
+}
+  where
+    no-free : (m : ℕ) (event : SizeEvent) → event ≡ Request n → frees_at m event ≡ 0
+    no-free m event e = rw e refl
+
+pub largest_other : (events : List SizeEvent) (k above moment n : ℕ) → k < length events → IsLargestSoFar events k above moment
+    → get_or events k (Request 0) ≡ Request n → (n < above) ⊎ (largest_counted < n) → IsLargestSoFar events (k + 1) above moment
+largest_other events k above moment n lt found is which = record {
+  within = omega (arith, found.within);
+  counted = found.counted;
+  below = λ m le some. elim (eqb_tells m n) [
+    | inl same ↦ elim which [
+      | inl low ↦ omega (arith, same.1)
+      | inr large ↦ absurd (omega (arith, same.1))
+    ]
+    | inr differs ↦ found.below m le (omega (arith, some, requested-still events k m n lt is differs.1))
+  ];
+  live = found.live;
+}
+
+pub largest_free : (events : List SizeEvent) (k above moment n : ℕ) → k < length events → IsLargestSoFar events k above moment
+    → get_or events k (Request 0) ≡ Free n → IsLargestSoFar events (k + 1) above moment
+largest_free events k above moment n lt found is = record {
+  within = omega (arith, found.within);
+  counted = found.counted;
+  below = λ m le some. found.below m le (omega (arith, some, requested-free events k m n lt is));
+  live = found.live;
+}
+
+pub largest_decides : (events : List SizeEvent) (k above moment : ℕ) → IsTimeline events → k ≡ length events
+    → IsLargestSoFar events k above moment → Decides events moment
+largest_decides events k above moment timeline all found numbers classes j lt is serving =
+    elim (cases_lt 0 above) [
+      | inl some ↦ largest_is_live events numbers classes j (above - 1) timeline lt (omega (arith, found.counted))
+          (rw is (found.live some)) (λ n le requests. omega (arith, below n le requests)) serving
+      | inr none ↦ (requested_sizes events classes timeline).1 (λ n le requests. absurd (omega (arith, below n le requests)))
+    ]
+  where
+    below : (n : ℕ) → n ≤ largest_counted → 0 < requested events n → n < above
+    below n le requests = found.below n le (rw (take_all k events (omega arith)) requests)
+
+-- ---- the least one without a class
+
+pub least_none : (events : List SizeEvent) (classes : List ℕ) → IsLeastSoFar events classes 0 (largest_counted + 1)
+least_none events classes = record {
+  within = omega arith;
+  below = λ n le some. absurd (omega (arith, some));
+  some = λ le. absurd (omega arith);
+  no_class = λ le. absurd (omega arith);
+}
+
+pub least_request : (events : List SizeEvent) (classes : List ℕ) (k least n : ℕ) → k < length events → IsLeastSoFar events classes k least
+    → get_or events k (Request 0) ≡ Request n → n < least → class_for classes n ≡ None → IsLeastSoFar events classes (k + 1) n
+least_request events classes k least n lt found is lower none = record {
+  within = omega (arith, found.within);
+  below = λ m less some. found.below m (omega arith) (omega (arith, some, requested-still events k m n lt is (λ e. omega arith)));
+  some = λ le. omega (arith, requested-next events k n (Request n) lt is, own-request n);
+  no_class = λ le. none;
+}
+
+pub least_other : (events : List SizeEvent) (classes : List ℕ) (k least n : ℕ) → k < length events → IsLeastSoFar events classes k least
+    → get_or events k (Request 0) ≡ Request n → (least ≤ n) ⊎ IsSome (class_for classes n) → IsLeastSoFar events classes (k + 1) least
+least_other events classes k least n lt found is which = record {
+  within = found.within;
+  below = λ m less some. elim (eqb_tells m n) [
+    | inl same ↦ elim which [
+      | inl above ↦ absurd (omega (arith, same.1))
+      | inr served ↦ rw same.1 served
+    ]
+    | inr differs ↦ found.below m less (omega (arith, some, requested-still events k m n lt is differs.1))
+  ];
+  some = λ le. omega (arith, found.some le, requested-next events k least (Request n) lt is);
+  no_class = found.no_class;
+}
+
+pub least_free : (events : List SizeEvent) (classes : List ℕ) (k least n : ℕ) → k < length events → IsLeastSoFar events classes k least
+    → get_or events k (Request 0) ≡ Free n → IsLeastSoFar events classes (k + 1) least
+least_free events classes k least n lt found is = record {
+  within = found.within;
+  below = λ m less some. found.below m less (omega (arith, some, requested-free events k m n lt is));
+  some = λ le. omega (arith, found.some le, requested-free events k least n lt is);
+  no_class = found.no_class;
+}
+
+pub least_unserved_all : (events : List SizeEvent) (classes : List ℕ) (k least : ℕ) → k ≡ length events → IsLeastSoFar events classes k least
+    → least ≤ largest_counted → IsLeastUnserved events classes least
+least_unserved_all events classes k least all found le =
+    let whole = take_all k events (omega arith) in
+    record {
+      counted = le;
+      some = rw whole at (found.some le);
+      no_class = found.no_class le;
+      least = λ n less some. found.below n less (rw whole some);
+    }
+
+pub none_unserved_all : (events : List SizeEvent) (classes : List ℕ) (k least : ℕ) → k ≡ length events → IsLeastSoFar events classes k least
+    → largest_counted < least → (n : ℕ) → n ≤ largest_counted → 0 < requested events n → IsSome (class_for classes n)
+none_unserved_all events classes k least all found large n le some =
+    found.below n (omega arith) (rw (take_all k events (omega arith)) some)

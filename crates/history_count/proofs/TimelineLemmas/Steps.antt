@@ -1,0 +1,400 @@
+-- One event more.
+use Rattle.std.proofs.Common.{◌≡◌, ◌≢◌, ℕ, suc, ◌+◌, ◌-◌, ◌*◌, ◌<◌, ◌≤◌, ◌⊎◌, Bool, true, false, List, length, replicate, slice_get, sum_by, take, max, slice_index, slice_set, get_or, cond, eqb, ltb, arith, refl, ap, sym, subst, ◌∙◌, inl, inr, add-one, All, Option, Some, None, IsSome}
+use Rattle.std.specs.Option.{option_and_then, option_map_or}
+use Rattle.std.proofs.lemmas.Bool.{cases_lt, cases_order, eq-eqb, le-ltb, lt-ltb}
+use Rattle.std.proofs.lemmas.Option.{get_or_from_slice_get, slice_get-get_or, slice_get_within}
+use Rattle.std.proofs.lemmas.Bool.Decides.{eqb_tells}
+use Rattle.std.proofs.lemmas.List.{ext_get_or, get_or-map, get_or-replicate, get_or-set_same, get_or-set_other, get_or_default, length-map, length-replicate, length-set}
+use Rattle.std.proofs.lemmas.List.Sums.{sum_by_more}
+use Rattle.std.proofs.lemmas.List.Kept.{AllPairs-from_increasing}
+use Rattle.class_table.specs.Sizes.{largest_counted}
+use Rattle.class_table.specs.Tables.{IsLegalTable, class_for, class_number_for}
+use Rattle.class_table.proofs.LawLemmas.{number_gives_class}
+use Rattle.tuner_theory.specs.Footprint.{blocks, is_class_of}
+use Rattle.tuner_theory.specs.Histories.{most}
+use Rattle.tuner_theory.specs.Timelines.{IsTimeline, moments, most_to, snapshot_at}
+use Rattle.tuner_theory.specs.declared.size_event.SizeEvent.{SizeEvent}
+use Rattle.tuner_theory.specs.declared.size_event.SizeEvent.TheVariants.{Request, Free}
+use Rattle.tuner_theory.proofs.TimelineBlocks.{blocks-none, blocks-step, comes_at, free-goes, goes_at, large-does-nothing, most_to-above, most_to-all, most_to-more, most_to-none, request-comes}
+use Rattle.history_count.specs.Timelines.LiveBlocks.{AreFirsts, AreLive, IsFirst, class_bytes, first_moved, most_blocks}
+
+first-step : (f : List ℕ → ℕ) (events : List SizeEvent) (k much newer greater first newest : ℕ) → IsFirst f events k much first
+    → much ≡ most_to f events k → newer ≡ f (snapshot_at events (suc k)) → greater ≡ max much newer
+    → (much < newer → newest ≡ k + 1) → (newer ≤ much → newest ≡ first) → IsFirst f events (suc k) greater newest
+first-step f events k much newer greater first newest is so-far now raised moved stays =
+    elim (cases_lt much newer) [
+      | inl up ↦ let last : newest ≡ suc k = omega (arith, moved up) in
+          let more : greater ≡ newer = omega arith in
+          rw (last, more) (record {
+            within = omega arith;
+            there = sym now;
+            before = λ earlier lt. omega (arith, most_to-above f events k earlier (omega arith));
+          })
+      | inr same ↦ let old : newest ≡ first = stays same in
+          let kept : greater ≡ much = omega arith in
+          rw (old, kept) (record { within = omega (arith, is.within); there = is.there; before = is.before })
+    ]
+
+-- what a step has to show of each class
+pub live-step : (events : List SizeEvent) (classes : List ℕ) (k : ℕ) (d : SizeEvent) (live most firsts newer greater newest : List ℕ)
+    → IsTimeline events → k < length events → AreLive events classes k live most firsts → length newer ≡ length classes
+    → length greater ≡ length classes → length newest ≡ length classes
+    → ((j : ℕ) → j < length classes → slice_index newer j + goes_at classes (slice_index classes j) (get_or events k d)
+    ≡ slice_index live j + comes_at classes (slice_index classes j) (get_or events k d))
+    → ((j : ℕ) → j < length classes → slice_index newer j ≤ slice_index live j + 1)
+    → ((j : ℕ) → j < length classes → slice_index greater j ≡ max (slice_index most j) (slice_index newer j))
+    → ((j : ℕ) → j < length classes → slice_index most j < slice_index newer j → slice_index newest j ≡ k + 1)
+    → ((j : ℕ) → j < length classes → slice_index newer j ≤ slice_index most j → slice_index newest j ≡ slice_index firsts j)
+    → AreLive events classes (k + 1) newer greater newest
+live-step events classes k d live most firsts newer greater newest timeline lt are newer-len greater-len newest-len balance slow raised moved
+    stays =
+    subst (λ (m : ℕ). AreLive events classes m newer greater newest) (sym (add-one k)) (record {
+      live_len = newer-len;
+      most_len = greater-len;
+      firsts_len = newest-len;
+      live_at = at;
+      most_at = λ j within.
+          omega (
+            arith,
+            raised j within,
+            at j within,
+            are.most_at j within,
+            most_to-more (blocks classes (slice_index classes j)) events k,
+          );
+      below = λ j within. omega (arith, raised j within);
+      small = λ j within.
+          omega (arith, raised j within, are.small j within, are.below j within, slow j within);
+      first_at = λ j within.
+          first-step (blocks classes (slice_index classes j)) events k (slice_index most j) (slice_index newer j) (slice_index greater j)
+          (slice_index firsts j) (slice_index newest j) (are.first_at j within) (are.most_at j within) (at j within) (raised j within)
+          (moved j within) (stays j within);
+    })
+  where
+    at : (j : ℕ) → j < length classes → slice_index newer j ≡ blocks classes (slice_index classes j) (snapshot_at events (suc k))
+    at j within =
+        omega (
+          arith,
+          blocks-step events classes (slice_index classes j) k d timeline lt,
+          are.live_at j within,
+          balance j within,
+        )
+
+-- ---- the class of a size by its number
+
+found-class : (classes : List ℕ) (n number class : ℕ) → class_number_for classes n ≡ Some number → number < length classes
+    → is_class_of classes class n ≡ eqb (slice_index classes number) class
+found-class classes n number class is lt =
+    ap (λ (o : Option ℕ). option_map_or (λ its. eqb its class) o false)
+    (number_gives_class n classes ∙ ap (option_and_then (slice_get classes)) is ∙ slice_get-get_or classes number 0 lt)
+
+own-class : (classes : List ℕ) (n number : ℕ) → class_number_for classes n ≡ Some number → number < length classes
+    → is_class_of classes (slice_index classes number) n ≡ true
+own-class classes n number is lt = found-class classes n number (slice_index classes number) is lt ∙ eq-eqb _ _ refl
+
+other-class : (classes : List ℕ) (n number j : ℕ) → IsLegalTable 1 classes → class_number_for classes n ≡ Some number
+    → number < length classes → j < length classes → j ≢ number → is_class_of classes (slice_index classes j) n ≡ false
+other-class classes n number j legal is lt within other =
+    found-class classes n number (slice_index classes j) is lt
+    ∙ elim (eqb_tells (slice_index classes number) (slice_index classes j)) [
+      | inl same ↦ absurd (elim (cases_order j number) [
+        | inl at ↦ other at
+        | inr (inl before) ↦ omega (arith, same.1, AllPairs-from_increasing classes legal.ascending j number 0 before lt)
+        | inr (inr after) ↦ omega (arith, same.1, AllPairs-from_increasing classes legal.ascending number j 0 after within)
+      ])
+      | inr differs ↦ differs.0
+    ]
+
+no-class : (classes : List ℕ) (n class : ℕ) → class_number_for classes n ≡ None → is_class_of classes class n ≡ false
+no-class classes n class is =
+    ap (λ (o : Option ℕ). option_map_or (λ its. eqb its class) o false)
+    (number_gives_class n classes ∙ ap (option_and_then (slice_get classes)) is)
+
+pub number_gives_none : (classes : List ℕ) (n : ℕ) → class_number_for classes n ≡ None → class_for classes n ≡ None
+number_gives_none classes n is = number_gives_class n classes ∙ ap (option_and_then (slice_get classes)) is
+
+pub number_serves : (classes : List ℕ) (n number : ℕ) → class_number_for classes n ≡ Some number → number < length classes
+    → IsSome (class_for classes n)
+number_serves classes n number is lt =
+    rw (number_gives_class n classes ∙ ap (option_and_then (slice_get classes)) is ∙ slice_get-get_or classes number 0 lt) refl
+
+one-of : (b : Bool) → b ≡ true → cond {A = ℕ} b 1 0 ≡ 1
+one-of b is = rw is refl
+
+none-of : (b : Bool) → b ≡ false → cond {A = ℕ} b 1 0 ≡ 0
+none-of b is = rw is refl
+
+moved-length : (b : Bool) (number moment : ℕ) (firsts : List ℕ) → length (cond b (slice_set firsts number moment) firsts) ≡ length firsts
+moved-length true number moment firsts = length-set firsts number moment
+moved-length false number moment firsts = refl
+
+moved-other : (b : Bool) (number j moment : ℕ) (firsts : List ℕ) → j ≢ number
+    → slice_index (cond b (slice_set firsts number moment) firsts) j ≡ slice_index firsts j
+moved-other true number j moment firsts other = get_or-set_other firsts number j moment 0 other
+moved-other false number j moment firsts other = refl
+
+-- ---- one event more
+
+pub request_step : (events : List SizeEvent) (classes : List ℕ) (k n number : ℕ) (d : SizeEvent) (live most firsts : List ℕ) → IsTimeline events
+    → k < length events → IsLegalTable 1 classes → AreLive events classes k live most firsts → get_or events k d ≡ Request n
+    → n ≤ largest_counted → class_number_for classes n ≡ Some number → number < length classes
+    → AreLive events classes (k + 1) (slice_set live number (slice_index live number + 1))
+    (slice_set most number (max (slice_index most number) (slice_index live number + 1)))
+    (first_moved (slice_index most number) (slice_index live number + 1) number (k + 1) firsts)
+request_step events classes k n number d live most firsts timeline lt legal are event counted is inside =
+    live-step events classes k d live most firsts (slice_set live number (slice_index live number + 1))
+    (slice_set most number (max (slice_index most number) (slice_index live number + 1)))
+    (first_moved (slice_index most number) (slice_index live number + 1) number (k + 1) firsts) timeline lt are
+    (length-set live number (slice_index live number + 1) ∙ are.live_len)
+    (length-set most number (max (slice_index most number) (slice_index live number + 1)) ∙ are.most_len)
+    (moved-length (ltb (slice_index most number) (slice_index live number + 1)) number (k + 1) firsts ∙ are.firsts_len)
+    (λ j within. omega (arith, comes j, goes j, balance j within))
+    (λ j within. omega (arith, slow j within))
+    (λ j within. omega (arith, raised j within))
+    moved stays
+  where
+    comes : (j : ℕ) → comes_at classes (slice_index classes j) (get_or events k d) ≡ cond (is_class_of classes (slice_index classes j) n) 1 0
+    comes j = ap (comes_at classes (slice_index classes j)) event ∙ (request-comes classes (slice_index classes j) n counted).0
+
+    goes : (j : ℕ) → goes_at classes (slice_index classes j) (get_or events k d) ≡ 0
+    goes j = ap (goes_at classes (slice_index classes j)) event ∙ (request-comes classes (slice_index classes j) n counted).1
+
+    balance : (j : ℕ) → j < length classes
+        → slice_index (slice_set live number (slice_index live number + 1)) j
+        ≡ slice_index live j + cond (is_class_of classes (slice_index classes j) n) 1 0
+    balance j within =
+        elim (eqb_tells j number) [
+          | inl same ↦ rw same.1
+              (omega (
+                arith,
+                get_or-set_same live number (slice_index live number + 1) 0 (omega (arith, are.live_len)),
+                one-of _ (own-class classes n number is inside),
+              ))
+          | inr differs ↦ omega (
+            arith,
+            get_or-set_other live number j (slice_index live number + 1) 0 differs.1,
+            none-of _ (other-class classes n number j legal is inside within differs.1),
+          )
+        ]
+
+    slow : (j : ℕ) → j < length classes
+        → slice_index (slice_set live number (slice_index live number + 1)) j ≤ slice_index live j + 1
+    slow j within =
+        elim (eqb_tells j number) [
+          | inl same ↦ rw same.1
+              (omega (arith, get_or-set_same live number (slice_index live number + 1) 0 (omega (arith, are.live_len))))
+          | inr differs ↦ omega (arith, get_or-set_other live number j (slice_index live number + 1) 0 differs.1)
+        ]
+
+    moved : (j : ℕ) → j < length classes → slice_index most j < slice_index (slice_set live number (slice_index live number + 1)) j
+        → slice_index (first_moved (slice_index most number) (slice_index live number + 1) number (k + 1) firsts) j ≡ k + 1
+    moved j within up =
+        elim (eqb_tells j number) [
+          | inl same ↦ let set-there = get_or-set_same live number (slice_index live number + 1) 0 (omega (arith, are.live_len)) in
+              let up-there : slice_index most number < slice_index live number + 1 = omega (arith, set-there, rw same.1 at up) in
+              rw (same.1, lt-ltb _ _ up-there) (get_or-set_same firsts number (k + 1) 0 (omega (arith, are.firsts_len)))
+          | inr differs ↦ absurd (omega (
+            arith,
+            get_or-set_other live number j (slice_index live number + 1) 0 differs.1,
+            are.below j within,
+          ))
+        ]
+
+    stays : (j : ℕ) → j < length classes → slice_index (slice_set live number (slice_index live number + 1)) j ≤ slice_index most j
+        → slice_index (first_moved (slice_index most number) (slice_index live number + 1) number (k + 1) firsts) j ≡ slice_index firsts j
+    stays j within kept =
+        elim (eqb_tells j number) [
+          | inl same ↦ let set-there = get_or-set_same live number (slice_index live number + 1) 0 (omega (arith, are.live_len)) in
+              let kept-there : slice_index live number + 1 ≤ slice_index most number = omega (arith, set-there, rw same.1 at kept) in
+              rw (le-ltb _ _ kept-there) refl
+          | inr differs ↦ moved-other (ltb (slice_index most number) (slice_index live number + 1)) number j (k + 1) firsts differs.1
+        ]
+
+    raised : (j : ℕ) → j < length classes
+        → slice_index (slice_set most number (max (slice_index most number) (slice_index live number + 1))) j
+        ≡ max (slice_index most j) (slice_index (slice_set live number (slice_index live number + 1)) j)
+    raised j within =
+        elim (eqb_tells j number) [
+          | inl same ↦ rw same.1
+              (omega (
+                arith,
+                get_or-set_same live number (slice_index live number + 1) 0 (omega (arith, are.live_len)),
+                get_or-set_same most number (max (slice_index most number) (slice_index live number + 1)) 0
+                    (omega (arith, are.most_len)),
+              ))
+          | inr differs ↦ omega (
+            arith,
+            get_or-set_other live number j (slice_index live number + 1) 0 differs.1,
+            get_or-set_other most number j (max (slice_index most number) (slice_index live number + 1)) 0 differs.1,
+            are.below j within,
+          )
+        ]
+
+-- a block that is freed was live
+pub free_live : (events : List SizeEvent) (classes : List ℕ) (k n number : ℕ) (d : SizeEvent) (live most firsts : List ℕ) → IsTimeline events
+    → k < length events → AreLive events classes k live most firsts → get_or events k d ≡ Free n
+    → n ≤ largest_counted → class_number_for classes n ≡ Some number → number < length classes → 1 ≤ slice_index live number
+free_live events classes k n number d live most firsts timeline lt are event counted is inside =
+    let class = slice_index classes number in
+    let moves = free-goes classes class n counted in
+    omega (
+      arith,
+      blocks-step events classes class k d timeline lt,
+      are.live_at number inside,
+      ap (goes_at classes class) event,
+      ap (comes_at classes class) event,
+      moves.0,
+      moves.1,
+      one-of _ (own-class classes n number is inside),
+    )
+
+pub free_step : (events : List SizeEvent) (classes : List ℕ) (k n number : ℕ) (d : SizeEvent) (live most firsts : List ℕ) → IsTimeline events
+    → k < length events → IsLegalTable 1 classes → AreLive events classes k live most firsts → get_or events k d ≡ Free n
+    → n ≤ largest_counted → class_number_for classes n ≡ Some number → number < length classes
+    → AreLive events classes (k + 1) (slice_set live number (slice_index live number - 1)) most firsts
+free_step events classes k n number d live most firsts timeline lt legal are event counted is inside =
+    live-step events classes k d live most firsts (slice_set live number (slice_index live number - 1)) most firsts timeline lt are
+    (length-set live number (slice_index live number - 1) ∙ are.live_len) are.most_len are.firsts_len
+    (λ j within. omega (arith, comes j, goes j, balance j within))
+    (λ j within. omega (arith, balance j within))
+    (λ j within. omega (arith, balance j within, are.below j within))
+    (λ j within up. absurd (omega (arith, balance j within, are.below j within))) (λ j within same. refl)
+  where
+    comes : (j : ℕ) → comes_at classes (slice_index classes j) (get_or events k d) ≡ 0
+    comes j = ap (comes_at classes (slice_index classes j)) event ∙ (free-goes classes (slice_index classes j) n counted).1
+
+    goes : (j : ℕ) → goes_at classes (slice_index classes j) (get_or events k d) ≡ cond (is_class_of classes (slice_index classes j) n) 1 0
+    goes j = ap (goes_at classes (slice_index classes j)) event ∙ (free-goes classes (slice_index classes j) n counted).0
+
+    balance : (j : ℕ) → j < length classes
+        → slice_index (slice_set live number (slice_index live number - 1)) j + cond (is_class_of classes (slice_index classes j) n) 1 0
+        ≡ slice_index live j
+    balance j within =
+        elim (eqb_tells j number) [
+          | inl same ↦ rw same.1
+              (omega (
+                arith,
+                get_or-set_same live number (slice_index live number - 1) 0 (omega (arith, are.live_len)),
+                one-of _ (own-class classes n number is inside),
+                free_live events classes k n number d live most firsts timeline lt are event counted is inside,
+              ))
+          | inr differs ↦ omega (
+            arith,
+            get_or-set_other live number j (slice_index live number - 1) 0 differs.1,
+            none-of _ (other-class classes n number j legal is inside within differs.1),
+          )
+        ]
+
+still-step : (events : List SizeEvent) (classes : List ℕ) (k : ℕ) (d : SizeEvent) (live most firsts : List ℕ) → IsTimeline events
+    → k < length events → AreLive events classes k live most firsts
+    → ((class : ℕ) → comes_at classes class (get_or events k d) ≡ goes_at classes class (get_or events k d))
+    → AreLive events classes (k + 1) live most firsts
+still-step events classes k d live most firsts timeline lt are still =
+    live-step events classes k d live most firsts live most firsts timeline lt are are.live_len are.most_len are.firsts_len
+    (λ j within. omega (arith, still (slice_index classes j)))
+    (λ j within. omega arith)
+    (λ j within. omega (arith, are.below j within))
+    (λ j within up. absurd (omega (arith, are.below j within))) (λ j within same. refl)
+
+-- what has no class, or is large, changes nothing
+pub unserved_request_step : (events : List SizeEvent) (classes : List ℕ) (k n : ℕ) (d : SizeEvent) (live most firsts : List ℕ)
+    → IsTimeline events → k < length events → AreLive events classes k live most firsts → get_or events k d ≡ Request n
+    → (largest_counted < n) ⊎ (class_number_for classes n ≡ None) → AreLive events classes (k + 1) live most firsts
+unserved_request_step events classes k n d live most firsts timeline lt are event unserved =
+    still-step events classes k d live most firsts timeline lt are (λ class.
+    rw event (elim (cases_lt largest_counted n) [
+      | inl large ↦ let none = (large-does-nothing classes class n large).0 in omega (arith, none.0, none.1)
+      | inr counted ↦ elim unserved [
+        | inl large ↦ absurd (omega arith)
+        | inr none ↦ let moves = request-comes classes class n counted in
+            omega (arith, moves.0, moves.1, none-of _ (no-class classes n class none))
+      ]
+    ]))
+
+pub unserved_free_step : (events : List SizeEvent) (classes : List ℕ) (k n : ℕ) (d : SizeEvent) (live most firsts : List ℕ)
+    → IsTimeline events → k < length events → AreLive events classes k live most firsts → get_or events k d ≡ Free n
+    → (largest_counted < n) ⊎ (class_number_for classes n ≡ None) → AreLive events classes (k + 1) live most firsts
+unserved_free_step events classes k n d live most firsts timeline lt are event unserved =
+    still-step events classes k d live most firsts timeline lt are (λ class.
+    rw event (elim (cases_lt largest_counted n) [
+      | inl large ↦ let none = (large-does-nothing classes class n large).1 in omega (arith, none.0, none.1)
+      | inr counted ↦ elim unserved [
+        | inl large ↦ absurd (omega arith)
+        | inr none ↦ let moves = free-goes classes class n counted in
+            omega (arith, moves.0, moves.1, none-of _ (no-class classes n class none))
+      ]
+    ]))
+
+-- ---- before any event, and after all
+
+pub nothing_live : (events : List SizeEvent) (classes : List ℕ) → AreLive events classes 0 (replicate (length classes) 0)
+    (replicate (length classes) 0) (replicate (length classes) 0)
+nothing_live events classes = record {
+  live_len = length-replicate {A = ℕ} (length classes) 0;
+  most_len = length-replicate {A = ℕ} (length classes) 0;
+  firsts_len = length-replicate {A = ℕ} (length classes) 0;
+  live_at = λ j within.
+      omega (arith, get_or-replicate {A = ℕ} (length classes) j 0 0 within, blocks-none events classes (slice_index classes j));
+  most_at = λ j within.
+      omega (
+        arith,
+        get_or-replicate {A = ℕ} (length classes) j 0 0 within,
+        blocks-none events classes (slice_index classes j),
+        most_to-none (blocks classes (slice_index classes j)) events,
+      );
+  below = λ j within. omega arith;
+  small = λ j within. omega (arith, get_or-replicate {A = ℕ} (length classes) j 0 0 within);
+  first_at = λ j within.
+      rw (get_or-replicate {A = ℕ} (length classes) j 0 0 within) (record {
+        within = omega arith;
+        there = blocks-none events classes (slice_index classes j);
+        before = λ earlier lt. absurd (omega arith);
+      });
+}
+
+pub all_counted : (events : List SizeEvent) (classes live counted firsts : List ℕ)
+    → AreLive events classes (length events) live counted firsts
+    → counted ≡ most_blocks events classes
+all_counted events classes live counted firsts are =
+    ext_get_or 0 counted (most_blocks events classes)
+    (are.most_len ∙ sym (length-map classes (λ class. most (blocks classes class) (moments events))))
+    (λ j lt.
+    let within : j < length classes = omega (arith, are.most_len) in
+    are.most_at j within
+    ∙ most_to-all (blocks classes (slice_index classes j)) events
+    ∙ sym (get_or-map (λ class. most (blocks classes class) (moments events)) classes j 0 0 within))
+
+pub all_small : (events : List SizeEvent) (classes live counted firsts : List ℕ)
+    → AreLive events classes (length events) live counted firsts
+    → All (λ count. count ≤ length events) counted
+all_small events classes live counted firsts are k d lt =
+    omega (arith, are.small k (omega (arith, are.most_len)), get_or_default counted k d 0 lt)
+
+pub all_first : (events : List SizeEvent) (classes live counted firsts : List ℕ)
+    → AreLive events classes (length events) live counted firsts → AreFirsts events classes firsts
+all_first events classes live counted firsts are = record {
+  len = are.firsts_len;
+  first = λ j within.
+      subst (λ (much : ℕ). IsFirst (blocks classes (slice_index classes j)) events (length events) much (slice_index firsts j))
+      (are.most_at j within ∙ most_to-all (blocks classes (slice_index classes j)) events) (are.first_at j within);
+}
+
+-- ---- the bytes of one class more
+
+pub bytes_more : (events : List SizeEvent) (classes counted : List ℕ) (number total class bytes count : ℕ)
+    → counted ≡ most_blocks events classes → slice_get classes number ≡ Some class → bytes ≡ 16 * class
+    → count ≡ get_or counted number count → total ≡ sum_by (class_bytes events classes) (take number classes)
+    → total + bytes * count ≡ sum_by (class_bytes events classes) (take (number + 1) classes)
+bytes_more events classes counted number total class bytes count all found bytes-is read so-far =
+    let within : number < length classes = slice_get_within classes number class found in
+    let here : get_or classes number 0 ≡ class = get_or_from_slice_get classes number class 0 found in
+    let its : count ≡ most (blocks classes class) (moments events) =
+    read ∙ ap (λ cs. get_or cs number count) all
+    ∙ get_or-map (λ c. most (blocks classes c) (moments events)) classes number 0 count within
+    ∙ ap (λ c. most (blocks classes c) (moments events)) here in
+    omega (
+      arith,
+      sum_by_more (class_bytes events classes) classes number 0 within,
+      ap (class_bytes events classes) here,
+      so-far,
+      ap (λ b. b * count) bytes-is ∙ ap (λ m. 16 * class * m) its,
+    )

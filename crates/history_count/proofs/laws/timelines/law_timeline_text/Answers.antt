@@ -1,0 +1,8 @@
+use Rattle.history_count.proofs.TimelineLemmas.LineByLine.{spelled_timeline_is_read, timeline_is_spelled}
+use Rattle.history_count.proofs.laws.timelines.law_timeline_text.Goals as goal
+
+pub returns-clause-read : goal.returns-clause-read
+returns-clause-read c = timeline_is_spelled
+
+pub returns-clause-written : goal.returns-clause-written
+returns-clause-written c = spelled_timeline_is_read

@@ -1,0 +1,5 @@
+use Rattle.history_count.specs.Timelines.LiveBlocks.{AreLive}
+use Rattle.history_count.proofs.timelines.counting.class_peaks.Given as goal
+
+abbrev pub invariant-loop-k : goal.invariant-loop-k
+invariant-loop-k l = record { live : AreLive l.events l.table l.k l.live.items l.most.items l.firsts.items }

@@ -1,0 +1,56 @@
+//! How many blocks of each size are live while a timeline is read.
+ghost use Rattle.std.specs.Prelude.{◌≡◌, ◌≤◌, ◌++◌, [], ◌∷◌, ℕ, ◌<◌, length, IfOk};
+ghost use Rattle.std.specs.Bool.{OnTrue};
+ghost use Rattle.history_count.specs.Timelines.Runs.{AreLiveCounts, large_size, size_of};
+ghost use Rattle.history_count.specs.Timelines.TimelineText.{finds_live, next_event};
+
+use crate::timelines::fault::TimelineFault;
+use crate::timelines::line::{LARGE_SIZE, event_in};
+use tuner_theory::{GREATEST_COUNT, SizeEvent};
+
+/// How many sizes are counted while a timeline is read: one for all larger ones.
+pub(crate) const SIZES: usize = LARGE_SIZE as usize + 1;
+
+/// What a line adds to the events before it. `live` has the counts after these, and then after the line's event too.
+pub(crate) fn next_event(
+    events: &[SizeEvent],
+    live: &mut [u32],
+    line: &[u8],
+) -> Result<SizeEvent, TimelineFault>
+    requires { AreLiveCounts events.now live.old }
+    ensures event { result ≡ next_event events.now line.now }
+    ensures live { IfOk result (λ event. AreLiveCounts (events.now ++ event ∷ []) live.new) }
+{
+    let Some(event) = event_in(line) else {
+        return Err(TimelineFault::BadTimeline);
+    };
+    if events.len() >= GREATEST_COUNT as usize {
+        return Err(TimelineFault::BadTimeline);
+    }
+    if !count(events, live, event) {
+        return Err(TimelineFault::NotLive);
+    }
+    Ok(event)
+}
+
+// counts an event; false if it frees a block of a size of which none is live
+fn count(events: &[SizeEvent], live: &mut [u32], event: SizeEvent) -> bool
+    requires live { AreLiveCounts events.now live.old }
+    requires size { size_of event ≤ large_size }
+    requires few { length events.now < GREATEST_COUNT }
+    ensures found { result ≡ finds_live events.now event }
+    ensures live { OnTrue result (AreLiveCounts (events.now ++ event ∷ []) live.new) }
+{
+    match event {
+        SizeEvent::Request { n } => {
+            live[n as usize] += 1;
+        }
+        SizeEvent::Free { n } => {
+            if live[n as usize] == 0 {
+                return false;
+            }
+            live[n as usize] -= 1;
+        }
+    }
+    true
+}

@@ -1,0 +1,96 @@
+//! Which request of a timeline a table does not serve, and the moment that decides whether there is one.
+ghost use Rattle.std.specs.Prelude.{◌+◌, ◌<◌, ◌≤◌, ℕ, IfNone, IfSome, IsSome, length};
+ghost use Rattle.class_table.specs.Sizes.{largest_counted};
+ghost use Rattle.class_table.specs.Tables.{class_for};
+ghost use Rattle.history_count.specs.Timelines.Requests.{Decides, IsLargestSoFar, IsLeastSoFar, IsLeastUnserved};
+ghost use Rattle.tuner_theory.specs.Timelines.{IsTimeline, requested};
+
+use class_table::{ClassTable, LARGEST_COUNTED};
+use tuner_theory::SizeEvent;
+
+/// The least counted size that is requested and has no class in the table. `None` if the table serves the timeline.
+pub fn unserved_over(events: &[SizeEvent], table: &ClassTable) -> Option<u32>
+    ensures some { IfSome result (λ n. IsLeastUnserved events.now table.now n) }
+    ensures none { IfNone result
+        ((n : ℕ) → n ≤ largest_counted → 0 < requested events.now n → IsSome (class_for table.now n)) }
+{
+    // no size below this one lacks a class
+    let mut least = LARGEST_COUNTED + 1;
+    for k in 0..events.len() {
+        least = least_unserved(events, k, table, least);
+    }
+    if least > LARGEST_COUNTED {
+        return None;
+    }
+    Some(least)
+}
+
+// the least size without a class after one event more
+fn least_unserved(events: &[SizeEvent], k: usize, table: &ClassTable, least: u32) -> u32
+    requires event { k < length events.now }
+    requires least { IsLeastSoFar events.now table.now k least }
+    ensures { IsLeastSoFar events.now table.now (k + 1) result }
+{
+    match events[k] {
+        SizeEvent::Request { n } => {
+            if n >= least {
+                return least;
+            }
+            match table.find(n) {
+                Some(_) => least,
+                None => n,
+            }
+        }
+        SizeEvent::Free { .. } => least,
+    }
+}
+
+/// A moment of a timeline that decides whether a table serves it: a table that serves a history with this moment serves the timeline. It is
+/// the first at which a block of the largest requested size is live, of those that are counted.
+pub fn largest_moment(events: &[SizeEvent]) -> usize
+    requires { IsTimeline events.now }
+    ensures within { result ≤ length events.now }
+    ensures decides { Decides events.now result }
+{
+    let mut found = Largest {
+        above: 0,
+        moment: 0,
+    };
+    for k in 0..events.len() {
+        found = with_event(events, k, found);
+    }
+    found.moment
+}
+
+// the largest requested size so far
+#[derive(Clone, Copy)]
+struct Largest {
+    // the size after it, or 0 if there is none
+    above: u32,
+    // the first moment at which it is live
+    moment: usize,
+}
+
+// the largest size after one event more
+fn with_event(events: &[SizeEvent], k: usize, found: Largest) -> Largest
+    requires timeline { IsTimeline events.now }
+    requires event { k < length events.now }
+    requires found { IsLargestSoFar events.now k found.above found.moment }
+    ensures { IsLargestSoFar events.now (k + 1) result.above result.moment }
+{
+    match events[k] {
+        SizeEvent::Request { n } => {
+            if n < found.above {
+                return found;
+            }
+            if n > LARGEST_COUNTED {
+                return found;
+            }
+            Largest {
+                above: n + 1,
+                moment: k + 1,
+            }
+        }
+        SizeEvent::Free { .. } => found,
+    }
+}

@@ -1,0 +1,16 @@
+//! `score`, `tune` and `check` over arrays, for callers that have no text, as those of C. A profile is sizes, ascending, and the count of
+//! each; a table is its classes; the rows of a certificate follow one another.
+mod checking;
+mod codes;
+mod counting;
+mod fault;
+mod rows;
+mod scoring;
+mod shown;
+mod tuning;
+
+pub use checking::check;
+pub use fault::ArrayError;
+pub use scoring::{Scored, score};
+pub use shown::Numbers;
+pub use tuning::{TunedNumbers, tune};

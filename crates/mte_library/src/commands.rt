@@ -1,0 +1,13 @@
+//! Calls over inputs in memory, for callers that have no source and no sink. The input is what a `HandedText` holds, followed by a slice, and
+//! the answer takes the place of what the text held. A call returns how it ended. The static library `mte_c` exports them to C.
+mod calls;
+mod ended;
+mod faults;
+mod handing;
+mod structures;
+mod two_parts;
+
+pub use calls::call;
+pub use ended::Ended;
+pub use faults::{code_of, line_of};
+pub use structures::{Ending, Options};

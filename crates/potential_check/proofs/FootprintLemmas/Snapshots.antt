@@ -1,0 +1,212 @@
+-- Sums up to places, and the most blocks of intervals.
+use Rattle.std.proofs.lemmas.Grind.{common_steps}
+use Rattle.std.proofs.Common.{◌≡◌, ℕ, zero, suc, ◌+◌, ◌-◌, ◌*◌, ◌^◌, ◌<◌, ◌≤◌, ◌&&◌, max, List, [], ◌∷◌, length, slice_index, slice_index_or, slice_set, cond, ltb, leb, arith, ap, refl, ◌∙◌, take, inl, inr}
+use Rattle.std.proofs.lemmas.List.{get_or-set_other, get_or-set_same, length-set}
+use Rattle.std.proofs.lemmas.Bool.{cases_lt}
+use Rattle.std.proofs.lemmas.Bool.Decides.{nat_tests}
+use Rattle.class_table.specs.declared.sizes.TheConstants.{MOST_NEEDS}
+use Rattle.potential_check.specs.Footprints.SnapshotSums.{AreMostBlocks, AreMostIn, AreScaled, AreSumsAt, AreWritten, HoldsSnapshots, IsRaised, IsRaisedBy, raised_to}
+use Rattle.tuner_theory.specs.Footprint.{blocks_between, footprint_between, span_footprint}
+use Rattle.tuner_theory.specs.Growing.{IsGrowing}
+use Rattle.tuner_theory.specs.Histories.{most}
+use Rattle.tuner_theory.specs.Spans.{counted_up_to, need_at, places, rounded_need}
+use Rattle.tuner_theory.proofs.FootprintLawLemmas.{peaks_are_counts, span_footprints_fit}
+use Rattle.tuner_theory.proofs.LawLemmas.{few_places, places_ascend, span_footprints_grow, step-positive}
+use Rattle.tuner_theory.proofs.Sums.{sum_split}
+
+-- ---- blocks between by two sums
+
+module _ (step low high : ℕ) (s : List ℕ) (le : low ≤ high) where
+  blocks-more : counted_up_to s step high ≡ counted_up_to s step low + blocks_between step low high s
+  blocks-more = sum_split _ _ _ (length s) (λ n within. at (rounded_need step n) (slice_index s n))
+    where
+      at : (x v : ℕ) → cond (leb x high) v 0 ≡ cond (leb x low) v 0 + cond (ltb low x && leb x high) v 0
+      at x v = grind (arith, nat_tests)
+
+  pub blocks-ascend : counted_up_to s step low ≤ counted_up_to s step high
+  blocks-ascend = omega (arith, blocks-more)
+
+  pub blocks-sums : counted_up_to s step high - counted_up_to s step low ≡ blocks_between step low high s
+  blocks-sums = omega (arith, blocks-more)
+
+-- ---- the most of the first snapshots
+
+pub most-take : (f : List ℕ → ℕ) (xs : List (List ℕ)) (t : ℕ) → t < length xs
+    → most f (take (suc t) xs) ≡ max (most f (take t xs)) (f (slice_index_or xs t []))
+most-take f [] t lt = absurd (omega arith)
+most-take f (x ∷ xs) zero lt = omega arith
+most-take f (x ∷ xs) (suc t) lt = omega (arith, most-take f xs t (omega arith))
+
+most-next : (f : List ℕ → ℕ) (xs : List (List ℕ)) (t : ℕ) → t < length xs
+    → most f (take (t + 1) xs) ≡ max (most f (take t xs)) (f (slice_index_or xs t []))
+most-next f xs t lt = let next : t + 1 ≡ suc t = omega arith in rw next (most-take f xs t lt)
+
+pub take-all : (xs : List (List ℕ)) (t : ℕ) → t ≡ length xs → take t xs ≡ xs
+take-all xs t is = grind (arith, common_steps)
+
+-- one number more
+pub raised-more : (rows : List (List ℕ)) (i start j x : ℕ) (old numbers : List ℕ) → start ≤ j → j - start < length numbers
+    → x ≡ raised_to rows i j (slice_index numbers (j - start)) → IsRaisedBy rows i start j old numbers
+    → IsRaisedBy rows i start (j + 1) old (slice_set numbers (j - start) x)
+raised-more rows i start j x old numbers from within value raised = record {
+  size = length-set numbers (j - start) x ∙ raised.size;
+  raised = λ m past to. elim (cases_lt m j) [
+    | inl before ↦ get_or-set_other numbers (j - start) (m - start) x 0 (λ e. omega (arith, e)) ∙ raised.raised m past before
+    | inr not ↦ (let here : m ≡ j = omega arith in
+        rw here
+        (get_or-set_same numbers (j - start) x 0 within
+        ∙ (value ∙ ap (raised_to rows i j) (raised.kept (j - start) (omega arith)))))
+  ];
+  kept = λ m past. get_or-set_other numbers (j - start) m x 0 (λ e. omega (arith, e)) ∙ raised.kept m (omega arith);
+}
+
+-- Rows of sums, from that of snapshot t on.
+abbrev pub AreRowsFrom : List (List ℕ) → ℕ → List (List ℕ) → Type 0
+AreRowsFrom sums t [] = Unit {0}
+AreRowsFrom sums t (row ∷ rows) = (row ≡ slice_index_or sums t []) × AreRowsFrom sums (t + 1) rows
+
+module _ (sums : List (List ℕ)) (t : ℕ) where
+  on : (n m : ℕ) (row : List ℕ) → n ≡ m → row ≡ slice_index_or sums n [] → row ≡ slice_index_or sums m []
+  on n m row e is = is ∙ ap (λ k. slice_index_or sums k []) e
+
+  pub eight-rows : (a b c d e f g h : List ℕ) → a ≡ slice_index_or sums t [] → b ≡ slice_index_or sums (t + 1) []
+      → c ≡ slice_index_or sums (t + 2) [] → d ≡ slice_index_or sums (t + 3) [] → e ≡ slice_index_or sums (t + 4) []
+      → f ≡ slice_index_or sums (t + 5) [] → g ≡ slice_index_or sums (t + 6) [] → h ≡ slice_index_or sums (t + 7) []
+      → AreRowsFrom sums t (a ∷ b ∷ c ∷ d ∷ e ∷ f ∷ g ∷ h ∷ [])
+  eight-rows a b c d e f g h a_is b_is c_is d_is e_is f_is g_is h_is = (
+    a_is,
+    (
+      b_is,
+      (
+        on _ _ c (omega arith) c_is,
+        (
+          on _ _ d (omega arith) d_is,
+          (
+            on _ _ e (omega arith) e_is,
+            (on _ _ f (omega arith) f_is, (on _ _ g (omega arith) g_is, (on _ _ h (omega arith) h_is, tt))),
+          ),
+        ),
+      ),
+    ),
+  )
+
+module _ (snapshots : List (List ℕ)) (counts : List ℕ) (step : ℕ) (sums : List (List ℕ))
+    (holds : HoldsSnapshots snapshots counts step sums) where
+  pub small-spans : (i j : ℕ) → i < j → j ≤ places counts step → span_footprint snapshots step i j ≤ 2 ^ 60
+  small-spans i j lt le = grind (arith, span_footprints_fit)
+
+  pub spans-grow : IsGrowing (span_footprint snapshots step) (places counts step)
+  spans-grow = rw holds.counts_are (span_footprints_grow snapshots step holds.is_step holds.are)
+
+  pub places-fit : places counts step ≤ MOST_NEEDS
+  places-fit = few_places counts step holds.is_step (rw holds.counts_are (peaks_are_counts snapshots holds.are))
+
+  needs-up : (i j : ℕ) → i < j → j ≤ places counts step → need_at counts step i ≤ need_at counts step j
+  needs-up i j lt le = omega (arith, places_ascend counts step (step-positive step holds.is_step) i j lt le)
+
+  -- the sums of a snapshot ascend
+  pub sums-size : (t : ℕ) → t < length snapshots → length (slice_index_or sums t []) ≡ places counts step + 1
+  sums-size t lt = (holds.sums_are.each t lt).size
+
+  pub sums-ascend : (t i j : ℕ) → t < length snapshots → i < j → j < places counts step + 1
+      → slice_index (slice_index_or sums t []) i ≤ slice_index (slice_index_or sums t []) j
+  sums-ascend t i j lt ij le = let are = holds.sums_are.each t lt in grind (arith, blocks-ascend, needs-up)
+
+  -- one snapshot more
+  pub most-raised : (i t : ℕ) (row old new : List ℕ) → t < length snapshots → row ≡ slice_index_or sums t []
+      → AreMostBlocks snapshots counts step i t old → IsRaised row i (length row) old new
+      → AreMostBlocks snapshots counts step i (t + 1) new
+  most-raised i t row old new lt is before raised = let are = holds.sums_are.each t lt in grind (arith, blocks-sums, needs-up, most-take)
+
+  -- what a snapshot's sums grow by
+  grown : (i t : ℕ) (row : List ℕ) → t < length snapshots → row ≡ slice_index_or sums t [] → (j : ℕ) → i < j → j ≤ places counts step
+      → slice_index row j - slice_index row i ≡ blocks_between step (need_at counts step i) (need_at counts step j) (slice_index_or snapshots t [])
+  grown i t row lt is j after le =
+      let are = holds.sums_are.each t lt in
+      rw is (omega (
+        arith,
+        are.sums_are i (omega arith),
+        are.sums_are j le,
+        blocks-sums step (need_at counts step i) (need_at counts step j) (slice_index_or snapshots t []) (needs-up i j after le),
+      ))
+
+  -- raised by the rows of snapshots in a row
+  most-raised_by : (i j : ℕ) → i < j → j ≤ places counts step → (rows : List (List ℕ)) (t : ℕ) → t + length rows ≤ length snapshots
+      → AreRowsFrom sums t rows
+      → raised_to rows i j (most (blocks_between step (need_at counts step i) (need_at counts step j)) (take t snapshots))
+      ≡ most (blocks_between step (need_at counts step i) (need_at counts step j)) (take (t + length rows) snapshots)
+  most-raised_by i j after le [] t fit are = let none : t + 0 ≡ t = omega arith in rw none refl
+  most-raised_by i j after le (row ∷ rows) t fit are =
+      let f = blocks_between step (need_at counts step i) (need_at counts step j) in
+      let here = grown i t row (omega arith) are.0 j after le in
+      let next = most-next f snapshots t (omega arith) in
+      let sum : t + suc (length rows) ≡ t + 1 + length rows = omega arith in
+      let rest = most-raised_by i j after le rows (t + 1) (omega arith) are.1 in
+      rw (here, ← next, sum) rest
+
+  pub most-raised_in : (i start stop t : ℕ) (rows : List (List ℕ)) (old new : List ℕ) → i < start → stop ≤ places counts step + 1
+      → t + length rows ≤ length snapshots → AreRowsFrom sums t rows → AreMostIn snapshots counts step i start stop t old
+      → IsRaisedBy rows i start stop old new → AreMostIn snapshots counts step i start stop (t + length rows) new
+  most-raised_in i start stop t rows old new after within fit are before raised = record {
+    numbers_are = λ j from to.
+        raised.raised j from to
+        ∙ (ap (raised_to rows i j) (before.numbers_are j from to)
+        ∙ most-raised_by i j (omega arith) (omega arith) rows t fit are);
+  }
+
+  -- at all snapshots
+  pub most-all_in : (i start stop j : ℕ) (numbers : List ℕ) → start ≤ j → j < stop
+      → AreMostIn snapshots counts step i start stop (length snapshots) numbers
+      → slice_index numbers (j - start) ≡ most (blocks_between step (need_at counts step i) (need_at counts step j)) snapshots
+  most-all_in i start stop j numbers from to are =
+      are.numbers_are j from to
+      ∙ ap (most (blocks_between step (need_at counts step i) (need_at counts step j))) (take-all snapshots (length snapshots) refl)
+
+  pub sums-at : (t : ℕ) (row : List ℕ) → t < length snapshots → row ≡ slice_index_or sums t []
+      → AreSumsAt snapshots counts step sums t row
+  sums-at t row lt is =
+      let size = ap length is ∙ sums-size t lt in
+      record { within = lt; read = is; size = size; ascend = λ i j after le. rw is (sums-ascend t i j lt after (omega (arith, le, size))) }
+
+  pub most-all : (i t : ℕ) (numbers : List ℕ) → t ≡ length snapshots → AreMostBlocks snapshots counts step i t numbers
+      → AreScaled snapshots counts step i (i + 1) numbers
+  most-all i t numbers all are = grind (arith, take-all)
+
+  -- what the spans take
+  pub written-all : (i stop : ℕ) (numbers : List ℕ) → AreWritten snapshots counts step i stop numbers → places counts step < stop
+      → (j : ℕ) → i < j → j ≤ places counts step → slice_index numbers j ≡ span_footprint snapshots step i j
+  written-all i stop numbers are all j ij le = grind arith
+
+  pub scaled-written : (i stop : ℕ) (numbers : List ℕ) → AreScaled snapshots counts step i stop numbers
+      → AreWritten snapshots counts step i stop numbers
+  scaled-written i stop numbers are = record { size = are.size; written = are.scaled }
+
+  product-is : (i j w m : ℕ) → i < j → j ≤ places counts step
+      → m ≡ most (blocks_between step (need_at counts step i) (need_at counts step j)) snapshots
+      → w ≡ m * (16 * need_at counts step j)
+      → w ≡ footprint_between snapshots step (need_at counts step i) (need_at counts step j)
+  product-is i j w m ij le blocks product = grind arith
+
+  pub product-fits : (i j w m : ℕ) → i < j → j ≤ places counts step
+      → m ≡ most (blocks_between step (need_at counts step i) (need_at counts step j)) snapshots
+      → w ≡ m * (16 * need_at counts step j) → w ≤ 2 ^ 60
+  product-fits i j w m ij le blocks product = grind (arith, product-is, small-spans i j)
+
+  -- the most blocks of the next place, where they are not scaled yet
+  pub others-at : (i j : ℕ) (numbers : List ℕ) → AreScaled snapshots counts step i j numbers → i < j → j ≤ places counts step
+      → slice_index numbers j ≡ most (blocks_between step (need_at counts step i) (need_at counts step j)) snapshots
+  others-at i j numbers are ij le = are.others j ij (omega arith) le
+
+  -- one place more
+  pub scaled-more : (i j w : ℕ) (numbers : List ℕ) → AreScaled snapshots counts step i j numbers → i < j → j ≤ places counts step
+      → w ≡ slice_index numbers j * (16 * need_at counts step j) → AreScaled snapshots counts step i (j + 1) (slice_set numbers j w)
+  scaled-more i j w numbers are ij le product =
+      let is = product-is i j w (slice_index numbers j) ij le (others-at i j numbers are ij le) product in
+      grind (arith, length-set, get_or-set_other, get_or-set_same)
+
+  pub written-more : (i j w m : ℕ) (numbers : List ℕ) → AreWritten snapshots counts step i j numbers → i < j → j ≤ places counts step
+      → m ≡ most (blocks_between step (need_at counts step i) (need_at counts step j)) snapshots
+      → w ≡ m * (16 * need_at counts step j) → AreWritten snapshots counts step i (j + 1) (slice_set numbers j w)
+  written-more i j w m numbers are ij le blocks product =
+      let is = product-is i j w m ij le blocks product in
+      grind (arith, length-set, get_or-set_other, get_or-set_same)

@@ -1,0 +1,131 @@
+-- Sums of a snapshot up to a need, by the sizes that a class serves.
+use Rattle.std.proofs.Common.{◌≡◌, ℕ, zero, suc, ◌+◌, ◌-◌, ◌*◌, ◌%◌, ◌<◌, ◌≤◌, ◌⊎◌, ◌++◌, List, [], ◌∷◌, length, length-append, slice_index, slice_index_or, refl, sym, ◌∙◌, arith, inl, inr, Vec}
+use Rattle.std.specs.declared.alloc.Global.{Global}
+use Rattle.std.proofs.lemmas.Bool.{cases_lt, cond-true, cond-false, le-leb, lt-leb}
+use Rattle.std.proofs.lemmas.List.{get_or_append_left, map-append}
+use Rattle.std.proofs.Math.Seq.{get_or-append_seam}
+use Rattle.class_table.specs.Steps.{IsStep}
+use Rattle.potential_check.specs.Footprints.SnapshotSums.{AreColumnSums, AreCuts, AreSnapshotSums}
+use Rattle.history_count.specs.CountedLines.{AreSizes, CountsSizes}
+use Rattle.history_count.proofs.LawLemmas.{sum-lines}
+use Rattle.tuner_theory.specs.Lists.{lists_of}
+use Rattle.potential_check.specs.Certificates.Spanned.{AreSumsUpTo}
+use Rattle.class_table.specs.Sizes.{largest_counted}
+use Rattle.tuner_theory.specs.Profiles.{AreCounts, greatest_count}
+use Rattle.tuner_theory.specs.Spans.{counted_up_to, need_at, places}
+use Rattle.tuner_theory.specs.Waste.{sum_below}
+use Rattle.tuner_theory.proofs.LawLemmas.{place_is_class, places_ascend}
+use Rattle.tuner_theory.proofs.Rounding.{fits-rounded, rounded-fits, rounded-positive, step-positive}
+use Rattle.tuner_theory.proofs.Sums.{sum_below-more, sum_below-none, sum_bounded, sum_same}
+
+sum-cut : (f g : ℕ → ℕ) (len m : ℕ) → m ≤ len → ((n : ℕ) → n < m → f n ≡ g n) → ((n : ℕ) → m ≤ n → n < len → f n ≡ 0)
+    → sum_below f len ≡ sum_below g m
+sum-cut f g zero m le same none = grind (arith, sum_below-none)
+sum-cut f g (suc len) m le same none = grind (arith, sum_below-more, sum_same f g (suc len), sum-cut f g len m)
+
+-- a class, or none
+abbrev pub IsClassOrNone : ℕ → ℕ → Type 0
+IsClassOrNone step need = (need ≡ 0) ⊎ ((2 ≤ need) × (need % step ≡ 0))
+
+pub counted-cut : (counts : List ℕ) (step : ℕ) → 0 < step → (need : ℕ) → IsClassOrNone step need → 16 * need - 15 ≤ length counts
+    → counted_up_to counts step need ≡ sum_below (slice_index counts) (16 * need - 15)
+counted-cut counts step pos need class le = grind (arith, sum-cut, slice_index, cond-true, le-leb, cond-false, lt-leb, fits-rounded, cases_lt, rounded-fits, rounded-positive)
+
+-- ---- the sums of a column
+
+pub sum-grows : (f : ℕ → ℕ) (from end : ℕ) → from ≤ end → sum_below f from ≤ sum_below f end
+sum-grows f from zero le = let same : from ≡ 0 = omega arith in rw same (omega arith)
+sum-grows f from (suc end) le = go (cases_lt end from) (sum-grows f from end)
+  where
+    go : ((end < from) ⊎ (from ≤ end)) → (from ≤ end → sum_below f from ≤ sum_below f end) → sum_below f from ≤ sum_below f (suc end)
+    go (inl past) before = let same : from ≡ suc end = omega arith in rw same (omega arith)
+    go (inr within) before = omega (arith, sum_below-more f end, before within)
+
+pub sum-small : (column : List ℕ) (m : ℕ) → ((k : ℕ) → slice_index column k ≤ greatest_count) → m ≤ largest_counted + 1
+    → sum_below (slice_index column) m ≤ (largest_counted + 1) * greatest_count
+sum-small column m few le =
+    let bounded = sum_bounded (slice_index column) m greatest_count (λ n lt. few n) in
+    omega (arith, bounded)
+
+-- the sums up to the cuts before this one
+pub record AreSumsBefore (column cuts : List ℕ) (p : ℕ) (sums : List ℕ) : Type 0 where
+  pub size : length sums ≡ p + 1
+  pub none : slice_index sums 0 ≡ 0
+  pub each : (q : ℕ) → q < p → slice_index sums (q + 1) ≡ sum_below (slice_index column) (slice_index cuts q)
+
+pub sums-none : (column cuts : List ℕ) → AreSumsBefore column cuts 0 (0 ∷ [])
+sums-none column cuts = record { size = refl; none = refl; each = λ q lt. absurd (omega arith) }
+
+pub sums-more : (column cuts : List ℕ) (p total : ℕ) (sums : List ℕ) → AreSumsBefore column cuts p sums
+    → total ≡ sum_below (slice_index column) (slice_index cuts p) → AreSumsBefore column cuts (p + 1) (sums ++ total ∷ [])
+sums-more column cuts p total sums before is = record {
+  size = omega (arith, before.size, length-append sums (total ∷ []));
+  none = get_or_append_left sums (total ∷ []) 0 0 (omega (arith, before.size)) ∙ before.none;
+  each = λ q lt. at q lt (cases_lt q p);
+}
+  where
+    at : (q : ℕ) → q < p + 1 → ((q < p) ⊎ (p ≤ q)) → slice_index (sums ++ total ∷ []) (q + 1) ≡ sum_below (slice_index column) (slice_index cuts q)
+    at q lt (inl below) = get_or_append_left sums (total ∷ []) 0 (q + 1) (omega (arith, before.size)) ∙ before.each q below
+    at q lt (inr past) =
+        let same : q ≡ p = omega arith in
+        let end : p + 1 ≡ length sums = sym before.size in
+        rw (same, end) (get_or-append_seam sums total [] 0 ∙ is)
+
+-- ---- cuts
+
+module _ (sizes counts : List ℕ) (step : ℕ) (cuts : List ℕ) (pos : 0 < step) (are : AreCuts sizes counts step cuts) where
+  needs-up : (p q : ℕ) → p < q → q < places counts step → need_at counts step (p + 1) ≤ need_at counts step (q + 1)
+  needs-up p q lt within = omega (arith, places_ascend counts step pos (p + 1) (q + 1) (omega arith) (omega arith))
+
+  pub cuts-ascend : (p q : ℕ) → p ≤ q → q < length cuts → slice_index cuts p ≤ slice_index cuts q
+  cuts-ascend p q le within = go (cases_lt p q) (cases_lt (slice_index cuts q) (slice_index cuts p))
+    where
+      go : ((p < q) ⊎ (q ≤ p)) → ((slice_index cuts q < slice_index cuts p) ⊎ (slice_index cuts p ≤ slice_index cuts q))
+          → slice_index cuts p ≤ slice_index cuts q
+      go (inr past) order = let same : p ≡ q = omega arith in rw same (omega arith)
+      go (inl lt) (inr fine) = fine
+      go (inl lt) (inl wrong) =
+          let first = are.each p (omega (arith, are.size, within)) in
+          let second = are.each q (omega (arith, are.size, within)) in
+          let k = slice_index cuts q in
+          absurd (omega (
+            arith,
+            first.below k wrong,
+            second.above k (omega arith) (omega (arith, wrong, first.within)),
+            needs-up p q lt (omega (arith, are.size, within)),
+          ))
+
+-- The sums of a column are those of its snapshot.
+module _ (snapshot sizes column counts cuts sums : List ℕ) (step : ℕ) (is_step : IsStep step) (are_counts : AreCounts counts)
+    (are : AreCounts snapshot) (sizes_are : AreSizes sizes) (counted : CountsSizes snapshot sizes column)
+    (cuts_are : AreCuts sizes counts step cuts) (sums_are : AreColumnSums column cuts sums) where
+  at : (i : ℕ) → i ≤ places counts step → slice_index sums i ≡ counted_up_to snapshot step (need_at counts step i)
+  at zero le =
+      sums_are.none
+      ∙ sym (counted-cut snapshot step (step-positive step is_step) 0 (inl refl) (omega arith) ∙ sum_below-none (slice_index snapshot))
+  at (suc p) le =
+      let place : p + 1 ≡ suc p = omega arith in
+      let need = need_at counts step (p + 1) in
+      let class = place_is_class counts step (p + 1) is_step (omega (arith, are_counts.sizes)) (omega arith) (omega arith) in
+      let cut = counted-cut snapshot step (step-positive step is_step) need (inr (class.0.0, class.1))
+      (omega (arith, class.0.1, are.sizes)) in
+      let lines = sum-lines snapshot sizes column sizes_are counted (16 * need - 15) (slice_index cuts p) (cuts_are.each p (omega arith)) in
+      rw (← place) (sums_are.each p (omega (arith, cuts_are.size)) ∙ sym (cut ∙ lines))
+
+  pub column-sums : AreSumsUpTo (counted_up_to snapshot step) counts step sums
+  column-sums = record { size = omega (arith, sums_are.size, cuts_are.size); sums_are = at }
+
+-- the sums of the first t snapshots
+pub record AreSumsOfFirst (snapshots : List (List ℕ)) (counts : List ℕ) (step t : ℕ) (sums : List (List ℕ)) : Type 0 where
+  pub size : length sums ≡ t
+  pub each : (k : ℕ) → k < t → AreSumsUpTo (counted_up_to (slice_index_or snapshots k []) step) counts step (slice_index_or sums k [])
+
+pub first-more : (snapshots : List (List ℕ)) (counts : List ℕ) (step t : ℕ) (sums : List (Vec ℕ Global)) (v : Vec ℕ Global)
+    → AreSumsOfFirst snapshots counts step t (lists_of sums)
+    → AreSumsUpTo (counted_up_to (slice_index_or snapshots t []) step) counts step v.items
+    → AreSumsOfFirst snapshots counts step (t + 1) (lists_of (sums ++ v ∷ []))
+first-more snapshots counts step t sums v before is = grind (arith, map-append, length-append, cases_lt, slice_index_or, get_or_append_left, get_or-append_seam)
+
+pub first-all : (snapshots : List (List ℕ)) (counts : List ℕ) (step t : ℕ) (sums : List (List ℕ)) → t ≡ length snapshots
+    → AreSumsOfFirst snapshots counts step t sums → AreSnapshotSums snapshots counts step sums
+first-all snapshots counts step t sums all are = grind arith

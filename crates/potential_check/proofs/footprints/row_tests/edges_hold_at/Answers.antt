@@ -1,0 +1,61 @@
+use Rattle.std.proofs.Common.{◌≡◌, ◌≢◌, ℕ, ◌-◌, ◌≤◌, [], length, List, slice_index, slice_index_or, arith, ap, ◌∙◌, sym}
+use Rattle.std.proofs.lemmas.Bool.{both_ways, false≢true}
+use Rattle.std.proofs.lemmas.Option.{get_or_from_slice_get}
+use Rattle.tuner_theory.proofs.Lists.{lists-length}
+use Rattle.potential_check.proofs.FootprintLemmas.Bounds.{bounds-same, row_bounds-set}
+use Rattle.potential_check.proofs.FootprintLemmas.RowConditions.{edges-more, edges-one}
+use Rattle.potential_check.specs.Footprints.Bounds.{AreBounds, AreRowBounds}
+use Rattle.tuner_theory.specs.Lists.{lists_of}
+use Rattle.tuner_theory.specs.Rows.{HasShape, number_at}
+use Rattle.potential_check.proofs.footprints.row_tests.edges_hold_at.Goals as goal
+
+row-length : (rows : List (List ℕ)) (limit d k : ℕ) (row : List ℕ) → HasShape rows limit d → k ≤ limit → 1 ≤ k
+    → row ≡ slice_index_or rows (k - 1) [] → length row ≡ d
+row-length rows limit d k row shape le one e = ap length e ∙ shape.row_lengths (k - 1) [] (omega (arith, shape.row_count))
+
+-- the bounds of all rows after those of one were raised
+raised : (costs slack : List ℕ) (rows : List (List ℕ)) (d limit i k : ℕ) (row : List ℕ) (old new : List (List ℕ))
+    → row ≡ slice_index_or rows (k - 1) [] → length row ≡ d → length new ≡ length old
+    → ((m : ℕ) → m ≢ k → slice_index_or new m [] ≡ slice_index_or old m [])
+    → AreBounds costs slack i (length row) (slice_index row) (slice_index_or new k [])
+    → AreRowBounds costs slack i d limit (number_at rows) old → AreRowBounds costs slack i d limit (number_at rows) new
+raised costs slack rows d limit i k row old new read size same others its are =
+    row_bounds-set costs slack i d limit (number_at rows) old new k same others
+    (bounds-same costs slack i d (slice_index row) (number_at rows k) (slice_index_or new k [])
+    (λ j past. ap (λ (r : List ℕ). slice_index r j) read) (rw size at its)) are
+
+pub returns-then-not-edge_holds_in-clause-edges : goal.returns-then-not-edge_holds_in-clause-edges
+returns-then-not-edge_holds_in-clause-edges c =
+    let rows = c.args.rows.now in
+    let read = sym (get_or_from_slice_get rows (c.loop-k.k - 1) c.row.result.now [] c.row.ensures) in (
+      (λ no. absurd (false≢true no)),
+      (λ all. absurd (both_ways c.edge_holds_in.result c.if-not-edge_holds_in.true (c.edge_holds_in.ensures.edge.1
+          (edges-one c.args.costs.now rows c.args.places c.args.i c.loop-k.k c.number.result c.row.result.now (omega arith) read
+          c.number.ensures
+          (row-length rows (length rows) c.args.places c.loop-k.k c.row.result.now c.requires.shape (omega arith) (omega arith) read)
+          (length rows) (omega arith) all)))),
+    )
+
+pub returns-then-not-edge_holds_in-clause-bounds : goal.returns-then-not-edge_holds_in-clause-bounds
+returns-then-not-edge_holds_in-clause-bounds c =
+    let rows = c.args.rows.now in
+    let read = sym (get_or_from_slice_get rows (c.loop-k.k - 1) c.row.result.now [] c.row.ensures) in
+    raised c.args.costs.now c.args.slack.now rows c.args.places (length rows) c.args.i c.loop-k.k c.row.result.now
+    (lists_of c.loop-k.bounds) (lists_of c.edge_holds_in.new.bounds) read
+    (row-length rows (length rows) c.args.places c.loop-k.k c.row.result.now c.requires.shape (omega arith) (omega arith) read)
+    (omega (arith, lists-length c.loop-k.bounds, lists-length c.edge_holds_in.new.bounds)) c.edge_holds_in.ensures.others
+    c.edge_holds_in.ensures.bounds c.loop-k.invariant.bounds
+
+pub loop-k-preserved : goal.loop-k-preserved
+loop-k-preserved c =
+    let rows = c.args.rows.now in
+    let read = sym (get_or_from_slice_get rows (c.loop-k.k - 1) c.row.result.now [] c.row.ensures) in
+    let size = row-length rows (length rows) c.args.places c.loop-k.k c.row.result.now c.requires.shape (omega arith) (omega arith) read in
+    record {
+      edges = edges-more c.args.costs.now rows c.args.places c.args.i c.loop-k.k c.number.result c.row.result.now (omega arith) read
+          c.number.ensures size c.loop-k.invariant.edges (c.edge_holds_in.ensures.edge.0 c.if-not-edge_holds_in.false);
+      bounds = raised c.args.costs.now c.args.slack.now rows c.args.places (length rows) c.args.i c.loop-k.k c.row.result.now
+          (lists_of c.loop-k.bounds) (lists_of c.edge_holds_in.new.bounds) read size
+          (omega (arith, lists-length c.loop-k.bounds, lists-length c.edge_holds_in.new.bounds)) c.edge_holds_in.ensures.others
+          c.edge_holds_in.ensures.bounds c.loop-k.invariant.bounds;
+    }

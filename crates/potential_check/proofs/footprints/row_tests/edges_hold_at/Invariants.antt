@@ -1,0 +1,12 @@
+use Rattle.std.proofs.Common.{length}
+use Rattle.potential_check.specs.Footprints.Bounds.{AreRowBounds}
+use Rattle.potential_check.specs.Footprints.RowConditions.{EdgesHoldAt}
+use Rattle.tuner_theory.specs.Lists.{lists_of}
+use Rattle.tuner_theory.specs.Rows.{number_at}
+use Rattle.potential_check.proofs.footprints.row_tests.edges_hold_at.Given as goal
+
+abbrev pub invariant-loop-k : goal.invariant-loop-k
+invariant-loop-k l = record {
+  edges : EdgesHoldAt l.costs l.rows l.places l.i l.k;
+  bounds : AreRowBounds l.costs l.slack l.i l.places (length l.rows) (number_at l.rows) (lists_of l.bounds);
+}

@@ -1,0 +1,5 @@
+use Rattle.std.proofs.Common.{◌-◌, ◌<◌, ◌≤◌, ℕ, slice_index}
+use Rattle.potential_check.proofs.footprints.slack.least_growth.Given as goal
+
+abbrev pub invariant-loop-j : goal.invariant-loop-j
+invariant-loop-j l = record { least : (m : ℕ) → l.start ≤ m → m < l.j → l.growth ≤ slice_index l.costs m - slice_index l.older m }

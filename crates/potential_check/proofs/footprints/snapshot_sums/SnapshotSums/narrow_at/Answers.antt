@@ -1,0 +1,14 @@
+use Rattle.std.proofs.Common.{◌≡◌, length, ap, arith}
+use Rattle.tuner_theory.proofs.Lists.{lists-length, row-read_at}
+use Rattle.tuner_theory.specs.Lists.{lists_of}
+use Rattle.potential_check.proofs.FootprintLemmas.Snapshots.{sums-at}
+use Rattle.potential_check.proofs.footprints.snapshot_sums.SnapshotSums.narrow_at.Goals as goal
+
+pub returns : goal.returns
+returns c =
+    let s = c.args.self.now in
+    let all : lists_of s.narrow.items ≡ lists_of s.sums.items = s.same (omega (arith, c.requires, lists-length s.narrow.items)) in
+    sums-at s.history.now.snapshots s.spans.now.counts s.spans.now.step (lists_of s.sums.items) s.holds c.args.t c.deref.result.now
+    (omega (arith, c.requires, s.holds.sums_are.size, lists-length s.narrow.items, ap length all))
+    (rw all at (row-read_at s.narrow.items c.args.t c.index.result.now c.deref.result.now
+    (omega (arith, c.requires, lists-length s.narrow.items)) c.index.ensures c.deref.ensures.value))

@@ -1,0 +1,5 @@
+pub mod Bounds
+pub mod CallCounts
+pub mod RowConditions
+pub mod SnapshotSums
+pub mod Timelines

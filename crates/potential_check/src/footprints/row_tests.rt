@@ -1,0 +1,228 @@
+//! The conditions on the rows of a certificate over any source of costs.
+ghost use Rattle.std.specs.Prelude.{◌≡◌, ◌≢◌, ◌↔◌, ℕ, ◌+◌, ◌-◌, ◌^◌, ◌<◌, ◌≤◌, [], length, slice_index, slice_index_or};
+ghost use Rattle.std.specs.Prelude.{IfOk, IsTrue, OnErr, OnOk};
+ghost use Rattle.potential_check.specs.Footprints.Bounds.{AreBounds, AreRowBounds, IsSlack};
+ghost use Rattle.potential_check.specs.Footprints.CallCounts.{span_count};
+ghost use Rattle.potential_check.specs.Footprints.RowConditions.{AreRowTests, DropsHoldAt, EdgeHoldsAt, EdgesHoldAt, WithinEdges};
+ghost use Rattle.tuner_theory.specs.Lists.{lists_of};
+ghost use Rattle.tuner_theory.specs.Rows.{HasShape, number_at};
+
+use crate::certificates::Rows;
+use crate::footprints::slack::{BLOCK, WHOLE_SLACK, lower_slack, no_bounds};
+use crate::footprints::span_costs::SpanCosts;
+use class_table::MOST_NEEDS;
+use std::alloc::{AllocError, Global};
+use std::mem::swap;
+
+/// Which conditions the numbers of rows meet.
+#[derive(Debug, Clone, Copy)]
+pub struct RowTests {
+    /// No number of row 1 is more than the cost of one class for all places above.
+    pub last_class: bool,
+    /// No number is more than the number at its place in the row before.
+    pub stage_drop: bool,
+    /// No number is more than the cost of a class up to a later place plus the number of the row before at that place.
+    pub edge: bool,
+}
+
+/// Tests the numbers of rows against a source of at most 1,023 places and fewer than 2^62 calls. Each row, of at most 65,536, must have a
+/// number for each place. The function asks for the cost of each span once: D(D + 1)/2 costs over D places. The only error is that the
+/// allocator refuses memory. The source was not asked then.
+pub fn test_rows<C: SpanCosts>(
+    alloc: Global,
+    costs: &mut C,
+    rows: &Rows,
+) -> Result<RowTests, AllocError>
+    requires places { C.place_count costs.old ≤ MOST_NEEDS }
+    requires shape { HasShape rows.now (length rows.now) (C.place_count costs.old) }
+    requires few { length rows.now ≤ 2 ^ 16 }
+    requires room { C.call_count costs.old < 2 ^ 62 }
+    ensures tests { IfOk result (AreRowTests (C.cost costs.old) (C.place_count costs.old) rows.now) }
+    ensures counted { OnOk result (costs.new ≡ C.after_calls costs.old (span_count (C.place_count costs.old))) }
+    ensures not_asked { OnErr result (costs.new ≡ costs.old) }
+{
+    let places = costs.places();
+    let mut tests = RowTests {
+        last_class: true,
+        stage_drop: true,
+        edge: true,
+    };
+    let blocks = places / BLOCK + 1;
+    let mut bounds = no_bounds(alloc, rows.len(), blocks)?;
+    let mut slack = vec![in alloc; WHOLE_SLACK; blocks]?;
+    let mut from = vec![in alloc; 0u64; places + 1]?;
+    // the costs from the next place
+    let mut older = vec![in alloc; 0u64; places + 1]?;
+    for i in (0..places).rev() {
+        swap(&mut from, &mut older);
+        costs.write_from(i, &mut from);
+        lower_slack(&older, &from, &mut slack, i, places);
+        let last_class = rows.number(1, i) <= from[places];
+        let stage_drop = drops_hold_at(rows, i);
+        let edge = edges_hold_at(&from, rows, &slack, &mut bounds, i, places);
+        tests = RowTests {
+            last_class: both(tests.last_class, last_class),
+            stage_drop: both(tests.stage_drop, stage_drop),
+            edge: both(tests.edge, edge),
+        };
+    }
+    Ok(tests)
+}
+
+// whether both hold
+fn both(one: bool, other: bool) -> bool
+    ensures { IsTrue result ↔ (IsTrue one × IsTrue other) }
+{
+    one && other
+}
+
+// whether no later row is above the row before at place i
+fn drops_hold_at(rows: &Rows, i: usize) -> bool
+    requires { length rows.now ≤ 2 ^ 16 }
+    ensures { IsTrue result ↔ DropsHoldAt rows.now i (length rows.now) }
+{
+    let mut above = rows.number(1, i);
+    for k in 1..rows.len() {
+        let number = rows.number(k + 1, i);
+        if number > above {
+            return false;
+        }
+        above = number;
+    }
+    true
+}
+
+// whether each later row is within its edges at place i
+fn edges_hold_at(
+    costs: &[u64],
+    rows: &Rows,
+    slack: &[u64],
+    bounds: &mut [Vec<u64>],
+    i: usize,
+    places: usize,
+) -> bool
+    requires few { length rows.now ≤ 2 ^ 16 }
+    requires few_places { places ≤ 2 ^ 16 }
+    requires shape { HasShape rows.now (length rows.now) places }
+    requires size { length costs.now ≡ places + 1 }
+    requires place { i < places }
+    requires slack { IsSlack places slack.now }
+    requires bounds { let limit = length rows.now in
+        AreRowBounds costs.now slack.now i places limit (number_at rows.now) (lists_of bounds.old) }
+    ensures edges { IsTrue result ↔ EdgesHoldAt costs.now rows.now places i (length rows.now) }
+    ensures bounds { let limit = length rows.now in
+        AreRowBounds costs.now slack.now i places limit (number_at rows.now) (lists_of bounds.new) }
+{
+    for k in 1..rows.len() {
+        if !edge_holds_in(
+            costs,
+            rows.row(k - 1),
+            slack,
+            bounds,
+            k,
+            rows.number(k + 1, i),
+            i,
+        ) {
+            return false;
+        }
+    }
+    true
+}
+
+// whether a number at place i is within its edges to the later places, by the bounds of one row
+fn edge_holds_in(
+    costs: &[u64],
+    before: &[u64],
+    slack: &[u64],
+    bounds: &mut [Vec<u64>],
+    k: usize,
+    number: u64,
+    i: usize,
+) -> bool
+    requires row { k < length bounds.old }
+    requires size { length costs.now ≡ length before.now + 1 }
+    requires place { i < length before.now }
+    requires short { length before.now ≤ 2 ^ 16 }
+    requires slack { IsSlack (length before.now) slack.now }
+    requires bounds { let its = slice_index_or (lists_of bounds.old) k [] in
+        AreBounds costs.now slack.now i (length before.now) (slice_index before.now) its }
+    ensures edge { IsTrue result ↔ EdgeHoldsAt costs.now before.now number i }
+    ensures others { (m : ℕ) → m ≢ k
+        → slice_index_or (lists_of bounds.new) m [] ≡ slice_index_or (lists_of bounds.old) m [] }
+    ensures bounds { let its = slice_index_or (lists_of bounds.new) k [] in
+        AreBounds costs.now slack.now i (length before.now) (slice_index before.now) its }
+{
+    edge_holds_at(costs, before, slack, &mut bounds[k], number, i)
+}
+
+// Whether a number at place i is within its edges to the later places. A block of ends is passed over where its bound shows that the number
+// is within all of them.
+fn edge_holds_at(
+    costs: &[u64],
+    before: &[u64],
+    slack: &[u64],
+    bounds: &mut [u64],
+    number: u64,
+    i: usize,
+) -> bool
+    requires size { length costs.now ≡ length before.now + 1 }
+    requires place { i < length before.now }
+    requires short { length before.now ≤ 2 ^ 16 }
+    requires slack { IsSlack (length before.now) slack.now }
+    requires bounds { AreBounds costs.now slack.now i (length before.now) (slice_index before.now) bounds.old }
+    ensures edge { IsTrue result ↔ EdgeHoldsAt costs.now before.now number i }
+    ensures bounds { AreBounds costs.now slack.now i (length before.now) (slice_index before.now) bounds.new }
+{
+    let last = before.len();
+    // the ends up to the next block have no bound
+    let first = i + 1;
+    let stop = ((first / BLOCK + 1) * BLOCK).min(last);
+    if number > least_of(costs, before, first, stop) {
+        return false;
+    }
+    let blocks = (last - 1) / BLOCK + 1;
+    let mut block = next_block(bounds, slack, first / BLOCK + 1, blocks, number);
+    while block < blocks {
+        let start = block * BLOCK;
+        let low = least_of(costs, before, start, (start + BLOCK).min(last));
+        bounds[block] = low.saturating_add(slack[block]);
+        if number > low {
+            return false;
+        }
+        block = next_block(bounds, slack, block + 1, blocks, number);
+    }
+    number <= costs[last]
+}
+
+// the next block whose bound does not show that the number is within the edges to all of its ends
+fn next_block(bounds: &[u64], slack: &[u64], from: usize, blocks: usize, number: u64) -> usize
+    requires bounds { blocks ≤ length bounds.now }
+    requires slack { blocks ≤ length slack.now }
+    ensures order { from ≤ result }
+    ensures past { (b : ℕ) → from ≤ b → b < result
+        → number ≤ slice_index bounds.now b - slice_index slack.now b }
+{
+    for block in from..blocks {
+        if number > bounds[block].saturating_sub(slack[block]) {
+            return block;
+        }
+    }
+    from.max(blocks)
+}
+
+// the greatest number that is within the edges to some ends
+fn least_of(costs: &[u64], before: &[u64], start: usize, stop: usize) -> u64
+    requires order { start ≤ stop }
+    requires in_costs { stop ≤ length costs.now }
+    requires in_numbers { stop ≤ length before.now }
+    ensures within { WithinEdges costs.now before.now result start stop }
+    ensures greatest { (number : ℕ) → number < 2 ^ 64 → WithinEdges costs.now before.now number start stop
+        → number ≤ result }
+{
+    let mut low = u64::MAX;
+    for j in start..stop {
+        // (no sum, which might not fit 64 bits)
+        low = low.min(costs[j].saturating_add(before[j]));
+    }
+    low
+}

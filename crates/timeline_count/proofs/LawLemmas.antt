@@ -1,3 +1,0 @@
--- What the proofs of the crates above cite of timelines and their texts.
-pub use Rattle.timeline_count.proofs.FirstFaults.{first_fault_is_refused, refused_line_is_there}
-pub use Rattle.timeline_count.proofs.LineByLine.{spelled_timeline_is_read, timeline_is_spelled}

@@ -1,9 +1,0 @@
-use Rattle.std.proofs.Common.{◌≡◌, ◌*◌, ◌≤◌, ◌^◌, take, sum_by}
-use Rattle.timeline_count.specs.LiveBlocks.{class_bytes}
-use Rattle.timeline_count.proofs.footprint.footprint_over.Given as goal
-
-abbrev pub invariant-loop-number : goal.invariant-loop-number
-invariant-loop-number l = record {
-  sum : l.total ≡ sum_by (class_bytes l.events l.table) (take l.number l.table);
-  small : l.total ≤ l.number * 2 ^ 45;
-}

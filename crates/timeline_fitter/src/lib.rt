@@ -1,9 +1,0 @@
-//! The fitter over timelines: the class table of least footprint over every moment of a recorded run. It is fitted over some moments, to
-//! which those are added at which it takes more, until it takes no more over the whole timeline.
-#![tactic(auto)]
-
-mod fitting;
-mod moments;
-mod round;
-
-pub use fitting::{Found, MOST_ROUNDS, fit_over};
