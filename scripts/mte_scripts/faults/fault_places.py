@@ -1,14 +1,15 @@
-"""Names the source lines of return addresses, by addr2line of binutils."""
+"""Names the source lines of return addresses, by addr2line and readelf of binutils."""
 
 import os
+import re
 import shutil
 import stat
-import struct
 import subprocess
 from collections import defaultdict, namedtuple
 
 RUNTIME = "libmte_accesses.so"
 SYSTEM = ("/usr/lib", "/lib", "/usr/include")
+LOADED = re.compile(r"(?m)^ +LOAD +0x(\w+) 0x(\w+) 0x\w+ 0x(\w+) ")  # a line of `readelf -l`: offset, address, bytes in the file
 
 
 class Frame(namedtuple("Frame", "function source line module")):
@@ -49,13 +50,15 @@ class Places:
 
     def _ask(self, path, offsets):
         """Asks for the lines of some offsets of a file. A call's line is that of the byte before the address that it returns to."""
+        if not shutil.which("addr2line") or not shutil.which("readelf"):
+            return
         segments = loaded_segments(path)
         asked = {}
         for address, offset in offsets.items():
             for begin, virtual, size in segments:
                 if begin <= offset < begin + size:
                     asked[address] = offset - begin + virtual - 1
-        if not asked or not shutil.which("addr2line"):
+        if not asked:
             return
         words, given = ["addr2line", "-a", "-f", "-C", "-i", "-e", path], "\n".join(map(hex, asked.values())).encode()
         lines = subprocess.run(words, input=given, stdout=subprocess.PIPE, stderr=subprocess.DEVNULL).stdout.decode(errors="replace").split("\n")
@@ -111,16 +114,11 @@ def short(function):
 
 
 def loaded_segments(path):
-    """(offset in the file, address, bytes) of what is loaded of a 64-bit ELF file; nothing where it is none, or a log names a pipe."""
+    """(offset in the file, address, bytes) of what is loaded of an ELF file; nothing where it is none, or a log names a pipe."""
     try:
-        with open(path, "rb", opener=lambda path, how: os.open(path, how | os.O_NONBLOCK)) as file:
-            if not stat.S_ISREG(os.fstat(file.fileno()).st_mode):
-                return []
-            header = file.read(64)
-            table, = struct.unpack_from("<Q", header, 32)
-            size, count = struct.unpack_from("<HH", header, 54)
-            file.seek(table)
-            entries = [struct.unpack_from("<IIQQQQQQ", file.read(size)) for _ in range(count)]
-    except (OSError, OverflowError, struct.error):
+        if not stat.S_ISREG(os.stat(path).st_mode):
+            return []
+    except (OSError, ValueError):
         return []
-    return [(entry[2], entry[3], entry[5]) for entry in entries if entry[0] == 1]
+    done = subprocess.run(["readelf", "-lW", "--", path], stdin=subprocess.DEVNULL, stdout=subprocess.PIPE, stderr=subprocess.DEVNULL)
+    return [tuple(int(word, 16) for word in words) for words in LOADED.findall(done.stdout.decode(errors="replace"))]

@@ -1,4 +1,4 @@
-"""What the pictures in SVG share: texts in them, round values on an axis, and the axes of those that are within a page."""
+"""What the pictures in SVG share: texts in them, round values on an axis, the axes, curves, and the style of those that are files."""
 
 import html
 import math
@@ -56,3 +56,51 @@ class Picture:
         axis = f'<path class="axis" d="M{self.left} {self.bottom}H{self.right}"/>'
         box = f'viewBox="0 0 {self.width} {self.height}"'
         return f'<svg class="{self.kind}" {box} role="img" aria-label="{escape(name)}">{"".join(self.parts)}{axis}</svg>'
+
+
+XMLNS = '<svg xmlns="http://www.w3.org/2000/svg" '
+LIGHT = ("#0969da", "#bc4c00", "#1a7f37", "#8250df", "#cf222e", "#9a6700", "#0550ae", "#57606a")
+DARK = ("#58a6ff", "#f0883e", "#3fb950", "#bc8cff", "#ff7b72", "#d29922", "#79c0ff", "#8b949e")
+STYLE = """text{font:13px sans-serif;fill:#1f2328;stroke:#fff;stroke-width:3px;paint-order:stroke} .back{fill:#fff} .grid{stroke:#d0d7de}
+.axis{stroke:#57606a;fill:none} .limit{stroke:#cf222e;stroke-dasharray:6 4} .mark{fill:currentColor}
+.curve{fill:none;stroke:currentColor;stroke-width:2;stroke-linejoin:round}
+"""
+STYLE_DARK = """text{fill:#e6edf3;stroke:#0d1117} .back{fill:#0d1117} .grid{stroke:#30363d} .axis{stroke:#9198a1} .limit{stroke:#ff7b72}
+"""
+
+
+class Drawing(Picture):
+    """A picture that is a file of its own, with curves in colors of their own. It is light or dark as its reader is."""
+
+    def __init__(self, width, height, below, title):
+        super().__init__("drawing", width, height, below, title)
+        area = f'x="{self.left}" y="{self.top}" width="{self.right - self.left}" height="{self.bottom - self.top + 6}"'
+        self.parts.append(f'<clipPath id="plot"><rect {area}/></clipPath>')
+
+    def curve(self, at, points):
+        """Curve number AT, over (x, y, title); what is above the picture is cut off."""
+        line = " ".join(f"{shown(x)},{shown(max(y, -10 * self.height))}" for x, y, _ in points)
+        marks = "".join(
+            f'<circle class="mark" cx="{shown(x)}" cy="{shown(y)}" r="2.6"><title>{escape(title)}</title></circle>'
+            for x, y, title in points
+            if y >= self.top
+        )
+        self.parts.append(f'<g class="c{at % len(LIGHT)}" clip-path="url(#plot)"><polyline class="curve" points="{line}"/>{marks}</g>')
+
+    def square(self, at, x, y, title):
+        """A point beside curve number AT."""
+        box = f'x="{shown(x - 4)}" y="{shown(y - 4)}" width="8" height="8"'
+        self.parts.append(f'<g class="c{at % len(LIGHT)}"><rect class="mark" {box}><title>{escape(title)}</title></rect></g>')
+
+    def key(self, at, x, y, words, anchor="start"):
+        """The name of curve number AT, after a piece of it or before it."""
+        begin = x if anchor == "start" else x - 44
+        self.parts.append(f'<g class="c{at % len(LIGHT)}"><path class="curve" d="M{shown(begin)} {shown(y - 4)}h44"/></g>')
+        self.text(x + 52 if anchor == "start" else x - 52, y, words, anchor)
+
+    def svg(self, name):
+        colors, dark = ("".join(f".c{at}{{color:{color}}}" for at, color in enumerate(some)) for some in (LIGHT, DARK))
+        style = f"<style>{STYLE}{colors}\n@media (prefers-color-scheme:dark){{{STYLE_DARK}{dark}}}</style>"
+        back = f'<rect class="back" width="{self.width}" height="{self.height}"/>'
+        begin, rest = super().svg(name).split(">", 1)
+        return f'{begin.replace("<svg ", XMLNS, 1)}>{style}\n{back}{rest}'.replace("><", ">\n<") + "\n"
