@@ -79,6 +79,15 @@ TEMPLATES = {
     "regret.history": "{table} takes {cost}, at most {percent}% more than the best of these.",
     "regret.below": "{table} costs less, {cost}: it is none of these.",
     "regret.unserved": "{table} does not serve {size}, which {given} has.",
+    # a table for several loads, {given}, by the worst of its percentages there; {percent} is rounded down
+    "worst.claim": "of {tables}, none stays below {percent}% on all of them.",
+    "worst.says": "`{command}` says `optimal` of what bounds each load and of all joined{added}, so {claim}",
+    "worst.added": " with a {what} of {size} bytes added",
+    "worst.unproved": "Nothing is proved, since {why}. If its `{command}` is right, {claim}",
+    "worst.refused": "`{command}` says `{verdict}` of the loads joined: nothing bounds the worst of a table.",
+    "worst.exact": "This is the worst of this table, so none has a lower one.",
+    "worst.chosen": "This table was chosen among candidates, and its worst is {percent}%: another one may stay below that.",
+    "worst.help": "Find a table of size classes for several programs or days: one that is nowhere far above the best table of each",
     "regret.column": "above the best",
     "regret.title": "{table}: at most so far above the best table of each day",
     "regret.help": "how far a table of size classes is at most above the best table of each day",
@@ -188,13 +197,16 @@ def bound(judged: Judged) -> "int | None":
 def claim(judged: Judged) -> str:
     """The claim alone: among which tables none costs less than this one, and what it costs; or than the bound. Only where it holds, or there
     is a bound."""
+    least = bound(judged)
+    return TEMPLATES[f"{judged.kind}.claim"].format(tables=tables_of(judged), cost=byte_text(judged.cost if least is None else least))
+
+
+def tables_of(judged: Judged) -> str:
+    """Among which tables."""
     limit = limit_words(judged.limit, judged.step)
     if judged.forced:
-        tables = TEMPLATES["tables.forced"].format(limit=limit, given=judged.given, forced=forced_words(judged.forced))
-    else:
-        tables = TEMPLATES["tables.own"].format(limit=limit, given=judged.given)
-    least = bound(judged)
-    return TEMPLATES[f"{judged.kind}.claim"].format(tables=tables, cost=byte_text(judged.cost if least is None else least))
+        return TEMPLATES["tables.forced"].format(limit=limit, given=judged.given, forced=forced_words(judged.forced))
+    return TEMPLATES["tables.own"].format(limit=limit, given=judged.given)
 
 
 def refusal(judged: Judged) -> str:
@@ -242,6 +254,22 @@ def regret(judged: Judged, table: str, cost: "int | None", above: "float | None"
         return TEMPLATES["regret.below"].format(table=table, cost=byte_text(cost))
     kind = "profile" if judged.kind in ("profile", "scaled") else "history"
     return TEMPLATES[f"regret.{kind}"].format(table=table, cost=byte_text(cost), percent=f"{above:,.2f}")
+
+
+def worst(judged: Judged, low: float, high: float, is_exact: bool, trust: Trust) -> str:
+    """Of a table for several loads: what bounds the worst percentage of every table, by a sheet or fit of the loads joined, and its own."""
+    is_profile = judged.kind in ("profile", "scaled")
+    command = "check" if is_profile else "check-fit"
+    if not holds(judged):
+        return TEMPLATES["worst.refused"].format(command=command, verdict=judged.verdict)
+    claim_ = TEMPLATES["worst.claim"].format(tables=tables_of(judged), percent=f"{low:,.2f}")
+    size = listed(f"{GRANULE * each - GRANULE:,}" for each in judged.forced) if judged.forced else ""
+    added = TEMPLATES["worst.added"].format(what="request" if is_profile else "block", size=size) if size else ""
+    if trust.is_proved:
+        said = TEMPLATES["prefix.proved"] + TEMPLATES["worst.says"].format(command=command, added=added, claim=claim_)
+    else:
+        said = TEMPLATES["worst.unproved"].format(command=command, why=trust.why, claim=claim_)
+    return f"{said} {TEMPLATES['worst.exact' if is_exact else 'worst.chosen'].format(percent=f'{high:,.2f}')}"
 
 
 def answer(judged: Judged, trust: Trust) -> str:

@@ -1,0 +1,3 @@
+mod ArrayLemmas
+pub mod CommandLemmas
+pub mod HeapLemmas

@@ -1,0 +1,3 @@
+pub mod Arrays
+pub mod Commands
+pub mod Heap

@@ -1,105 +1,15 @@
-//! The heap.
-ghost use Rattle.std.specs.Prelude.{◌≡◌, None};
-ghost use Rattle.mte_library.specs.Heap.Calls.{IsAddg, IsCalloc, IsFree, IsLoad, IsMalloc, IsRealloc, IsStore, Makes, Performs, config_of};
-ghost use Rattle.mte_library.specs.Heap.Held.{heap_of};
+//! The heap for callers that hold it by a handle, as those of C do: for whoever tests an allocator against the model. A call on a handle
+//! without a heap does nothing, and says so.
+mod access;
+mod calls;
+mod freeing;
+mod handed_heap;
+mod handle;
+mod held;
+mod outcome;
+mod settings;
 
-use mte_library::heap::{HandedHeap, Outcome, Settings};
-use std::alloc::Global;
-
-/// Makes a heap over the table of these classes, in granules.
-#[unsafe(no_mangle)]
-pub extern "C" fn mte_heap_new(
-    alloc: Global,
-    settings: Settings,
-    classes: &[u16],
-    heap: &mut HandedHeap,
-) -> Outcome
-    ensures { Makes (config_of settings) classes.now (heap_of heap.old) (heap_of heap.new) result }
-{
-    mte_library::heap::new(alloc, settings, classes, heap)
-}
-
-/// Gives out a chunk of `n` bytes.
-#[unsafe(no_mangle)]
-pub extern "C" fn mte_heap_malloc(alloc: Global, heap: &mut HandedHeap, n: u32) -> Outcome
-    ensures { Performs (heap_of heap.old) (heap_of heap.new) result (IsMalloc n result) }
-{
-    mte_library::heap::malloc(alloc, heap, n)
-}
-
-/// As `mte_heap_malloc`, with all bytes of the chunk's granules set to 0.
-#[unsafe(no_mangle)]
-pub extern "C" fn mte_heap_calloc(alloc: Global, heap: &mut HandedHeap, n: u32) -> Outcome
-    ensures { Performs (heap_of heap.old) (heap_of heap.new) result (IsCalloc n result) }
-{
-    mte_library::heap::calloc(alloc, heap, n)
-}
-
-/// Changes the size of the chunk at an address to `n` bytes.
-#[unsafe(no_mangle)]
-pub extern "C" fn mte_heap_realloc(
-    alloc: Global,
-    heap: &mut HandedHeap,
-    address: u64,
-    n: u32,
-) -> Outcome
-    ensures { Performs (heap_of heap.old) (heap_of heap.new) result (IsRealloc address n result) }
-{
-    mte_library::heap::realloc(alloc, heap, address, n)
-}
-
-/// Frees the chunk at an address.
-#[unsafe(no_mangle)]
-pub extern "C" fn mte_heap_free(alloc: Global, heap: &mut HandedHeap, address: u64) -> Outcome
-    ensures { Performs (heap_of heap.old) (heap_of heap.new) result (IsFree address result) }
-{
-    mte_library::heap::free(alloc, heap, address)
-}
-
-/// Loads from an address on, as many bytes as the room has.
-#[unsafe(no_mangle)]
-pub extern "C" fn mte_heap_load(
-    alloc: Global,
-    heap: &mut HandedHeap,
-    address: u64,
-    room: &mut [u8],
-) -> Outcome
-    ensures { Performs (heap_of heap.old) (heap_of heap.new) result (IsLoad address room.old room.new result) }
-{
-    mte_library::heap::load(alloc, heap, address, room)
-}
-
-/// Stores these bytes from an address on.
-#[unsafe(no_mangle)]
-pub extern "C" fn mte_heap_store(
-    alloc: Global,
-    heap: &mut HandedHeap,
-    address: u64,
-    bytes: &[u8],
-) -> Outcome
-    ensures { Performs (heap_of heap.old) (heap_of heap.new) result (IsStore address bytes.now result) }
-{
-    mte_library::heap::store(alloc, heap, address, bytes)
-}
-
-/// ADDG: the address `u6` granules (0 to 63) further up, under the tag that the offset `u4` (0 to 15) chooses.
-#[unsafe(no_mangle)]
-pub extern "C" fn mte_heap_addg(
-    alloc: Global,
-    heap: &mut HandedHeap,
-    address: u64,
-    u6: u8,
-    u4: u8,
-) -> Outcome
-    ensures { Performs (heap_of heap.old) (heap_of heap.new) result (IsAddg address u6 u4 result) }
-{
-    mte_library::heap::addg(alloc, heap, address, u6, u4)
-}
-
-/// Frees the heap. The empty handle is left.
-#[unsafe(no_mangle)]
-pub extern "C" fn mte_heap_close(alloc: Global, heap: &mut HandedHeap)
-    ensures { heap_of heap.new ≡ None }
-{
-    mte_library::heap::close(alloc, heap);
-}
+pub use calls::{addg, calloc, close, free, load, malloc, new, realloc, store};
+pub use handed_heap::HandedHeap;
+pub use outcome::Outcome;
+pub use settings::Settings;

@@ -35,11 +35,15 @@ class Bound(NamedTuple):
     amount: int
     judged: claims.Judged
     classes: list
+    certificate: str
+    counts: bytes
 
 
 class Certified(NamedTuple):
-    """A sheet or a fit, and the counts that it is of, both as texts; its cost without what forces a class; and the table."""
+    """A sheet or a fit, and the counts that it is of, both as texts; its cost without what forces a class; the table; and the command
+    that checks it, whose verdict is empty before that."""
 
+    command: str
     verdict: str
     cost: int
     classes: list
@@ -55,16 +59,24 @@ def of(load: Load, among: Among) -> Bound:
         cost = load.cost(timed.fit.classes)
         judged = claims.Judged(load.kind, timed.verdict, among.limit, among.step, timed.fit.classes, load.name, cost, timed.forced)
         between = claims.bound(judged)
-        return shown(Bound(cost or 0 if between is None else between, judged, timed.fit.classes))
+        counts = figures.forced_into(load.kind, load.text) if among.largest else load.text
+        return shown(Bound(cost or 0 if between is None else between, judged, timed.fit.classes, timed.fit_text, counts))
     divisor = -(-load.most() // MOST_COUNT)
     if load.kind == "profile":
-        found = sheet([(1, load)], divisor, among)
+        found = checked(sheet([(1, load)], divisor, among))
         kind, amount = ("profile" if divisor == 1 else "scaled"), load.fixed + divisor * found.cost
         wasted = amount - load.fixed
-        return shown(Bound(amount, judged_of(kind, found, among, load.name, wasted), found.classes))
-    found = fit([(1, load)], divisor, among, [])
-    amount = divisor * found.cost
-    return shown(Bound(amount, judged_of("histories", found, among, load.name, amount), found.classes))
+        judged = judged_of(kind, found, among, load.name, wasted)
+    else:
+        found = checked(fit([(1, load)], divisor, among, []))
+        amount = divisor * found.cost
+        judged = judged_of("histories", found, among, load.name, amount)
+    return shown(Bound(amount, judged, found.classes, found.certificate, found.counts.encode()))
+
+
+def checked(found: Certified) -> Certified:
+    """The same with the verdict."""
+    return found._replace(verdict=figures.run([found.command], found.certificate + found.counts)[1])
 
 
 def judged_of(kind: str, found: Certified, among: Among, name: str, cost: int) -> claims.Judged:
@@ -89,10 +101,9 @@ def sheet(parts: Iterable[tuple], divisor: int, among: Among) -> Certified:
     tuned = figures.with_largest(counts) if among.largest else counts
     text = figures.profile_text(tuned)
     _, made = figures.run(["tune", *among.words()], text)
-    _, verdict = figures.run(["check"], f"{made}\n{text}")
     found = texts.parse_sheet(made)
     forced = () if tuned.get(LARGEST_SIZE) == counts.get(LARGEST_SIZE) else (FORCED,)
-    return Certified(verdict, found.waste, found.classes, f"{made}\n", text, forced)
+    return Certified("check", "", found.waste, found.classes, f"{made}\n", text, forced)
 
 
 def fit(parts: Sequence[tuple], divisor: int, among: Among, seen: list, rounds: int = ROUNDS) -> Certified:
@@ -107,13 +118,12 @@ def fit(parts: Sequence[tuple], divisor: int, among: Among, seen: list, rounds: 
         found = texts.parse_fit(made)
         cost = found.footprint - sum(GRANULE * each for each in forced)
         if best is None or cost > best.cost:
-            best = Certified("", cost, found.classes, f"{made}\n", text, forced)
+            best = Certified("check-fit", "", cost, found.classes, f"{made}\n", text, forced)
         if found.classes in seen[-MOST_TABLES:] or any(load.unserved(found.classes) is not None for _, load in parts):
             break
         seen.append(found.classes)
     assert best is not None
-    _, verdict = figures.run(["check-fit"], best.certificate + best.counts)
-    return best._replace(verdict=verdict)
+    return best
 
 
 def first_tables(parts: Iterable[tuple]) -> list:

@@ -31,7 +31,8 @@ of a machine with any name, and the weight 1.
   --by COLUMNS       a profile for each program,build or other columns of program, build, machine and day; program,day where it is
                      left out
   --program NAME     only the rows of this program
-  --days FIRST..LAST only the rows of these days
+  --days FIRST..LAST
+                     only the rows of these days
   --output FOLDER    make a new folder, with a folder in it for each value of the columns but the last, and in that a file for each
                      value of the last one: FOLDER/redis/2026-12-31.profile, or .history of moments
   --arrays           print each load as one row, with its moments, sizes and counts as arrays: for ClickHouse

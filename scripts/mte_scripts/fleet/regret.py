@@ -3,7 +3,7 @@
 import json
 import math
 import textwrap
-from collections.abc import Iterable
+from collections.abc import Iterable, Sequence
 from typing import NamedTuple, Optional
 
 from mte_scripts import claims, texts
@@ -65,6 +65,10 @@ class Regret(NamedTuple):
         """The waste or the footprint of the table."""
         return None if self.cost is None else self.cost - self.load.fixed
 
+    def percent(self) -> Optional[float]:
+        """For JSON, which has no number without end."""
+        return None if self.above == math.inf else self.above
+
     def sentences(self, name: str) -> str:
         """What is known of the load's bound, and of the table beside it."""
         said = claims.regret(self.bound.judged, name, self.own, self.above, self.unserved)
@@ -76,10 +80,14 @@ def percent_above(cost: int, bound: int) -> float:
     return -((bound - cost) * HUNDREDTHS // bound) / 100 if bound > 0 else math.inf
 
 
-def regret_of(load: loads.Load, classes: list, among: bounds.Among) -> Regret:
-    bound = bounds.of(load, among)
+def compared(load: loads.Load, bound: bounds.Bound, classes: list) -> Regret:
+    """A table beside the bound of a load."""
     cost = load.cost(classes)
     return Regret(load, bound, cost, None if cost is None else percent_above(cost, bound.amount), load.unserved(classes))
+
+
+def regret_of(load: loads.Load, classes: list, among: bounds.Among) -> Regret:
+    return compared(load, bounds.of(load, among), classes)
 
 
 def is_within(found: Iterable[Regret], limit: Optional[float]) -> bool:
@@ -91,15 +99,21 @@ def farthest(found: Iterable[Regret]) -> Regret:
     return max(found, key=lambda each: math.inf if each.above is None else each.above)
 
 
-def table_text(found: list) -> str:
-    """The loads in columns."""
-    rows = [("Load", "table, bytes", "bound, bytes", claims.TEMPLATES["regret.column"])]
+def shown(each: Regret) -> str:
+    """Its percentage, as a cell."""
+    return "not served" if each.above is None else f"{each.above:,.2f}%"
+
+
+def table_text(found: list, held_out: Sequence[Regret] = ()) -> str:
+    """The loads in columns; the last has what a table came to that was made without the load's day."""
+    rows: list[tuple] = [("Load", "table, bytes", "bound, bytes", claims.TEMPLATES["regret.column"])]
     for each in found:
         cost = "not served" if each.cost is None else figures.number(each.cost)
-        above = "" if each.above is None else f"{each.above:,.2f}%"
-        rows.append((each.load.name, cost, figures.number(each.bound.amount), above))
-    widths = [max(len(row[column]) for row in rows) for column in range(4)]
-    name = min(widths[0], max(WIDTH - sum(widths[1:]) - 6, 12))
+        rows.append((each.load.name, cost, figures.number(each.bound.amount), shown(each)))
+    if held_out:
+        rows = [(*row, cell) for row, cell in zip(rows, ["held out", *map(shown, held_out)])]
+    widths = [max(map(len, column)) for column in zip(*rows)]
+    name = min(widths[0], max(WIDTH - sum(widths[1:]) - 2 * len(widths[1:]), 12))
     lines = []
     for row in rows:
         first = row[0] if len(row[0]) <= name else ".." + row[0][2 - name :]
@@ -133,7 +147,7 @@ def as_json(found: list, name: str, classes: list, among: bounds.Among, limit: O
             "kind": each.load.kind,
             "table_bytes": each.cost,
             "bound_bytes": each.bound.amount,
-            "above_percent": None if each.above == math.inf else each.above,
+            "above_percent": each.percent(),
             "unserved_bytes": each.unserved,
             "sentences": each.sentences(name),
         }

@@ -1,0 +1,24 @@
+-- A full place and the parts own what a box at the same types owns.
+use mir.Syntax.{impl, tnil, dnil}
+use mathlib.Core.List.{[]}
+use denote.Signature.{Slot, plain}
+use Rattle.std_alloc.proofs.BoxSteps.Form.{Bx}
+use Rattle.std_heap.specs.contracts.Global as Heap
+use Rattle.std_heap.specs.contracts.GlobalAllocator.TheImpl.{ghosts, dict}
+use Rattle.std_heap.proofs.Global.TheLaws as heap
+use Rattle.mte_c.specs.contracts.heap.held.Held as Held
+use Rattle.mte_c.proofs.heap.held.Held.TheLaws as held
+use Rattle.handed_text.specs.contracts.parts.BoxParts as Parts
+use Rattle.mte_c.specs.contracts.heap.handle.Handle as Place
+
+abbrev pub E : Bx
+E = record { row = Held.the_row; laws = held.the_row_laws; al = record { row = Heap.the_row; laws = heap.the_row_laws; g = ghosts; d = dict; drops = impl [] tnil dnil } }
+
+abbrev pub FromParts : Slot 0
+FromParts = plain (λ _. Parts.the_row Held.the_row Heap.the_row ghosts)
+
+abbrev pub FromPlace : Slot 0
+FromPlace = plain (λ _. Place.the_row)
+
+abbrev pub FromGlobal : Slot 0
+FromGlobal = plain (λ _. Heap.the_row)

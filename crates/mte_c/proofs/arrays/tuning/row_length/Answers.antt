@@ -1,0 +1,17 @@
+use Rattle.std.proofs.Common.{◌≡◌, ◌∙◌, [], ap, arith, length, sym}
+use Rattle.std.proofs.lemmas.Option.{get_or_from_slice_get}
+use Rattle.tuner_theory.proofs.LawLemmas.{few_places}
+use Rattle.tuner_theory.specs.Spans.{places}
+use Rattle.mte_c.proofs.arrays.tuning.row_length.Goals as goal
+
+pub returns-clause-length : goal.returns-clause-length
+returns-clause-length c =
+    let first = get_or_from_slice_get c.args.rows.now 0 c.row.result.now [] c.row.ensures in
+    ap length (sym first) ∙ c.requires.shape 0 [] c.requires.some
+
+pub returns-clause-few : goal.returns-clause-few
+returns-clause-few c =
+    let first = get_or_from_slice_get c.args.rows.now 0 c.row.result.now [] c.row.ensures in
+    let long : length c.row.result.now ≡ places c.args.profile.now.counts c.args.step =
+    ap length (sym first) ∙ c.requires.shape 0 [] c.requires.some in
+    omega (arith, long, few_places c.args.profile.now.counts c.args.step c.requires.step c.requires.counts)

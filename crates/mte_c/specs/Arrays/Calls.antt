@@ -1,0 +1,96 @@
+-- What the calls over arrays answer.
+use Rattle.std.specs.Prelude.{◌≡◌, ◌≢◌, ℕ, ◌*◌, ◌/◌, ◌%◌, ◌<◌, ◌≤◌, List, ◌++◌, drop, length, None, Some, Result, Ok, Err, IsOk}
+use Rattle.class_table.specs.Faults.{table_of_classes}
+use Rattle.class_table.specs.declared.fault.TableError.{TableError}
+use Rattle.class_tuner.specs.Tuned.{IsTuned}
+use Rattle.profile_count.specs.Counts.{unserved_of}
+use Rattle.tool_call.specs.Options.{AreTuneOptions}
+use Rattle.tuner_theory.specs.Best.{IsBest}
+use Rattle.tuner_theory.specs.Profiles.{Profile}
+use Rattle.tuner_theory.specs.Sheets.{IsVerdict, Sheet}
+use Rattle.tuner_theory.specs.Spans.{places}
+use Rattle.tuner_theory.specs.Waste.{waste_of}
+use Rattle.tuner_theory.specs.declared.verdict.Verdict.{Verdict}
+use Rattle.tuner_theory.specs.declared.verdict.Verdict.TheVariants.{Optimal}
+use Rattle.mte_c.specs.Arrays.Spelled.{AreRows, profile_of_arrays}
+use Rattle.mte_c.specs.declared.arrays.fault.ArrayError.{ArrayError}
+use Rattle.mte_c.specs.declared.arrays.fault.ArrayError.TheVariants.{OutOfMemory, Table, Entry, BadOption, Misuse}
+use Rattle.mte_c.specs.declared.arrays.scoring.Scored.{Scored}
+use Rattle.mte_c.specs.declared.arrays.scoring.Scored.TheVariants.{Waste, NotServing}
+use Rattle.mte_c.specs.declared.arrays.tuning.TunedNumbers.{TunedNumbers}
+
+-- The table of some classes, or their fault.
+abbrev pub GivesTable : Result (List ℕ) ArrayError → Result (List ℕ) TableError → Type 0
+GivesTable (Ok table) read = read ≡ Ok table
+GivesTable (Err (Table fault)) read = read ≡ Err fault
+GivesTable (Err other) read = ⊥
+
+-- ---- score
+
+abbrev pub IsScoreOf : List ℕ → Profile → Scored → Type 0
+IsScoreOf table profile (Waste waste) = (unserved_of profile.counts table ≡ None) × (waste ≡ waste_of profile.counts table)
+IsScoreOf table profile (NotServing size) = unserved_of profile.counts table ≡ Some size
+
+abbrev pub IsScored : List ℕ → List ℕ → List ℕ → Result Scored ArrayError → Type 0
+IsScored classes sizes counts (Ok score) =
+    (table : List ℕ) × (profile : Profile) × (table_of_classes classes ≡ Ok table) × (profile_of_arrays sizes counts ≡ Ok profile)
+    × IsScoreOf table profile score
+IsScored classes sizes counts (Err OutOfMemory) = IsOk (table_of_classes classes)
+IsScored classes sizes counts (Err (Table fault)) = table_of_classes classes ≡ Err fault
+IsScored classes sizes counts (Err (Entry index fault)) =
+    (table : List ℕ) × (table_of_classes classes ≡ Ok table) × (profile_of_arrays sizes counts ≡ Err (index, fault))
+IsScored classes sizes counts (Err BadOption) = ⊥
+IsScored classes sizes counts (Err Misuse) = ⊥
+
+-- ---- tune
+
+-- The tuned sheet, as numbers: its classes at the start of one array, and its rows at the start of another if they fit.
+pub record IsTunedInto (limit step : ℕ) (sizes counts classes rows classes' rows' : List ℕ) (tuned : TunedNumbers) : Type 0 where
+  pub profile : Profile
+  pub spelled : profile_of_arrays sizes counts ≡ Ok profile
+  pub sheet : Sheet
+  pub is_tuned : IsTuned profile.counts step limit sheet
+  pub class_count : tuned.classes ≡ length sheet.table
+  pub waste : tuned.waste ≡ sheet.waste
+  pub row_length : tuned.places ≡ places profile.counts step
+  pub table : classes' ≡ sheet.table ++ drop (length sheet.table) classes
+  pub rows_fit : limit * tuned.places ≤ length rows → AreRows limit tuned.places rows' sheet.rows
+  pub rows_rest : drop (limit * tuned.places) rows' ≡ drop (limit * tuned.places) rows
+  pub rows_kept : length rows < limit * tuned.places → rows' ≡ rows
+
+-- That, or the first error. `room` is how many classes there is room for.
+abbrev pub IsTunedOr : ℕ → ℕ → List ℕ → List ℕ → ℕ → Result TunedNumbers ArrayError → (TunedNumbers → Type 0) → Type 0
+IsTunedOr limit step sizes counts room (Ok tuned) done = AreTuneOptions limit step × (limit ≤ room) × done tuned
+IsTunedOr limit step sizes counts room (Err OutOfMemory) done = AreTuneOptions limit step × (limit ≤ room)
+IsTunedOr limit step sizes counts room (Err (Table fault)) done = ⊥
+IsTunedOr limit step sizes counts room (Err (Entry index fault)) done =
+    AreTuneOptions limit step × (limit ≤ room) × (profile_of_arrays sizes counts ≡ Err (index, fault))
+IsTunedOr limit step sizes counts room (Err BadOption) done = AreTuneOptions limit step → ⊥
+IsTunedOr limit step sizes counts room (Err Misuse) done = AreTuneOptions limit step × (room < limit)
+
+-- ---- check
+
+-- The verdict on the sheet that the numbers spell.
+pub record IsCheckedAs (limit step waste : ℕ) (classes numbers sizes counts : List ℕ) (verdict : Verdict) : Type 0 where
+  pub table : List ℕ
+  pub is_table : table_of_classes classes ≡ Ok table
+  pub profile : Profile
+  pub spelled : profile_of_arrays sizes counts ≡ Ok profile
+  pub rows : List (List ℕ)
+  pub are_rows : AreRows limit (length numbers / limit) numbers rows
+  pub is_verdict : IsVerdict profile.counts (record { table = table; limit = limit; step = step; waste = waste; rows = rows }) verdict
+  pub best : verdict ≡ Optimal → IsBest profile.counts step limit table
+
+-- That, or the first error.
+abbrev pub IsChecked : ℕ → ℕ → ℕ → List ℕ → List ℕ → List ℕ → List ℕ → Result Verdict ArrayError → Type 0
+IsChecked limit step waste classes numbers sizes counts (Ok verdict) =
+    AreTuneOptions limit step × (length numbers % limit ≡ 0) × IsCheckedAs limit step waste classes numbers sizes counts verdict
+IsChecked limit step waste classes numbers sizes counts (Err OutOfMemory) =
+    AreTuneOptions limit step × (length numbers % limit ≡ 0) × IsOk (table_of_classes classes)
+IsChecked limit step waste classes numbers sizes counts (Err BadOption) = AreTuneOptions limit step → ⊥
+IsChecked limit step waste classes numbers sizes counts (Err Misuse) = AreTuneOptions limit step × (length numbers % limit ≢ 0)
+IsChecked limit step waste classes numbers sizes counts (Err (Table fault)) =
+    AreTuneOptions limit step × (length numbers % limit ≡ 0) × (table_of_classes classes ≡ Err fault)
+IsChecked limit step waste classes numbers sizes counts (Err (Entry index fault)) =
+    AreTuneOptions limit step × (length numbers % limit ≡ 0)
+    × ((table : List ℕ) × (table_of_classes classes ≡ Ok table) × (profile_of_arrays sizes counts ≡ Err (index, fault)))

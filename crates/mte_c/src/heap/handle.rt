@@ -1,0 +1,54 @@
+//! A handle to a heap, which C can hold.
+ghost use Rattle.std.specs.Prelude.{◌≡◌, Option, Some, None, IsSome};
+ghost use Rattle.mte_c.specs.declared.heap.held.Held.{Held as HeldHeap};
+ghost use Rattle.mte_c.specs.Heap.Ownership.{held_coded};
+
+use crate::heap::held::Held;
+use handed_text::BoxParts;
+use std::alloc::Global;
+use std::marker::Model;
+
+/// A pointer to a heap, or null. Dropping it frees nothing.
+#[repr(C)]
+#[derive(Drop)]
+pub struct Handle {
+    at: *mut u8,
+    ghost held: { Option HeldHeap } by { held_coded },
+}
+
+impl Model for Handle {
+    ghost use Rattle.mte_c.specs.Heap.Ownership.{handle_owns};
+
+    ghost also_owns = { λ h. handle_owns h.at h.held };
+}
+
+impl Handle {
+    /// Null.
+    pub fn empty() -> Handle
+        ensures { result.held ≡ None }
+    {
+        Handle {
+            at: std::ptr::null_mut(),
+        }
+    }
+
+    /// A handle to the heap of this box.
+    pub fn of_parts(parts: BoxParts<Held, Global>) -> Handle
+        ensures { result.held ≡ Some parts.value }
+    {
+        let BoxParts { ptr, alloc: _ } = parts;
+        Handle { at: ptr as *mut u8 }
+    }
+
+    /// The box of a handle that is not null.
+    pub fn into_parts(self, alloc: Global) -> BoxParts<Held, Global>
+        requires { IsSome self.held }
+        ensures { self.held ≡ Some result.value }
+    {
+        let Handle { at } = self;
+        BoxParts {
+            ptr: at as *mut Held,
+            alloc,
+        }
+    }
+}

@@ -1,3 +1,0 @@
-mod ArrayLemmas
-pub mod CommandLemmas
-pub mod HeapLemmas

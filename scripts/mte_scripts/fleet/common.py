@@ -1,0 +1,306 @@
+"""A table for several programs or days, by the worst of its percentages above their bounds. `fleet_table --help` says all.
+
+Let table T cost c(T, p) on load p, and b(p) be the bound of p. For any numbers m(p) of at least 0, the sum of m(p) c(T, p) is at most the
+worst of the ratios c(T, p) / b(p), times the sum of m(p) b(p). So a sheet or a fit of the loads joined with these numbers bounds the worst
+ratio of every table from below. Loads with a high ratio get higher numbers, round by round; each round's table is a candidate. A candidate
+whose worst ratio is the bound has the lowest one of all. Else other tables may be between the two."""
+
+import json
+import math
+import os
+from collections.abc import Iterable, Sequence
+from fractions import Fraction
+from typing import NamedTuple, Optional
+
+from mte_scripts import claims, texts
+from mte_scripts.fleet import bounds, loads, options, regret
+from mte_scripts.recording import timelines
+from mte_scripts.tables import figures
+from mte_scripts.texts import MOST_COUNT, Refused
+from mte_scripts.words import Words, between, named, some
+
+HELP = f"""\
+{claims.TEMPLATES["worst.help"]}.
+
+Usage: fleet_table [OPTION..] LOAD..       (standard input for `-`)
+
+A LOAD is a profile, a history, a timeline or rows, as of fleet_regret; profiles alone, or the others alone. A load alone has its
+own table.
+
+  --by worst|total   worst: the highest percentage above the bound of a load is to be low; so it is where this is left out. total:
+                     the sum over all loads is, in which large ones weigh more
+{options.AMONG_HELP}
+  --hold-out N       cut the days into N runs; for each, make a table of the others, and say how far it is above the bounds of these
+                     days, which it has not seen. All loads of a day are held out together. With as many runs as days, each day is
+                     by itself
+  --output FILE      write the table's class line into FILE, for scudo_classes, score, footprint and fleet_regret
+  --certificates DIR
+                     make the new folder DIR, with what shows each bound and that of the worst, and claims.txt with their commands
+  --json             print all as JSON
+
+The table is chosen among candidates: the tables of each load and of the loads joined, each with a weight that grows where the table
+is far above the bound, and then with one class moved, while that helps. The last sentence has what bounds the worst of every table,
+by a certificate; where it is the worst of this one, none is better.
+
+MTE_TOOL=PATH in the environment takes the program at PATH in place of the built one; the sentences say so.
+
+Exit status:
+  0  the table is printed, and what is known of it
+  2  the words or a load are refused
+  3  the program mte_tool could not run, a load counts nothing, or the output can't be written
+
+Examples:
+  fleet_table --output all.classes examples/sqlite.profile examples/jq.profile examples/perl.profile
+  fleet_table --hold-out 4 days/redis/*.profile
+"""
+
+ROUNDS = 40
+PRECISION = 1 << 20  # of the numbers that loads are joined with
+MOST_WORK = 60_000  # of classes that are moved, times the machines that are looked at
+
+
+class Table(NamedTuple):
+    """A table in common: its cost on each load; the worst ratio to a bound, and what bounds that of every table; and what shows that."""
+
+    classes: list
+    costs: list
+    worst: Fraction
+    low: Fraction
+    certified: bounds.Certified
+    numbers: list
+    divisor: int
+
+
+class Search:
+    """The loads with their bounds, and the candidate that is the first so far."""
+
+    def __init__(self, given: Sequence[loads.Load], own: Sequence[bounds.Bound], among: bounds.Among):
+        self.given, self.own, self.among = list(given), list(own), among
+        self.tables: list = []  # whose columns are known, of histories
+        self.first: Optional[tuple] = None
+        self.low: Optional[tuple] = None
+
+    def ratios(self, classes: list) -> Optional[list]:
+        """The cost on each load by its bound; None for a table that is not among those meant, or that does not serve all."""
+        if len(classes) > self.among.limit or any(each % self.among.step for each in classes):
+            return None
+        if self.among.largest and classes[-1] != loads.FORCED:
+            return None
+        costs = [load.cost(classes) for load in self.given]
+        return None if None in costs else [Fraction(cost, max(bound.amount, 1)) for cost, bound in zip(costs, self.own)]
+
+    def offer(self, classes: list) -> Optional[list]:
+        """Takes a candidate if its worst ratio is lower, or the same with a lower sum."""
+        ratios = self.ratios(classes)
+        if ratios and (self.first is None or (max(ratios), sum(ratios)) < self.first[0]):
+            self.first = (max(ratios), sum(ratios)), list(classes)
+        return ratios
+
+    def joined(self, weights: Sequence[float]) -> list:
+        """The table of the loads joined, each with its weight of their bounds; and its bound of the worst ratio of all tables."""
+        amounts = [max(bound.amount, 1) for bound in self.own]
+        scale = PRECISION / max(weight / amount for weight, amount in zip(weights, amounts))
+        numbers = [max(round(weight / amount * scale), 1) for weight, amount in zip(weights, amounts)]
+        if len(set(numbers)) == 1:
+            numbers = [1] * len(numbers)
+        parts = list(zip(numbers, self.given))
+        divisor = -(-sum(each * load.most() for each, load in parts) // MOST_COUNT)
+        if self.given[0].kind == "profile":
+            found = bounds.sheet(parts, divisor, self.among)
+        else:
+            found = bounds.fit(parts, divisor, self.among, self.tables)
+        cost = divisor * found.cost + sum(each * load.fixed for each, load in parts)
+        # no table is below the bound of a load, so none has a ratio below 1
+        low = max(Fraction(cost, sum(each * amount for each, amount in zip(numbers, amounts))), Fraction(1))
+        if self.low is None or low > self.low[0]:
+            self.low = low, found, numbers, divisor
+        return found.classes
+
+    def is_closed(self) -> bool:
+        return self.first is not None and self.low is not None and self.first[0][0] <= self.low[0]
+
+    def run(self) -> None:
+        """Round by round, with more weight on what the round's table is far above."""
+        for bound in self.own:
+            self.offer(bound.classes)
+        for _, classes in figures.other_tables([]):
+            self.offer(classes)
+        weights = [1.0 / len(self.given)] * len(self.given)
+        for at in range(ROUNDS if len(self.given) > 1 else 1):
+            ratios = self.offer(self.served(self.joined(weights)))
+            if self.is_closed() or not ratios:
+                break
+            spread = float(max(ratios) - min(ratios)) or 1.0
+            step = math.sqrt(2 * math.log(len(weights) + 1) / (at + 1)) / spread
+            weights = [weight * math.exp(step * float(ratio - max(ratios))) for weight, ratio in zip(weights, ratios)]
+            weights = [max(weight / sum(weights), 1e-9) for weight in weights]
+        if not self.is_closed():
+            self.move()
+
+    def served(self, classes: list) -> list:
+        """A table of joined loads of which small counts were rounded away: with the largest need, where it lacks that."""
+        step = self.among.step
+        need = max(-(-timelines.need_of(load.sizes[-1]) // step) * step for load in self.given)
+        if classes and classes[-1] >= need:
+            return classes
+        return [*classes[: self.among.limit - 1], need]
+
+    def move(self) -> None:
+        """Moves one class at a time to another need, while the worst ratio falls."""
+        if self.first is None:
+            return
+        step = self.among.step
+        needs = sorted({-(-timelines.need_of(size) // step) * step for load in self.given for size in load.sizes})
+        each = sum(50 if load.kind == "timeline" else max(len(load.members), 1) for load in self.given)
+        left, before = MOST_WORK // each, None
+        while before != self.first and left > 0:
+            before, classes = self.first, self.first[1]
+            for place, own in enumerate(classes[:-1]):
+                below = classes[place - 1] if place else 1
+                for need in needs:
+                    if below < need < classes[place + 1] and need != own and left > 0:
+                        left -= 1
+                        self.offer([*classes[:place], need, *classes[place + 1 :]])
+
+    def table(self) -> Table:
+        if self.first is None or self.low is None:
+            raise Refused(3, "no candidate serves all sizes of all loads: take more classes")
+        low, found, numbers, divisor = self.low
+        classes = self.first[1]
+        costs = [load.cost(classes) for load in self.given]
+        return Table(classes, costs, self.first[0][0], low, bounds.checked(found), numbers, divisor)
+
+
+def of(given: Sequence[loads.Load], own: Sequence[bounds.Bound], among: bounds.Among) -> Table:
+    """A table in common for these loads, of which the bounds are known."""
+    search = Search(given, own, among)
+    search.run()
+    return search.table()
+
+
+def together(given: Sequence[loads.Load]) -> loads.Load:
+    """All loads as one, by the sum of their costs."""
+    if given[0].kind != "profile":
+        return loads.Load("all loads", "histories", members=[member for load in given for member in load.members])
+    sums: dict = {}
+    for load in given:
+        for size, count in load.counts.items():
+            sums[size] = sums.get(size, 0) + count
+    return loads.Load("all loads", "profile", sums)
+
+
+def percent_of(ratio: Fraction, is_up: bool) -> float:
+    """How many percent a ratio is above 1, in hundredths."""
+    value = (ratio - 1) * 10_000
+    return (math.ceil(value) if is_up else math.floor(value)) / 100
+
+
+def runs_of(days: Sequence[str], number_of: int) -> list:
+    """The days in their order, cut into so many runs as equal as can be."""
+    if number_of > len(days):
+        raise Refused(2, f"--hold-out {number_of} wants as many days, and there are {len(days)}")
+    cuts = [len(days) * at // number_of for at in range(number_of + 1)]
+    return [list(days[begin:end]) for begin, end in zip(cuts, cuts[1:])]
+
+
+def held_out(given: Sequence[loads.Load], own: Sequence[bounds.Bound], among: bounds.Among, folds: int) -> list:
+    """For each load, how far the table of the loads of other days is above its bound: a Regret."""
+    found: dict = {}
+    for days in runs_of(sorted({load.day for load in given}), folds):
+        seen = [(load, bound) for load, bound in zip(given, own) if load.day not in days]
+        table = of([load for load, _ in seen], [bound for _, bound in seen], among)
+        for load, bound in zip(given, own):
+            if load.day in days:
+                found[load.name] = regret.compared(load, bound, table.classes)
+    return [found[load.name] for load in given]
+
+
+def sentence(table: Table, given: Sequence[loads.Load], among: bounds.Among) -> str:
+    names = claims.listed(load.name for load in given) if len(given) <= 4 else f"all {len(given)} loads"
+    kind = "profile" if given[0].kind == "profile" else "histories"
+    judged = bounds.judged_of(kind, table.certified, among, names, 0)
+    is_exact = table.worst == table.low
+    return claims.worst(judged, percent_of(table.low, False), percent_of(table.worst, True), is_exact, texts.trust())
+
+
+def write_certificates(folder: str, own: Iterable[bounds.Bound], table: Table, said: list) -> None:
+    """The folder with the sheet or fit of each load, and of the loads joined, each beside its counts."""
+    files, lines = {}, []
+    pairs = [(bound.certificate, bound.counts, bound.judged.kind) for bound in own]
+    pairs.append(
+        (table.certified.certificate, table.certified.counts.encode(), "profile" if table.certified.command == "check" else "history")
+    )
+    for at, (certificate, counts, kind) in enumerate(pairs):
+        is_sheet = kind in ("profile", "scaled")
+        name = "joined" if at == len(pairs) - 1 else f"load{at + 1}"
+        names = [
+            f"{name}.{'sheet' if is_sheet else 'fit'}",
+            f"{name}.{'history' if kind == 'histories' else 'profile' if is_sheet else kind}",
+        ]
+        files[names[0]], files[names[1]] = certificate.encode(), counts
+        shell = " ".join(texts.quoted(os.path.join(folder, each)) for each in names)
+        lines.append(f"{said[at]}\n\n    cat {shell} | {texts.as_called('scripts/mte_tool')} {'check' if is_sheet else 'check-fit'}\n\n")
+    each = ", ".join(map(str, table.numbers))
+    lines.append(f"Joined: the loads in their order, times {each}, added up, divided by {table.divisor:,} and rounded down.\n")
+    files["claims.txt"] = "".join(lines).encode(errors="surrogateescape")
+    try:
+        os.mkdir(folder)
+        for name, data in files.items():
+            with open(os.path.join(folder, name), "wb") as file:
+                file.write(data)
+    except OSError as error:
+        raise Refused(3, f"{error.filename or folder} can't be written: {error.strerror}") from None
+
+
+def main(words: list) -> None:
+    parser = Words(HELP)
+    parser.add_argument("--by", type=named("worst", "total"), default="worst")
+    options.add_among(parser)
+    parser.add_argument("--hold-out", type=between(2, 1000))
+    parser.add_argument("--output", type=some)
+    parser.add_argument("--certificates", type=some)
+    parser.add_argument("--json", action="store_true")
+    parser.add_argument("names", nargs="*")
+    options_given = parser.take(words, once=True)
+    if not options_given.names or options_given.names.count("-") > 1:
+        raise Refused(2, "name the loads, standard input once; --help says more")
+    among = options.among(options_given)
+    given = loads.read(options_given.names)
+    if len({load.kind == "profile" for load in given}) > 1:
+        raise Refused(2, "there are profiles, and histories or timelines: give one kind alone")
+    own = [bounds.of(load, among) for load in given]
+    if options_given.by == "total":
+        whole = together(given)
+        made = of([whole], [bounds.of(whole, among)], among)
+    else:
+        made = of(given, own, among)
+    found = [regret.compared(load, bound, made.classes) for load, bound in zip(given, own)]
+    folds = held_out(given, own, among, options_given.hold_out) if options_given.hold_out else []
+    finish(options_given, among, made, found, folds)
+
+
+def finish(given, among: bounds.Among, made: Table, found: list, folds: list) -> None:
+    """Writes the files, and prints the text or the JSON."""
+    lines = figures.class_text(made.classes)
+    of_all = [each.load for each in found] if given.by == "worst" else [together([each.load for each in found])]
+    said = sentence(made, of_all, among)
+    name = figures.without_ending(given.output, ".classes") if given.output else "the table"
+    if given.certificates:
+        write_certificates(given.certificates, [each.bound for each in found], made, [*(each.sentences(name) for each in found), said])
+    if given.output:
+        regret.write_file(given.output, lines + "\n")
+    if given.json:
+        whole = json.loads(regret.as_json(found, name, made.classes, among, None))
+        whole.update(by=given.by, worst_percent=percent_of(made.worst, True), low_percent=percent_of(made.low, False), sentence=said)
+        whole["held_out"] = [{"name": each.load.name, "day": each.load.day, "above_percent": each.percent()} for each in folds]
+        return texts.write(json.dumps(whole, indent=1) + "\n")
+    text = [regret.table_text(found, folds), "\n", lines, "\n\n", regret.wrapped(said)]
+    if folds:
+        served = [each.above for each in folds if each.above is not None]
+        mean = f"{sum(served) / len(served):,.2f}%" if served else "none"
+        text.append(
+            regret.wrapped(
+                f"Held out, in {given.hold_out} runs of days: the worst is {regret.shown(regret.farthest(folds))}, the mean {mean}."
+            )
+        )
+    return texts.write("".join(text))

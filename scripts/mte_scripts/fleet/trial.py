@@ -1,0 +1,400 @@
+"""The trial of a new table on some machines: who gets it, how many show a saving, and what the result says. `fleet_trial --help` says
+all."""
+
+import json
+import math
+import random
+import re
+from collections.abc import Callable, Iterable
+from typing import NamedTuple, Optional
+
+from mte_scripts import texts
+from mte_scripts.fleet import loads, options, regret, samples
+from mte_scripts.fleet.samples import Difference, Group
+from mte_scripts.running import Refused
+from mte_scripts.words import Words, between, some
+
+HELP = """\
+Plan the trial of a new table on some machines beside others, and read its result: difference, interval and verdict.
+
+Usage: fleet_trial assign [--seed N] [MACHINES]
+       fleet_trial predict [--json] OLD NEW LOAD..
+       fleet_trial plan --saving PERCENT (--spread PERCENT | --pilot RESULT) [--machines N] [--level P] [--power P]
+       fleet_trial read [--predicted PERCENT] [--level P] [--json] [RESULT]
+                                          (standard input for `-`, or where there is no file)
+
+assign takes lines of a program and a machine, with a tab between, and adds a third field, `control` or `tuned`: by chance, half of
+each program's machines each. predict says how much less a machine takes with the table in the file NEW than with OLD, by the
+footprints of histories, timelines or rows of these, as of fleet_regret: where the allocator gives nothing back, the resident set
+falls by that. plan says how many machines each group wants. read says what a result shows.
+
+  --seed N           assign: another choice; the same seed gives the same groups; 1 where it is left out
+  --saving PERCENT   plan: the saving that is to show, as a share of the resident set
+  --spread PERCENT   plan: the standard deviation of the resident sets of a program's machines, as a share of the mean
+  --pilot RESULT     plan: measures this of any machines' values before the trial
+  --machines N       plan: says also which saving N machines in each group show
+  --predicted PERCENT
+                     read: says also whether the predicted saving is within the interval
+  --json             predict, read: print all as JSON
+  --level P          the chance that an interval has the true value, in percent; 95 where it is left out
+  --power P          plan: the chance that the trial shows the saving, if it is so large, in percent; 90 where it is left out
+
+A RESULT has lines of six fields with tabs between: program, machine, group, day, resident and requests. The group is `control`,
+`tuned` or `before`; resident is the resident set in KiB, as the kernel has it (VmHWM of /proc/PID/status, or RssAnon at a set
+hour), requests what the machine served then. The value of a machine is the mean of its days. Where all machines have days `before`
+the trial too, it is the change since: this takes out what machines always differ by.
+
+The difference is that of the means, for each program and over all, each program with its share of the machines; its interval is
+that of Welch. It rests on this: chance alone chose the groups, the machines do not depend on each other, each ran one table
+throughout, and the groups are large enough for their means to be normal, some 30 machines, or fewer of even values. The verdict is
+of all programs together: look once, at the end of the planned days.
+
+Exit status:
+  0  assign, predict, plan: it is printed; read: a saving is shown
+  1  read: no saving is shown
+  2  the words, a table, a load or a line are refused
+  3  a group of a program has fewer than 5 machines, or the output can't be written
+
+Examples:
+  fleet_trial plan --saving 3 --spread 12
+  fleet_trial read --predicted 3.4 result.tsv
+"""
+
+COLUMNS = "program machine group day resident requests".split()
+GROUPS = ("control", "tuned", "before")
+FEWEST = 5  # machines of a group
+
+
+def lines_of(path: str, fields: int, form: str) -> list[list[str]]:
+    """The lines of a file, each of so many fields."""
+    found = []
+    for at, line in enumerate(texts.lines_of(texts.read(path)), 1):
+        if wrong := texts.encoding(line, at):
+            raise Refused(2, f"{texts.named(path)}: {wrong}")
+        words = line.decode().split("\t")
+        if len(words) != fields or not all(words):
+            raise Refused(2, f"{texts.named(path)}: line {at} has not the {fields} fields {form}, with tabs between: {texts.shown(line)}")
+        found.append(words)
+    if not found:
+        raise Refused(3, f"{texts.named(path)} has no line: did the command that writes it fail?")
+    return found
+
+
+def assigned(machines: Iterable[list], seed: int) -> str:
+    """Each program's machines, half of them tuned; an odd one out goes to either group by chance."""
+    by_program: dict[str, list] = {}
+    for program, machine in machines:
+        if machine in by_program.setdefault(program, []):
+            raise Refused(2, f"the machine {machine} of {program} is there twice")
+        by_program[program].append(machine)
+    lines = []
+    for program in sorted(by_program):
+        chance = random.Random(f"{seed} {program}")
+        order = sorted(by_program[program])
+        chance.shuffle(order)
+        first = len(order) // 2 + (len(order) % 2 and chance.randrange(2))
+        lines += [(program, machine, "control" if at < first else "tuned") for at, machine in enumerate(order)]
+    return "".join("\t".join(line) + "\n" for line in sorted(lines))
+
+
+class Values(NamedTuple):
+    """The values of the machines by program and group: their resident sets in KiB, or the change since before, and their requests."""
+
+    resident: dict
+    requests: dict
+    before: Optional[float]  # the mean resident set before, where the values are changes
+
+
+def values_of(path: str) -> Values:
+    """The means over the days of each machine."""
+    sums: dict = {}
+    for at, words in enumerate(lines_of(path, len(COLUMNS), ", ".join(COLUMNS)), 1):
+        program, machine, group, day, *amounts = words
+        if group not in GROUPS:
+            raise Refused(2, f"{texts.named(path)}: line {at} has a group that is none of {', '.join(GROUPS)}: {group}")
+        if not all(re.fullmatch(r"[0-9]{1,15}(\.[0-9]{1,9})?", amount) for amount in amounts):
+            raise Refused(2, f"{texts.named(path)}: line {at} has no numbers of KiB and requests: {' '.join(amounts)[:60]}")
+        days = sums.setdefault((program, machine), {}).setdefault(group, {})
+        if day in days:
+            raise Refused(2, f"{texts.named(path)}: line {at} is of a machine, group and day that an earlier line has")
+        days[day] = tuple(map(float, amounts))
+    return compared(sums)
+
+
+def compared(sums: dict) -> Values:
+    mean: Callable = lambda days, at: sum(day[at] for day in days.values()) / len(days)
+    found, has_before = {}, all("before" in groups for groups in sums.values())
+    before = []
+    resident: dict = {}
+    requests: dict = {}
+    for (program, machine), groups in sums.items():
+        own = [group for group in groups if group != "before"]
+        if len(own) > 1:
+            raise Refused(2, f"the machine {machine} of {program} is in both groups")
+        if own:
+            found[program, machine] = own[0]
+            value = mean(groups[own[0]], 0)
+            if has_before:
+                before.append(mean(groups["before"], 0))
+                value -= before[-1]
+            resident.setdefault(program, {}).setdefault(own[0], []).append(value)
+            requests.setdefault(program, {}).setdefault(own[0], []).append(mean(groups[own[0]], 1))
+    if not found:  # a pilot
+        for (program, _), groups in sums.items():
+            resident.setdefault(program, {}).setdefault("before", []).append(mean(groups["before"], 0))
+        return Values(resident, {}, None)
+    return Values(resident, requests, sum(before) / len(before) if before else None)
+
+
+def strata(values: dict) -> list:
+    """For each program its share of all machines, and its groups control and tuned."""
+    found = []
+    for program in sorted(values):
+        groups = values[program]
+        for group in GROUPS[:2]:
+            if len(groups.get(group, ())) < FEWEST:
+                raise Refused(3, f"the group {group} of {program} has {len(groups.get(group, ()))} machines, and wants {FEWEST} or more")
+        found.append((program, sum(map(len, groups.values())), samples.group_of(groups["control"]), samples.group_of(groups["tuned"])))
+    whole = sum(machines for _, machines, _, _ in found)
+    return [(program, machines / whole, first, second) for program, machines, first, second in found]
+
+
+class Read(NamedTuple):
+    """A result: of each program and of all, the means of both groups and their difference, in KiB and as a share of the control's mean;
+    of the requests the difference as a share."""
+
+    rows: list
+    whole: Difference
+    mean: float
+    requests: Difference
+    level: float
+
+    @property
+    def is_saving(self) -> bool:
+        return self.whole.low > 0
+
+    @property
+    def shares(self) -> Difference:
+        return Difference(*(amount / self.mean for amount in self.whole))
+
+    @property
+    def is_load_alike(self) -> bool:
+        return self.requests.low <= 0 <= self.requests.high
+
+
+def read(values: Values, level: float) -> Read:
+    parts = strata(values.resident)
+    rows = []
+    for program, _, first, second in parts:
+        rows.append((program, first, second, samples.difference([(1.0, first, second)], level)))
+    whole = samples.difference([part[1:] for part in parts], level)
+    mean = values.before or sum(share * first.mean for _, share, first, _ in parts)
+    load = strata(values.requests)
+    served = sum(share * first.mean for _, share, first, _ in load) or 1.0
+    requests = samples.difference([part[1:] for part in load], level)
+    return Read(rows, whole, mean, Difference(*(amount / served for amount in requests)), level)
+
+
+def percents(shares: Difference) -> str:
+    return f"{100 * shares.mean:.2f}% (from {100 * shares.low:.2f} to {100 * shares.high:.2f}%)"
+
+
+def verdict(result: Read) -> str:
+    if result.is_saving:
+        return "A saving is shown."
+    if result.whole.high < 0:
+        return "The tuned machines take more: this is shown."
+    return "No saving is shown: the interval has 0."
+
+
+def text_of(result: Read, predicted: Optional[float], is_change: bool) -> str:
+    what = "change since before, KiB" if is_change else "resident set, KiB"
+    rows = [("Program", "machines", f"control: {what}", "tuned", "saving, KiB", f"{100 * result.level:g}% interval")]
+    for program, first, second, each in result.rows:
+        interval = f"{each.low:,.0f} to {each.high:,.0f}"
+        cells = (f"{first.number} + {second.number}", f"{first.mean:,.0f}", f"{second.mean:,.0f}", f"{each.mean:,.0f}", interval)
+        rows.append((texts.printable(program), *cells))
+    lines = [columns(rows)]
+    said = f"Over all, each program with its share of the machines: the tuned ones take {result.whole.mean:,.0f} KiB less of "
+    said += f"{result.mean:,.0f}, {percents(result.shares)}. {verdict(result)}"
+    lines += ["\n", regret.wrapped(said)]
+    if predicted is not None:
+        where = "within" if result.shares.low <= predicted <= result.shares.high else "below" if predicted < result.shares.low else "above"
+        lines.append(regret.wrapped(f"Predicted: {100 * predicted:.2f}%, which is {where} the interval."))
+    lines.append(regret.wrapped(f"Requests: the tuned ones served {percents(Difference(*(-each for each in result.requests)))} more."))
+    if not result.is_load_alike:
+        lines.append(regret.wrapped("! The groups did not serve alike: what is measured may be of that, and not of the table."))
+    return "".join(lines)
+
+
+def as_json(result: Read, predicted: Optional[float]) -> str:
+    whole = {
+        "level_percent": 100 * result.level,
+        "control_kib": result.mean,
+        "saving_kib": result.whole._asdict(),
+        "saving_percent": {name: 100 * value for name, value in result.shares._asdict().items()},
+        "more_requests_percent": {
+            "mean": -100 * result.requests.mean,
+            "low": -100 * result.requests.high,
+            "high": -100 * result.requests.low,
+        },
+        "predicted_percent": None if predicted is None else 100 * predicted,
+        "is_saving": result.is_saving,
+        "is_load_alike": result.is_load_alike,
+        "verdict": verdict(result),
+        "programs": [
+            {"program": program, "control": first._asdict(), "tuned": second._asdict(), "saving_kib": each._asdict()}
+            for program, first, second, each in result.rows
+        ],
+    }
+    return json.dumps(whole, indent=1) + "\n"
+
+
+def spread_of(values: Values) -> tuple[float, float]:
+    """The mean of all machines, and the standard deviation of one within its program, as a share of the mean."""
+    groups: list[Group] = []
+    for program, by_group in values.resident.items():
+        for group, own in by_group.items():
+            if len(own) < 2:
+                raise Refused(3, f"the pilot has {len(own)} machine of {program} in the group {group}: the spread wants more")
+            groups.append(samples.group_of(own))
+    whole = sum(group.number for group in groups)
+    mean = values.before or sum(group.number * group.mean for group in groups) / whole
+    return mean, math.sqrt(sum(group.number * group.variance for group in groups) / whole) / mean
+
+
+def plan_text(saving: float, spread: float, given) -> str:
+    lines = [f"{'Saving':>8}  machines in each group\n"]
+    for each in (saving / 2, saving, 2 * saving):
+        lines.append(f"{100 * each:>7.2f}%  {samples.needed(each, spread, given.level / 100, given.power / 100):,}\n")
+    said = f"With these, a trial shows the saving with a chance of {given.power:g}% by an interval of {given.level:g}%, if the spread of a "
+    said += f"machine is {100 * spread:.2f}% of the mean in both groups, chance alone chooses them, and they do not depend on each other."
+    lines.append(regret.wrapped(said))
+    if given.machines:
+        shown = samples.shown_by(given.machines, spread, given.level / 100, given.power / 100)
+        lines.append(regret.wrapped(f"{given.machines:,} machines in each group show a saving of {100 * shown:.2f}%."))
+    return "".join(lines)
+
+
+class Predicted(NamedTuple):
+    """Of a program: for how many machines it is, and what one takes with the old and with the new table, in KiB."""
+
+    program: str
+    machines: int
+    old: float
+    new: float
+
+
+def predicted(old: list, new: list, given: Iterable[loads.Load]) -> list[Predicted]:
+    """The means of the machines of each program, over all days."""
+    sums: dict[str, list] = {}
+    for load in given:
+        if load.kind == "profile":
+            raise Refused(2, f"{load.name} is a profile, which has no footprint: give histories or timelines")
+        costs = [load.cost(classes) for classes in (old, new)]
+        if None in costs:
+            raise Refused(2, f"a table does not serve all sizes of {load.name}")
+        own = sums.setdefault(load.program, [0, 0, 0])
+        sums[load.program] = [own[0] + load.machines, own[1] + (costs[0] or 0), own[2] + (costs[1] or 0)]
+    return [
+        Predicted(program, machines, was / machines / 1024, now / machines / 1024) for program, (machines, was, now) in sorted(sums.items())
+    ]
+
+
+def predict(words: list) -> int:
+    parser = Words(HELP)
+    parser.add_argument("--json", action="store_true")
+    parser.add_argument("names", nargs="*")
+    given = parser.take(words, once=True)
+    if len(given.names) < 3 or given.names.count("-") > 1:
+        raise Refused(2, "predict takes the old table, the new one and the loads; --help says more")
+    old, new = (texts.class_line(name) for name in given.names[:2])
+    found = predicted(old, new, loads.read(given.names[2:]))
+    machines = sum(each.machines for each in found)
+    whole_old, whole_new = sum(each.machines * each.old for each in found), sum(each.machines * each.new for each in found)
+    whole = Predicted("all", machines, whole_old / machines, whole_new / machines)
+    if given.json:
+        each_row = [{**each._asdict(), "saving_kib": each.old - each.new} for each in (*found, whole)]
+        texts.write(json.dumps({"programs": each_row[:-1], "all": each_row[-1]}, indent=1) + "\n")
+        return 0
+    rows = [("Program", "machines", "old, KiB", "new, KiB", "saving, KiB")]
+    for each in (*found, whole):
+        rows.append(
+            (texts.printable(each.program), f"{each.machines:,}", f"{each.old:,.0f}", f"{each.new:,.0f}", f"{each.old - each.new:,.0f}")
+        )
+    texts.write(columns(rows))
+    return 0
+
+
+def columns(rows: list) -> str:
+    """Rows of cells, all but the first to the right."""
+    widths = [max(map(len, column)) for column in zip(*rows)]
+    return "".join(
+        "  ".join([row[0].ljust(widths[0]), *(cell.rjust(width) for cell, width in zip(row[1:], widths[1:]))]) + "\n" for row in rows
+    )
+
+
+def file_of(given) -> str:
+    if len(given.names) > 1:
+        raise Refused(2, f"there is one file, so no place for {given.names[1]}")
+    return given.names[0] if given.names else "-"
+
+
+def assign(words: list) -> int:
+    parser = Words(HELP)
+    parser.add_argument("--seed", type=between(0, 10**9), default=1)
+    parser.add_argument("names", nargs="*")
+    given = parser.take(words, once=True)
+    texts.write(assigned(lines_of(file_of(given), 2, "program and machine"), given.seed))
+    return 0
+
+
+def add_chances(parser: Words) -> None:
+    parser.add_argument("--level", type=options.decimal(50, 99.9999, "a chance in percent"), default=95.0)
+
+
+def plan(words: list) -> int:
+    parser = Words(HELP)
+    parser.add_argument("--saving", type=options.decimal(0.001, 99, "a percentage"))
+    parser.add_argument("--spread", type=options.decimal(0.001, 10_000, "a percentage"))
+    parser.add_argument("--pilot", type=some)
+    parser.add_argument("--machines", type=between(FEWEST, 10**9))
+    parser.add_argument("--power", type=options.decimal(50, 99.9999, "a chance in percent"), default=90.0)
+    add_chances(parser)
+    given = parser.take(words, once=True)
+    if given.saving is None or (given.spread is None) == (given.pilot is None):
+        raise Refused(2, "plan takes --saving, and --spread or --pilot; --help says more")
+    spread, begin = (given.spread or 0) / 100, ""
+    if given.pilot:
+        mean, spread = spread_of(values_of(given.pilot))
+        begin = f"The pilot: a mean of {mean:,.0f} KiB, and a spread of {100 * spread:.2f}%.\n"
+        if not spread:
+            raise Refused(3, "all machines of the pilot take the same: there is no spread to plan with")
+    texts.write(begin + plan_text(given.saving / 100, spread, given))
+    return 0
+
+
+def read_result(words: list) -> int:
+    parser = Words(HELP)
+    parser.add_argument("--predicted", type=options.decimal(0, 99, "a percentage"))
+    parser.add_argument("--json", action="store_true")
+    add_chances(parser)
+    parser.add_argument("names", nargs="*")
+    given = parser.take(words, once=True)
+    values = values_of(file_of(given))
+    if not values.requests:
+        raise Refused(2, "the result has no machine in the groups control and tuned")
+    predicted = None if given.predicted is None else given.predicted / 100
+    result = read(values, given.level / 100)
+    texts.write(as_json(result, predicted) if given.json else text_of(result, predicted, values.before is not None))
+    return 0 if result.is_saving else 1
+
+
+def main(words: list) -> int:
+    steps = {"assign": assign, "predict": predict, "plan": plan, "read": read_result}
+    if words[:1] in (["-h"], ["--help"]):
+        texts.write_help(HELP)
+        return 0
+    if not words or words[0] not in steps:
+        raise Refused(2, "the first word is assign, predict, plan or read; --help says more")
+    return steps[words[0]](words[1:])
