@@ -27,7 +27,7 @@ LIST = os.O_RDONLY | os.O_DIRECTORY | os.O_NOFOLLOW | os.O_CLOEXEC
 class NotPrivate(Exception):
     """Others can change what is at this path."""
 
-    def __init__(self, path: str):
+    def __init__(self, path: str) -> None:
         super().__init__(f"others can change {path}")
         self.path = path
 
@@ -43,7 +43,7 @@ def is_written_by_others(status: os.stat_result) -> bool:
 class Place:
     """A folder that is open, and its path without links."""
 
-    def __init__(self, descriptor: int, path: str):
+    def __init__(self, descriptor: int, path: str) -> None:
         self.descriptor = descriptor
         self.path = path
 
@@ -215,7 +215,7 @@ def look_at(path: str, flags: int) -> int:
 class Folder:
     """A new folder of the user's alone. `remove` removes what is in it and then itself, by descriptors, unless `keep` is set."""
 
-    def __init__(self, place: Place, name: str):
+    def __init__(self, place: Place, name: str) -> None:
         self.place, self.name, self.keep = place, name, False
         self.path = place.file(name)
         self.descriptor = os.open(name, LIST, dir_fd=place.descriptor)

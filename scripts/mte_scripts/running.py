@@ -21,7 +21,7 @@ ENDING = (_signal.SIGTERM, _signal.SIGHUP)
 class Refused(Exception):
     """Ends a script with this status and this line on standard error: 2 refuses words or input, 3 is a failure."""
 
-    def __init__(self, status: int, text: str):
+    def __init__(self, status: int, text: str) -> None:
         super().__init__(text)
         self.status = status
         self.text = text

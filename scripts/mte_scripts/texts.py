@@ -41,7 +41,7 @@ Fit = namedtuple("Fit", "classes limit step footprint rows moments")  # the mome
 History = namedtuple("History", "snapshots counts")  # how many snapshots; for each size, and `large`, its count at each of them
 
 
-def called(name):
+def called(name: str) -> str:
     """What a script is called: mte_NAME in an installed package, since names such as `report` are anybody's there."""
     return f"mte_{name}" if IS_PACKAGED and name != "mte_tool" else name
 
@@ -54,7 +54,7 @@ def script_names():
     return re.compile(rf"(?<![\w/.-])scripts/({every})(?![\w+])|(?m:^Usage: ({every})(?= ))|(?<![\w/.-])({own})(?![\w+/])")
 
 
-def as_called(text):
+def as_called(text: str) -> str:
     """A text that names the scripts as in the repository, with the names that they have here."""
 
     def here(match):
@@ -71,7 +71,7 @@ def quoted(word: str) -> str:
     return "$'" + "".join(chr(b) if 32 <= b < 127 and b not in b"\\'" else f"\\x{b:02x}" for b in os.fsencode(word)) + "'"
 
 
-def help_text(text):
+def help_text(text: str) -> str:
     """A help, so that its examples can be run as they stand, and the documents that it names are found."""
     if IS_PACKAGED:
         places = {name: os.path.realpath(os.path.join(ROOT, name)) for name in ("docs", "examples")}
@@ -79,11 +79,11 @@ def help_text(text):
     return text
 
 
-def write_help(text):
+def write_help(text: str) -> None:
     write(help_text(text))
 
 
-def say(name, text):
+def say(name: str, text: str) -> None:
     """A line on standard error. A name of a file may have any character: those that move the cursor are shown escaped."""
     if sys.stderr is not None:
         try:
@@ -114,11 +114,11 @@ def opened(path):
         raise Refused(2, f"{named(path)} can't be read: {error.strerror}") from None
 
 
-def named(path):
+def named(path: str) -> str:
     return "standard input" if path == "-" else path
 
 
-def read(path, most=None):
+def read(path: str, most: "int | None" = None) -> bytes:
     """The bytes of a file, or of `-`, or the first so many of them."""
     with opened(path) as file:
         data = bytearray()
@@ -137,7 +137,7 @@ def next_piece(file, path):
         raise Refused(2, f"{named(path)} can't be read: {error.strerror}") from None
 
 
-def read_profile(path):
+def read_profile(path: str) -> dict:
     """What a profile counts: the count of each size up to LARGEST_SIZE, and of `large`.
 
     A line is a size and a count, or `large` and a count, in any order and however often; a larger size is large. Counts may be
@@ -146,7 +146,7 @@ def read_profile(path):
         return counts_of(file, path)
 
 
-def parse_profile(data, name):
+def parse_profile(data: bytes, name: str) -> dict:
     """The same of bytes that were read from a file of this name."""
     return counts_of(io.BytesIO(data), name)
 
@@ -164,12 +164,12 @@ def counts_of(file, path):
     return dict(counts)
 
 
-def is_history(data):
+def is_history(data: bytes) -> bool:
     """Whether a text that begins with these bytes is a history, or means to be one."""
     return data.split(b"\n", 1)[0].split(b" ", 1)[0] == b"snapshots"
 
 
-def is_timeline(data):
+def is_timeline(data: bytes) -> bool:
     """Whether a text that begins with these bytes is a timeline, or means to be one."""
     return data.split(b"\n", 1)[0].rstrip(b"\r ") == b"timeline"
 
@@ -216,7 +216,7 @@ class Begun:
         self.begin = begin
         self.file = file
 
-    def read(self, most):
+    def read(self, most: int) -> bytes:
         begin, self.begin = self.begin, b""
         return begin or self.file.read(most)
 
@@ -235,7 +235,7 @@ def read_either(path):
         return parse_history(b"".join(pieces), named(path))
 
 
-def history_text(history):
+def history_text(history: History) -> str:
     """A history as FORMATS.md has it. Where a count is above the most that a text may have, all are scaled down alike, and rounded up."""
     top = max((max(counts) for counts in history.counts.values()), default=0)
     lines = [f"snapshots {history.snapshots}\n"]
@@ -246,7 +246,7 @@ def history_text(history):
     return "".join(lines)
 
 
-def profile_text(counts):
+def profile_text(counts: dict) -> str:
     """A profile as FORMATS.md has it, scaled down as a history is."""
     top = max(counts.values(), default=0)
     lines = []
@@ -275,7 +275,7 @@ def whole_lines(file, path):
         yield rest + b"\n"
 
 
-def add_lines(counts, piece):
+def add_lines(counts: defaultdict, piece: bytes) -> bool:
     """Adds the counts of some whole lines, or says False where one is faulty. `large` is counted at the first size that is."""
     if b"large" in piece:
         if piece.count(b"large") == piece.count(b"\nlarge ") + piece.startswith(b"large "):
@@ -295,20 +295,20 @@ def add_lines(counts, piece):
     return True
 
 
-def counted(line):
+def counted(line: bytes) -> "list[bytes] | None":
     """The size and the count of a line, without leading zeros, or None where it is no such line or a number has too many digits."""
     match = COUNTED.fullmatch(line)
     pair = match and [word.lstrip(b"0") or b"0" for word in match.groups()]
     return pair if pair and len(max(pair, key=len)) <= MOST_DIGITS else None
 
 
-def lines_of(text):
+def lines_of(text: bytes) -> list[bytes]:
     """The lines of a text; the last may lack its newline."""
     lines = text.split(b"\n")
     return lines if lines[-1] else lines[:-1]
 
 
-def refuse_line(piece, line, path):
+def refuse_line(piece: bytes, line: int, path: str) -> None:
     """Refuses the first faulty line of a piece that begins at this line."""
     for text in lines_of(piece):
         if not counted(text):
@@ -317,7 +317,7 @@ def refuse_line(piece, line, path):
     raise AssertionError("no line is faulty")
 
 
-def fault(text, line, path, form="SIZE COUNT"):
+def fault(text: bytes, line: "int | None", path: str, form: str = "SIZE COUNT") -> Refused:
     """What is wrong with a line that is not of this form."""
     name, first = named(path), text.split(b" ")[0]
     if line == 1 and OTHER_TOOLS.match(text):
@@ -337,7 +337,7 @@ def fault(text, line, path, form="SIZE COUNT"):
     return Refused(2, f"{where} is not {form}: {shown(text)}")
 
 
-def encoding(text, line=1):
+def encoding(text: bytes, line: "int | None" = 1) -> "str | None":
     """What is wrong with the bytes of a line themselves, if something is; each has its own remedy."""
     if line == 1 and text.startswith((b"\xff\xfe", b"\xfe\xff")):
         return "the text is UTF-16: make it UTF-8 by `iconv -f UTF-16 -t UTF-8`"
@@ -350,30 +350,30 @@ def encoding(text, line=1):
     return None
 
 
-def binary(text):
+def binary(text: bytes) -> bool:
     return bool(re.search(rb"[^\t\x20-\x7e\x80-\xff]", text)) or not utf_8(text)
 
 
-def utf_8(text):
+def utf_8(text: bytes) -> bool:
     try:
         return text.decode() is not None
     except UnicodeDecodeError:
         return False
 
 
-def shown(text):
+def shown(text: bytes) -> str:
     """The begin of a line for a message."""
     words = text[:1000].decode(errors="replace")
     return words if len(words) <= 60 else words[:60] + ".."
 
 
-def class_line(path):
+def class_line(path: str) -> "list[int] | None":
     """The classes of the first line of a file, which may be a sheet, in granules."""
     text = read(path, MOST_INPUT)  # and not the first line alone: what writes the rest would fail
     return parse_class_line(text.split(b"\n", 1)[0] if text else None, named(path))
 
 
-def parse_class_line(text, name="the class line"):
+def parse_class_line(text: "str | bytes", name: str = "the class line") -> list[int]:
     """The classes of a line `classes C1 C2 ..`, in granules. None stands for a missing line."""
     if text is None:
         raise Refused(2, f"{name}: there is no line, so no class line")
@@ -399,7 +399,7 @@ def parse_class_line(text, name="the class line"):
     return [int(word) for word in words]
 
 
-def parse_sheet(text, name="the sheet"):
+def parse_sheet(text: "str | bytes", name: str = "the sheet") -> Sheet:
     """A sheet as its parts. It has the form of a sheet; only `mte_tool check` says whether it is right."""
     return parse_parts(text, name, "sheet", b"waste", Sheet)
 
@@ -444,7 +444,7 @@ def trust() -> claims.Trust:
 
 
 @functools.lru_cache(maxsize=None)
-def program():
+def program() -> str:
     """The path of the program: $MTE_TOOL, or the proved one, built first where that has to be."""
     other = os.environ.get("MTE_TOOL")
     if other:
@@ -457,7 +457,7 @@ def program():
     return BUILT
 
 
-def mte_tool(words, given=b""):
+def mte_tool(words: list[str], given: bytes = b"") -> tuple[int, bytes, str]:
     """Runs the program over these bytes: its status, its output, and its standard error as text."""
     try:
         done = subprocess.run([program(), *words], input=given, stdout=subprocess.PIPE, stderr=subprocess.PIPE)

@@ -25,7 +25,7 @@ SAYINGS = (
 class Words(argparse.ArgumentParser):
     """Takes options and other words in any order; `--` ends the options. At most one argument takes other words, with nargs="*"."""
 
-    def __init__(self, help_text: str):
+    def __init__(self, help_text: str) -> None:
         super().__init__(add_help=False, allow_abbrev=False)
         self.help_text = help_text
         self.add_argument("-h", "--help", action=Help, nargs=0, default=argparse.SUPPRESS)

@@ -6,7 +6,7 @@ import shutil
 
 
 class CrateList:
-    def __init__(self, root):
+    def __init__(self, root: str) -> None:
         self.root = root
         with open(os.path.join(root, "crates.txt"), encoding="utf-8") as file:
             lines = [line.rstrip("\n") for line in file if not line.startswith("#")]
@@ -14,14 +14,14 @@ class CrateList:
         self.lines = {re.split("[: ]", line)[0]: line for line in lines if ":" in line}
         self.stands_on = {name: line.partition(":")[2].split() for name, line in self.lines.items()}
 
-    def folder(self, name):
+    def folder(self, name: str) -> str:
         return os.path.join(self.root, "crates", name)
 
-    def below(self, names):
+    def below(self, names: list[str]) -> dict[str, list[str]]:
         """These crates and all crates of the repository below them, each with those that it stands on; lowest first."""
         found = {}
 
-        def visit(name):
+        def visit(name: str) -> None:
             if name not in found:
                 stands_on = [it for it in self.stands_on[name] if it in self.stands_on]
                 for it in stands_on:
@@ -32,13 +32,13 @@ class CrateList:
             visit(name)
         return found
 
-    def copy(self, names, folder):
+    def copy(self, names: list[str], folder: str) -> None:
         """Copies these crates, without what rt has made in them, and crates.txt with their lines."""
         for name in names:
             shutil.copytree(self.folder(name), os.path.join(folder, "crates", name), ignore=shutil.ignore_patterns("out"))
         self.list(names, folder)
 
-    def list(self, names, folder):
+    def list(self, names: list[str], folder: str) -> None:
         """Writes crates.txt with the lines of these crates."""
         with open(os.path.join(folder, "crates.txt"), "w", encoding="utf-8") as file:
             file.writelines(f"{self.lines[name]}\n" for name in names)

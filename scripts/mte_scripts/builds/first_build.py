@@ -118,7 +118,7 @@ class Build:
             print(f"mte_tool: {len(self.proved)} of {len(self.below)} {proof.name}", file=sys.stderr, flush=True)
         return 0
 
-    def stop(self):
+    def stop(self) -> None:
         """Ends the proofs that run; what they kept stays."""
         for proof in self.running.values():
             proof.run.terminate()

@@ -32,7 +32,7 @@ Example:
 """
 
 
-def show(words):
+def show(words: list[str]) -> int:
     Words(HELP).take(words)
     if not os.path.isfile(texts.BUILT):
         raise texts.Refused(3, f"there is no program {texts.BUILT}: `scripts/mte_tool --version` builds it")

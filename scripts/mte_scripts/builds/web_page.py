@@ -49,7 +49,7 @@ def newest_source():
     return max(os.stat(file).st_mtime for file in files)
 
 
-def kept_at(name):
+def kept_at(name: str) -> str:
     """Where a module is kept: in an installed package beside the sources of the page, else in its crate."""
     if texts.IS_PACKAGED:
         return os.path.join(WEB, f"{name}.wasm")

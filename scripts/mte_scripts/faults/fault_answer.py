@@ -13,7 +13,7 @@ PROCESS = re.compile(r"[0-9]{1,10}(\.[2-9])?")  # the name of a log of one of ma
 Judged = namedtuple("Judged", "name program log trace whole table reports found places odds values files differing")
 
 
-def logs(folder, has_children):
+def logs(folder: str, has_children: bool) -> list[str]:
     """The names of the logs in a folder."""
     if not has_children:
         return ["log"]
@@ -62,14 +62,14 @@ def of_many(processes, options):
     return lines + ([f"crashed {crashes}"] if crashes else [])
 
 
-def incomplete(judged, names):
+def incomplete(judged: Judged, names: list[str]) -> list:
     """What is missing of a process's log. One of many may be ended by another, or run one that nobody records: that is no fault."""
     if len(names) == 1:
         return judged.log.missing
     return [each for each in judged.log.missing if not each.startswith(fault_report.NO_END)]
 
 
-def counts(processes, known):
+def counts(processes: list[Judged], known: dict[str, str]) -> list[str]:
     """Lines on the findings that are not told, and on what the baseline has and the run has not."""
     states = Counter(each["state"] for judged in processes for each in judged.values)
     lines = [f"{state} {states[state]}" for state in ("suppressed", "known") if states[state]]
@@ -77,7 +77,7 @@ def counts(processes, known):
     return lines + [f"gone: {title}" for id, title in known.items() if id not in here]
 
 
-def document(processes, program, status, ended):
+def document(processes: list[Judged], program: str, status: int, ended: int) -> dict:
     names = [judged.name for judged in processes]
     listed = [{"name": judged.program, "log": judged.name, "findings": judged.values, "incomplete": incomplete(judged, names)} for judged in processes]
     return findings.document(program, status, ended, listed)

@@ -53,7 +53,7 @@ def its_calls(log, error, places):
     block that has such three calls in common with another one is of one object with it, as a text with the struct that names it. What
     all have in common does not count: the program's first function."""
 
-    def calls(stack):
+    def calls(stack: int) -> list[tuple]:
         pcs = log.stacks[stack].split(",") if stack > 0 else []
         own = [(at, frame) for at, pc in enumerate(pcs) for frame in places.at(int(pc, 16))[-1:] if frame.is_own()]
         return [(frame.function, *pcs[at + 1 : at + 1 + SAME_CALLERS]) for at, frame in own[:-1][:SAME_CALLERS]]
@@ -74,12 +74,12 @@ def entries(log, outcomes, places):
     stacks of all errors."""
     lines = {}  # of a stack: its innermost place
 
-    def line(stack):
+    def line(stack: int) -> str:
         if stack not in lines:
             lines[stack] = places.show(stack, callers=False)
         return lines[stack]
 
-    def callers(stack):
+    def callers(stack: int) -> str:
         return ",".join(log.stacks[max(stack, 0)].split(",")[:SAME_CALLERS])
 
     def callers_within(error, stack):

@@ -42,10 +42,10 @@ class Error(namedtuple("Error", "letter block offset size stack state times", de
     """A wrong access or free. The letter is the log's: L, S, x, o or n. The state is of the block then: live, freed or resized. Times is how
     often it came."""
 
-    def is_free(self):
+    def is_free(self) -> bool:
         return self.letter in "xon"
 
-    def window(self, block_size):
+    def window(self, block_size: int) -> tuple[int, int]:
         """(offset, length) of what a trace asks: from the first wrong byte on, at most 64 bytes."""
         begin = self.offset
         if self.state == "live" and begin >= 0:
@@ -96,7 +96,7 @@ class Text:
         if not self.is_empty and (left or rest or found != self.sum) and not self.is_damaged:
             self._damaged("a line has no end" if left or rest else "its checksum is another one")
 
-    def say_end(self):
+    def say_end(self) -> None:
         """Adds what is missing where all that there is of the log was read."""
         if self.is_empty:
             return
@@ -109,7 +109,7 @@ class Text:
             self.missing.append(f"wrong accesses that the runtime could not log: {self.not_logged}")
 
 
-def is_whole(mark):
+def is_whole(mark: tuple[int, int, int, int, int]) -> bool:
     """Whether the check of a mark is right."""
     return checksum.folded(mark[:4]) == mark[4]
 
@@ -147,7 +147,7 @@ class Log:
         self._count_times()
         self._drop_taken_back()
 
-    def _read_all(self, text):
+    def _read_all(self, text: Text) -> None:
         lines = text.lines()
         for number, line in enumerate(lines, 1):
             try:
@@ -221,7 +221,7 @@ class Log:
         self.second.append(second)
         self.third.append(third)
 
-    def _know(self, block):
+    def _know(self, block: int) -> None:
         """Makes place for a block, and for those before it."""
         if not 0 < block <= len(self.size) + MOST_UNRECORDED - len(self.unrecorded):
             raise NoLog
@@ -243,7 +243,7 @@ class Log:
             raise NoLog
         self.ended[block] = stack
 
-    def _error(self, letter, numbers, stack):
+    def _error(self, letter: str, numbers: list[int], stack: int) -> None:
         if len(numbers) != {"x": 2, "o": 0, "n": 0}.get(letter, 3):
             raise NoLog
         block, offset, size = (numbers + [0, 0, 0])[:3]
@@ -257,7 +257,7 @@ class Log:
         self._add(b"E", len(self.errors))
         self.errors.append(Error(letter, block, offset, size, stack, state))
 
-    def _count_times(self):
+    def _count_times(self) -> None:
         for at, times in self._times.items():
             self.errors[at] = self.errors[at]._replace(times=times)
 
@@ -276,7 +276,7 @@ class Log:
                 self.errors.append(errors[self.first[at]])
                 self.first[at] = len(self.errors) - 1
 
-    def _stack(self, word):
+    def _stack(self, word: bytes) -> int:
         match = STACK.fullmatch(word)
         if not match:
             raise NoLog

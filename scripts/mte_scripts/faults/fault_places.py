@@ -16,15 +16,15 @@ class Frame(namedtuple("Frame", "function source line module")):
     """A function that was called: source is its file's path and line a number, both None where they are not known. An inlined one has a
     frame of its own."""
 
-    def is_own(self):
+    def is_own(self) -> bool:
         """Whether it is the program's, and not the system's."""
         return bool(self.source) and is_own(self.module) and is_own(self.source)
 
-    def is_folded(self):
+    def is_folded(self) -> bool:
         """Whether it tells nothing: it is of the runtime, or of the headers of a system's library, as a template is."""
         return os.path.basename(self.module) == RUNTIME or bool(self.source) and is_own(self.module) and not is_own(self.source)
 
-    def show(self):
+    def show(self) -> str:
         if not self.source:
             return self.function
         path, here = os.path.normpath(self.source), os.getcwd() + "/"
@@ -48,7 +48,7 @@ class Places:
         for path, offsets in wanted.items():
             self._ask(path, offsets)
 
-    def _ask(self, path, offsets):
+    def _ask(self, path: str, offsets: dict[int, int]) -> None:
         """Asks for the lines of some offsets of a file. A call's line is that of the byte before the address that it returns to."""
         if not shutil.which("addr2line") or not shutil.which("readelf"):
             return
@@ -80,29 +80,29 @@ class Places:
                 is_named = not function.startswith("??")
                 frames.append(unknown._replace(function=f"{function} of {os.path.basename(path)}") if is_named else unknown)
 
-    def at(self, address):
+    def at(self, address: int) -> list[Frame]:
         """The frames of an address that was learned, the innermost inlined first."""
         return self._frames.get(address, [])
 
-    def frames(self, stack):
+    def frames(self, stack: int) -> list[Frame]:
         """The frames of a stack of the log, the innermost first. Those that tell nothing are folded, and so are those before the program's
         first function; where none is the program's, all are there."""
         whole = [frame for pc in self.log.stacks[stack].split(",") if pc for frame in self._frames.get(int(pc, 16), [])]
         own = [at for at, frame in enumerate(whole) if frame.is_own()]
         return [frame for frame in whole[own[0] : own[-1] + 1] if not frame.is_folded()] if own else whole
 
-    def show(self, stack, callers=True):
+    def show(self, stack: int, callers: bool = True) -> str:
         """The innermost place of a stack in the program's own sources, and its callers."""
         shown = [frame.show() for frame in self.frames(stack)]
         return ", from ".join(shown if callers else shown[:1]) or "an unknown place"
 
 
-def is_own(path):
+def is_own(path: str) -> bool:
     """Whether a file is the program's, and not the system's."""
     return not path.startswith(SYSTEM) and "/bits/" not in path
 
 
-def short(function):
+def short(function: str) -> str:
     """A function's name without its parameters."""
     kept = {"(anonymous namespace)": "\1", "operator()": "\2"}
     for text, mark in kept.items():

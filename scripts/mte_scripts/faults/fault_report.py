@@ -39,7 +39,7 @@ def found_by(log, verdicts, report):
     return entries(log, [(verdict, *outcome(verdict, report)) for verdict in verdicts], places), places
 
 
-def count(number, word):
+def count(number: int, word: str) -> str:
     return f"{number} {word}" + ("" if number == 1 else "s")
 
 
@@ -100,7 +100,7 @@ def tell_entry(entry, log, places, odds):
     return lines + [f"    {line}" for line in (odds.line(entry.numbers), *history(entry, log, places))]
 
 
-def often(times):
+def often(times: int) -> str:
     return f" ({times} times)" if times > 1 else ""
 
 
@@ -134,7 +134,7 @@ def totals(log, found, trace):
     return lines
 
 
-def ending(status):
+def ending(status: int) -> list:
     """A line where the program did not end well."""
     return [f"the program ended with status {status}"] if status else []
 
@@ -184,7 +184,7 @@ def tell_seeds(log, found, places, reports, odds):
     return lines
 
 
-def page(name, lines):
+def page(name: str, lines: list[str]) -> str:
     """A page of the report alone."""
     title = html.escape(f"Memory errors of {name}")
     style = "body { font: 15px/1.5 monospace; margin: 2em; white-space: pre-wrap } h1 { font-size: 1.2em }"

@@ -66,7 +66,7 @@ class Trace:
             self._event(f"free {self._variable(first)}")
             self.slots.free(self._gone(first)[0])
 
-    def _is_at_its_place(self, number, block):
+    def _is_at_its_place(self, number: int, block: int) -> bool:
         """Whether an error meets what the log names: its own slot and generation, and others with theirs, and whether they are live."""
         if not self.log.places or self.log.places[number] == "-":
             return True
@@ -84,10 +84,10 @@ class Trace:
         """The pointer of a block that is freed or moved; it is kept where an error needs it."""
         return self.pointer[block] if block in self.choice.last_wrong else self.pointer.pop(block)
 
-    def _variable(self, block):
+    def _variable(self, block: int) -> int:
         return self.choice.variable[self.log.chain[block]]
 
-    def _event(self, line, promise=None):
+    def _event(self, line: str, promise: "Promise | None" = None) -> int:
         """Adds an event; its number, from 1."""
         if self.is_asked:
             self.lines.append(line)
@@ -95,7 +95,7 @@ class Trace:
                 self.expected[len(self.lines)] = promise
         return len(self.lines)
 
-    def _right(self, letter, block, offset, length):
+    def _right(self, letter: str, block: int, offset: int, length: int) -> None:
         variable = self._variable(block)
         if block not in self.pointer or variable == NONE or self.holder[variable] != self.log.chain[block]:
             self.left_out["right accesses of blocks that are left out"] += 1
@@ -106,7 +106,7 @@ class Trace:
             if self.slots.access(self.pointer[block], offset, length).answer != "accepted":
                 self.conflicts.append(len(self.lines))
 
-    def _request(self, name, block, size):
+    def _request(self, name: str, block: int, size: int) -> None:
         variable = self._variable(block)
         if variable == NONE:
             return
@@ -200,7 +200,7 @@ def differences(trace, report):
             yield event, promise, report.get(event)
 
 
-def agrees(promise, line):
+def agrees(promise: Promise, line: "str | None") -> bool:
     if promise.answer == "accepted":
         return line is None
     if line is None:

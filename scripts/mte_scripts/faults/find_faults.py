@@ -109,7 +109,7 @@ def record(options, folder):
     keep(os.path.join(folder, ENDED), b"%d\n" % (status if status >= 0 else 128 - status))
 
 
-def status_of(folder, log):
+def status_of(folder: str, log: Log) -> int:
     """The exit status of the program that was run, as a shell has it; where nobody kept it, that of the recorded process, or 0."""
     try:
         with open(os.path.join(folder, ENDED), "rb") as file:
@@ -121,7 +121,7 @@ def status_of(folder, log):
     return int(text)
 
 
-def read_log(path):
+def read_log(path: str) -> Log:
     try:
         log = Log(path)
     except OSError as error:
@@ -142,7 +142,7 @@ def small_log(options, path):
     return None if options.whole else fault_neighbourhood.small(path, table_of, options.granules, options.quarantine)
 
 
-def run_tool(words, given):
+def run_tool(words: list[str], given: bytes) -> bytes:
     status, output, said = texts.mte_tool(words, given)
     if status:
         raise Refused(3, f"mte_tool {words[0]}: {said}")
@@ -162,7 +162,7 @@ def replay(options, log, seed, given):
     return {int(number): rest for number, rest in lines if number.isdigit() and not rest.startswith("data ")}, output
 
 
-def spread(number):
+def spread(number: int) -> list[int]:
     """So many seeds, each once. Small seeds have the same high bits, which the tags from the third draw on come from."""
     return [at * 40503 % 65536 for at in range(1, number + 1)]
 
@@ -173,7 +173,7 @@ def replayed(options, log):
     sheet = run_tool(["tune", "--limit", str(options.limit)], profile)
     table = texts.parse_sheet(sheet).classes
 
-    def slots():
+    def slots() -> Slots:
         return Slots(table, options.granules, quarantine_of(options, log))
 
     trace = Trace(log, slots(), Choice(log, slots()))
@@ -223,7 +223,7 @@ def find(options, folder):
     return status
 
 
-def verdict(processes, names, ended):
+def verdict(processes: list[Judged], names: list[str], ended: int) -> tuple[int, list]:
     """The exit status, and the events that differ from what the laws promise."""
     differing = [line for judged in processes if not judged.log.is_damaged for line in judged.differing]
     is_new = any(fault_answer.new(judged) for judged in processes)
@@ -266,14 +266,14 @@ class Lists:
             raise Refused(2, str(error)) from None
         self.used = set()
 
-    def mark(self, values):
+    def mark(self, values: list[dict]) -> None:
         self.used |= findings.mark(values, self.suppressed, self.known)
 
-    def unused(self):
+    def unused(self) -> list[findings.Suppression]:
         return [each for each in self.suppressed if each not in self.used]
 
 
-def keep(path, content):
+def keep(path: str, content: bytes) -> None:
     try:
         with open(path, "wb") as file:
             file.write(content)
@@ -319,7 +319,7 @@ def place_of_run(kept):
                         raise Refused(3, f"--keep {kept}: {error.strerror}") from None
 
 
-def folder_to_keep(path):
+def folder_to_keep(path: str) -> private_folder.Place:
     try:
         place = private_folder.output(path)
     except private_folder.NotPrivate:
@@ -331,7 +331,7 @@ def folder_to_keep(path):
     return place
 
 
-def main(words):
+def main(words: list[str]) -> int:
     options = read_words(words)
     if options.page and not web_page.at_hand():
         texts.say(NAME, f"the engines of the page are not built (`scripts/page` proves and builds them): {options.page} has the report alone")

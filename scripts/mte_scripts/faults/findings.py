@@ -80,7 +80,7 @@ def as_values(frames):
 
 
 @functools.lru_cache(maxsize=None)
-def root():
+def root() -> str:
     """The folder that the paths of sources are told from: the repository that the working folder is in, or the working folder."""
     here = folder = os.getcwd()
     while not os.path.lexists(os.path.join(folder, ".git")):
@@ -106,18 +106,18 @@ def hashed(*words):
     return hashlib.sha256("\0".join(words).encode(errors="surrogateescape")).hexdigest()[:16]
 
 
-def place(frame):
+def place(frame: dict) -> str:
     """A frame as a report shows it."""
     return f"{frame['file']}:{frame['line'] or 0} in {frame['function']}" if frame["file"] else frame["function"]
 
 
-def title(value):
+def title(value: dict) -> str:
     """A finding in a line."""
     times = f" ({count(value['times'], 'time')})" if value["times"] > 1 else ""
     return f"{place(value['frames'][0]) if value['frames'] else 'an unknown place'}: {value['what']}{times}"
 
 
-def document(program, status, ended, processes):
+def document(program: str, status: int, ended: int, processes: list[dict]) -> dict:
     """The whole answer. A process has its name, its findings, and what is missing of its log."""
     told = [each for process in processes for each in process["findings"]]
     state = Counter(each.get("state", "new") for each in told)
@@ -125,11 +125,11 @@ def document(program, status, ended, processes):
             "suppressed": state["suppressed"], "known": state["known"], "processes": processes}
 
 
-def text(value):
+def text(value: dict) -> str:
     return json.dumps(value, indent=2, ensure_ascii=True) + "\n"
 
 
-def read(path):
+def read(path: str) -> str:
     try:
         with open(path, encoding="utf-8") as file:
             content = file.read(LARGEST_FILE + 1)
@@ -142,7 +142,7 @@ def read(path):
     return content
 
 
-def suppressions(path):
+def suppressions(path: str) -> list[Suppression]:
     """The lines of a file, each KIND:PLACE, with `*` and `?` in both; empty lines and those that begin with # say nothing."""
     found = []
     for number, line in enumerate(read(path).split("\n"), 1):
@@ -156,12 +156,12 @@ def suppressions(path):
     return found
 
 
-def kind_id(kind):
+def kind_id(kind: str) -> str:
     """A kind as one word."""
     return kind.replace(" ", "-")
 
 
-def baseline(path):
+def baseline(path: str) -> dict[str, str]:
     """The ids of the findings of an earlier --json."""
     try:
         value = json.loads(read(path))
@@ -172,7 +172,7 @@ def baseline(path):
         raise Unreadable(f"{path} is no --json of find_faults") from None
 
 
-def matches(suppression, value):
+def matches(suppression: Suppression, value: dict) -> bool:
     """Whether a finding has this kind, and a frame of the wrong access this place: a function, a file, or FILE in FUNCTION."""
     if not fnmatch.fnmatchcase(kind_id(value["kind"]), suppression.kind):
         return False
@@ -185,7 +185,7 @@ def matches(suppression, value):
     return False
 
 
-def mark(values, suppressed, known):
+def mark(values: list[dict], suppressed: list[Suppression], known: dict[str, str]) -> set[Suppression]:
     """Gives each finding its state: new, known (the baseline has it) or suppressed; and returns the suppressions that were used."""
     used = set()
     for value in values:

@@ -23,7 +23,7 @@ Share = namedtuple("Share", "least is_exact unless", defaults=("",))
 ALWAYS, NEVER, UNKNOWN = Share(Fraction(1), True), Share(Fraction(0), True), Share(Fraction(0), False)
 
 
-def at_least(number, of):
+def at_least(number: int, of: int) -> Share:
     return Share(Fraction(number, of), False)
 
 
@@ -153,7 +153,7 @@ def is_surely_caught(meeting, has_parity):
     return one[0] == other[0] and distance == 1
 
 
-def rounded(size):
+def rounded(size: int) -> int:
     return -(-size // GRANULE) * GRANULE
 
 
@@ -204,7 +204,7 @@ def on_glibc(error, size, after, since, is_cut):
     return OTHER_OF_GLIBC
 
 
-def together(shares):
+def together(shares: tuple) -> Share:
     """The share of an entry: that at least one of its errors is caught, where it is not known how they hang together."""
     if all(share == NEVER for share in shares):
         return NEVER
@@ -243,20 +243,20 @@ class Odds:
                     cut.add(one)
         return since, cut
 
-    def _elsewhere(self, number):
+    def _elsewhere(self, number: int) -> tuple[Share, Share]:
         error = self.log.errors[number]
         size, new = self.log.size[error.block], self.log.next[error.block]
         after = self.log.size[new] if new and self.log.ended[new] == -1 else None
         since = self.since[number]
         return on_scudo(error, size, after, since), on_glibc(error, size, after, since, error.block in self.cut)
 
-    def of(self, numbers):
+    def of(self, numbers: list[int]) -> list[Share]:
         """The shares of the errors with these numbers, which are one entry, in the order of HEAPS."""
         verdicts = [self.verdicts[number] for number in numbers]
         scudo, glibc = zip(*map(self._elsewhere, numbers))
         return [on_this_heap(verdicts), on_this_heap(verdicts, has_parity=False), together(scudo), together(glibc)]
 
-    def line(self, numbers):
+    def line(self, numbers: list[int]) -> str:
         shares = self.of(numbers)
         if set(shares) in ({ALWAYS}, {NEVER}):
             return f"odds: {in_words(shares[0])} on {'each' if shares[0] == ALWAYS else 'any'} heap"
@@ -265,7 +265,7 @@ class Odds:
         return "odds: " + ", ".join(f"{name} {in_words(share, ' seen after' * (not at))}" for at, (name, share) in enumerate(zip(HEAPS, shares)))
 
 
-def in_words(share, says=""):
+def in_words(share: Share, says: str = "") -> str:
     """The probability, and after how many runs it is seen first, in the mean, where each run draws all tags anew."""
     if share.unless:
         return share.unless
@@ -281,7 +281,7 @@ def as_text(number):
     return f"{number.numerator}/{number.denominator}" if number.denominator <= SHOWN else f"{float(number):.6f}"
 
 
-def as_value(share):
+def as_value(share: Share) -> dict:
     """What a machine reads: the least probability as a fraction and as a number, whether it is exact, and the condition."""
     value = {"text": in_words(share, " seen after"), "exact": share.is_exact}
     if share != UNKNOWN and not share.unless:

@@ -22,14 +22,14 @@ RULES = {
 STATES = {"new": "new", "known": "unchanged"}
 
 
-def rule(kind):
+def rule(kind: str) -> dict:
     cwes = sorted({cwe for cwe in findings.CWES[kind] if cwe} | ({findings.NOT_ON_HEAP} if kind == fault_entries.INVALID_FREE else set()))
     tags = ["security", *(f"external/cwe/cwe-{cwe}" for cwe in cwes)]
     return {"id": findings.kind_id(kind), "shortDescription": {"text": RULES[kind]}, "fullDescription": {"text": RULES[kind] + "."},
             "defaultConfiguration": {"level": "error"}, "properties": {"tags": tags, "security-severity": SEVERITY}}
 
 
-def artifact(path):
+def artifact(path: str) -> dict[str, str]:
     """Where a file is: under the root, or by its whole path."""
     if os.path.isabs(path):
         return {"uri": pathlib.PurePosixPath(path).as_uri()}
@@ -45,12 +45,12 @@ def location(frame, message=None):
     return value | ({"message": {"text": message}} if message else {})
 
 
-def stack(frames, message):
+def stack(frames: list[dict], message: str) -> dict:
     made = [{"location": location(frame)} | ({"module": os.path.basename(frame["module"])} if frame["module"] else {}) for frame in frames]
     return {"message": {"text": message}, "frames": made}
 
 
-def said(value):
+def said(value: dict) -> str:
     """The text of a finding."""
     parts = [value["what"][:1].upper() + value["what"][1:] + "."]
     if value["result"]:
@@ -60,7 +60,7 @@ def said(value):
     return " ".join(parts)
 
 
-def result(value, kinds, has_baseline):
+def result(value: dict, kinds: list[str], has_baseline: bool) -> dict:
     stacks = [(value["frames"], "The wrong access" if value["kind"] != fault_entries.CRASH else "The crash"),
               (value["allocated"], "Allocated"), (value["ended"], "Freed or resized")]
     made = {
@@ -81,13 +81,13 @@ def result(value, kinds, has_baseline):
     return made | ({"properties": properties} if properties else {})
 
 
-def document(answer, has_baseline=False):
+def document(answer: dict, has_baseline: bool = False) -> dict:
     """Of the answer of findings.document: a run for each process, with all rules."""
     kinds = list(RULES)
     return {"$schema": SCHEMA, "version": "2.1.0", "runs": [run(process, answer, kinds, has_baseline) for process in answer["processes"]]}
 
 
-def run(process, answer, kinds, has_baseline):
+def run(process: dict, answer: dict, kinds: list[str], has_baseline: bool) -> dict:
     missing = [{"level": "warning", "message": {"text": each}} for each in process["incomplete"]]
     invocation = {"executionSuccessful": not missing}
     if answer["ended"] is not None:
@@ -102,14 +102,14 @@ def run(process, answer, kinds, has_baseline):
     }
 
 
-def escaped(text, of_property=False):
+def escaped(text: str, of_property: bool = False) -> str:
     """As the runner of GitHub's workflows reads it."""
     for mark, code in (("%", "%25"), ("\r", "%0D"), ("\n", "%0A"), *(((":", "%3A"), (",", "%2C")) if of_property else ())):
         text = text.replace(mark, code)
     return text
 
 
-def annotations(answer):
+def annotations(answer: dict) -> list[str]:
     """A line for each cause that is neither known nor suppressed, whichever processes have it: a runner shows it beside its source line."""
     lines, told = [], set()
     for value in (each for process in answer["processes"] for each in process["findings"]):

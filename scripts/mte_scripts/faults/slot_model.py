@@ -23,7 +23,7 @@ REUSED = "it comes after the slot's next user was freed, and the same tag came a
 class Slot:
     __slots__ = ("number", "start", "class_number", "generation", "is_live", "size")
 
-    def __init__(self, number, start, class_number):
+    def __init__(self, number: int, start: int, class_number: int) -> None:
         self.number, self.start, self.class_number = number, start, class_number
         self.generation, self.is_live, self.size = 0, False, 0
 
@@ -42,11 +42,11 @@ class Slots:
         self.used = {}
         self.queue, self.held = deque(), 0
 
-    def class_of(self, size):
+    def class_of(self, size: int) -> int:
         """The number of the class that serves a request, from 0."""
         return bisect_left(self.table, 1 + chunk_granules(size))
 
-    def take(self, size):
+    def take(self, size: int) -> tuple[Slot, int]:
         """Gives out a slot for a request: its pointer, or None where the class has none left."""
         number = self.class_of(size)
         if self.released[number]:
@@ -62,7 +62,7 @@ class Slots:
         slot.is_live, slot.size = True, size
         return slot, slot.generation
 
-    def free(self, slot):
+    def free(self, slot: Slot) -> None:
         slot.is_live = False
         self.queue.append(slot)
         self.held += GRANULE * self.table[slot.class_number]
@@ -71,7 +71,7 @@ class Slots:
             self.held -= GRANULE * self.table[oldest.class_number]
             self.released[oldest.class_number].append(oldest)
 
-    def slot_at(self, granule):
+    def slot_at(self, granule: int) -> tuple[int, int]:
         """(number of the slot that covers a granule, the granules of the slot before it), or None for slack."""
         class_number = granule // self.share
         if not 0 <= class_number < len(self.table):
@@ -79,7 +79,7 @@ class Slots:
         index, before = divmod(granule - class_number * self.share, self.table[class_number])
         return (self.numbers[class_number] + index, before) if index < self.share // self.table[class_number] else None
 
-    def at(self, granule):
+    def at(self, granule: int) -> "tuple[str, Slot | None]":
         """(kind, slot) of a granule; the slot is None but for `chunk`, which is of a slot that was ever given out."""
         place = self.slot_at(granule)
         if place is None:
@@ -89,7 +89,7 @@ class Slots:
         slot = self.used.get(place[0])
         return ("chunk", slot) if slot and place[1] <= chunk_granules(slot.size) else ("tail", None)
 
-    def access(self, pointer, offset, length):
+    def access(self, pointer: tuple[Slot, int], offset: int, length: int) -> Promise:
         """The promise on an access. The fault names the lowest granule with another tag; a granule below it whose tag may be another one
         leaves open which granule that is, but not that there is a fault."""
         begin = GRANULE * (pointer[0].start + 1) + offset
@@ -104,7 +104,7 @@ class Slots:
                 is_open = is_open or reason
         return Promise("open", None, is_open) if is_open else Promise("accepted", None, LAST_GRANULE)
 
-    def compare(self, pointer, granule):
+    def compare(self, pointer: tuple[Slot, int], granule: int) -> tuple[bool, str, str]:
         """Whether the tag of a granule differs from the pointer's (None where the laws leave it open), the granule's kind, and why."""
         kind, slot = self.at(granule)
         if slot is None:
@@ -121,7 +121,7 @@ class Slots:
             return True, kind, "law_freed"
         return None, kind, REUSED
 
-    def freeing(self, pointer, moved):
+    def freeing(self, pointer: tuple[Slot, int], moved: int) -> Promise:
         """The promise on a free of a pointer that was moved by so many granules."""
         own, generation = pointer
         place = self.slot_at(own.start + moved)
@@ -136,7 +136,7 @@ class Slots:
             return Promise("refused", "refused wrong-tag", "law_own_pointer")
         return Promise("open", None, REUSED if slot is own else SAME_PARITY)
 
-    def meeting(self, pointer, offset, length):
+    def meeting(self, pointer: tuple[Slot, int], offset: int, length: int) -> "Meeting | None":
         """The chunk that decides an access; None where it touches a granule of no chunk. Between two chunks there is such a granule."""
         begin = GRANULE * (pointer[0].start + 1) + offset
         if begin < 0 or begin + length > GRANULE * self.granules:
@@ -151,9 +151,9 @@ class Slots:
         return meets(pointer, slot) if slot and slot.is_live else None
 
 
-def meets(pointer, slot):
+def meets(pointer: tuple[Slot, int], slot: Slot) -> Meeting:
     return Meeting(pointer[0].number, pointer[1], slot.number, slot.generation, not slot.is_live)
 
 
-def chunk_granules(size):
+def chunk_granules(size: int) -> int:
     return max(1, -(-size // GRANULE))

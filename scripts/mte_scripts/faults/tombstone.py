@@ -34,7 +34,7 @@ Tombstone = namedtuple("Tombstone", "signal causes abort backtrace allocated fre
 Cause = namedtuple("Cause", "kind offset size")  # the offset is in bytes from the start of the block
 
 
-def count(number, word):
+def count(number: int, word: str) -> str:
     return f"{number} {word}" + ("" if number == 1 else "s")
 
 
@@ -79,7 +79,7 @@ def offset_of(error, size):
     return chunk if error.state == "live" and 0 <= begin < chunk else begin
 
 
-def where(offset, size):
+def where(offset: int, size: int) -> str:
     if offset < 0:
         return f"{count(-offset, 'byte')} left of"
     return f"{count(offset, 'byte')} into" if offset < size else f"{count(offset - size, 'byte')} right of"
@@ -111,7 +111,7 @@ def frames_of(judged, stack):
 
 # reading
 
-def read(text):
+def read(text: str) -> Tombstone:
     """A Tombstone of the text of one; Unreadable where it tells no signal."""
     signal = SIGNAL.search(text)
     if not signal:
@@ -142,12 +142,12 @@ def functions(text, head):
     return found
 
 
-def plain(function):
+def plain(function: str) -> str:
     """A function's name without its parameters and the offset in it."""
     return re.sub(r"\+\d+$", "", function).split("(")[0].strip() or function
 
 
-def in_common(one, other):
+def in_common(one: list[str], other: list[str]) -> int:
     """How many names two lists of functions share in their order."""
     row = [0] * (len(other) + 1)
     for name in one:

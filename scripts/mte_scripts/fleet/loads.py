@@ -21,7 +21,7 @@ FORCED = texts.LARGEST_CLASS
 class Member:
     """A machine's history, or a timeline of which some moments are known; and for how many machines it stands."""
 
-    def __init__(self, weight: int, history: texts.History, timeline: Optional[bytes] = None):
+    def __init__(self, weight: int, history: texts.History, timeline: Optional[bytes] = None) -> None:
         self.weight, self.timeline = weight, timeline
         self.take(history)
 

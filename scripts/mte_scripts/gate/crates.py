@@ -19,7 +19,7 @@ from mte_scripts.words import Words, some
 
 
 
-def what_it_is(folder):
+def what_it_is(folder: str) -> str:
     """The first sentence of the comment at the head of a crate."""
     sources = [os.path.join(folder, "src", name) for name in ("lib.rt", "main.rt")]
     with open(next(it for it in sources if os.path.exists(it)), encoding="utf-8") as file:
@@ -27,13 +27,13 @@ def what_it_is(folder):
     return said.split(". ")[0].rstrip(".")
 
 
-def listing(crates, names):
+def listing(crates: CrateList, names: list[str]) -> str:
     lines = [f"{name}: {what_it_is(crates.folder(name))}" for name in names]
     kits = sorted({it for name in names for it in crates.stands_on[name] if it not in crates.stands_on})
     return "\n".join([*lines, f"of the kit: {' '.join(kits) or 'none'}", ""])
 
 
-def copy(crates, names, folder):
+def copy(crates: CrateList, names: list[str], folder: str) -> None:
     try:
         os.makedirs(folder, exist_ok=True)
         if os.listdir(folder):

@@ -71,7 +71,7 @@ def listing(crate, edits):
     yield ""
 
 
-def main(words):
+def main(words: list[str]) -> int:
     parser = Words(__doc__)
     parser.add_argument("--check", action="store_true")
     parser.add_argument("crates", nargs="*")

@@ -42,7 +42,7 @@ def source(name: str) -> str:
 class Tree:
     """Files below the folder `root`, by their names from there on."""
 
-    def __init__(self, root: str):
+    def __init__(self, root: str) -> None:
         self.root = root
 
     def path(self, *parts: str) -> str:

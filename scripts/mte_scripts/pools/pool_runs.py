@@ -43,7 +43,7 @@ class Timeline:
 
     is_sampled = False
 
-    def __init__(self, name: str, data: bytes):
+    def __init__(self, name: str, data: bytes) -> None:
         self.name = name
         self.data = data[data.find(b"\n") + 1 :] if b"\n" in data else b""
         self.events = set().union(*self.pieces())
@@ -113,7 +113,7 @@ class History:
 
     is_sampled = True
 
-    def __init__(self, name: str, history: texts.History):
+    def __init__(self, name: str, history: texts.History) -> None:
         self.name = name
         self.snapshots = history.snapshots
         self.has_large = "large" in history.counts

@@ -69,7 +69,7 @@ WIDTH = 100
 
 
 class Options(argparse.Namespace):
-    def __init__(self, words):
+    def __init__(self, words: list[str]) -> None:
         parser = Words(HELP)
         parser.add_argument("--limit", type=between(1, texts.MOST_CLASSES))
         parser.add_argument("--unit", type=one_of(*pool_runs.UNITS))
@@ -86,7 +86,7 @@ class Options(argparse.Namespace):
         parser.take(words, into=self)
         self.agree(parser.given(words))
 
-    def agree(self, given):
+    def agree(self, given: list[str]) -> None:
         for one in ("--check", "--read"):
             own = {"--check": ("--check", "--limit", "--unit", "--overhead"), "--read": ("--read", "--as", "--reserve", "--name")}[one]
             for other in given if one in given else ():
@@ -104,11 +104,11 @@ class Options(argparse.Namespace):
         if self.runs.count("-") > 1:
             raise Refused(2, "standard input can be read once")
 
-    def block(self):
+    def block(self) -> pool_runs.Block:
         return pool_runs.Block(self.unit or 8, self.overhead or 0)
 
 
-def today_of(value):
+def today_of(value: str) -> list[pool_sets.Pool]:
     """The pools that there are today, by ascending blocks."""
     pools = []
     for word in value.split(","):
@@ -121,7 +121,7 @@ def today_of(value):
     return sorted(pools)
 
 
-def name_in_c(value):
+def name_in_c(value: str) -> str:
     if not re.fullmatch("[A-Za-z][A-Za-z0-9_]{0,40}", value):
         raise argparse.ArgumentTypeError(f"takes the begin of a name in C, and not {value}")
     return value
@@ -183,7 +183,7 @@ def each_number(options, runs):
     return 0 if its.fit else 1
 
 
-def check(options):
+def check(options: Options) -> int:
     its = pool_sets.read(options.check)
     name = texts.printable(options.check)
     runs = pool_runs.runs_of(options.runs)
@@ -201,7 +201,7 @@ def check(options):
     return 0
 
 
-def write_file(path, text):
+def write_file(path: str, text: str) -> None:
     try:
         with open(path, "w", encoding="utf-8") as file:
             file.write(text)
@@ -218,7 +218,7 @@ def warnings(runs):
             yield f"{run.name} has requests of more than {number(texts.LARGEST_SIZE)} bytes, which have no pool."
 
 
-def reserve_words(options, its):
+def reserve_words(options: Options, its: pool_sets.PoolSet) -> list[str]:
     if not options.reserve:
         return []
     more = pool_sets.bytes_of(its.with_reserve(options.reserve)) - its.bytes
@@ -238,11 +238,11 @@ def summary(options, runs, its, known, notes):
     return "".join(f"{line}\n" for line in lines)
 
 
-def wrapped(text, indent=""):
+def wrapped(text: str, indent: str = "") -> list[str]:
     return textwrap.wrap(text, WIDTH, subsequent_indent=indent, break_long_words=False, break_on_hyphens=False)
 
 
-def table(options, runs, its):
+def table(options: Options, runs: list, its: pool_sets.PoolSet) -> list[str]:
     """The pools in columns, the last of which is the run that needs so many blocks."""
     most, short = [run.most(its.holds()) for run in runs], short_names(runs)
     rows = [["Block", "Holds", "Blocks", *["With reserve"] * bool(options.reserve), "Bytes", *["Needed by"] * (len(runs) > 1)]]
@@ -256,19 +256,19 @@ def table(options, runs, its):
     return in_columns(rows, 4 + bool(options.reserve))
 
 
-def short_names(runs):
+def short_names(runs: list) -> list[str]:
     """The names of the files without their folders, where no two are the same."""
     names = [os.path.basename(run.name) for run in runs]
     return names if len(set(names)) == len(names) else [run.name for run in runs]
 
 
-def in_columns(rows, numbers):
+def in_columns(rows: list[list[str]], numbers: int) -> list[str]:
     """Rows with so many columns of numbers, and names after them."""
     widths = [max(len(row[at]) for row in rows) for at in range(numbers)]
     return ["  ".join([*(cell.rjust(width) for cell, width in zip(row, widths)), *row[numbers:]]).rstrip() for row in rows]
 
 
-def today_lines(options, runs, its):
+def today_lines(options: Options, runs: list, its: pool_sets.PoolSet) -> list[str]:
     """Today's pools: what they take, and how many of their blocks the runs use."""
     holds = [pool.block - its.block.overhead for pool in options.today]
     most = [max(counts) for counts in zip(*(run.most(holds) for run in runs))]

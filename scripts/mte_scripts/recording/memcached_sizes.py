@@ -31,7 +31,7 @@ MOST_CHUNKS = 62  # that memcached takes by name
 PAGES_A_CLASS = 4  # of 1 MiB; examples/memcached has the measurement
 
 
-def chunk_sizes(words):
+def chunk_sizes(words: list[str]) -> None:
     parser = Words(HELP)
     parser.add_argument("--memory", type=between(1, 1_000_000_000))
     memory = parser.take(words).memory

@@ -50,7 +50,7 @@ def files_of(options) -> list[str]:
     return files or ["-"]
 
 
-def listed(path):
+def listed(path: str) -> list[str]:
     """The names in a list of files."""
     text = texts.read(path)
     end = b"\0" if b"\0" in text else b"\n"
@@ -64,7 +64,7 @@ def listed(path):
     return names
 
 
-def merged(histories, most):
+def merged(histories: list[texts.History], most: int) -> texts.History:
     """The history with the snapshots of all, or with so many of them."""
     for choose in (undominated, lambda found: greatest(found, most)):
         if sum(each.snapshots for each in histories) > most:
@@ -79,7 +79,7 @@ def merged(histories, most):
     return texts.History(sum(each.snapshots for each in histories), counts)
 
 
-def chosen(histories, kept):
+def chosen(histories: list[texts.History], kept: set[int]) -> list[texts.History]:
     """The histories with these snapshots alone. They are numbered from 0 over all histories."""
     found = []
     for history, numbers in zip(histories, numbered(histories)):
@@ -98,7 +98,7 @@ def numbered(histories):
         first += each.snapshots
 
 
-def served(history):
+def served(history: texts.History) -> dict[int, list[int]]:
     """Without large blocks, which count for nothing in a footprint."""
     return {size: counts for size, counts in history.counts.items() if size != "large"}
 
@@ -170,7 +170,7 @@ def in_classes(history):
         ends = wider
 
 
-def add(rows, key, counts):
+def add(rows: dict[int, list[int]], key: int, counts: list[int]) -> None:
     rows[key] = list(map(operator.add, rows[key], counts)) if key in rows else counts
 
 

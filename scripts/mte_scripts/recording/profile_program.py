@@ -99,7 +99,7 @@ FOREGROUND = "run it in the foreground (nginx: daemon off)"
 
 
 class Options(argparse.Namespace):
-    def __init__(self, words):
+    def __init__(self, words: list[str]) -> None:
         parser = ProgramWords(HELP)
         parser.add_argument("--live", action="store_const", const="--live")
         parser.add_argument("--timeline", action="store_true")
@@ -127,7 +127,7 @@ class Options(argparse.Namespace):
         elif self.format is not None:
             raise Refused(2, "--as goes with --import")
 
-    def refuse_beside_import(self):
+    def refuse_beside_import(self) -> None:
         others = {"--read": self.read, "--only": self.only, "--measured": self.measured, "--classes": self.table,
                   "--library": self.library}
         if given := [name for name, value in others.items() if value]:
@@ -135,14 +135,14 @@ class Options(argparse.Namespace):
         if self.words:
             raise Refused(2, f"--import takes one file, and runs no program: there is no place for {self.words[0]}")
 
-    def settings(self):
+    def settings(self) -> "dict[str, str | None]":
         """The library's variables; those without a value are unset."""
         chosen = {"SIZES_LIVE": self.live == "--live", "SIZES_TIMELINE": self.timeline}
         found = {name: "1" if is_so else None for name, is_so in chosen.items()}
         found["SIZES_CLASSES"] = None if self.table is None else " ".join(map(str, self.table))
         return {**found, "SIZES_ONLY": self.only, "SIZES_HISTORY": str(self.history) if self.history else None}
 
-    def form(self):
+    def form(self) -> int:
         """That of the file of counts."""
         forms = {"--history": counts.HISTORY, "--live": counts.LIVE, None: counts.ALL}
         return forms.get(self.live, timelines.FORM)
@@ -171,7 +171,7 @@ def print_history(history, profile, peak):
     return True
 
 
-def print_record(speaker, record, peak):
+def print_record(speaker: recording.Speaker, record: timelines.Record, peak: "str | None") -> bool:
     """Prints a timeline, or the history that is there in its place."""
     if record.history:
         if wide := record.class_bytes:
@@ -188,12 +188,12 @@ def print_record(speaker, record, peak):
     return True
 
 
-def write_peak(peak, profile):
+def write_peak(peak: "str | None", profile: str) -> None:
     if peak:
         write_file(peak, profile)
 
 
-def write_file(path, text):
+def write_file(path: str, text: str) -> None:
     try:
         with open(path, "w", encoding="ascii") as file:
             file.write(text)
@@ -201,7 +201,7 @@ def write_file(path, text):
         raise Refused(3, f"{path} could not be written: {error.strerror}") from None
 
 
-def write_measured(path, notes):
+def write_measured(path: "str | None", notes: recording.Notes) -> None:
     if path:
         found = {"large": notes.large, "resident": notes.resident, "glibc": notes.system}
         write_file(path, "".join(f"{name} {value}\n" for name, value in found.items() if value))
@@ -217,7 +217,7 @@ def say_uncounted(speaker, notes, live, program):
         speaker.say(f"{live} counted one process. Others requested too, and are not counted {others}: {remedy}")
 
 
-def read_counts(path, most=8 * counts.MOST + 1):
+def read_counts(path: str, most: int = 8 * counts.MOST + 1) -> array.array:
     """The words of a file of counts, or so many bytes of it."""
     try:
         with open(os.open(path, os.O_RDONLY | os.O_NONBLOCK | os.O_CLOEXEC), "rb") as file:
@@ -280,7 +280,7 @@ def import_file(options, speaker):
 
 # ---- the library of a service
 
-def print_library(options, speaker):
+def print_library(options: Options, speaker: recording.Speaker) -> int:
     if len(options.words) > 1:
         raise Refused(2, "--library takes one folder, and runs no program")
     with private_folder.temporary_folder() as work:
@@ -329,7 +329,7 @@ def refuse_unreachable(path):
 
 # ---- a run
 
-def say_left(speaker, run, options, left):
+def say_left(speaker: recording.Speaker, run: recording.Run, options: Options, left: list) -> bool:
     """What a program that goes on has of its counts; whether they are kept."""
     if not left:
         return False
@@ -378,7 +378,7 @@ def keep_library(run, library):
     library.keep()
 
 
-def profile(words, speaker):
+def profile(words: list[str], speaker: recording.Speaker) -> int:
     options = Options(words)
     speaker.said = options.said
     if options.library:

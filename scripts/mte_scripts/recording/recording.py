@@ -40,7 +40,7 @@ ALLOCATOR = slice(2048, 3072)
 class Notes:
     """What the library noted; the file's form is tested by the caller."""
 
-    def __init__(self, page: bytes):
+    def __init__(self, page: bytes) -> None:
         page = page.ljust(PAGE, b"\0")
         for name, value in zip(NOTES, struct.unpack_from(f"={len(NOTES)}Q", page)):
             setattr(self, name, value)
@@ -53,7 +53,7 @@ class Notes:
 class Speaker:
     """What a script says of a run: a line on standard error, and in the file that --said names."""
 
-    def __init__(self, name: str):
+    def __init__(self, name: str) -> None:
         self.name = name
         self.said = None
 
@@ -133,7 +133,7 @@ def sources_sum(name: str) -> str:
     return found.hexdigest()[:16]
 
 
-def cache_or(work, file: str):
+def cache_or(work: private_folder.Folder, file: str) -> private_folder.Place:
     """The cache if it has the file or can take it; else the folder of this run."""
     with contextlib.suppress(Refused):
         place = private_folder.cache()
@@ -160,7 +160,7 @@ def tried(more: dict) -> tuple:
 class Library:
     """The library and a name of it that the loader takes, in a folder of its own where there has to be one."""
 
-    def __init__(self, path: str, work):
+    def __init__(self, path: str, work: private_folder.Folder) -> None:
         self.path, self.work = path, work
         self.link: "private_folder.Folder | None" = None
         self.name = path if is_plain(path) else self.linked()
@@ -222,7 +222,7 @@ def has_sanitizer(path: str) -> bool:
 class Run:
     """The run of a program with a library, which records in the file `recorded`."""
 
-    def __init__(self, speaker: Speaker, variable: str, work, library: Library, settings: dict):
+    def __init__(self, speaker: Speaker, variable: str, work: private_folder.Folder, library: Library, settings: dict) -> None:
         self.speaker, self.variable, self.work, self.library = speaker, variable, work, library
         self.recorded = work.file(variable)
         self.settings = settings
@@ -332,7 +332,7 @@ def having(file: str) -> list:
 
 def spoken(name: str, script):
     """The function of a script that says what is refused as it says all else; script(words, speaker) returns the status."""
-    def run(words):
+    def run(words: list[str]) -> int:
         speaker = Speaker(name)
         has_no_error_output()
         try:

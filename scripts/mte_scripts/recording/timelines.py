@@ -255,7 +255,7 @@ class Amounts(dict):
         super().__init__()
         self.of_size = of_size
 
-    def __missing__(self, event: bytes):
+    def __missing__(self, event: bytes) -> int:
         size = size_of(event)
         amount = 0 if size == "large" else self.of_size(size)
         self[event] = -amount if event.startswith(b"-") else amount

@@ -111,7 +111,7 @@ def is_sound(file, notes):
     return False
 
 
-def print_trace(file, length):
+def print_trace(file: str, length: int) -> None:
     """The text after the notes."""
     try:
         with open(file, "rb") as recorded:
@@ -146,7 +146,7 @@ def run_program(options, speaker, path, work):
     return 3 if notes.ended == NO_ROOM else 1 if run.status else 0
 
 
-def trace(words, speaker):
+def trace(words: list[str], speaker: recording.Speaker) -> int:
     options = options_of(words)
     if not options.words:
         return recording.print_usage(HELP)

@@ -11,12 +11,12 @@ def escape(text):
     return html.escape(html_safe.shown(text))
 
 
-def shown(value):
+def shown(value: float) -> str:
     """A coordinate."""
     return f"{value:.1f}".removesuffix(".0")
 
 
-def round_values(top, most):
+def round_values(top: float, most: int) -> list[float]:
     """The multiples of a step from 0 to TOP, at most so many above 0. The step is 1, 2 or 5, or one of these times a power of 10."""
     power = 10.0 ** math.floor(math.log10(top / most))
     step = next(power * factor for factor in (1, 2, 5, 10) if power * factor * most >= top)
@@ -38,7 +38,7 @@ class Picture:
     def text(self, x, y, words, anchor="start"):
         self.parts.append(f'<text x="{shown(x)}" y="{shown(y)}" text-anchor="{anchor}">{escape(words)}</text>')
 
-    def y(self, value, top):
+    def y(self, value: float, top: float) -> float:
         return self.bottom - (self.bottom - self.top) * value / top
 
     def levels(self, top, most, words):
@@ -52,7 +52,7 @@ class Picture:
         self.parts.append(f'<path class="axis" d="M{shown(x)} {self.bottom}v4"/>')
         self.text(x, self.bottom + 17, words, "middle")
 
-    def svg(self, name):
+    def svg(self, name: str) -> str:
         axis = f'<path class="axis" d="M{self.left} {self.bottom}H{self.right}"/>'
         box = f'viewBox="0 0 {self.width} {self.height}"'
         return f'<svg class="{self.kind}" {box} role="img" aria-label="{escape(name)}">{"".join(self.parts)}{axis}</svg>'

@@ -35,7 +35,7 @@ Example:
 """
 
 
-def report(words):
+def report(words: list[str]) -> int:
     parser = Words(HELP)
     parser.add_argument("--title")
     parser.add_argument("--against", action="append", default=[])
@@ -53,7 +53,7 @@ def report(words):
     return 1 if found.unheld() else 0
 
 
-def check_command(profile, sheet, forced):
+def check_command(profile: str, sheet: str, forced: tuple) -> str:
     """The shell's words that check the sheet again. merge_profiles brings the lines of any profile into their order."""
     names = ["PROFILE" if profile == "-" else texts.quoted(profile), "SHEET" if sheet == "-" else texts.quoted(sheet)]
     merged = f"{texts.as_called('scripts/merge_profiles')} -- {names[0]}"

@@ -164,7 +164,7 @@ def other_section(table, check):
 """
 
 
-def with_code(text):
+def with_code(text: str) -> str:
     """Escaped; words between backquotes are code."""
     parts = escape(text).split("`")
     return "".join(f"<code>{part}</code>" if at % 2 else part for at, part in enumerate(parts))
@@ -183,7 +183,7 @@ def headings(*names):
     return f"<thead><tr>{cells}</tr></thead>"
 
 
-def card(name, title, value, note):
+def card(name: str, title: str, value: int, note: str) -> str:
     return f'<div><dt>{title}</dt><dd id="{name}" data-value="{value}">{number(value)} <small>{note}</small></dd></div>'
 
 
@@ -191,7 +191,7 @@ def cell(name, value, text):
     return f'<td data-name="{name}" data-value="{value}">{text}</td>'
 
 
-def with_share(text, part, whole):
+def with_share(text: str, part: int, whole: int) -> str:
     return f'{text} <span class="share">{percent(part, whole)}</span>'
 
 
@@ -244,7 +244,7 @@ MARKS = [
 ]
 
 
-def mark(style, x, y, title=""):
+def mark(style: int, x: float, y: float, title: str = "") -> str:
     """The mark of a table: its shape tells it from others where its color does not."""
     inner = f'fill="var(--c{style})"><title>{escape(title)}</title></'
     if style == 0:
@@ -253,7 +253,7 @@ def mark(style, x, y, title=""):
     return f'<polygon points="{points}" {inner}polygon>'
 
 
-def style_of(at):
+def style_of(at: int) -> int:
     """The style of the other table at this place."""
     return 1 + at % (COLORS - 1)
 
@@ -287,7 +287,7 @@ def curve(figures, kind, width, height):
     unit = figures.bytes / 100 if is_waste else 1024 ** (int(math.log2(max(highest, 1))) // 10)
     top = 1.15 * highest / unit or 1
 
-    def at(classes, cost):
+    def at(classes: int, cost: int) -> tuple[float, float]:
         x = picture.left + 8 + (picture.right - picture.left - 8) * (classes - 1) / max(most - 1, 1)
         return x, picture.y(cost / unit, top)
 
@@ -332,7 +332,7 @@ def over_time_section(figures):
 """
 
 
-def layers_of(classes, rows):
+def layers_of(classes: list[int], rows: list[list[int]]) -> list[tuple[str, str, list[int], int]]:
     """What is drawn one upon the other, from below: words, form, the bytes at each time and their most. Classes that take least are one."""
     columns = [[GRANULE * each * count for count in column] for each, column in zip(classes, zip(*rows))]
     most = sorted(range(len(classes)), key=lambda at: -max(columns[at]))
@@ -374,7 +374,7 @@ def live_blocks(figures, layers, kind, width, height):
     return picture.svg("The bytes of the live blocks over the run, by class")
 
 
-def square(form):
+def square(form: str) -> str:
     return f'<svg viewBox="0 0 12 12" aria-hidden="true"><rect width="12" height="12" {form}/></svg>'
 
 
@@ -397,7 +397,7 @@ def histogram(figures, kind, width, height, per_octave):
     unit = 1024 ** (int(math.log2(highest)) // 10)
     top = 1.05 * highest / unit
 
-    def x(size):
+    def x(size: int) -> float:
         return picture.left + (picture.right - picture.left) * (math.log2(max(size, 2**FIRST_OCTAVE)) - FIRST_OCTAVE) / OCTAVES
 
     def borders(table, y, down, form):

@@ -35,7 +35,7 @@ Examples:
 MOST_OF_A_SHEET = 1 << 20
 
 
-def check(words):
+def check(words: list[str]) -> int:
     parser = Words(HELP)
     parser.add_argument("--limit", type=between(1, texts.MOST_CLASSES))
     parser.add_argument("--step", type=one_of(1, 2, 4, 8), default=1)
@@ -86,14 +86,14 @@ def meets_options(name, sheet, options):
     texts.write(f"it is for --limit {sheet.limit} and --step {sheet.step}\n")
 
 
-def counted_in_profile(name, data):
+def counted_in_profile(name: str, data: bytes) -> str:
     served = {size: count for size, count in texts.parse_profile(data, name).items() if size != "large" and count}
     if not served:
         raise texts.Refused(2, f"{name} counts no request of at most {texts.LARGEST_SIZE} bytes: was the right program counted?")
     return f"the profile counts {sum(served.values())} requests of {len(served)} sizes\n"
 
 
-def counted_in_history(name, data):
+def counted_in_history(name: str, data: bytes) -> str:
     found = texts.parse_history(data, name)
     sizes = len(found.counts.keys() - {"large"})
     if not sizes:
@@ -101,7 +101,7 @@ def counted_in_history(name, data):
     return f"the history counts blocks of {sizes} sizes at {found.snapshots} snapshots\n"
 
 
-def counted_in_timeline(name, data):
+def counted_in_timeline(name: str, data: bytes) -> str:
     """mte_tool finds what is wrong with its lines."""
     events = texts.lines_of(data)[1:]
     sizes = {event for event in events if event.isdigit()}
@@ -113,7 +113,7 @@ def counted_in_timeline(name, data):
 COUNTED = {"profile": counted_in_profile, "history": counted_in_history, "timeline": counted_in_timeline}
 
 
-def non_empty(path, most, whose):
+def non_empty(path: str, most: int, whose: str) -> bytes:
     """The bytes of a file. No more are read than it may have, whatever it is."""
     if os.path.isdir(path):
         raise texts.Refused(2, f"{path} is a folder")
@@ -125,7 +125,7 @@ def non_empty(path, most, whose):
     return data
 
 
-def whose_fault(error, lines, names, kind):
+def whose_fault(error: str, lines: int, names: list[str], kind: str) -> str:
     """The fault that mte_tool found, with the file that it is in, and its line there. The sheet has so many lines, and comes first."""
     match = re.fullmatch(r"error ([0-9]+ \w+) line ([0-9]+)", error)
     if not match:

@@ -39,7 +39,7 @@ LONGEST_NAME = 60  # of a curve, in characters, for which there is room
 class Curve:
     """What a profile's tuned tables of 1 to 32 classes waste, and Scudo's default table, in percent of the requested bytes."""
 
-    def __init__(self, path, name=None):
+    def __init__(self, path: str, name: "str | None" = None) -> None:
         self.name = os.path.basename(path).removesuffix(".profile") if name is None else name
         given = texts.read(path, texts.MOST_INPUT + 1)
         requested = sum(size * count for size, count in texts.parse_profile(given, path).items() if size != "large")
@@ -51,7 +51,7 @@ class Curve:
         self.scudo = 100.0 * int(scudo.split()[1]) / requested
 
 
-def answer(path, words, given):
+def answer(path: str, words: list[str], given: bytes) -> bytes:
     status, out, error = texts.mte_tool(words, given)
     if status == 2:
         raise Refused(2, f"{path} is refused, {error}: `merge_profiles` makes a profile of lines in any order")
@@ -68,17 +68,17 @@ def table(curves):
     return "".join(lines)
 
 
-def shortened(name):
+def shortened(name: str) -> str:
     return name if len(name) <= LONGEST_NAME else name[: LONGEST_NAME - 2] + ".."
 
 
-def picture(curves):
+def picture(curves: list[Curve]) -> str:
     drawing = pictures.Drawing(WIDTH, HEIGHT, BELOW, claims.TEMPLATES["profile.curve.axis"])
     # the picture is as high as the largest share at 8 classes or of Scudo's, and some more
     top = 1.6 * max(max(curve.shares[7], curve.scudo) for curve in curves) or 1.0
     last = LIMIT + 1.2 + 0.25 * len(curves)
 
-    def across(classes):
+    def across(classes: float) -> float:
         return drawing.left + (drawing.right - drawing.left) * (classes - 0.5) / (last - 0.5)
 
     drawing.levels(top, 8, lambda share: f"{share:g}%")

@@ -14,7 +14,7 @@ NOTHING = f"no bytes are counted in requests of at most {texts.LARGEST_SIZE:,} b
 OTHERS = [("Scudo's default", "scudo.classes"), ("Scudo's for Android", "scudo_android.classes")]
 
 
-def profile_text(profile):
+def profile_text(profile: dict) -> str:
     """A profile as FORMATS.md has it."""
     lines = sorted((size, count) for size, count in profile.items() if size != "large" and count)
     if profile.get("large"):
@@ -22,29 +22,29 @@ def profile_text(profile):
     return "".join(f"{size} {count}\n" for size, count in lines)
 
 
-def with_largest(profile):
+def with_largest(profile: dict) -> dict:
     """The profile with a request that class 1024 alone serves, so that each table for it has this class. It adds no waste."""
     return profile if profile.get(texts.LARGEST_SIZE) else {**profile, texts.LARGEST_SIZE: 1}
 
 
-def with_largest_block(history):
+def with_largest_block(history: texts.History) -> texts.History:
     """The history with a block at each snapshot that class 1024 alone serves, so that each table for it has this class. It adds 16 KiB."""
     counts = history.counts.get(texts.LARGEST_SIZE) or [1] * history.snapshots
     return history._replace(counts={**history.counts, texts.LARGEST_SIZE: counts})
 
 
-def at_peak(history):
+def at_peak(history: texts.History) -> dict:
     """The snapshot of the most requested bytes, large ones left out, as a profile."""
     sizes = history.counts.keys() - {"large"}
     most = max(range(history.snapshots), key=lambda at: sum(size * history.counts[size][at] for size in sizes))
     return {size: counts[most] for size, counts in history.counts.items()}
 
 
-def class_text(classes):
+def class_text(classes: list[int]) -> str:
     return " ".join(["classes", *map(str, classes)])
 
 
-def run(words, given):
+def run(words: list[str], given: "str | bytes") -> tuple[int, str]:
     """The output of the program, and its status, 0 or 1: a verdict. Any other ends the script."""
     status, out, error = texts.mte_tool(words, given if isinstance(given, bytes) else given.encode())
     if status not in (0, 1):
@@ -64,7 +64,7 @@ class OverTime(NamedTuple):
     history: texts.History  # what was recorded, or of a timeline the moments that its fit names: at these each class has its most blocks
 
 
-def over_time(kind, text, largest, limit, step):
+def over_time(kind: str, text: bytes, largest: bool, limit: int, step: int) -> OverTime:
     """The fit of a text, with class 1024 in its table if it is wanted. A timeline may have none: then the verdict is the bound that `fit` proves."""
     fitted = forced_into(kind, text) if largest else text
     forced = (texts.LARGEST_CLASS,) if fitted != text else ()
@@ -81,7 +81,7 @@ def over_time(kind, text, largest, limit, step):
     return OverTime(kind, text, forced, fit, answer + "\n", verdict, history)
 
 
-def forced_into(kind, text):
+def forced_into(kind: str, text: bytes) -> bytes:
     """The text with one block more, so that each table for it has class 1024."""
     if kind == "timeline":
         return timelines.with_block(text, texts.LARGEST_SIZE)
@@ -91,7 +91,7 @@ def forced_into(kind, text):
 class Table:
     """A class table with its score: its waste, or the least counted size that it does not serve."""
 
-    def __init__(self, name, classes, profile):
+    def __init__(self, name: str, classes: list[int], profile: dict) -> None:
         self.name = name
         self.classes = classes
         status, answer = run(["score"], class_text(classes) + "\n" + profile_text(profile))
@@ -109,10 +109,10 @@ class Table:
 class Blocks:
     """The blocks of a table, in bytes."""
 
-    def __init__(self, classes):
+    def __init__(self, classes: list[int]) -> None:
         self.classes = classes
 
-    def of(self, size):
+    def of(self, size: int) -> int:
         """That of a size, which is 0 where no class serves it."""
         at = bisect.bisect_left(self.classes, timelines.need_of(size))
         return GRANULE * self.classes[at] if at < len(self.classes) else 0
@@ -147,7 +147,7 @@ class Figures:
         self.first, *self.rest = self.made() + self.others
         self.least = self.least_by_classes()
 
-    def take_fit(self, timed, profile, given):
+    def take_fit(self, timed: OverTime, profile: dict[int, int], given: str) -> None:
         """The table of the fit, and the footprint of each."""
         fit = timed.fit
         self.fitted = Table(claims.name(timed.kind), fit.classes, profile)
@@ -156,7 +156,7 @@ class Figures:
         self.fit_judged = claims.Judged(timed.kind, timed.verdict, fit.limit, fit.step, fit.classes, given, self.fitted.footprint, timed.forced)
 
     @staticmethod
-    def checked(profile, sheet):
+    def checked(profile: dict, sheet: str) -> tuple[dict, str]:
         """The profile that the sheet is of, which may be the one with class 1024 forced, and what `check` says."""
         _, verdict = run(["check"], sheet + profile_text(profile))
         if verdict != "optimal":
@@ -166,20 +166,20 @@ class Figures:
         return profile, verdict
 
     @property
-    def forced(self):
+    def forced(self) -> tuple:
         """The classes that are forced: 1024, where the sheet is of the profile with a request that wants it, else none."""
         return () if self.tuned.get(texts.LARGEST_SIZE) == self.counts.get(texts.LARGEST_SIZE) else (texts.LARGEST_CLASS,)
 
     @property
-    def first_judged(self):
+    def first_judged(self) -> claims.Judged:
         return self.fit_judged if self.objective == "footprint" else self.judged
 
-    def made(self):
+    def made(self) -> list[Table]:
         """The tables that were made, the first by the objective before the other one."""
         made = [table for table in (self.best, self.fitted) if table]
         return made[::-1] if self.objective == "footprint" else made
 
-    def least_by_classes(self):
+    def least_by_classes(self) -> list[int]:
         """The least cost of at most 1, 2, .. classes that serve what is given, and have the classes that are forced. A timeline is seen at the
         moments of its fit."""
         options = ["--limit", "32", "--step", str(self.first_judged.step)]
@@ -190,27 +190,27 @@ class Figures:
         fit = texts.parse_fit(run(["fit", *options], texts.history_text(history))[1])
         return [row[0] - sum(GRANULE * each for each in forced) for row in fit.rows]
 
-    def cost(self, table):
+    def cost(self, table: Table) -> "int | None":
         """The waste or the footprint of a table, None where it does not serve all sizes."""
         return table.footprint if self.objective == "footprint" else table.waste
 
-    def blocks(self, table):
+    def blocks(self, table: Table) -> int:
         """The bytes of the blocks that the counted requests take: headers, requests and waste."""
         return GRANULE * self.requests + self.bytes + table.waste
 
-    def whole(self, table):
+    def whole(self, table: Table) -> int:
         """Of what a saving against this table is a share."""
         return table.footprint if self.objective == "footprint" else self.blocks(table)
 
-    def saving(self, table):
+    def saving(self, table: Table) -> "int | None":
         """By how many bytes the first table costs less than this one; None where that does not serve all sizes."""
         return None if self.cost(table) is None else self.cost(table) - self.cost(self.first)
 
-    def saved_waste(self, table):
+    def saved_waste(self, table: Table) -> int:
         """By how many bytes the first table wastes less than this one, of what is counted at one moment."""
         return table.waste - self.first.waste
 
-    def saved_footprint(self, table):
+    def saved_footprint(self, table: Table) -> "int | None":
         """By how many bytes the first table takes less than this one over time; None where one of the two does not serve all sizes."""
         return None if None in (table.footprint, self.first.footprint) else table.footprint - self.first.footprint
 
@@ -221,11 +221,11 @@ class Figures:
         rows = [[amount(size) * count for count in counts] for size, counts in self.timed.history.counts.items() if size != "large"]
         return max(map(sum, zip(*rows)), default=0)
 
-    def most_live(self, table):
+    def most_live(self, table: Table) -> int:
         """The most bytes of all its live blocks together: what it takes where each block that is freed is given back at once."""
         return self.most(Blocks(table.classes).of)
 
-    def heights(self, parts):
+    def heights(self, parts: int) -> list[list[int]]:
         """The most live blocks of each class of the first table in each of so many equal parts of a timeline, or at each moment of a
         history."""
         if self.timed.kind == "timeline":
@@ -238,13 +238,13 @@ class Figures:
                     row[place] += count
         return rows
 
-    def requested(self):
+    def requested(self) -> dict:
         """How often each size was requested over time; of a history, which has not all, how many blocks it has."""
         if self.timed.kind == "timeline":
             return timelines.requests_of(self.timed.text)
         return {size: sum(counts) for size, counts in self.timed.history.counts.items()}
 
-    def larger(self, other):
+    def larger(self, other: Table) -> tuple[list[tuple[int, int, int]], int, int]:
         """The sizes that get a larger block of the first table than of the other one, as (size, block, the other block), and what that costs at
         a moment at most. Sizes that one of the two does not serve are left out."""
         ours, theirs = Blocks(self.first.classes), Blocks(other.classes)
@@ -254,7 +254,7 @@ class Figures:
         cost = self.most(lambda size: found[size][0] - found[size][1] if size in found else 0)
         return [(size, *blocks) for size, blocks in found.items()], len(sizes), cost
 
-    def waste_over_time(self, table):
+    def waste_over_time(self, table: Table) -> "int | None":
         """The waste of all requests of a timeline, a sum over time; None where a size is not served, or not all requests are known."""
         if self.timed.kind != "timeline":
             return None
@@ -277,18 +277,18 @@ class Figures:
             yield GRANULE * granules, below + 1, most, count, cost
             below = most
 
-    def known(self):
+    def known(self) -> list[str]:
         """What is known of the table that is the first by the objective, and of the other one that is made."""
         judged = [self.judged, self.fit_judged][:: -1 if self.objective == "footprint" else 1]
         return [claims.sentence(each, texts.trust()) for each in judged if each]
 
-    def unheld(self):
+    def unheld(self) -> list[str]:
         """What `check` and `check-fit` say where nothing follows."""
         judged = [each for each in (self.judged, self.fit_judged) if each and claims.bound(each) is None]
         return [claims.says(each) for each in judged if not claims.holds(each)]
 
 
-def other_tables(paths):
+def other_tables(paths: list[str]) -> list[tuple[str, list[int]]]:
     """Scudo's tables and those of the files, each with a name."""
     named = [(name, os.path.join(texts.EXAMPLES, file)) for name, file in OTHERS]
     named += [(without_ending(path, ".classes"), path) for path in paths]
@@ -301,23 +301,23 @@ def without_ending(path, *endings):
     return next((name[: -len(ending)] for ending in endings if name.endswith(ending) and name != ending), name)
 
 
-def number(value):
+def number(value: int) -> str:
     return f"{value:,}"
 
 
-def numbered(value, noun):
+def numbered(value: int, noun: str) -> str:
     return f"{value:,} {noun}{'' if value == 1 else 's'}"
 
 
-def percent(part, whole):
+def percent(part: int, whole: int) -> str:
     return f"{100 * part / whole:.1f}%"
 
 
-def kibibytes(count):
+def kibibytes(count: int) -> str:
     return f"{count / 1024:,.{1 if abs(count) < 102_400 else 0}f} KiB"
 
 
-def byte_text(value):
+def byte_text(value: float) -> str:
     """So many bytes, in the unit that suits."""
     for unit, size in (("PiB", 1 << 50), ("TiB", 1 << 40), ("GiB", 1 << 30), ("MiB", 1 << 20), ("KiB", 1 << 10)):
         if value >= size:

@@ -87,7 +87,7 @@ FILES = [
 
 
 class Options(argparse.Namespace):
-    def __init__(self, words):
+    def __init__(self, words: list[str]) -> None:
         parser = ProgramWords(HELP)
         parser.add_argument("--limit", type=between(1, texts.MOST_CLASSES), default=32)
         parser.add_argument("--step", type=one_of(1, 2, 4, 8), default=1)
@@ -101,7 +101,7 @@ class Options(argparse.Namespace):
         parser.take(words, into=self)
         self.agree()
 
-    def agree(self):
+    def agree(self) -> None:
         if self.read is None and not self.words:
             raise texts.Refused(2, "it wants a program to run, or --read FILE; --help says more")
         if self.read is not None and self.words:
@@ -124,7 +124,7 @@ class Options(argparse.Namespace):
             raise texts.Refused(2, "--all counts all requests, and this has the live blocks: leave it out")
         self.objective = self.objective or ("waste" if history is None else "footprint")
 
-    def name(self):
+    def name(self) -> str:
         if self.read is None:
             return os.path.basename(self.words[0]) or self.words[0]
         return "profile" if self.read == "-" else figures.without_ending(self.read, ".profile", ".history", ".timeline")
@@ -133,7 +133,7 @@ class Options(argparse.Namespace):
 class Folder:
     """The new folder. What a step has made stays there, also where a later step fails."""
 
-    def __init__(self, path):
+    def __init__(self, path: str) -> None:
         self.path = path
         try:
             os.mkdir(path)
@@ -142,10 +142,10 @@ class Folder:
         except OSError as error:
             raise texts.Refused(3, f"the folder {path} can't be made: {error.strerror}; --output names another place") from None
 
-    def file(self, name):
+    def file(self, name: str) -> str:
         return os.path.join(self.path, name)
 
-    def has(self, name):
+    def has(self, name: str) -> bool:
         return os.path.isfile(self.file(name))
 
     def write(self, name, data):
@@ -158,7 +158,7 @@ class Folder:
                 os.remove(path)  # what is there of it is no use
             raise texts.Refused(3, f"{path} can't be written: {error.strerror}") from None
 
-    def drop_empty(self):
+    def drop_empty(self) -> None:
         """Without a profile nothing is worth keeping: then the next run finds its folder free."""
         try:
             for name in ("program.profile", "program.timeline", "program.history", "measured"):
@@ -169,7 +169,7 @@ class Folder:
             pass  # there is something in it
 
 
-def script(name, words, given=None):
+def script(name: str, words: list[str], given: "bytes | None" = None) -> bytes:
     """What a script beside this one prints. Where it fails, so does this one, by its reason."""
     try:
         command = [os.path.join(texts.SCRIPTS, name), *words]
@@ -207,7 +207,7 @@ def count(options, folder, given):
     return status, notes, found
 
 
-def taken(path):
+def taken(path: str) -> str:
     """The text of a file that is no longer needed, empty where there is none."""
     if not os.path.isfile(path):
         return ""
@@ -216,7 +216,7 @@ def taken(path):
     return text
 
 
-def read_given(options):
+def read_given(options: Options) -> "dict[str, str | bytes]":
     """The files of the profile, of the history or of the timeline, that --read names."""
     data = texts.read(options.read)
     if texts.is_timeline(data):
@@ -234,7 +234,7 @@ def read_given(options):
     return {"program.profile": figures.profile_text(figures.at_peak(history)), "program.history": text}
 
 
-def refuse_timeline(data, name):
+def refuse_timeline(data: bytes, name: str) -> None:
     """Refuses a timeline that has a faulty line."""
     status, _, error = texts.mte_tool(["footprint"], figures.class_text([texts.LARGEST_CLASS]).encode() + b"\n" + data)
     if status not in (0, 1):
@@ -278,7 +278,7 @@ def wasteful(found, default):
         )
 
 
-def counted(options, timed=None):
+def counted(options: Options, timed: "figures.OverTime | None" = None) -> str:
     """What the requests are that count."""
     if options.all:
         return "all requests"
@@ -287,7 +287,7 @@ def counted(options, timed=None):
     return "the blocks live at the peak" if timed or options.read is None else "as the profile has them"
 
 
-def headline(options, found):
+def headline(options: Options, found: figures.Figures) -> str:
     """What the table of the map is, and what it saves."""
     default = found.others[0]
     saving = found.saving(default)
@@ -332,14 +332,14 @@ def summary(options, found, folder, noted, measured):
     return "".join(f"{printable(line)}\n" for line in lines)
 
 
-def recorded(timed):
+def recorded(timed: figures.OverTime) -> str:
     """What was seen of the run."""
     if timed.kind == "timeline":
         return f"Recorded: each moment of the run, {numbered(timed.text.rstrip(bytes([10])).count(bytes([10])), 'event')}."
     return f"Recorded: {numbered(timed.history.snapshots, 'moment')} of the run, and not what lies between."
 
 
-def over_time(found, measured):
+def over_time(found: figures.Figures, measured: dict[str, int]) -> list[str]:
     """The footprint of each table beside what the process takes now, and what is predicted of it."""
     rows = [(table.name, table.footprint, found.saved_footprint(table)) for table in (found.first, *found.rest) if table.footprint is not None]
     rows += [(words, measured[name], None) for name, words in MEASURED if measured.get(name)]
@@ -357,7 +357,7 @@ def over_time(found, measured):
     return lines + wrapped(predicted(found)) + wrapped(larger_blocks(found))
 
 
-def larger_blocks(found):
+def larger_blocks(found: figures.Figures) -> str:
     """Which sizes have a larger block than by default."""
     default = found.others[0]
     sizes, all_sizes, cost = found.larger(default)
@@ -368,7 +368,7 @@ def larger_blocks(found):
     return f"{of}, which takes at most {figures.byte_text(cost)} at a moment; the most at {numbered(size, 'byte')}, {number(ours)} for {number(theirs)}."
 
 
-def predicted(found):
+def predicted(found: figures.Figures) -> str:
     """The range of what the map saves, and on what it rests."""
     default = found.others[0]
     saved = found.saved_footprint(default)
@@ -382,11 +382,11 @@ def predicted(found):
     )
 
 
-def wrapped(text, indent=""):
+def wrapped(text: str, indent: str = "") -> list[str]:
     return textwrap.wrap(text, WIDTH, subsequent_indent=indent, break_long_words=False, break_on_hyphens=False)
 
 
-def printable(line):
+def printable(line: str) -> str:
     """Names from outside may have bytes that move the cursor: those are shown escaped."""
     return "".join(c if c.isprintable() else c.encode("unicode_escape", "surrogatepass").decode() for c in line)
 
@@ -414,7 +414,7 @@ def comparison(found):
     return lines
 
 
-def tune(words):
+def tune(words: list[str]) -> int:
     options = Options(words)
     others = figures.other_tables(options.against)
     given = None if options.read is None else read_given(options)
@@ -506,7 +506,7 @@ def verify(options, folder, found, scudo, work, kept):
     texts.write(text)
 
 
-def fitted(options, folder):
+def fitted(options: Options, folder: Folder) -> "figures.OverTime | None":
     """The fit of the timeline or of the history, if there is one, and its files."""
     kind = next((kind for kind in ("timeline", "history") if folder.has(f"program.{kind}")), None)
     if kind is None:
@@ -522,7 +522,7 @@ def fitted(options, folder):
     return timed
 
 
-def tuned_sheet(options, text):
+def tuned_sheet(options: Options, text: str) -> str:
     _, answer = figures.run(["tune", "--limit", str(options.limit), "--step", str(options.step)], text)
     return answer + "\n"
 
@@ -531,7 +531,7 @@ def check_command(folder, command, *names):
     return f"cat {' '.join(texts.quoted(folder.file(name)) for name in names)} | {texts.as_called('scripts/mte_tool')} {command}"
 
 
-def check_fit_command(folder, timed):
+def check_fit_command(folder: Folder, timed: figures.OverTime) -> str:
     """The command that checks the fit; the block that forces class 1024 is put before a timeline's first event."""
     if timed.kind == "history":
         return check_command(folder, "check-fit", "fitted.fit", "fitted.history")
@@ -541,11 +541,11 @@ def check_fit_command(folder, timed):
     return f"sed '1s/$/\\n{texts.LARGEST_SIZE}/' {timeline} | cat {fit} - | {texts.as_called('scripts/mte_tool')} check-fit"
 
 
-def scudo_map(options, folder):
+def scudo_map(options: Options, folder: Folder) -> bytes:
     return script("scudo_classes", [], texts.read(folder.file("fitted.fit" if options.objective == "footprint" else "tuned.sheet")))
 
 
-def has_tables():
+def has_tables() -> bool:
     """Whether the page of scripts/page can be made with nothing to prove or compile before it."""
     return bool(web_page.at_hand())
 
@@ -560,5 +560,5 @@ def tables(options, folder):
     return web_page.page(web_page.at_hand(), profile=given, options=begin_with)
 
 
-def picture(options, folder):
+def picture(options: Options, folder: Folder) -> bytes:
     return script("draw_waste", ["--name", options.name(), "--", folder.file("program.profile")])

@@ -13,7 +13,7 @@ FREED, LARGE = timelines.FREED, timelines.LARGE
 class Found:
     """Counts by size, of all requests or of live blocks, or events; and sentences on what the file tells of sizes and what not."""
 
-    def __init__(self, kind: str, counts: Counter, told: list, events: Optional[array] = None, peak_at: int = 0):
+    def __init__(self, kind: str, counts: Counter, told: list, events: Optional[array] = None, peak_at: int = 0) -> None:
         self.kind, self.counts, self.told, self.events, self.peak_at = kind, counts, told, events, peak_at
 
 
@@ -34,7 +34,7 @@ class Buckets:
     """Blocks of which only the number and the bytes of several together are known: those of one stack. Each counts at their average, or at
     the next size above it, so that the sum stays."""
 
-    def __init__(self):
+    def __init__(self) -> None:
         self.counts: Counter = Counter()
         self.blocks = self.bytes = self.stacks = self.mixed = self.empty = 0
 

@@ -30,7 +30,7 @@ def begins(head: bytes) -> bool:
 class Profile:
     """What the lines say, so far."""
 
-    def __init__(self, kind: str):
+    def __init__(self, kind: str) -> None:
         self.kind = kind
         self.sums = [0, 0, 0, 0]  # live blocks and bytes, and all
         self.header: list = []

@@ -24,7 +24,7 @@ def begins(head: bytes) -> bool:
 class Run:
     """The events so far, and what is live."""
 
-    def __init__(self):
+    def __init__(self) -> None:
         self.sizes = array("Q")  # of the allocations, by their numbers
         self.known: dict = {}  # the event and the bytes that a line adds, of lines that say the same each time
         self.addresses: dict = {}  # the sizes of live blocks, of a raw record, whose lines name them by their addresses

@@ -25,7 +25,7 @@ class Wrong(Exception):
 class Source:
     """The unpacked bytes of a file, or of standard input for `-`."""
 
-    def __init__(self, path: str):
+    def __init__(self, path: str) -> None:
         self.name = texts.named(path)
         self.file = texts.opened(path)
         self.ends_in_line = False  # whether the last line lacks its newline; known at the end
