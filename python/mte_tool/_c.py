@@ -4,6 +4,7 @@ import ctypes
 import ctypes.util
 import os
 from ctypes import c_char, c_char_p, c_int, c_size_t, c_uint8, c_uint16, c_uint32, c_uint64, c_void_p
+from typing import Any
 
 DONE, NO, REFUSED, OUT_OF_MEMORY, BAD_OPTION, MISUSE = range(6)
 NAMES = ("libmte_tool.so.1", "libmte_tool.so")
@@ -66,14 +67,14 @@ def loaded(path: str) -> ctypes.CDLL:
         library = ctypes.CDLL(path)
     except OSError as error:
         raise ImportError(f"the library of mte_tool can't be loaded: {error}; MTE_TOOL_LIBRARY=FILE says where it is") from None
-    options, result, text = map(ctypes.POINTER, (Options, Result, Text))
-    heap, outcome = map(ctypes.POINTER, (Heap, Outcome))
-    classes, rows, moments = map(ctypes.POINTER, (c_uint16, c_uint64, c_uint32))
+    to: Any = ctypes.POINTER
+    options, result, text, heap, outcome = to(Options), to(Result), to(Text), to(Heap), to(Outcome)
+    profile, history, timeline = to(Profile), to(History), to(Timeline)
+    classes, rows, moments = to(c_uint16), to(c_uint64), to(c_uint32)
     table, room = [classes, c_size_t], [classes, c_size_t, rows, c_size_t]
     claim = [classes, c_size_t, c_uint64, rows, c_size_t]
-    profile, history, timeline = map(ctypes.POINTER, (Profile, History, Timeline))
     commands = "score tune check footprint fit check_fit profile replay run"
-    types = {
+    types: "dict[str, list[Any]]" = {
         **{name: [options, c_char_p, c_size_t, text, result] for name in commands.split()},
         "score_profile": [options, *table, profile, result],
         "footprint_history": [options, *table, history, result],
@@ -97,10 +98,10 @@ def loaded(path: str) -> ctypes.CDLL:
     for name, arguments in types.items():
         function = getattr(library, f"mte_tool_{name}")
         function.argtypes, function.restype = arguments, c_int
-    others = {"free": ([text], None), "heap_close": ([heap], None), "version": ([], c_char_p), "strerror": ([c_int], c_char_p)}
-    for name, (arguments, gives) in others.items():
+    others: "dict[str, tuple[list[Any], Any]]" = {"free": ([text], None), "heap_close": ([heap], None), "version": ([], c_char_p), "strerror": ([c_int], c_char_p)}
+    for name, (takes, gives) in others.items():
         function = getattr(library, f"mte_tool_{name}")
-        function.argtypes, function.restype = arguments, gives
+        function.argtypes, function.restype = takes, gives
     return library
 
 

@@ -1,7 +1,7 @@
 """What all calls share: options, how a call ended, and what it found."""
 
 import ctypes
-from typing import Callable, NamedTuple, Optional
+from typing import Any, Callable, NamedTuple, Optional
 
 from mte_tool import _c
 
@@ -60,12 +60,12 @@ class Fit(NamedTuple):
 
 def version() -> str:
     """The version of the library that is loaded."""
-    return _c.library.mte_tool_version().decode()
+    return str(_c.library.mte_tool_version().decode())
 
 
 def strerror(code: int) -> str:
     """A sentence for how a call ended, or for a code."""
-    return _c.library.mte_tool_strerror(code).decode()
+    return str(_c.library.mte_tool_strerror(code).decode())
 
 
 def options(limit: int = 0, step: int = 1, granules: int = 65_536, quarantine: int = 65_536, seed: int = 1) -> _c.Options:
@@ -83,7 +83,7 @@ def is_yes(end: int, result: _c.Result, text: Optional[bytes] = None) -> bool:
     return end == _c.DONE
 
 
-def made(call: Callable[[object], int]) -> "tuple[bool, _c.Result]":
+def made(call: Callable[[object], Any]) -> "tuple[bool, _c.Result]":
     """Makes a call that takes a result last."""
     result = _c.Result()
     end = call(ctypes.byref(result))

@@ -1,10 +1,13 @@
 """The words of a command, by argparse: its help is a text of its own, and what is refused ends it with status 2 and one line."""
 
 import argparse
+import os
 import re
+import sys
 from typing import Callable, NoReturn
 
 from mte_scripts import texts
+from mte_scripts.formats import VERSION
 from mte_scripts.running import Refused
 
 # what argparse says, and what a script says
@@ -26,6 +29,7 @@ class Words(argparse.ArgumentParser):
         super().__init__(add_help=False, allow_abbrev=False)
         self.help_text = help_text
         self.add_argument("-h", "--help", action=Help, nargs=0, default=argparse.SUPPRESS)
+        self.add_argument("--version", action=Version, nargs=0, default=argparse.SUPPRESS)
 
     def take(self, words: list, once: bool = False, into: "argparse.Namespace | None" = None) -> argparse.Namespace:
         """The options by their names, or INTO what has them then. With ONCE none of them may be there twice."""
@@ -86,6 +90,12 @@ class ProgramWords(Words):
 class Help(argparse.Action):
     def __call__(self, parser, namespace, values, option_string=None):
         texts.write_help(parser.help_text)
+        parser.exit()
+
+
+class Version(argparse.Action):
+    def __call__(self, parser, namespace, values, option_string=None):
+        texts.write(f"{os.path.basename(sys.argv[0])} {VERSION}\n")
         parser.exit()
 
 

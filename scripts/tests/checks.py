@@ -17,6 +17,7 @@ The last line of a part has its name and how many checks passed, failed and were
 import argparse
 import os
 import shutil
+import signal
 import subprocess
 import sys
 import tempfile
@@ -168,6 +169,8 @@ class InOrder(unittest.TestLoader):
 def main(add=lambda parser: None, instead=lambda options: None) -> None:
     """Runs the part whose file is run: a line for each failure and for what is skipped, and one with the counts. ADD adds its own options; what
     INSTEAD returns, if it is a number, is the status, and nothing is tested."""
+    # a shell has what it starts in the background ignore an interrupt, and so would all that the tests run
+    signal.signal(signal.SIGINT, signal.default_int_handler)
     module, part = sys.modules["__main__"], os.path.basename(sys.argv[0])
     parser = argparse.ArgumentParser(prog=part, description=module.__doc__, formatter_class=argparse.RawDescriptionHelpFormatter)
     parser.add_argument("-k", dest="patterns", action="append", metavar="NAME", help="only the tests whose name has this; `*` stands for any letters")

@@ -180,11 +180,14 @@ def test_array_faults(package):
         expect(f"arrays: the moments {moments[:3]}", got == (REFUSED, 36, 0), got)
 
 
+TWO_CLASSES = [16, 24, 16, 100, 16, 0, 0], [0, 0, 1, 0, 0, 0, 1]  # a timeline that wants as many as the limit
+
+
 def rooms_for(shared, room, rows, moments):
     """A fit over a timeline into arrays of these lengths, which hold 7 before: its end, its result and what the arrays hold."""
     c = shared.c
     arrays = importlib.import_module("mte_tool._arrays")
-    timeline, result = arrays.timeline_of([16, 40, 16, 40], [0, 0, 1, 0]), c.Result()
+    timeline, result = arrays.timeline_of(*TWO_CLASSES), c.Result()
     filled = [arrays.array(kind, [7] * n) for kind, n in ((ctypes.c_uint16, room), (ctypes.c_uint64, rows), (ctypes.c_uint32, moments))]
     given = [each for one in filled for each in (one, len(one))]
     end = c.library.mte_tool_fit_timeline(ctypes.byref(shared.options(limit=2)), ctypes.byref(timeline), *given, ctypes.byref(result))
@@ -193,7 +196,7 @@ def rooms_for(shared, room, rows, moments):
 
 def test_rooms(shared):
     """What is put into arrays of each length, and that it is no more."""
-    want = shared.package.fit_timeline([16, 40, 16, 40], [0, 0, 1, 0], limit=2)
+    want = shared.package.fit_timeline(*TWO_CLASSES, limit=2)
     flat = [number for row in want.rows for number in row]
     expect("arrays: too little room for the classes", rooms_for(shared, 1, 9, 9)[0] == MISUSE)
     counts = (ctypes.c_uint32 * (1024 * 7000))()

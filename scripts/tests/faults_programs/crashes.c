@@ -31,6 +31,7 @@ static void crash(const char *kind, int zero) {
   if (!strcmp(kind, "thread") && !pthread_create(&thread, NULL, in_thread, NULL)) pthread_join(thread, NULL);
   if (!strcmp(kind, "qsort")) qsort(letters, 3, 1, compare);
   if (!strcmp(kind, "raise")) raise(SIGBUS);  // RAISE
+  if (!strcmp(kind, "trap")) __builtin_trap();  // TRAP
   if (!strcmp(kind, "own")) signal(SIGSEGV, exit), *null = 1;
   if (!strcmp(kind, "status")) exit(7);
 }
