@@ -102,6 +102,15 @@ def write(text):
         raise Refused(3, f"standard output can't be written: {error.strerror}") from None
 
 
+def write_file(path: str, data: "str | bytes") -> None:
+    """A file beside what is printed."""
+    try:
+        with open(path, "wb") as file:
+            file.write(data if isinstance(data, bytes) else data.encode(errors="surrogateescape"))
+    except OSError as error:
+        raise Refused(3, f"{path} can't be written: {error.strerror}") from None
+
+
 def opened(path):
     """A file that is open for reading as bytes, not buffered; standard input for `-`."""
     try:

@@ -106,7 +106,7 @@ def record(options, folder):
     if not any(os.path.exists(os.path.join(folder, name)) for name in fault_answer.logs(folder, options.children) or [log]):
         whom = f"no process that has the name {options.only} and that" if options.only else f"{options.words[0]}: no process that"
         raise Refused(3, f"{whom} traced_cc built made a log in {folder}: build the program with scripts/traced_cc")
-    keep(os.path.join(folder, ENDED), b"%d\n" % (status if status >= 0 else 128 - status))
+    texts.write_file(os.path.join(folder, ENDED), b"%d\n" % (status if status >= 0 else 128 - status))
 
 
 def status_of(folder: str, log: Log) -> int:
@@ -215,7 +215,7 @@ def find(options, folder):
     say(options, processes, lists, ended, status)
     for judged in processes if options.keep or options.read else []:
         for name, content in judged.files.items():
-            keep(os.path.join(folder, f"{judged.name}.{name}" if options.children else name), content)
+            texts.write_file(os.path.join(folder, f"{judged.name}.{name}" if options.children else name), content)
     for line in differing[:20]:
         texts.say(NAME, line)
     if differing:
@@ -247,7 +247,7 @@ def say(options, processes, lists, ended, status):
     if "-" not in (path for path, _ in written):
         texts.write("".join(texts.printable(line) + "\n" for line in lines))
     for path, text in written:
-        texts.write(text) if path == "-" else keep(path, text.encode())
+        texts.write(text) if path == "-" else texts.write_file(path, text)
     if options.page:
         write_page(options, processes[0], lines)
     for each in lists.unused():
@@ -273,14 +273,6 @@ class Lists:
         return [each for each in self.suppressed if each not in self.used]
 
 
-def keep(path: str, content: bytes) -> None:
-    try:
-        with open(path, "wb") as file:
-            file.write(content)
-    except OSError as error:
-        raise Refused(3, f"{path} can't be written: {error.strerror}") from None
-
-
 def write_page(options, judged, lines):
     """The page with the replay and a note at each error that an event asks; without the page's engines, that of the report alone."""
     name = os.path.basename(options.words[0] if options.words else os.path.abspath(options.read))
@@ -292,11 +284,7 @@ def write_page(options, judged, lines):
         text = web_page.page(modules, trace=(texts.printable(name), judged.files["trace"].decode()), replay=replayed)
     else:
         text = fault_report.page(texts.printable(name), lines)
-    try:
-        with open(options.page, "w", encoding="utf-8") as file:
-            file.write(text)
-    except OSError as error:
-        raise Refused(3, f"{options.page} can't be written: {error.strerror}") from None
+    texts.write_file(options.page, text)
 
 
 @contextlib.contextmanager

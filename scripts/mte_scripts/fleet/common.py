@@ -288,7 +288,7 @@ def finish(given, among: bounds.Among, made: Table, found: list, folds: list) ->
     if given.certificates:
         write_certificates(given.certificates, [each.bound for each in found], made, [*(each.sentences(name) for each in found), said])
     if given.output:
-        regret.write_file(given.output, lines + "\n")
+        texts.write_file(given.output, lines + "\n")
     if given.json:
         whole = json.loads(regret.as_json(found, name, made.classes, among, None))
         whole.update(by=given.by, worst_percent=percent_of(made.worst, True), low_percent=percent_of(made.low, False), sentence=said)

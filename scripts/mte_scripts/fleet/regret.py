@@ -166,15 +166,6 @@ def as_json(found: list, name: str, classes: list, among: bounds.Among, limit: O
     return json.dumps(whole, indent=1) + "\n"
 
 
-def write_file(path: str, text: str) -> None:
-    """A file beside what is printed."""
-    try:
-        with open(path, "w", encoding="utf-8") as file:
-            file.write(text)
-    except OSError as error:
-        raise Refused(3, f"{path} can't be written: {error.strerror}") from None
-
-
 def main(words: list) -> int:
     parser = Words(HELP)
     options.add_among(parser)
@@ -195,7 +186,7 @@ def main(words: list) -> int:
         title = claims.TEMPLATES["regret.title"].format(table=name)
         points = [(each.load.program, each.load.day, each.above) for each in found if each.above is not None]
         note = "" if texts.trust().is_proved else claims.not_proved(texts.trust())
-        write_file(given.plot, regret_picture.svg(title, points, given.limit_percent, note))
+        texts.write_file(given.plot, regret_picture.svg(title, points, given.limit_percent, note))
     if given.json:
         texts.write(as_json(found, name, classes, among, given.limit_percent))
     else:

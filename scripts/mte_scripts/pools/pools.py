@@ -143,7 +143,7 @@ def pools(words):
         return each_number(options, runs)
     its = pool_sets.found(runs, options.block(), options.limit)
     if its.fit and options.certificate is not None:
-        write_file(options.certificate, pool_sets.text_of(its))
+        texts.write_file(options.certificate, pool_sets.text_of(its))
     known = known_of(options, runs, its)
     notes = list(warnings(runs))
     if options.form is None:
@@ -199,14 +199,6 @@ def check(options: Options) -> int:
         texts.say("pools", note)
     texts.write(claims.pools_sentence(found.judged, texts.trust()) + "\n")
     return 0
-
-
-def write_file(path: str, text: str) -> None:
-    try:
-        with open(path, "w", encoding="utf-8") as file:
-            file.write(text)
-    except OSError as error:
-        raise Refused(3, f"{path} can't be written: {error.strerror}") from None
 
 
 def warnings(runs):
