@@ -174,6 +174,7 @@ def of_text(data: bytes, path: str) -> Load:
     program = os.path.basename(os.path.dirname(path))
     shown = texts.printable(texts.named(path))
     if texts.is_timeline(data):
+        figures.refuse_timeline(data, shown)
         return Load(shown, "timeline", members=[Member(1, texts.History(0, {}), data)], text=data, program=program, day=name)
     if texts.is_history(data):
         history = texts.parse_history(data, shown)

@@ -59,6 +59,17 @@ def difference(pairs: Iterable[tuple], level: float) -> Difference:
     return Difference(mean, mean - wide, mean + wide)
 
 
+def adjusted(groups: dict, beside: dict) -> dict:
+    """The values of some groups, as they would be if each machine had the same of what is beside them: less what grows with that, by
+    the slope that the groups have in common."""
+    means = {name: (statistics.fmean(values), statistics.fmean(beside[name])) for name, values in groups.items()}
+    pairs = [(x - means[name][1], y - means[name][0]) for name, values in groups.items() for x, y in zip(beside[name], values)]
+    width = sum(x * x for x, _ in pairs)
+    slope = sum(x * y for x, y in pairs) / width if width else 0.0
+    middle = statistics.fmean(value for values in beside.values() for value in values)
+    return {name: [y - slope * (x - middle) for x, y in zip(beside[name], values)] for name, values in groups.items()}
+
+
 def needed(saving: float, spread: float, level: float, power: float) -> int:
     """How many machines each group wants, so that with the chance POWER the interval of the level shows a saving. SAVING and the
     SPREAD, the standard deviation of one machine, are shares of the mean."""

@@ -19,8 +19,8 @@ Plan the trial of a new table on some machines beside others, and read its resul
 
 Usage: fleet_trial assign [--seed N] [MACHINES]
        fleet_trial predict [--json] OLD NEW LOAD..
-       fleet_trial plan --saving PERCENT (--spread PERCENT | --pilot RESULT) [--machines N] [--level P] [--power P]
-       fleet_trial read [--predicted PERCENT] [--level P] [--json] [RESULT]
+       fleet_trial plan --saving PERCENT (--spread PERCENT | --pilot RESULT) [--adjust] [--machines N] [--level P] [--power P]
+       fleet_trial read [--predicted PERCENT] [--adjust] [--level P] [--json] [RESULT]
                                           (standard input for `-`, or where there is no file)
 
 assign takes lines of a program and a machine, with a tab between, and adds a third field, `control` or `tuned`: by chance, half of
@@ -36,6 +36,9 @@ falls by that. plan says how many machines each group wants. read says what a re
   --predicted PERCENT
                      read: says also whether the predicted saving is within the interval
   --json             predict, read: print all as JSON
+  --adjust           plan, read: compare at the same requests: of each program, less what the resident set grows with the requests,
+                     by the slope that both groups have in common. It narrows the interval where jobs differ; choose it before the
+                     trial, and not where the table could change what is served
   --level P          the chance that an interval has the true value, in percent; 95 where it is left out
   --power P          plan: the chance that the trial shows the saving, if it is so large, in percent; 90 where it is left out
 
@@ -142,7 +145,7 @@ def compared(sums: dict) -> Values:
     if not found:  # a pilot
         for (program, _), groups in sums.items():
             resident.setdefault(program, {}).setdefault("before", []).append(mean(groups["before"], 0))
-        return Values(resident, {}, None)
+            requests.setdefault(program, {}).setdefault("before", []).append(mean(groups["before"], 1))
     return Values(resident, requests, sum(before) / len(before) if before else None)
 
 
@@ -157,6 +160,12 @@ def strata(values: dict) -> list:
         found.append((program, sum(map(len, groups.values())), samples.group_of(groups["control"]), samples.group_of(groups["tuned"])))
     whole = sum(machines for _, machines, _, _ in found)
     return [(program, machines / whole, first, second) for program, machines, first, second in found]
+
+
+def at_same_requests(values: Values) -> Values:
+    """The values that each machine would have with the mean requests of its program."""
+    resident = {program: samples.adjusted(groups, values.requests[program]) for program, groups in values.resident.items()}
+    return values._replace(resident=resident)
 
 
 class Read(NamedTuple):
@@ -196,7 +205,8 @@ def read(values: Values, level: float) -> Read:
 
 
 def percents(shares: Difference) -> str:
-    return f"{100 * shares.mean:.2f}% (from {100 * shares.low:.2f} to {100 * shares.high:.2f}%)"
+    mean, low, high = (round(100 * share, 2) + 0.0 for share in shares)  # and no -0.00
+    return f"{mean:.2f}% (from {low:.2f} to {high:.2f}%)"
 
 
 def verdict(result: Read) -> str:
@@ -207,8 +217,8 @@ def verdict(result: Read) -> str:
     return "No saving is shown: the interval has 0."
 
 
-def text_of(result: Read, predicted: Optional[float], is_change: bool) -> str:
-    what = "change since before, KiB" if is_change else "resident set, KiB"
+def text_of(result: Read, predicted: Optional[float], is_change: bool, is_adjusted: bool) -> str:
+    what = ("change since before, KiB" if is_change else "resident set, KiB") + ", at the same requests" * is_adjusted
     rows = [("Program", "machines", f"control: {what}", "tuned", "saving, KiB", f"{100 * result.level:g}% interval")]
     for program, first, second, each in result.rows:
         interval = f"{each.low:,.0f} to {each.high:,.0f}"
@@ -221,14 +231,17 @@ def text_of(result: Read, predicted: Optional[float], is_change: bool) -> str:
     if predicted is not None:
         where = "within" if result.shares.low <= predicted <= result.shares.high else "below" if predicted < result.shares.low else "above"
         lines.append(regret.wrapped(f"Predicted: {100 * predicted:.2f}%, which is {where} the interval."))
-    lines.append(regret.wrapped(f"Requests: the tuned ones served {percents(Difference(*(-each for each in result.requests)))} more."))
+    more = Difference(-result.requests.mean, -result.requests.high, -result.requests.low)
+    lines.append(regret.wrapped(f"Requests: the tuned machines differ by {percents(more)}."))
     if not result.is_load_alike:
-        lines.append(regret.wrapped("! The groups did not serve alike: what is measured may be of that, and not of the table."))
+        also = "" if is_adjusted else ": what is measured may be of that, unless it is read with --adjust"
+        lines.append(regret.wrapped(f"! The groups did not serve alike{also}."))
     return "".join(lines)
 
 
-def as_json(result: Read, predicted: Optional[float]) -> str:
+def as_json(result: Read, predicted: Optional[float], is_adjusted: bool) -> str:
     whole = {
+        "is_adjusted": is_adjusted,
         "level_percent": 100 * result.level,
         "control_kib": result.mean,
         "saving_kib": result.whole._asdict(),
@@ -358,6 +371,7 @@ def plan(words: list) -> int:
     parser.add_argument("--saving", type=options.decimal(0.001, 99, "a percentage"))
     parser.add_argument("--spread", type=options.decimal(0.001, 10_000, "a percentage"))
     parser.add_argument("--pilot", type=some)
+    parser.add_argument("--adjust", action="store_true")
     parser.add_argument("--machines", type=between(FEWEST, 10**9))
     parser.add_argument("--power", type=options.decimal(50, 99.9999, "a chance in percent"), default=90.0)
     add_chances(parser)
@@ -366,7 +380,8 @@ def plan(words: list) -> int:
         raise Refused(2, "plan takes --saving, and --spread or --pilot; --help says more")
     spread, begin = (given.spread or 0) / 100, ""
     if given.pilot:
-        mean, spread = spread_of(values_of(given.pilot))
+        values = values_of(given.pilot)
+        mean, spread = spread_of(at_same_requests(values) if given.adjust else values)
         begin = f"The pilot: a mean of {mean:,.0f} KiB, and a spread of {100 * spread:.2f}%.\n"
         if not spread:
             raise Refused(3, "all machines of the pilot take the same: there is no spread to plan with")
@@ -377,16 +392,21 @@ def plan(words: list) -> int:
 def read_result(words: list) -> int:
     parser = Words(HELP)
     parser.add_argument("--predicted", type=options.decimal(0, 99, "a percentage"))
+    parser.add_argument("--adjust", action="store_true")
     parser.add_argument("--json", action="store_true")
     add_chances(parser)
     parser.add_argument("names", nargs="*")
     given = parser.take(words, once=True)
     values = values_of(file_of(given))
-    if not values.requests:
+    if not any(group in groups for groups in values.resident.values() for group in GROUPS[:2]):
         raise Refused(2, "the result has no machine in the groups control and tuned")
+    if given.adjust:
+        values = at_same_requests(values)
     predicted = None if given.predicted is None else given.predicted / 100
     result = read(values, given.level / 100)
-    texts.write(as_json(result, predicted) if given.json else text_of(result, predicted, values.before is not None))
+    texts.write(
+        as_json(result, predicted, given.adjust) if given.json else text_of(result, predicted, values.before is not None, given.adjust)
+    )
     return 0 if result.is_saving else 1
 
 

@@ -4,6 +4,7 @@ The program itself scores, checks and tunes; here is only what its outputs mean 
 
 import bisect
 import os
+import re
 from typing import NamedTuple
 
 from mte_scripts import claims, texts
@@ -50,6 +51,14 @@ def run(words: list[str], given: "str | bytes") -> tuple[int, str]:
     if status not in (0, 1):
         raise texts.Refused(2 if status == 2 else 3, f"`mte_tool {' '.join(words)}` failed: {error or f'its status is {status}'}")
     return status, out.decode("ascii", "replace").strip()
+
+
+def refuse_timeline(data: bytes, name: str) -> None:
+    """Refuses a timeline that has a faulty line."""
+    status, _, error = texts.mte_tool(["footprint"], class_text([texts.LARGEST_CLASS]).encode() + b"\n" + data)
+    if status not in (0, 1):
+        match = re.fullmatch(r"error (\d+ \w+) line (\d+)", error)
+        raise texts.Refused(2, f"{name}: {match[1]} line {int(match[2]) - 1}" if match else f"{name}: {error}")
 
 
 class OverTime(NamedTuple):

@@ -2,7 +2,6 @@
 
 import argparse
 import os
-import re
 import subprocess
 import textwrap
 
@@ -221,7 +220,7 @@ def read_given(options: Options) -> "dict[str, str | bytes]":
     data = texts.read(options.read)
     if texts.is_timeline(data):
         options.agree_on(data)
-        refuse_timeline(data, texts.named(options.read))
+        figures.refuse_timeline(data, texts.named(options.read))
         peak = timelines.history_at(data, [timelines.most_of(data, int)[1]])
         profile = {size: counts[0] for size, counts in peak.counts.items()}
         return {"program.profile": figures.profile_text(profile), "program.timeline": data}
@@ -232,14 +231,6 @@ def read_given(options: Options) -> "dict[str, str | bytes]":
     history = texts.parse_history(text)
     options.agree_on(history)
     return {"program.profile": figures.profile_text(figures.at_peak(history)), "program.history": text}
-
-
-def refuse_timeline(data: bytes, name: str) -> None:
-    """Refuses a timeline that has a faulty line."""
-    status, _, error = texts.mte_tool(["footprint"], figures.class_text([texts.LARGEST_CLASS]).encode() + b"\n" + data)
-    if status not in (0, 1):
-        match = re.fullmatch(r"error (\d+ \w+) line (\d+)", error)
-        raise texts.Refused(2, f"{name}: {match[1]} line {int(match[2]) - 1}" if match else f"{name}: {error}")
 
 
 def warnings(options, found, notes):
