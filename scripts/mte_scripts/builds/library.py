@@ -83,13 +83,13 @@ def link(folder: str, proved: "list[str]") -> None:
     shared([whole], f"{folder}/{SHARED}", "-Wl,-z,defs")
 
 
-def proved_objects(folder: str) -> "list[str]":
-    """The proved code, and the kit's calls of malloc, realloc and free."""
+def proved_objects(folder: str) -> "tuple[list[str], str]":
+    """The proved code, and the kit's calls of malloc, realloc and free; and the kit's verdict, where it said one."""
     texts.say("library", "proving and building mte_c")
-    static_libraries.make(folder, ["mte_c"])
+    said = static_libraries.make(folder, ["mte_c"])
     static_libraries.run(["ar", "x", "libmte_c.a"], cwd=folder)
     static_libraries.run(["ar", "x", f"{static_libraries.kit()}/c/liblibc_c.a", "heap.pic.o"], cwd=folder)
-    return [f"{folder}/mte_c.o", f"{folder}/heap.pic.o"]
+    return [f"{folder}/mte_c.o", f"{folder}/heap.pic.o"], manifest.verdict_in(said["mte_c"], "mte_c")
 
 
 def lay_out(work: str, folder: str) -> None:
@@ -107,7 +107,7 @@ def lay_out(work: str, folder: str) -> None:
     os.symlink(SHARED, name)
 
 
-def put_manifests(folder: str, before: str) -> None:
+def put_manifests(folder: str, before: str, verdict: str) -> None:
     """The manifests of both libraries, which were built of sources with the hash BEFORE; none where they have changed since."""
     sources = manifest.sources_of(ROOT)
     kit = static_libraries.run(["rt", "version"]).split("\n")[0]
@@ -117,7 +117,7 @@ def put_manifests(folder: str, before: str) -> None:
             os.unlink(manifest.path_of(path))
         if sources == before:
             with open(manifest.path_of(path), "w", encoding="ascii") as file:
-                file.write(manifest.text_of(manifest.Manifest(manifest.hash_of(path), sources, kit, "proved")))
+                file.write(manifest.text_of(manifest.Manifest(manifest.hash_of(path), sources, kit, "proved", verdict)))
     if sources != before:
         texts.say("library", "the sources were changed while the library was built: it has no manifest")
 
@@ -135,9 +135,10 @@ def make_library(words: "list[str]") -> None:
         os.makedirs(folders[0], exist_ok=True)
         sources = manifest.sources_of(ROOT)
         with private_folder.temporary() as work:
-            link(work, proved_objects(work))
+            objects, verdict = proved_objects(work)
+            link(work, objects)
             lay_out(work, folders[0])
-        put_manifests(folders[0], sources)
+        put_manifests(folders[0], sources, verdict)
     except (subprocess.CalledProcessError, OSError) as error:
         raise Refused(3, f"the library could not be built: {error}") from None
     texts.say("library", f"built in {os.path.abspath(folders[0])}")

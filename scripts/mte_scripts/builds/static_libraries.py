@@ -61,32 +61,46 @@ def words(crate):
 
 
 def build(crate, archive, toolchain):
-    """Builds the static library by this toolchain's compiler, of what was proved."""
+    """Builds the static library by this toolchain's compiler, of what was proved; what the proof printed."""
     place = os.path.join(ROOT, "crates", crate)
     over = ["--logic-built", f"{kit()}/logic_built"]
     made = ["--backend", "llvm", "--toolchain", toolchain, "-o", archive]
     if not are_left(crate):
-        run(["rt", "lib", *jobs()], cwd=place)
+        said = run(["rt", "lib", *jobs()], cwd=place)
         run([f"{kit()}/bin/rattle", "build", *words(crate), *over, "--incremental", "out/incremental", *made], cwd=place)
-        return
+        return said
     # one proof serves each build of the crate; of another text, or over other libraries, the compiler refuses it
-    proved = f"{place}/out/proved"
+    proved, log = f"{place}/out/proved", f"{place}/out/proved.log"
     compiled = [f"{kit()}/bin/rattle", "build", *words(crate), "--crate-checked", proved, *made]
     if os.path.exists(proved) and not subprocess.run(compiled, cwd=place, capture_output=True, stdin=subprocess.DEVNULL).returncode:
-        return
+        return read(log)
     shutil.rmtree(proved, ignore_errors=True)
     os.makedirs(os.path.dirname(proved), exist_ok=True)
-    run([f"{kit()}/bin/rattle", "check", *words(crate), *over, *jobs(), "-o", proved], cwd=place)
+    said = run([f"{kit()}/bin/rattle", "check", *words(crate), *over, *jobs(), "-o", proved], cwd=place)
+    with open(log, "w", encoding="utf-8") as file:
+        file.write(said)
     run(compiled, cwd=place)
+    return said
+
+
+def read(log):
+    """What an earlier proof printed, where it is kept."""
+    try:
+        with open(log, encoding="utf-8") as file:
+            return file.read()
+    except OSError:
+        return ""
 
 
 def make(folder, crates):
-    """Builds libCRATE.a of each crate in that folder."""
+    """Builds libCRATE.a of each crate in that folder; what the proof of each printed."""
+    said = {}
     for crate in crates:
         archive = os.path.join(os.path.abspath(folder), f"lib{crate}.a")
         if are_left(crate):
-            build(crate, archive, f"{kit()}/toolchain")
+            said[crate] = build(crate, archive, f"{kit()}/toolchain")
         else:
             place = os.path.join(ROOT, "crates", crate)
-            run(["rt", "lib", *jobs()], cwd=place)
+            said[crate] = run(["rt", "lib", *jobs()], cwd=place)
             shutil.copyfile(f"{place}/out/lib{crate}.a", archive)
+    return said

@@ -35,6 +35,9 @@ def built(parts: Parts) -> "list[tuple[str, str]]":
     if parts.library:
         found += [("library", f"{manifest.hash_of(path)}  {os.path.basename(path)}") for path in packaging.libraries_in(parts.library)]
         found.append(("library-proofs", "unproved" if parts.unproved else "proved"))
+        own = None if parts.unproved else manifest.read(packaging.libraries_in(parts.library)[0])
+        if own and own.verdict:
+            found.append(("library-verdict", own.verdict))
     for name, data in sorted((parts.modules or {}).items()):
         found.append(("engine", f"{hashlib.sha256(data).hexdigest()}  {name}.wasm"))
     return found

@@ -11,7 +11,7 @@ from mte_scripts.packaging.tree import Tree, run
 from mte_scripts.texts import Refused
 
 HELP = f"""\
-Make a release of this commit: the packages of scripts/package, SHA256SUMS and NOTES.md, in a new folder, for whoever publishes it.
+Make a release of this commit: the packages of scripts/package, their SHA256SUMS, and NOTES.md, in a new folder, for whoever publishes it.
 
 Usage: release [OPTION..] FOLDER
 
@@ -140,8 +140,9 @@ def release(words: list) -> None:
             made = Tree(f"{work}/made")
             os.mkdir(made.root)
             package.made_of(parts, made.root, work)
-            made.write("NOTES.md", notes(parts, tested))
+            # the sums are of the packages alone, which whoever builds them again compares
             made.write("SHA256SUMS", "".join(f"{manifest.hash_of(made.path(name))}  {name}\n" for name in made.files()))
+            made.write("NOTES.md", notes(parts, tested))
             want_clean()
             for name in made.files():
                 shutil.move(made.path(name), os.path.join(folder, name))
