@@ -392,9 +392,8 @@ def read_result(words: list) -> int:
 
 def main(words: list) -> int:
     steps = {"assign": assign, "predict": predict, "plan": plan, "read": read_result}
-    if words[:1] in (["-h"], ["--help"]):
-        texts.write_help(HELP)
-        return 0
+    if words[:1] in (["-h"], ["--help"], ["--version"]):
+        Words(HELP).take(words[:1])
     if not words or words[0] not in steps:
         raise Refused(2, "the first word is assign, predict, plan or read; --help says more")
     return steps[words[0]](words[1:])
