@@ -1,11 +1,13 @@
 """What find_faults answers: the text of one process or of many, and the files that have the same for other programs."""
 
+import argparse
 import os
 import re
 from collections import Counter, namedtuple
 
 from mte_scripts.faults import fault_report, findings, sarif, tombstone
-from mte_scripts.faults.fault_entries import RESULTS
+from mte_scripts.faults.fault_entries import RESULTS, Entry
+from mte_scripts.faults.fault_log import Log
 
 PROCESS = re.compile(r"[0-9]{1,10}(\.[2-9])?")  # the name of a log of one of many processes
 
@@ -20,16 +22,16 @@ def logs(folder: str, has_children: bool) -> list[str]:
     return sorted((name for name in os.listdir(folder) if PROCESS.fullmatch(name)), key=lambda name: tuple(map(int, name.split("."))))
 
 
-def program_of(log):
+def program_of(log: Log) -> str:
     """The name of the program that wrote a log: its own file is the first that is mapped."""
     return os.path.basename(log.modules[0].path) if log.modules else "a program"
 
 
-def new(judged):
+def new(judged: Judged) -> list[Entry]:
     return [entry for entry, value in zip(judged.found, judged.values) if value["state"] == "new"]
 
 
-def of_one(judged, options):
+def of_one(judged: Judged, options: argparse.Namespace) -> list[str]:
     """The text of a process that was run alone."""
     log, trace = judged.log, judged.trace
     if options.seeds:
@@ -40,10 +42,11 @@ def of_one(judged, options):
     return lines
 
 
-def of_many(processes, options):
+def of_many(processes: list[Judged], options: argparse.Namespace) -> list[str]:
     """The text of many processes: each cause is told for the first of them, and how many more have it."""
     having = Counter(each["id"] for judged in processes for each in judged.values if each["state"] == "new")
-    lines, told, results = [], set(), Counter()
+    results: Counter = Counter()
+    lines, told = [], set()
     for judged in processes:
         own = [(entry, value["id"]) for entry, value in zip(judged.found, judged.values) if value["state"] == "new" and value["id"] not in told]
         if own:

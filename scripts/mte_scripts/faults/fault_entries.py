@@ -20,6 +20,9 @@ access does not count where it made or freed the block itself (within). A free h
 import itertools
 from collections import namedtuple
 
+from mte_scripts.faults.fault_log import Error, Log
+from mte_scripts.faults.fault_places import Frame
+
 OVERFLOW, UNDERFLOW, USE_AFTER_FREE, USE_AFTER_REALLOC = "overflow", "underflow", "use after free", "use after realloc"
 DOUBLE_FREE, INVALID_FREE, WILD = "double free", "invalid free", "access of no block"
 KINDS = (OVERFLOW, UNDERFLOW, USE_AFTER_FREE, USE_AFTER_REALLOC, DOUBLE_FREE, INVALID_FREE, WILD)
@@ -32,7 +35,7 @@ Use = namedtuple("Use", "at error verdict result why times")  # at: the number o
 Entry = namedtuple("Entry", "kind uses result stack made ended crash numbers")
 
 
-def kind_of(error):
+def kind_of(error: Error) -> str:
     if error.is_free():
         return DOUBLE_FREE if error.letter == "o" or error.block and error.state != "live" and not error.offset else INVALID_FREE
     if not error.block:
@@ -42,7 +45,7 @@ def kind_of(error):
     return UNDERFLOW if error.offset < 0 else OVERFLOW
 
 
-def stacks_of(log, errors):
+def stacks_of(log: Log, errors: list[Error]) -> set[int]:
     """The numbers of the stacks that tell of some errors."""
     numbers = {number for error in errors for number in (error.stack, log.made[error.block], max(log.ended[error.block], 0))}
     return numbers | ({log.crash.stack} if log.crash else set())
@@ -62,7 +65,7 @@ def its_calls(log, error, places):
     return [(made, ended, used) for made, ended, used in ways if ended[0] != used[0]]
 
 
-def within(frames, others):
+def within(frames: list[Frame], others: list[Frame]) -> int:
     """How many of the innermost frames of a request or a free are of the function of the wrong access, or were called by it; 0 where that
     function did not make the request."""
     names = [(frame.function, frame.source) for frame in others[:SAME_CALLERS]]
@@ -82,7 +85,7 @@ def entries(log, outcomes, places):
     def callers(stack: int) -> str:
         return ",".join(log.stacks[max(stack, 0)].split(",")[:SAME_CALLERS])
 
-    def callers_within(error, stack):
+    def callers_within(error: Error, stack: int) -> str:
         frames = places.frames(max(stack, 0))
         own = frames[: within(places.frames(error.stack), frames)]
         return " ".join(frame.show() for frame in own) or callers(stack)

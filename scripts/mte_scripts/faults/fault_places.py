@@ -7,6 +7,8 @@ import stat
 import subprocess
 from collections import defaultdict, namedtuple
 
+from mte_scripts.faults.fault_log import Log
+
 RUNTIME = "libmte_accesses.so"
 SYSTEM = ("/usr/lib", "/lib", "/usr/include")
 LOADED = re.compile(r"(?m)^ +LOAD +0x(\w+) 0x(\w+) 0x\w+ 0x(\w+) ")  # a line of `readelf -l`: offset, address, bytes in the file
@@ -32,9 +34,9 @@ class Frame(namedtuple("Frame", "function source line module")):
 
 
 class Places:
-    def __init__(self, log):
+    def __init__(self, log: Log) -> None:
         self.log = log
-        self._frames = {}  # of an address, the innermost inlined first
+        self._frames: dict[int, list[Frame]] = {}  # of an address, the innermost inlined first
 
     def learn(self, stacks):
         """Looks up the addresses of these stacks all at once."""

@@ -4,15 +4,17 @@ import html
 from collections import Counter
 
 from mte_scripts import html_safe
-from mte_scripts.faults.fault_entries import CAUGHT, CRASH, NOT_CAUGHT, NOT_REPLAYED, RESULTS, entries, stacks_of
+from mte_scripts.faults.fault_entries import CAUGHT, CRASH, NOT_CAUGHT, NOT_REPLAYED, RESULTS, Entry, entries, stacks_of
+from mte_scripts.faults.fault_log import Crash, Error, Log
 from mte_scripts.faults.fault_places import Places
+from mte_scripts.faults.fault_trace import Verdict
 from mte_scripts.running import printable
 
 MOST_USES = 8  # of a cause that are shown
 NO_END = "the program did not come to its end"  # of what a log misses
 
 
-def outcome(verdict, report):
+def outcome(verdict: Verdict, report: dict[int, str]) -> tuple[str, str]:
     """(caught, not caught or not replayed; why) of an error in a replay."""
     if verdict.kind == "ruled":
         return CAUGHT, verdict.promise.reason
@@ -32,7 +34,7 @@ def outcome(verdict, report):
     return CAUGHT, f"tag fault, granule {granule} has tag {memory} ({kind}), the pointer tag {pointer} (event {verdict.event})"
 
 
-def found_by(log, verdicts, report):
+def found_by(log: Log, verdicts: list[Verdict], report: dict[int, str]) -> tuple[list[Entry], Places]:
     """(the entries of a log after its replay, the Places that name their frames)."""
     places = Places(log)
     places.learn(stacks_of(log, log.errors))
@@ -43,7 +45,7 @@ def count(number: int, word: str) -> str:
     return f"{number} {word}" + ("" if number == 1 else "s")
 
 
-def sentence(error, log):
+def sentence(error: Error, log: Log) -> str:
     """What the program did; the runtime has the same words (tell.c)."""
     if error.letter == "n":
         return "free of an address that the heap never gave out"
@@ -68,11 +70,11 @@ def sentence(error, log):
     return f"{access}, {count(error.offset, 'byte')} into {block}{gone}"
 
 
-def crash_sentence(crash):
+def crash_sentence(crash: Crash) -> str:
     return crash.signal + (f" at the address 0x{crash.address:x}" if crash.address is not None else "")
 
 
-def history(entry, log, places):
+def history(entry: Entry, log: Log, places: Places) -> list[str]:
     """Where the block of an entry was allocated, and freed or resized: a line each."""
     error = entry.uses[0].error
     lines = [f"allocated at {places.show(entry.made)}"] if error.block else []

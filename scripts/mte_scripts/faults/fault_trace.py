@@ -7,8 +7,9 @@ be accepted, since both compare the same tags, and the slot is live."""
 from array import array
 from collections import namedtuple
 
+from mte_scripts.faults.fault_log import Error
 from mte_scripts.faults.fault_variables import NONE, SHARED, most_events
-from mte_scripts.faults.slot_model import IN_PLACE, LAST_GRANULE, Promise
+from mte_scripts.faults.slot_model import IN_PLACE, LAST_GRANULE, Promise, Slot
 from mte_scripts.formats import FARTHEST_ACCESS, FARTHEST_MOVE, LARGEST_REQUEST, LARGEST_SIZE, MOST_EVENTS
 
 MOST_MOVES = 2000  # of one wrong free
@@ -80,7 +81,7 @@ class Trace:
                 return False
         return True
 
-    def _gone(self, block):
+    def _gone(self, block: int) -> tuple[Slot, int]:
         """The pointer of a block that is freed or moved; it is kept where an error needs it."""
         return self.pointer[block] if block in self.choice.last_wrong else self.pointer.pop(block)
 
@@ -115,7 +116,7 @@ class Trace:
         pointer = self._take(block, size)
         self._event(f"{name} {variable} {min(size, LARGEST_REQUEST)}", self._refusal(size, pointer))
 
-    def _take(self, block, size):
+    def _take(self, block: int, size: int) -> tuple[Slot, int]:
         pointer = self.slots.take(size) if size <= LARGEST_SIZE else None
         if pointer:
             self.pointer[block] = pointer
@@ -147,7 +148,7 @@ class Trace:
             self._event(f"free {variable}")
         return self.slots.free(slot)
 
-    def _wrong(self, error):
+    def _wrong(self, error: Error) -> Verdict:
         def verdict(kind, promise, event=None, meeting=None):
             return Verdict(kind, promise if isinstance(promise, Promise) else Promise("open", None, promise), event, error.is_free(), meeting)
 
@@ -178,7 +179,7 @@ class Trace:
         event = self._event(f"{word} {variable} {offset} {length}{byte}", promise)
         return verdict("asked", promise, event, self.slots.meeting(pointer, offset, length))
 
-    def _wrong_free(self, variable, pointer, granules):
+    def _wrong_free(self, variable: int, pointer: tuple[Slot, int], granules: int) -> tuple[Promise, int]:
         promise = self.slots.freeing(pointer, granules)
         left = abs(granules)
         while left:

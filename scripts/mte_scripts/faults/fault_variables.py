@@ -8,6 +8,7 @@ from array import array
 from collections import Counter
 from heapq import heappop, heappush
 
+from mte_scripts.faults.fault_log import Log
 from mte_scripts.formats import LARGEST_SIZE, LAST_VARIABLE, MOST_EVENTS
 
 VARIABLES, SHARED, NONE = LAST_VARIABLE, LAST_VARIABLE, -1
@@ -15,7 +16,7 @@ OF_ERRORS, OF_THEIR_CLASSES, OTHERS = 0, 1, 2  # the rank of a chain: the least 
 RANKS = ("blocks with errors", "other blocks of classes with errors", "blocks of classes without an error")
 
 
-def most_events(log, letter, first):
+def most_events(log: Log, letter: str, first: int) -> int:
     """The most events of a record but a right access. A wrong free moves its pointer by at most 63 granules at a time."""
     if letter == "E":
         return 24 if log.errors[first].is_free() else 1
@@ -50,7 +51,7 @@ class Choice:
             if at >= 0 and rank[chain] <= least_kept:
                 self.variable[chain] = given.get(chain, NONE) if end[chain] > at else SHARED
 
-    def _lives(self, log):
+    def _lives(self, log: Log) -> tuple[array, array]:
         """Where each chain begins, -1 for a block that is not the first of one, and where it last needs a variable."""
         begin, end = array("q", [-1]) * len(log.chain), array("q", [-1]) * len(log.chain)
         for at, (letter, first) in enumerate(zip(log.letters, log.first)):

@@ -1,5 +1,6 @@
 """Runs a program that traced_cc built, and tells its memory errors on the tagged heap. `find_faults --help` says all."""
 
+import argparse
 import contextlib
 import os
 import shutil
@@ -71,7 +72,7 @@ NO_REPLAY: tuple = (None, None, None, [], {}, [])
 ENDED = "status"  # the file of a kept folder that has the exit status of the program
 
 
-def read_words(words):
+def read_words(words: list[str]) -> argparse.Namespace:
     parser = ProgramWords(HELP)
     for name, (least, most, default) in RANGES.items():
         parser.add_argument(f"--{name}", type=between(least, most), default=default)
@@ -89,7 +90,7 @@ def read_words(words):
     return options
 
 
-def record(options, folder):
+def record(options: argparse.Namespace, folder: str) -> None:
     """Runs the program; its log is in the folder then."""
     log = os.path.join(folder, "%p" if options.children else "log")
     path = shutil.which(options.words[0])
@@ -149,12 +150,12 @@ def run_tool(words: list[str], given: bytes) -> bytes:
     return output
 
 
-def quarantine_of(options, log):
+def quarantine_of(options: argparse.Namespace, log: Log) -> int:
     """The bytes that the replay of a log holds back."""
     return options.quarantine if log.quarantine is None else log.quarantine
 
 
-def replay(options, log, seed, given):
+def replay(options: argparse.Namespace, log: Log, seed: int, given: bytes) -> tuple[dict[int, str], bytes]:
     """The lines of the report that say more than the bytes of a load, by the number of their event; and the whole report."""
     words = ["replay", "--granules", str(options.granules), "--quarantine", str(quarantine_of(options, log)), "--seed", str(seed)]
     output = run_tool(words, given)
@@ -167,7 +168,7 @@ def spread(number: int) -> list[int]:
     return [at * 40503 % 65536 for at in range(1, number + 1)]
 
 
-def replayed(options, log):
+def replayed(options: argparse.Namespace, log: Log) -> tuple[Trace, Trace, list[int], list[dict[int, str]], dict[str, bytes], list]:
     """The trace of a log, that of all its blocks, the table, the reports of the seeds, the files to keep, and what differs from the laws."""
     profile = log.profile().encode()
     sheet = run_tool(["tune", "--limit", str(options.limit)], profile)
@@ -188,7 +189,7 @@ def replayed(options, log):
     return trace, whole, table, reports, {"profile": profile, "sheet": sheet, "trace": events, "report": output}, differing
 
 
-def judge(options, path, lists):
+def judge(options: argparse.Namespace, path: str, lists: "Lists") -> Judged:
     """The log of a process with its replays, and what is found in them."""
     log = small_log(options, path) or read_log(path)
     replays = NO_REPLAY if options.children and not log.errors else replayed(options, log)
@@ -204,7 +205,7 @@ def judge(options, path, lists):
     return Judged(name, program, log, trace, whole, table, reports, found, places, odds, values, files, differing)
 
 
-def find(options, folder):
+def find(options: argparse.Namespace, folder: str) -> int:
     lists = Lists(options)
     names = fault_answer.logs(folder, options.children)
     if not names:
@@ -231,7 +232,7 @@ def verdict(processes: list[Judged], names: list[str], ended: int) -> tuple[int,
     return 3 if differing or is_partial else 1 if is_new else 4 if ended else 0, differing
 
 
-def say(options, processes, lists, ended, status):
+def say(options: argparse.Namespace, processes: list[Judged], lists: "Lists", ended: int, status: int) -> None:
     """Writes the answer, and the files that were asked for."""
     name = os.path.basename(options.words[0] if options.words else os.path.abspath(options.read))
     lines = fault_answer.of_many(processes, options) if options.children else fault_answer.of_one(processes[0], options)
@@ -257,14 +258,14 @@ def say(options, processes, lists, ended, status):
 class Lists:
     """What is given beside the program: suppressions, an earlier answer, and a tombstone."""
 
-    def __init__(self, options):
+    def __init__(self, options: argparse.Namespace) -> None:
         try:
             self.suppressed = findings.suppressions(options.suppressions) if options.suppressions else []
             self.known = findings.baseline(options.baseline) if options.baseline else {}
             self.tombstone = tombstone.read(findings.read(options.tombstone)) if options.tombstone else None
         except findings.Unreadable as error:
             raise Refused(2, str(error)) from None
-        self.used = set()
+        self.used: set = set()
 
     def mark(self, values: list[dict]) -> None:
         self.used |= findings.mark(values, self.suppressed, self.known)
@@ -273,7 +274,7 @@ class Lists:
         return [each for each in self.suppressed if each not in self.used]
 
 
-def write_page(options, judged, lines):
+def write_page(options: argparse.Namespace, judged: Judged, lines: list[str]) -> None:
     """The page with the replay and a note at each error that an event asks; without the page's engines, that of the report alone."""
     name = os.path.basename(options.words[0] if options.words else os.path.abspath(options.read))
     modules = web_page.at_hand()

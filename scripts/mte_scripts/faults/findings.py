@@ -12,6 +12,7 @@ import os
 from collections import Counter, namedtuple
 
 from mte_scripts.faults import fault_entries, odds as shares
+from mte_scripts.faults.fault_places import Frame
 from mte_scripts.faults.fault_report import count, crash_sentence, sentence
 
 FORM = 1  # of the JSON
@@ -66,7 +67,7 @@ def finding(entry, log, places, odds):
     return value | {"cwe": cwe, "what": sentence(first.error, log), "why": deciding.why, "times": sum(use.times for use in entry.uses)}
 
 
-def named(kind, frames, made, ended):
+def named(kind: str, frames: list[Frame], made: list[Frame], ended: list[Frame]) -> list[str]:
     """The words that an id is made of. Callers are none of them where one function did all of it."""
     if kind in (fault_entries.OVERFLOW, fault_entries.UNDERFLOW) and fault_entries.within(frames, made):
         frames, made = frames[:1], made[: fault_entries.within(frames, made)]
@@ -75,7 +76,7 @@ def named(kind, frames, made, ended):
     return [kind, *map(name_of, frames[:FRAMES_OF_ID]), "allocated", *map(name_of, made[:FRAMES_OF_ID])]
 
 
-def as_values(frames):
+def as_values(frames: list[Frame]) -> list[dict]:
     return [{"function": frame.function, "file": path_of(frame), "line": frame.line or None, "module": frame.module or None} for frame in frames]
 
 
@@ -90,7 +91,7 @@ def root() -> str:
     return folder
 
 
-def path_of(frame):
+def path_of(frame: Frame) -> str:
     """Of a frame's source: from the root on, where it is in it."""
     if not frame.source:
         return None
@@ -98,7 +99,7 @@ def path_of(frame):
     return path[len(here) :] if path.startswith(here) else path
 
 
-def name_of(frame):
+def name_of(frame: Frame) -> str:
     return f"{frame.function}@{os.path.basename(frame.source or frame.module or '')}"
 
 

@@ -9,6 +9,10 @@ from collections import defaultdict, namedtuple
 from fractions import Fraction
 from functools import lru_cache
 
+from mte_scripts.faults.fault_log import Log
+from mte_scripts.faults.fault_trace import Verdict
+from mte_scripts.faults.slot_model import Meeting
+
 GRANULE, PAGE = 16, 4096
 ODD, EVEN, ALL = 8, 7, 15  # how many tags a slot takes: 0 is never one
 LONGEST_CHAIN = 200  # of draws: from there on the last tag is as good as independent of the first, to more than 100 digits
@@ -38,7 +42,7 @@ def same_after(draws, tags):
     return Fraction(1, tags) + Fraction(tags - 1, tags) * Fraction(-1, tags - 1) ** min(draws, LONGEST_CHAIN + draws % 2)
 
 
-def draws_of(meeting):
+def draws_of(meeting: Meeting) -> tuple[tuple[int, int, bool], tuple[int, int, bool]]:
     """The two draws that decide a meeting, each as (slot, generation, whether it is the draw of its free)."""
     return (meeting.own, meeting.generation, False), (meeting.other, meeting.other_generation, meeting.is_dead)
 
@@ -128,7 +132,7 @@ def count_same(classes, links, tags, slots):
     return total
 
 
-def on_this_heap(verdicts, has_parity=True):
+def on_this_heap(verdicts: list[Verdict], has_parity: bool = True) -> Share:
     """The share of an entry: that at least one of its errors is caught."""
     pairs, is_exact = [], True
     for verdict in verdicts:
@@ -145,7 +149,7 @@ def on_this_heap(verdicts, has_parity=True):
     return Share(1 - found, is_exact and is_counted)
 
 
-def is_surely_caught(meeting, has_parity):
+def is_surely_caught(meeting: "Meeting | None", has_parity: bool) -> bool:
     if meeting is None or (has_parity and (meeting.own - meeting.other) % 2):
         return True
     one, other = draws_of(meeting)
@@ -215,7 +219,7 @@ def together(shares: tuple) -> Share:
 class Odds:
     """verdicts: of each error of the log, by the model over all blocks."""
 
-    def __init__(self, log, verdicts):
+    def __init__(self, log: Log, verdicts: list[Verdict]) -> None:
         self.log, self.verdicts = log, verdicts
         self.since, self.cut = self._requests()
 

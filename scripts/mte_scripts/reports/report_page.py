@@ -4,7 +4,7 @@ import math
 
 from mte_scripts import claims, html_safe, texts
 from mte_scripts.reports.pictures import Picture, escape, shown
-from mte_scripts.tables.figures import GRANULE, byte_text, class_text, kibibytes, number, numbered, percent
+from mte_scripts.tables.figures import GRANULE, Figures, Table, byte_text, class_text, kibibytes, number, numbered, percent
 
 STYLE = """
 :root { color-scheme: light dark; --back: #ffffff; --text: #1f2328; --soft: #59636e; --line: #d1d9e0; --shade: #f6f8fa;
@@ -138,7 +138,7 @@ serves.</figcaption></figure>
 """)
 
 
-def lead(figures):
+def lead(figures: Figures) -> str:
     """The first sentences: what the first table costs, and Scudo's default."""
     first, default = figures.first, figures.others[0]
     begin = f"A table of {len(first.classes)} size classes"
@@ -156,7 +156,7 @@ def lead(figures):
     return words
 
 
-def other_section(table, check):
+def other_section(table: Table, check: str) -> str:
     """The table that was made for the other objective."""
     return f"""<p>The table of {table.name}, and the command that checks its certificate:</p>
 <pre id="other-line">{class_text(table.classes)}</pre>
@@ -170,7 +170,7 @@ def with_code(text: str) -> str:
     return "".join(f"<code>{part}</code>" if at % 2 else part for at, part in enumerate(parts))
 
 
-def share(figures, table):
+def share(figures: Figures, table: Table) -> str:
     return percent(table.waste, figures.bytes)
 
 
@@ -195,7 +195,7 @@ def with_share(text: str, part: int, whole: int) -> str:
     return f'{text} <span class="share">{percent(part, whole)}</span>'
 
 
-def table_row(figures, table, kind):
+def table_row(figures: Figures, table: Table, kind: str) -> str:
     cells = f'<th scope="row">{escape(table.name)}</th>' + cell("classes", len(table.classes), len(table.classes))
     if figures.timed:
         cells += footprint_cells(figures, table)
@@ -209,7 +209,7 @@ def table_row(figures, table, kind):
     return f'<tr data-table="{kind}"{form}>{cells}</tr>'
 
 
-def footprint_cells(figures, table):
+def footprint_cells(figures: Figures, table: Table) -> str:
     """What it takes over time, and what the first table saves of that."""
     if table.footprint is None:
         return "<td></td><td></td>"
@@ -219,12 +219,12 @@ def footprint_cells(figures, table):
     return cells + cell("saved", saving, with_share(kibibytes(saving), saving, table.footprint or 1))
 
 
-def least_row(figures, classes, cost):
+def least_row(figures: Figures, classes: int, cost: int) -> str:
     text = with_share(number(cost), cost, figures.bytes) if figures.objective == "waste" else number(cost)
     return f'<tr data-classes="{classes}"><th scope="row">{classes}</th>{cell("lowest", cost, text)}</tr>'
 
 
-def class_row(figures, block, least, most, count, cost):
+def class_row(figures: Figures, block: int, least: int, most: int, count: int, cost: int) -> str:
     whole = figures.cost(figures.first)
     names = ("requests", "lost") if figures.objective == "waste" else ("blocks", "taken")
     cells = f'<th scope="row">{number(block)}</th><td>{number(least)}–{number(most)}</td>'
@@ -263,21 +263,21 @@ def key(entries):
     return f'<ul class="key">{"".join(items)}</ul>'
 
 
-def served(figures):
+def served(figures: Figures) -> list[tuple[int, Table]]:
     """The tables that serve what is given, each with its style."""
     rest = [(style_of(at), table) for at, table in enumerate(figures.rest) if figures.cost(table) is not None]
     return [(0, figures.first)] + rest
 
 
-def curve_key(figures):
+def curve_key(figures: Figures) -> str:
     return key((style, f"{table.name}: {len(table.classes)} classes, {cost_text(figures, table)}") for style, table in served(figures))
 
 
-def cost_text(figures, table):
+def cost_text(figures: Figures, table: Table) -> str:
     return share(figures, table) if figures.objective == "waste" else kibibytes(table.footprint)
 
 
-def curve(figures, kind, width, height):
+def curve(figures: Figures, kind: str, width: int, height: int) -> str:
     """The least cost by the number of classes, and each table as a point."""
     words, is_waste = claims.TEMPLATES, figures.objective == "waste"
     picture = Picture(kind, width, height, 46 if is_waste else 70, words[f"{figures.first_judged.kind}.curve.axis"])
@@ -306,18 +306,18 @@ def curve(figures, kind, width, height):
     return picture.svg(words[f"{figures.first_judged.kind}.curve"])
 
 
-def default_of(figures):
+def default_of(figures: Figures) -> tuple[int, Table]:
     """Scudo's default, with its style."""
     default = figures.others[0]
     return style_of(figures.rest.index(default)), default
 
 
-def border_key(figures):
+def border_key(figures: Figures) -> str:
     style, default = default_of(figures)
     return key([(0, f"borders of {figures.first.name}"), (style, f"borders of {default.name}")])
 
 
-def over_time_section(figures):
+def over_time_section(figures: Figures) -> str:
     """The live blocks over the run, where it was recorded."""
     if not figures.timed or figures.first.footprint is None:
         return ""
@@ -389,7 +389,7 @@ def bars(counts, per_octave):
     return groups
 
 
-def histogram(figures, kind, width, height, per_octave):
+def histogram(figures: Figures, kind: str, width: int, height: int, per_octave: int) -> str:
     """The requested bytes by size, on a logarithmic scale. Under it are the class borders of the tuned table and of Scudo's default."""
     picture = Picture(kind, width, height, 90, "requested bytes")
     groups = bars(figures.counts, per_octave)
@@ -400,7 +400,7 @@ def histogram(figures, kind, width, height, per_octave):
     def x(size: int) -> float:
         return picture.left + (picture.right - picture.left) * (math.log2(max(size, 2**FIRST_OCTAVE)) - FIRST_OCTAVE) / OCTAVES
 
-    def borders(table, y, down, form):
+    def borders(table: Table, y: float, down: float, form: str) -> None:
         lines = "".join(f"M{shown(x(GRANULE * granules - GRANULE))} {y}V{down}" for granules in table.classes)
         picture.parts.append(f'<path d="{lines}" fill="none" {form}/>')
 
