@@ -83,13 +83,14 @@ class Commands(checks.Part):
             expect(f"{script} --help: at most {WIDEST} columns", max(map(len, lines)) <= WIDEST, max(lines, key=len))
             self.runs(2, "", script, "--wrong")
 
-    def unwritten(self, script: str, *words: str, closed: str = "standard output is closed") -> None:
+    def unwritten(self, script: str, *words: str, closed: str = "standard output is closed", **environment) -> None:
         """A full disk and a closed output are status 3, and told."""
         path, name = os.path.join(SCRIPTS, script), " ".join([script, *words])
         if os.access("/dev/full", os.W_OK):
             with open("/dev/full", "wb") as full:
-                expect(f"{name} to a full disk", self.call(path, *words, take={"stdout": full}) == 3)
+                expect(f"{name} to a full disk", self.call(path, *words, take={"stdout": full}, **environment) == 3)
             self.says("No space left")
-        expect(f"{name} to a closed output", self.call(path, *words, take={"stdout": None, "preexec_fn": lambda: os.close(1)}) == 3)
+        closes = {"stdout": None, "preexec_fn": lambda: os.close(1)}
+        expect(f"{name} to a closed output", self.call(path, *words, take=closes, **environment) == 3)
         self.says(closed)
 
