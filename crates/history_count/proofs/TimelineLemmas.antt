@@ -2,6 +2,7 @@ pub mod EventLines
 pub mod FirstFaults
 pub mod LawLemmas
 pub mod LineByLine
+pub mod OnePass
 pub mod Requests
 pub mod Runs
 pub mod Steps

@@ -59,6 +59,12 @@ pub record IsSizeWord (word : List ℕ) (n : ℕ) : Type 0 where
 counted-read : (o : Option ℕ) (n : ℕ) → counted_size o ≡ Some n → (o ≡ Some n) × (n ≤ largest_counted)
 counted-read o n e = grind (arith, leb-true)
 
+-- a counted size that a word spells is read from it
+pub size_in-counted : (word : List ℕ) (n : ℕ) → counted_size (number_of word) ≡ Some n → size_in word ≡ Some n
+size_in-counted word n is =
+    let read = counted-read (number_of word) n is in
+    rw (number_is_not_large word n read.0) is
+
 -- and from no other.
 pub size_in-read : (word : List ℕ) (n : ℕ) → size_in word ≡ Some n → IsSizeWord word n
 size_in-read word n e = go (bytes_eq word (codes "large")) refl
@@ -87,7 +93,7 @@ minus_is_no_size word = rw minus_is_no_number refl
 nothing_is_no_size : size_in [] ≡ None
 nothing_is_no_size = rw nothing_is_no_number refl
 
-request_in : (line : List ℕ) (n : ℕ) → size_in line ≡ Some n → event_in line ≡ Some (Request n)
+pub request_in : (line : List ℕ) (n : ℕ) → size_in line ≡ Some n → event_in line ≡ Some (Request n)
 request_in [] n is = let none = sym nothing_is_no_size ∙ is in absurd cc
 request_in (b ∷ word) n is = elim (eqb_tells b 45) [
   | inl same ↦
@@ -96,6 +102,9 @@ request_in (b ∷ word) n is = elim (eqb_tells b 45) [
       absurd cc
   | inr differs ↦ rw (differs.0, is) refl
 ]
+
+pub free_in : (word : List ℕ) (n : ℕ) → size_in word ≡ Some n → event_in (45 ∷ word) ≡ Some (Free n)
+free_in word n is = rw is refl
 
 -- An event is read from its line,
 pub event_in-line : (event : SizeEvent) → size_of event ≤ large_size → event_in (event_line event) ≡ Some event

@@ -5,7 +5,7 @@ ghost use Rattle.class_table.specs.Tables.{IsLegalTable, class_number_for};
 ghost use Rattle.history_count.specs.Timelines.LiveBlocks.{AreFirsts, AreLive, first_moved, most_blocks};
 ghost use Rattle.tuner_theory.specs.Timelines.{IsTimeline};
 
-use class_table::{ClassTable, LARGEST_COUNTED};
+use class_table::{ClassTable, FEWEST_GRANULES, LARGEST_COUNTED, Layout};
 use std::alloc::{AllocError, Global};
 use tuner_theory::SizeEvent;
 
@@ -33,35 +33,38 @@ pub(crate) fn class_peaks(
     let mut live = zeros(alloc, table.len())?;
     let mut most = zeros(alloc, table.len())?;
     let mut firsts = no_moments(alloc, table.len())?;
+    // any region's layout finds a class at once
+    let layout = Layout::new(table, FEWEST_GRANULES);
     for k in 0..events.len() {
-        count_event(&mut live, &mut most, &mut firsts, events, k, table);
+        count_event(&mut live, &mut most, &mut firsts, events, k, &layout);
     }
     Ok(ClassPeaks { most, firsts })
 }
 
 // counts one event more
+#[inline(always)]
 fn count_event(
     live: &mut [u32],
     most: &mut [u32],
     firsts: &mut [usize],
     events: &[SizeEvent],
     k: usize,
-    table: &ClassTable,
+    layout: &Layout,
 )
     requires timeline { IsTimeline events.now }
     requires event { k < length events.now }
-    requires legal { IsLegalTable 1 table.now }
-    requires live { AreLive events.now table.now k live.old most.old firsts.old }
-    ensures { AreLive events.now table.now (k + 1) live.new most.new firsts.new }
+    requires legal { IsLegalTable 1 layout.now.classes }
+    requires live { AreLive events.now layout.now.classes k live.old most.old firsts.old }
+    ensures { AreLive events.now layout.now.classes (k + 1) live.new most.new firsts.new }
 {
     match events[k] {
         SizeEvent::Request { n } => {
-            if let Some(number) = counted_class(table, n) {
+            if let Some(number) = counted_class(layout, n) {
                 add_block(live, most, firsts, number, k + 1);
             }
         }
         SizeEvent::Free { n } => {
-            if let Some(number) = counted_class(table, n) {
+            if let Some(number) = counted_class(layout, n) {
                 live[number] -= 1;
             }
         }
@@ -69,15 +72,16 @@ fn count_event(
 }
 
 // the number of the class of a size that is counted
-fn counted_class(table: &ClassTable, n: u32) -> Option<usize>
-    ensures some { IfSome result
-        (λ number. (n ≤ largest_counted) × (class_number_for table.now n ≡ Some number) × (number < length table.now)) }
-    ensures none { IfNone result ((largest_counted < n) ⊎ (class_number_for table.now n ≡ None)) }
+#[inline(always)]
+fn counted_class(layout: &Layout, n: u32) -> Option<usize>
+    ensures some { IfSome result (λ number.
+        (n ≤ largest_counted) × (class_number_for layout.now.classes n ≡ Some number) × (number < length layout.now.classes)) }
+    ensures none { IfNone result ((largest_counted < n) ⊎ (class_number_for layout.now.classes n ≡ None)) }
 {
     if n > LARGEST_COUNTED {
         return None;
     }
-    table.find(n)
+    layout.find(n)
 }
 
 // a block of a class becomes live

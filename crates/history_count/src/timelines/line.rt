@@ -1,10 +1,14 @@
 //! What a line of a timeline says.
-ghost use Rattle.std.specs.Prelude.{◌≡◌, ◌≤◌, IfSome};
+ghost use Rattle.std.specs.Prelude.{◌≡◌, ◌≤◌, IfNone, IfSome, Some, drop, option_and_then, slice_get};
+ghost use Rattle.std.specs.Option.{option_map};
+ghost use Rattle.class_table.specs.Sizes.{largest_counted};
+ghost use Rattle.line_text.specs.Lines.{lines};
+ghost use Rattle.line_text.specs.Numbers.{number_of};
 ghost use Rattle.history_count.specs.Timelines.Runs.{large_size, size_of};
-ghost use Rattle.history_count.specs.Timelines.TimelineText.{event_in, size_in};
+ghost use Rattle.history_count.specs.Timelines.TimelineText.{counted_size, event_in, size_in};
 
 use class_table::LARGEST_COUNTED;
-use line_text::capped_number_in;
+use line_text::{Lines, capped_number_in, lines_in};
 use tuner_theory::SizeEvent;
 
 /// The first line of a timeline.
@@ -16,8 +20,62 @@ const LARGE: &[u8] = b"large";
 /// The size by which all larger sizes go.
 pub(crate) const LARGE_SIZE: u32 = LARGEST_COUNTED + 1;
 
-/// The event that a line spells.
-pub(crate) fn event_in(line: &[u8]) -> Option<SizeEvent>
+/// Takes the next line: the event that it spells, or none. `None` if no line is left.
+#[inline(always)]
+pub(crate) fn next_in(lines: &mut Lines<'_>) -> Option<Option<SizeEvent>>
+    ensures event { result ≡ option_map event_in (slice_get lines.old 0) }
+    ensures size { IfSome result (λ spelled. IfSome spelled (λ event. size_of event ≤ large_size)) }
+    ensures taken { lines.new ≡ drop 1 lines.old }
+{
+    // most lines name a counted size
+    if let Some(event) = next_counted(lines) {
+        return Some(Some(event));
+    }
+    let line = lines.next()?;
+    Some(event_in(line))
+}
+
+// Takes the next line as an event of a counted size, in one pass over its bytes. `None`, with no line taken, if there is no such line.
+#[inline(always)]
+fn next_counted(lines: &mut Lines<'_>) -> Option<SizeEvent>
+    ensures event { IfSome result (λ event. option_and_then event_in (slice_get lines.old 0) ≡ Some event) }
+    ensures size { IfSome result (λ event. size_of event ≤ large_size) }
+    ensures taken { IfSome result (λ _. lines.new ≡ drop 1 lines.old) }
+    ensures kept { IfNone result (lines.new ≡ lines.old) }
+{
+    let text = lines.rest();
+    match text.strip_prefix(b"-") {
+        Some(word) => {
+            let (n, rest) = size_line(word)?;
+            *lines = rest;
+            Some(SizeEvent::Free { n })
+        }
+        None => {
+            let (n, rest) = size_line(text)?;
+            *lines = rest;
+            Some(SizeEvent::Request { n })
+        }
+    }
+}
+
+// the counted size that is the first line of a text, and the lines after it; `None` if that line is anything else
+#[inline(always)]
+fn size_line(text: &[u8]) -> Option<(u32, Lines<'_>)>
+    ensures size { IfSome result (λ found.
+        option_and_then (λ line. counted_size (number_of line)) (slice_get (lines text.now) 0) ≡ Some found.0) }
+    ensures counted { IfSome result (λ found. found.0 ≤ largest_counted) }
+    ensures rest { IfSome result (λ found. found.1 ≡ drop 1 (lines text.now)) }
+{
+    let mut lines = lines_in(text);
+    let n = lines.next_row(&mut [])?;
+    if n > u64::from(LARGEST_COUNTED) {
+        return None;
+    }
+    Some((n as u32, lines))
+}
+
+// the event that a line spells
+fn event_in(line: &[u8]) -> Option<SizeEvent>
     ensures event { result ≡ event_in line.now }
     ensures size { IfSome result (λ event. size_of event ≤ large_size) }
 {

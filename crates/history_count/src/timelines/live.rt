@@ -1,27 +1,29 @@
 //! How many blocks of each size are live while a timeline is read.
-ghost use Rattle.std.specs.Prelude.{◌≡◌, ◌≤◌, ◌++◌, [], ◌∷◌, ℕ, ◌<◌, length, IfOk};
+ghost use Rattle.std.specs.Prelude.{◌≡◌, ◌≤◌, ◌++◌, [], ◌∷◌, ℕ, ◌<◌, length, IfOk, IfSome};
 ghost use Rattle.std.specs.Bool.{OnTrue};
 ghost use Rattle.history_count.specs.Timelines.Runs.{AreLiveCounts, large_size, size_of};
-ghost use Rattle.history_count.specs.Timelines.TimelineText.{finds_live, next_event};
+ghost use Rattle.history_count.specs.Timelines.TimelineText.{finds_live, may_follow};
 
 use crate::timelines::fault::TimelineFault;
-use crate::timelines::line::{LARGE_SIZE, event_in};
+use crate::timelines::line::LARGE_SIZE;
 use tuner_theory::{GREATEST_COUNT, SizeEvent};
 
 /// How many sizes are counted while a timeline is read: one for all larger ones.
 pub(crate) const SIZES: usize = LARGE_SIZE as usize + 1;
 
-/// What a line adds to the events before it. `live` has the counts after these, and then after the line's event too.
-pub(crate) fn next_event(
+/// What a line's event, or that it spells none, adds to the events before it. `live` has the counts after these, and then after the event too.
+#[inline(always)]
+pub(crate) fn followed_by(
     events: &[SizeEvent],
     live: &mut [u32],
-    line: &[u8],
+    spelled: Option<SizeEvent>,
 ) -> Result<SizeEvent, TimelineFault>
-    requires { AreLiveCounts events.now live.old }
-    ensures event { result ≡ next_event events.now line.now }
+    requires live { AreLiveCounts events.now live.old }
+    requires size { IfSome spelled (λ event. size_of event ≤ large_size) }
+    ensures event { result ≡ may_follow events.now spelled }
     ensures live { IfOk result (λ event. AreLiveCounts (events.now ++ event ∷ []) live.new) }
 {
-    let Some(event) = event_in(line) else {
+    let Some(event) = spelled else {
         return Err(TimelineFault::BadTimeline);
     };
     if events.len() >= GREATEST_COUNT as usize {

@@ -3,8 +3,8 @@ ghost use Rattle.history_count.specs.Timelines.TimelineText.{GivesTimeline, time
 
 use crate::timelines::counting::zeros;
 use crate::timelines::fault::{TimelineError, TimelineFault};
-use crate::timelines::line::TIMELINE;
-use crate::timelines::live::{SIZES, next_event};
+use crate::timelines::line::{TIMELINE, next_in};
+use crate::timelines::live::{SIZES, followed_by};
 use crate::timelines::timeline::Timeline;
 use line_text::lines_in;
 use std::alloc::Global;
@@ -26,9 +26,9 @@ impl Timeline {
         let mut live = zeros(alloc, SIZES)?;
         let mut events = Vec::new(alloc);
         let mut number = 1;
-        'lines: while let Some(line) = lines.next() {
+        'lines: while let Some(event) = next_in(&mut lines) {
             number += 1;
-            match next_event(&events, &mut live, line) {
+            match followed_by(&events, &mut live, event) {
                 Ok(event) => events.push(event)?,
                 Err(fault) => return Err(TimelineError::Line(number, fault)),
             }

@@ -5,7 +5,7 @@ ghost use Rattle.class_table.specs.Tables.{class_for};
 ghost use Rattle.history_count.specs.Timelines.Requests.{Decides, IsLargestSoFar, IsLeastSoFar, IsLeastUnserved};
 ghost use Rattle.tuner_theory.specs.Timelines.{IsTimeline, requested};
 
-use class_table::{ClassTable, LARGEST_COUNTED};
+use class_table::{ClassTable, FEWEST_GRANULES, LARGEST_COUNTED, Layout};
 use tuner_theory::SizeEvent;
 
 /// The least counted size that is requested and has no class in the table. `None` if the table serves the timeline.
@@ -14,10 +14,12 @@ pub fn unserved_over(events: &[SizeEvent], table: &ClassTable) -> Option<u32>
     ensures none { IfNone result
         ((n : ℕ) → n ≤ largest_counted → 0 < requested events.now n → IsSome (class_for table.now n)) }
 {
+    // any region's layout finds a class at once
+    let layout = Layout::new(table, FEWEST_GRANULES);
     // no size below this one lacks a class
     let mut least = LARGEST_COUNTED + 1;
     for k in 0..events.len() {
-        least = least_unserved(events, k, table, least);
+        least = least_unserved(events, k, &layout, least);
     }
     if least > LARGEST_COUNTED {
         return None;
@@ -26,17 +28,18 @@ pub fn unserved_over(events: &[SizeEvent], table: &ClassTable) -> Option<u32>
 }
 
 // the least size without a class after one event more
-fn least_unserved(events: &[SizeEvent], k: usize, table: &ClassTable, least: u32) -> u32
+#[inline(always)]
+fn least_unserved(events: &[SizeEvent], k: usize, layout: &Layout, least: u32) -> u32
     requires event { k < length events.now }
-    requires least { IsLeastSoFar events.now table.now k least }
-    ensures { IsLeastSoFar events.now table.now (k + 1) result }
+    requires least { IsLeastSoFar events.now layout.now.classes k least }
+    ensures { IsLeastSoFar events.now layout.now.classes (k + 1) result }
 {
     match events[k] {
         SizeEvent::Request { n } => {
             if n >= least {
                 return least;
             }
-            match table.find(n) {
+            match layout.find(n) {
                 Some(_) => least,
                 None => n,
             }

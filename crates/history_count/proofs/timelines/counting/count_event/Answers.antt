@@ -5,28 +5,28 @@ use Rattle.history_count.proofs.timelines.counting.count_event.Goals as goal
 pub overflow_sub-live : goal.overflow_sub-live
 overflow_sub-live c =
     let found = c.in-Some-counted_class.ensures.some in
-    free_live c.args.events.now c.args.table.now c.args.k c.in-Free.n c.in-Some-counted_class.number (Request 0) c.args.live.now
+    free_live c.args.events.now c.args.layout.now.classes c.args.k c.in-Free.n c.in-Some-counted_class.number (Request 0) c.args.live.now
     c.args.most.now c.args.firsts.now c.requires.timeline c.requires.event c.requires.live c.in-Free.is found.0 found.1 found.2
 
 pub returns-in-Some : goal.returns-in-Some
 returns-in-Some c =
     let found = c.in-Some.ensures.some in
     rw (c.add_block.ensures.live, c.add_block.ensures.most, c.add_block.ensures.firsts)
-    (request_step c.args.events.now c.args.table.now c.args.k c.in-Request.n c.in-Some.number (Request 0) c.args.live.now c.args.most.now c.args.firsts.now
+    (request_step c.args.events.now c.args.layout.now.classes c.args.k c.in-Request.n c.in-Some.number (Request 0) c.args.live.now c.args.most.now c.args.firsts.now
     c.requires.timeline c.requires.event c.requires.legal c.requires.live c.in-Request.is found.0 found.1 found.2)
 
 pub returns-in_default : goal.returns-in_default
 returns-in_default c =
-    unserved_request_step c.args.events.now c.args.table.now c.args.k c.in-Request.n (Request 0) c.args.live.now c.args.most.now c.args.firsts.now
+    unserved_request_step c.args.events.now c.args.layout.now.classes c.args.k c.in-Request.n (Request 0) c.args.live.now c.args.most.now c.args.firsts.now
     c.requires.timeline c.requires.event c.requires.live c.in-Request.is c.in_default.ensures.none
 
 pub returns-in-Some-counted_class : goal.returns-in-Some-counted_class
 returns-in-Some-counted_class c =
     let found = c.in-Some-counted_class.ensures.some in
-    free_step c.args.events.now c.args.table.now c.args.k c.in-Free.n c.in-Some-counted_class.number (Request 0) c.args.live.now
+    free_step c.args.events.now c.args.layout.now.classes c.args.k c.in-Free.n c.in-Some-counted_class.number (Request 0) c.args.live.now
     c.args.most.now c.args.firsts.now c.requires.timeline c.requires.event c.requires.legal c.requires.live c.in-Free.is found.0 found.1 found.2
 
 pub returns-in_default-counted_class : goal.returns-in_default-counted_class
 returns-in_default-counted_class c =
-    unserved_free_step c.args.events.now c.args.table.now c.args.k c.in-Free.n (Request 0) c.args.live.now c.args.most.now c.args.firsts.now
+    unserved_free_step c.args.events.now c.args.layout.now.classes c.args.k c.in-Free.n (Request 0) c.args.live.now c.args.most.now c.args.firsts.now
     c.requires.timeline c.requires.event c.requires.live c.in-Free.is c.in_default-counted_class.ensures.none

@@ -5,19 +5,19 @@ use Rattle.history_count.proofs.timelines.serving.least_unserved.Goals as goal
 
 pub returns-then-n-least : goal.returns-then-n-least
 returns-then-n-least c =
-    least_other c.args.events.now c.args.table.now c.args.k c.args.least c.in-Request.n c.requires.event c.requires.least c.in-Request.is
+    least_other c.args.events.now c.args.layout.now.classes c.args.k c.args.least c.in-Request.n c.requires.event c.requires.least c.in-Request.is
     (inl c.if-n-least.true)
 
 pub returns-in-Some : goal.returns-in-Some
 returns-in-Some c =
-    least_other c.args.events.now c.args.table.now c.args.k c.args.least c.in-Request.n c.requires.event c.requires.least c.in-Request.is
-    (inr (number_serves c.args.table.now c.in-Request.n c.in-Some.field-0 (sym c.in-Some.ensures.number) c.in-Some.ensures.least.0))
+    least_other c.args.events.now c.args.layout.now.classes c.args.k c.args.least c.in-Request.n c.requires.event c.requires.least c.in-Request.is
+    (inr (number_serves c.args.layout.now.classes c.in-Request.n c.in-Some.field-0 (sym c.in-Some.ensures.number) c.in-Some.ensures.within))
 
 pub returns-in-None : goal.returns-in-None
 returns-in-None c =
-    least_request c.args.events.now c.args.table.now c.args.k c.args.least c.in-Request.n c.requires.event c.requires.least c.in-Request.is
-    c.if-n-least.false (number_gives_none c.args.table.now c.in-Request.n (sym c.in-None.ensures.number))
+    least_request c.args.events.now c.args.layout.now.classes c.args.k c.args.least c.in-Request.n c.requires.event c.requires.least c.in-Request.is
+    c.if-n-least.false (number_gives_none c.args.layout.now.classes c.in-Request.n (sym c.in-None.ensures.number))
 
 pub returns-in-Free : goal.returns-in-Free
 returns-in-Free c =
-    least_free c.args.events.now c.args.table.now c.args.k c.args.least c.in-Free.n c.requires.event c.requires.least c.in-Free.is
+    least_free c.args.events.now c.args.layout.now.classes c.args.k c.args.least c.in-Free.n c.requires.event c.requires.least c.in-Free.is
