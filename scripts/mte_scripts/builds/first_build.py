@@ -3,8 +3,8 @@
 FOLDER is the repository, PROGRAM the crate of the program. rt has a lock on a crate and on all crates below it, so it proves one crate at a
 time in a folder. Here each crate is proved in a copy of its own, with links to the libraries below it, as soon as these are built. A proof
 with several jobs takes two fifths more processor time. So a crate has one job, and gives way to that with the longest chain of others above
-it, which also has the lanes that are left over. What the program alone stands on begins once all others have begun, and the longest of it
-has as many jobs as there are lanes. What rt keeps is moved to the repository, also where the build is cut off, and rt goes on with it.
+it, which has as many jobs as there are lanes. What the program alone stands on begins once all others have begun. What rt keeps is moved to
+the repository, also where the build is cut off, and rt goes on with it.
 Standard error counts the crates, of which the program itself, left to rt, is the last; standard output has what rt said. `step
 first_build` alone prints how many lanes there are.
 """
@@ -99,7 +99,7 @@ class Build:
         for name in begun:
             self.left.remove(name)
             if all(self.chain[name] >= self.chain[it.name] for it in self.running.values()):
-                how = (lanes if name in self.last else 1 + idle - len(begun), [])
+                how = (lanes, [])
             else:
                 how = (1, GIVES_WAY)
             proof = Proof(self.crates, name, self.folder, *how)
