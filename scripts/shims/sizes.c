@@ -205,13 +205,6 @@ void *realloc(void *block, size_t size) {
   return moved;
 }
 
-// an aligned request is counted as the bytes that an allocator with 16-byte granules sets aside for it
-static size_t aligned(size_t alignment, size_t size) {
-  size_t all = size;
-  if (alignment > 16 && __builtin_add_overflow(size, alignment - 16, &all)) all = -1;
-  return all;
-}
-
 static int is_aligned_own;  // whether the allocator has its memalign and posix_memalign; else their blocks are not followed
 
 static int follows_aligned(size_t alignment, size_t all) {

@@ -8,7 +8,7 @@ import os
 import struct
 from array import array
 from collections import Counter
-from collections.abc import Iterator
+from collections.abc import Callable, Iterator
 from typing import BinaryIO, NamedTuple, Optional, Union
 
 from mte_scripts import texts
@@ -251,18 +251,18 @@ def requests_of(text: bytes) -> dict:
 class Amounts(dict):
     """How much each event adds to an amount; the events are looked up but once."""
 
-    def __init__(self, of_size):
+    def __init__(self, of_size: Callable[[int], int]) -> None:
         super().__init__()
         self.of_size = of_size
 
     def __missing__(self, event: bytes) -> int:
         size = size_of(event)
-        amount = 0 if size == "large" else self.of_size(size)
+        amount = self.of_size(size) if isinstance(size, int) else 0
         self[event] = -amount if event.startswith(b"-") else amount
         return self[event]
 
 
-def most_of(text: bytes, amount) -> tuple:
+def most_of(text: bytes, amount: Callable[[int], int]) -> tuple[int, int]:
     """The most of all live blocks, each with an amount of its size, and the first moment of that. Large blocks have none."""
     amounts, now, most, at, seen = Amounts(amount), 0, 0, 0, 0
     for lines in events_of(text):
