@@ -11,6 +11,31 @@ from mte_scripts.places import ROOT
 WRITTEN = "Written by scripts/tests/formats from scripts/mte_scripts/formats.py."
 
 
+# ---- words
+
+def capital(words):
+    return words[:1].upper() + words[1:]
+
+
+def grouped(words):
+    """Words with commas in their large numbers."""
+    return re.sub(r"\d{5,}", lambda match: f"{int(match[0]):,}", words)
+
+
+def hyphenated(name):
+    return name.replace("_", "-")
+
+
+def quoted(names):
+    return ", ".join(f'"{name}"' for name in names)
+
+
+def listed(names):
+    """Words in a row: a, b and c."""
+    *before, last = names
+    return f"{', '.join(before)} and {last}" if before else last
+
+
 # ---- C
 
 def comment(words, width, indent):
@@ -23,11 +48,6 @@ def comment(words, width, indent):
         else:
             line += f" {word}"
     return f"\n{indent} ".join([*lines, line])
-
-
-def paragraph(words, width, indent):
-    """Words in lines of at most so many columns, but for the indent, which begins each line but the first."""
-    return textwrap.fill(words, width, break_long_words=False, break_on_hyphens=False).replace("\n", f"\n{indent}")
 
 
 def enumerators(values):
@@ -74,12 +94,6 @@ def limits_of_c():
     return "".join(f"{head:{column}}/* {words} */\n" for head, words in zip(heads, LIMITS.values()))
 
 
-def listed(names):
-    """Words in a row: a, b and c."""
-    *before, last = names
-    return f"{', '.join(before)} and {last}" if before else last
-
-
 def readers_in_c():
     """Which call reads which options."""
     calls = {}
@@ -88,7 +102,7 @@ def readers_in_c():
             calls.setdefault(command.options, []).append(name)
     calls[formats.HEAP].append("mte_tool_heap_new")
     said = "; ".join(f"{listed(names)} {'reads' if len(names) == 1 else 'read'} {listed(options)}" for options, names in calls.items())
-    return f"Each call reads its own options, and the others may have any value: {said}."
+    return f"Each call reads its own options, and the others may have any value: {said}. */"
 
 
 def options_of_c():
@@ -99,7 +113,7 @@ def options_of_c():
     lines = "".join(f"    {member:{column}}/* {words} */\n" for member, words in members)
     defaults = [("(limit)" if option.default is None else str(option.default)) for option in OPTIONS.values()]
     return (
-        f"   {paragraph(readers_in_c(), 137, '   ')} */\n"
+        f"{textwrap.fill(readers_in_c(), 140, initial_indent='   ', subsequent_indent='   ')}\n"
         f"typedef struct mte_tool_options {{\n{lines}}} mte_tool_options;\n\n"
         "/* The program's own defaults, with this limit; for a call that reads no limit, any number. In C++ a `limit` that is no constant\n"
         "   has to be unsigned. */\n"
@@ -149,11 +163,10 @@ def commands_of_cpp():
         if command.options:
             has_default = all(OPTIONS[option].default is not None for option in command.options)
             takes.append("const Options &options" + (" = Options()" if has_default else ""))
-        result = {"text": "Text", "fit": "Fit", "cost": "Cost", "verdict": "Verdict"}[command.gives]
         words = f"{command.words}{by_options(command, before='options.')}.".replace("`", '"')
         called = f"detail::Called(mte_tool_{name}, {given}, {'&options' if command.options else 'nullptr'})"
         made.append(
-            f"{comment(words, 140, ' ')}\ninline {result} {name}({', '.join(takes)}) {{\n    return {called}.{command.gives}();\n}}\n"
+            f"{comment(words, 140, ' ')}\ninline {capital(command.gives)} {name}({', '.join(takes)}) {{\n    return {called}.{command.gives}();\n}}\n"
         )
     return "\n".join(made)
 
@@ -165,7 +178,7 @@ def by_options(command, before="", mark=""):
 
 # ---- Python
 
-PLAIN = formats.TUNER  # the options that a call takes in their order too
+POSITIONAL = formats.TUNER  # the options that need no name
 
 
 def options_of_python():
@@ -182,12 +195,12 @@ def commands_of_python():
     for name, command in COMMANDS.items():
         takes, marked = [f"{text}: Bytes" for text in command.inputs], False
         for option in command.options:
-            if option not in PLAIN and not marked:
+            if option not in POSITIONAL and not marked:
                 takes.append("*")
                 marked = True
             default = OPTIONS[option].default
             takes.append(f"{option}: int" + (f" = {default:_}" if default is not None else ""))
-        result = {"text": "bytes", "fit": "Fit", "cost": "Cost", "verdict": "Verdict"}[command.gives]
+        result = "bytes" if command.gives == "text" else capital(command.gives)
         given = ", ".join([f'"{name}"', *command.inputs, *(f"{option}={option}" for option in command.options)])
         options = "".join(f"    {option}: {OPTIONS[option].described()}\n" for option in command.options)
         words = f"{command.words}." + (f"\n\n{options}    " if options else "")
@@ -228,15 +241,6 @@ def options_of_rust():
     )
 
 
-def capital(words):
-    return words[:1].upper() + words[1:]
-
-
-def grouped(words):
-    """Words with commas in their large numbers."""
-    return re.sub(r"\d{5,}", lambda match: f"{int(match[0]):,}", words)
-
-
 def members_of_rust():
     return "pub struct mte_tool_options {\n    pub size: usize,\n" + "".join(f"    pub {name}: u64,\n" for name in OPTIONS) + "}"
 
@@ -254,12 +258,11 @@ def commands_of_rust():
     made = []
     for name, command in COMMANDS.items():
         takes = [f"{text}: &[u8]" for text in command.inputs] + (["options: &Options"] if command.options else [])
-        result = {"text": "Text", "fit": "Fit", "cost": "Cost", "verdict": "Verdict"}[command.gives]
         given = f"c::mte_tool_{name}, &[{', '.join(command.inputs)}], {'options' if command.options else '&Options::new(0)'}"
         answer = ".text" if command.gives == "text" else f".{command.gives}()"
         made.append(
             f"/// {command.words}{by_options(command, mark='`')}.\n"
-            f"pub fn {name}({', '.join(takes)}) -> Result<{result}, Error> {{\n"
+            f"pub fn {name}({', '.join(takes)}) -> Result<{capital(command.gives)}, Error> {{\n"
             f"    Ok(call({given})?{answer})\n}}\n"
         )
     return "\n".join([
@@ -291,14 +294,6 @@ def options_of_plain():
         "/// The names of the options of a command.\n"
         f"pub fn options_of(command: &str) -> &'static [&'static str] {{\n    match command {{\n{names}        _ => &[],\n    }}\n}}\n"
     )
-
-
-def hyphenated(name):
-    return name.replace("_", "-")
-
-
-def quoted(names):
-    return ", ".join(f'"{name}"' for name in names)
 
 
 # ---- the recorders and the page
