@@ -34,6 +34,8 @@ Usage: profile_program [--live] [--only NAME] [--said FILE] PROGRAM ARGS..
                  with these and --live: write into FILE what the process took of memory at most, in bytes, as lines
                  `large N`, blocks above {texts.LARGEST_SIZE:,} bytes; `resident N`, its resident set; and `glibc N`, what glibc's malloc had of
                  the system. The last two are looked at from time to time; what the recorder takes is left out, by an estimate
+  --as-scudo     with these and --live: a realloc leaves a block as it was where LLVM's Scudo does, which makes it smaller by up to
+                 4,095 bytes in its place, and as large again as it had been
   --only NAME    count only processes whose program has this name, as NAME of /usr/bin/NAME
   --library      print the path of the library that counts, and run nothing; with DIR, put it there for services
   --read COUNTS  print the profile, the history or the timeline of the counts in the file COUNTS, also while they are still made
@@ -69,7 +71,8 @@ set-user-id program, a C library other than glibc, and an allocator inside the p
 
 For a service that something else starts: set LD_PRELOAD to the path that --library DIR prints, SIZES to a file that does not exist
 yet and that the service may write (and SIZES_LIVE=1 for --live, SIZES_TIMELINE=1 for --timeline, SIZES_HISTORY=T for --history=T,
-SIZES_CLASSES='2 4 ..' for --classes, with the table's numbers, SIZES_ONLY=NAME for --only); then read the file with --read.
+SIZES_CLASSES='2 4 ..' for --classes, with the table's numbers, SIZES_SCUDO=1 for --as-scudo, SIZES_ONLY=NAME for --only); then read
+the file with --read.
 
 --import takes these formats, packed by gzip or zstd or not:
 {importing.HELP}
@@ -113,8 +116,9 @@ class Options(argparse.Namespace):
             self.live = over_time[0]
         elif self.peak:
             raise Refused(2, "--peak goes with --timeline, --history or --classes")
-        if self.measured and not self.live:
-            raise Refused(2, "--measured goes with --live, --timeline, --history or --classes")
+        for name in ("measured", "as_scudo"):
+            if getattr(self, name) and not self.live:
+                raise Refused(2, f"--{name.replace('_', '-')} goes with --live, --timeline, --history or --classes")
         if self.import_ is not None:
             self.refuse_beside_import()
         elif self.as_ is not None:
@@ -122,7 +126,7 @@ class Options(argparse.Namespace):
 
     def refuse_beside_import(self) -> None:
         others = {"--read": self.read, "--only": self.only, "--measured": self.measured, "--classes": self.table,
-                  "--library": self.library}
+                  "--as-scudo": self.as_scudo, "--library": self.library}
         if given := [name for name, value in others.items() if value]:
             raise Refused(2, f"--import reads a file, and {given[0]} is for a run")
         if self.words:
@@ -130,7 +134,7 @@ class Options(argparse.Namespace):
 
     def settings(self) -> "dict[str, str | None]":
         """The library's variables; those without a value are unset."""
-        chosen = {"SIZES_LIVE": self.live == "--live", "SIZES_TIMELINE": self.timeline}
+        chosen = {"SIZES_LIVE": self.live == "--live", "SIZES_TIMELINE": self.timeline, "SIZES_SCUDO": self.as_scudo}
         found = {name: "1" if is_so else None for name, is_so in chosen.items()}
         found["SIZES_CLASSES"] = None if self.table is None else " ".join(map(str, self.table))
         return {**found, "SIZES_ONLY": self.only, "SIZES_HISTORY": str(self.history) if self.history else None}

@@ -290,6 +290,27 @@ def peaks_of(text: bytes, classes: list) -> list:
     return sorted(at.values())
 
 
+def most_and_freed(text: bytes, classes: list) -> tuple[list[int], int]:
+    """The most live blocks of each class of a table that serves the timeline; and the most blocks, of all classes together, that were freed
+    and not yet given out again. A block is given out again before a class has a new one."""
+    now, most = [0] * (len(classes) + 1), [0] * (len(classes) + 1)
+    freed = longest = 0
+    of_event = Amounts(lambda size: bisect.bisect_left(classes, need_of(size)) + 1)  # the class by its place from 1, or 0
+    for lines in events_of(text):
+        for place in map(of_event.__getitem__, lines):
+            if place < 0:
+                now[-place] -= 1
+                freed += 1
+                longest = max(longest, freed)
+            elif place:
+                now[place] += 1
+                if now[place] > most[place]:
+                    most[place] = now[place]
+                else:
+                    freed -= 1
+    return most[1:], longest
+
+
 def heights(text: bytes, classes: list, parts: int) -> list[list[int]]:
     """The most live blocks of each class of a table in each of so many equal parts of a timeline, or of fewer where it has fewer events.
     What the table does not serve is left out."""
