@@ -25,15 +25,20 @@ class Rows {
     this.sizes = this.lines.map(([size, counts]) => [size, mostOf(counts)]);
   }
 
-  /** For each class the requests that it serves, or the most of its blocks at once. */
-  servedBy(classes) {
+  /** For each class its blocks at each moment, or the requests that it serves; of one that serves nothing no number. */
+  heights(classes) {
     let least = 0;
     return classes.map((c) => {
       const most = GRANULE * c - GRANULE;
       const mine = this.lines.filter(([size]) => size >= least && size <= most);
       least = most + 1;
-      return mostOf((mine[0]?.[1] ?? []).map((_, i) => sumOf(mine.map(([, counts]) => counts[i]))));
+      return (mine[0]?.[1] ?? []).map((_, i) => sumOf(mine.map(([, counts]) => counts[i])));
     });
+  }
+
+  /** For each class the requests that it serves, or the most of its blocks at once. */
+  servedBy(classes) {
+    return this.heights(classes).map(mostOf);
   }
 
   /** What a class loses, or takes, that serves the sizes from LEAST on. */
@@ -91,22 +96,33 @@ class Events {
     this.sizes = [...most.keys()].filter((size) => most[size]).map((size) => [size, most[size]]);
   }
 
-  servedBy(classes) {
+  /** For each class the most of its blocks in each of so many equal parts of the events, or of fewer where there are fewer. */
+  heights(classes, parts) {
     const classOf = new Uint8Array(LARGEST_SIZE + 2);
     let least = 0;
     classes.forEach((c, i) => {
       classOf.fill(i, least + 1, GRANULE * c - GRANULE + 2);
       least = GRANULE * c - GRANULE + 1;
     });
-    const [now, most] = [new Int32Array(classes.length), new Int32Array(classes.length)];
-    for (const event of this.events) {
-      if (event > 0) {
-        const c = classOf[event];
-        now[c] += 1;
-        if (now[c] > most[c]) most[c] = now[c];
-      } else if (event < 0) now[classOf[-event]] -= 1;
+    const columns = Math.min(parts, this.events.length);
+    const [now, found] = [new Int32Array(classes.length), classes.map(() => [])];
+    for (let part = 1, at = 0; part <= columns; part++) {
+      const most = now.slice();
+      for (const end = Math.floor((part * this.events.length) / columns); at < end; at++) {
+        const event = this.events[at];
+        if (event > 0) {
+          const c = classOf[event];
+          now[c] += 1;
+          if (now[c] > most[c]) most[c] = now[c];
+        } else if (event < 0) now[classOf[-event]] -= 1;
+      }
+      found.forEach((column, i) => column.push(most[i]));
     }
-    return [...most];
+    return found;
+  }
+
+  servedBy(classes) {
+    return this.heights(classes, 1).map(mostOf);
   }
 
   costOf(c, _, served) {

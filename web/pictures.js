@@ -1,4 +1,4 @@
-// The curve and the histogram, as the inner text of an SVG.
+// The curve, the live blocks over time and the histogram, as the inner text of an SVG.
 "use strict";
 
 const escaped = (text) => String(text).replace(/[&<>"]/g, (c) => ({ "&": "&amp;", "<": "&lt;", ">": "&gt;", '"': "&quot;" })[c]);
@@ -83,6 +83,49 @@ function drawCurve(svg, least, tables, label, of) {
   }
   const ends = least.length ? `${bytesText(least[0])} with one, ${bytesText(least.at(-1))} with ${least.length}` : "not known";
   picture.finish(`${label}: ${ends}.`);
+}
+
+const LAYERS = 5;
+const squareOf = (form) => `<svg viewBox="0 0 12 12" aria-hidden="true"><rect width="12" height="12" ${form}/></svg>`;
+
+/** What is drawn one upon the other, from below: {words, form, bytes, most}, the bytes at each time. The classes that take least are one. */
+function layersOf(classes, heights) {
+  const columns = mostOf(heights.map((column) => column.length));
+  const all = classes.map((c, i) => {
+    const bytes = Array.from({ length: columns }, (_, at) => GRANULE * c * (heights[i][at] ?? 0));
+    return { words: `blocks of ${grouped(GRANULE * c)} bytes`, bytes, most: mostOf(bytes) };
+  });
+  const taking = all.filter((layer) => layer.most).sort((one, other) => other.most - one.most);
+  const rest = taking.splice(LAYERS);
+  const layers = taking.map((layer, style) => ({ ...layer, form: `fill="var(--c${style})"` }));
+  if (!rest.length) return layers;
+  const bytes = Array.from({ length: columns }, (_, at) => sumOf(rest.map((layer) => layer.bytes[at])));
+  const words = `${rest.length} other ${rest.length === 1 ? "class" : "classes"}`;
+  return [...layers, { words, form: 'class="bars"', bytes, most: sumOf(rest.map((layer) => layer.most)) }];
+}
+
+/** The bytes of the live blocks over time in their layers, and the footprint. */
+function drawLayers(svg, layers, footprint, of) {
+  const unit = 1024 ** Math.floor(Math.log(Math.max(1, footprint)) / Math.log(1024));
+  const picture = new Picture(svg, 320, (1.05 * footprint) / unit, (level) => (level ? byteText(level * unit) : "0"));
+  const [wide, columns] = [picture.right - picture.left, layers[0]?.bytes.length ?? 0];
+  const x = (at) => short(picture.left + (wide * at) / columns);
+  const y = (bytes) => short(picture.y(bytes / unit));
+  let below = new Array(columns).fill(0);
+  for (const { words, form, bytes, most } of layers) {
+    const above = below.map((under, at) => under + bytes[at]);
+    const up = above.map((top, at) => `H${x(at)}V${y(top)}`).join("");
+    const down = below.map((under, at) => `H${x(at + 1)}V${y(under)}`).reverse().join("");
+    const path = `M${x(0)} ${y(below[0])}${up}H${x(columns)}${down}Z`;
+    picture.parts.push(`<path ${form} d="${path}"><title>${words}: at most ${bytesText(most)}</title></path>`);
+    below = above;
+  }
+  picture.parts.push(`<path class="level" d="M${picture.left} ${y(footprint)}H${picture.right}"><title>footprint: ${bytesText(footprint)}</title></path>`);
+  for (const share of [0, 25, 50, 75, 100]) {
+    picture.text(picture.left + (wide * share) / 100, picture.lower + 18, `${share}%`, share === 100 ? "end" : "middle");
+  }
+  picture.text(picture.left + wide / 2, picture.height - 8, of);
+  picture.finish(`The bytes of the live blocks over time, by class; the footprint is ${bytesText(footprint)}.`);
 }
 
 const octaves = (size) => Math.log2(Math.max(size, 8)) - 3;

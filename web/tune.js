@@ -175,6 +175,7 @@ function showTuned() {
 function showPictures() {
   if ($("view-tune").hidden) return;
   showCurve();
+  showLayers();
   showPair();
 }
 
@@ -230,6 +231,21 @@ function showCurve() {
   const rows = tuner.least.map((bytes, i) => `<tr><th scope="row">${i + 1}</th><td>${grouped(bytes)}</td></tr>`);
   $("curve-table").innerHTML = headings("Classes", filled(`${tuner.kind}.curve.column`)) + `<tbody>${rows.join("")}</tbody>`;
   drawHistogram($("histogram"), tuner.counts.sizes, tuner.classes, classesOf(data.scudo));
+}
+
+const PARTS = 120;
+
+/** The live blocks over time, of a history or a timeline. */
+function showLayers() {
+  $("over-time").hidden = !isOverTime(tuner);
+  if ($("over-time").hidden) return;
+  const layers = layersOf(tuner.classes, tuner.counts.heights(tuner.classes, PARTS));
+  const isWhole = tuner.kind === "timeline";
+  drawLayers($("layers"), layers, tuner.total, isWhole ? "events of the run" : "recorded moments");
+  const parts = `one of ${layers[0]?.bytes.length ?? 0} equal parts of the run, and as high as the most blocks of each class in it`;
+  const column = `A column is ${isWhole ? parts : "a recorded moment"}.`;
+  $("layers-told").textContent = `${column} The footprint is the highest place of each class, added up.`;
+  $("layers-key").innerHTML = layers.map(({ words, form }) => `<li>${squareOf(form)}${words}</li>`).join("");
 }
 
 /** For each class: its block, its sizes, what it serves, and what it loses or takes. */
