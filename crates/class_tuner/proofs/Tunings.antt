@@ -1,5 +1,5 @@
 -- What least rows over the places of a profile make, by any measure.
-use Rattle.std.proofs.Common.{◌≡◌, ℕ, ◌≤◌, List, refl, sym, ◌∙◌, arith}
+use Rattle.std.proofs.Common.{◌≡◌, ℕ, ◌≤◌, List, refl, sym, arith}
 use Rattle.class_table.specs.Steps.{IsStep}
 use Rattle.class_table.specs.Tables.{IsLegalTable}
 use Rattle.class_table.specs.declared.table.TheConstants.{MOST_CLASSES}
