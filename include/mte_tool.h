@@ -39,21 +39,22 @@ enum {
 
 /* The options. A caller sets `size` to the size of the structure that it knows, as MTE_TOOL_OPTIONS does, so that later versions can add
    members at the end. A member that the caller's structure lacks has its default. One that the library does not know yet has to be 0, which
-   is its default, or the call ends with MTE_TOOL_BAD_OPTION. Null stands for a structure without any member.
+   is its default, or the call ends with MTE_TOOL_BAD_OPTION. Null stands for a structure without any member. Each option has 64 bits, so
+   that a number out of its range stays one: it is MTE_TOOL_BAD_OPTION.
 
-   Each call reads its own options, and the others may have any value: tune and fit read the last two, replay and mte_tool_heap_new the
-   first three, run all. Each has 64 bits, so that a number out of its range stays one: it is MTE_TOOL_BAD_OPTION. */
+   Each call reads its own options, and the others may have any value: tune and fit read limit and step; replay and mte_tool_heap_new read
+   granules, quarantine and seed; run reads limit, step, granules, quarantine and seed. */
 typedef struct mte_tool_options {
     size_t size;         /* sizeof (mte_tool_options) */
     uint64_t granules;   /* the granules of the heap, 64 to 262144 */
-    uint64_t quarantine; /* the bytes of freed blocks that it holds back, 0 to 4194304 */
-    uint64_t seed;       /* of the random tags, 1 to 65535 */
+    uint64_t quarantine; /* the bytes of freed blocks that the heap holds back, 0 to 4194304 */
+    uint64_t seed;       /* the seed of the random tags, 1 to 65535 */
     uint64_t limit;      /* the most classes of the table, 1 to 32; it has no default */
     uint64_t step;       /* the granules that each class is a multiple of: 1, 2, 4 or 8 */
 } mte_tool_options;
 
-/* The program's own defaults, with this limit; for a call that reads no limit, any number. In C++ a `limit` that is no constant has to be
-   unsigned. */
+/* The program's own defaults, with this limit; for a call that reads no limit, any number. In C++ a `limit` that is no constant
+   has to be unsigned. */
 #define MTE_TOOL_OPTIONS(limit) {sizeof(mte_tool_options), 65536, 65536, 1, (limit), 1}
 
 /* What a call found, beside how it ended. A caller sets `size`, as MTE_TOOL_RESULT does; a member that this library does not know is set to
@@ -217,9 +218,9 @@ typedef struct mte_tool_outcome {
 
 #define MTE_TOOL_OUTCOME {sizeof(mte_tool_outcome), 0, 0, 0, 0, 0, 0, 0}
 
-/* Makes a heap over the table of `class_count` classes, in granules, ascending, from 2 to 1024. It reads the first three options. The ends:
-   MTE_TOOL_BAD_OPTION, MTE_TOOL_REFUSED (the classes), MTE_TOOL_OUT_OF_MEMORY; MTE_TOOL_MISUSE if `heap` holds a heap, which it keeps. It
-   takes 17 bytes for each granule. No other call takes memory. */
+/* Makes a heap over the table of `class_count` classes, in granules, ascending, from 2 to 1024. The ends: MTE_TOOL_BAD_OPTION,
+   MTE_TOOL_REFUSED (the classes), MTE_TOOL_OUT_OF_MEMORY; MTE_TOOL_MISUSE if `heap` holds a heap, which it keeps. It takes 17 bytes for
+   each granule. No other call takes memory. */
 int mte_tool_heap_new(mte_tool_heap *heap, const mte_tool_options *options, const uint16_t *classes, size_t class_count,
                       mte_tool_outcome *outcome);
 

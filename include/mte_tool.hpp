@@ -142,15 +142,24 @@ inline bool answered(int end, const mte_tool_result &result, std::string_view sa
 
 using Command = int(const mte_tool_options *, const void *, std::size_t, mte_tool_text *, mte_tool_result *);
 
-/* a call over an input */
-struct Called {
-    Text text;
-    mte_tool_result result = MTE_TOOL_RESULT;
-    bool is_yes;
+inline Cost cost(bool serves, const mte_tool_result &result) { return {serves, result.bytes, result.at}; }
+
+/* a call over an input, and what it gave */
+class Called {
+  public:
     Called(Command *command, std::string_view input, const mte_tool_options *options) {
-        const int end = command(options, input.data(), input.size(), text.c(), &result);
-        is_yes = answered(end, result, text.view());
+        const int end = command(options, input.data(), input.size(), text_.c(), &result_);
+        is_yes_ = answered(end, result_, text_.view());
     }
+    Text text() { return std::move(text_); }
+    Fit fit() { return {std::move(text_), is_yes_}; }
+    Cost cost() const { return detail::cost(is_yes_, result_); }
+    Verdict verdict() const { return {is_yes_, result_.code}; }
+
+  private:
+    Text text_;
+    mte_tool_result result_ = MTE_TOOL_RESULT;
+    bool is_yes_;
 };
 
 /* two texts as one input */
@@ -159,13 +168,6 @@ inline Text joined(std::string_view first, std::string_view second) {
     both.append(first).append(second);
     return both;
 }
-
-inline Verdict verdict(Command *command, std::string_view first, std::string_view second) {
-    const Called made(command, joined(first, second).view(), nullptr);
-    return {made.is_yes, made.result.code};
-}
-
-inline Cost cost(bool serves, const mte_tool_result &result) { return {serves, result.bytes, result.at}; }
 
 inline std::size_t rooms(const Options &options) {
     return options.limit <= MTE_TOOL_MOST_CLASSES ? static_cast<std::size_t>(options.limit) : 1;
@@ -198,45 +200,51 @@ inline void need(bool is_so, const char *what) {
 /* ---- the commands over texts (docs/FORMATS.md), each at most MTE_TOOL_MOST_INPUT bytes together. An Error has the first fault's code and
    line. */
 
-/* What the table of a class line wastes on a profile. */
+/* What the table of a class line, such as "classes 2 8", wastes on a profile. */
 inline Cost score(std::string_view classes, std::string_view profile) {
-    const detail::Called made(mte_tool_score, detail::joined(classes, profile).view(), nullptr);
-    return detail::cost(made.is_yes, made.result);
+    return detail::Called(mte_tool_score, detail::joined(classes, profile).view(), nullptr).cost();
 }
 
-/* The sheet of the table of least waste, of at most options.limit classes. */
+/* The sheet of the table of least waste on a profile, by options.limit and options.step. */
 inline Text tune(std::string_view profile, const Options &options) {
-    return std::move(detail::Called(mte_tool_tune, profile, &options).text);
+    return detail::Called(mte_tool_tune, profile, &options).text();
 }
 
 /* Whether a sheet shows that no table within its limit and step wastes less on a profile. */
-inline Verdict check(std::string_view sheet, std::string_view profile) { return detail::verdict(mte_tool_check, sheet, profile); }
+inline Verdict check(std::string_view sheet, std::string_view profile) {
+    return detail::Called(mte_tool_check, detail::joined(sheet, profile).view(), nullptr).verdict();
+}
 
 /* What the table of a class line takes of memory over a history or a timeline. */
 inline Cost footprint(std::string_view classes, std::string_view history) {
-    const detail::Called made(mte_tool_footprint, detail::joined(classes, history).view(), nullptr);
-    return detail::cost(made.is_yes, made.result);
+    return detail::Called(mte_tool_footprint, detail::joined(classes, history).view(), nullptr).cost();
 }
 
-/* The fit of the table of least footprint over a history or a timeline. */
+/* The fit of the table of least footprint over a history or a timeline, by options.limit and options.step. */
 inline Fit fit(std::string_view history, const Options &options) {
-    detail::Called made(mte_tool_fit, history, &options);
-    return {std::move(made.text), made.is_yes};
+    return detail::Called(mte_tool_fit, history, &options).fit();
 }
 
 /* Whether a fit shows that no table within its limit and step takes less over a history or a timeline. */
-inline Verdict check_fit(std::string_view fit, std::string_view history) { return detail::verdict(mte_tool_check_fit, fit, history); }
-
-/* The profile of a trace. */
-inline Text profile(std::string_view trace) { return std::move(detail::Called(mte_tool_profile, trace, nullptr).text); }
-
-/* The report of the tagged heap over the table of a class line on a trace. */
-inline Text replay(std::string_view classes, std::string_view trace, const Options &options = Options()) {
-    return std::move(detail::Called(mte_tool_replay, detail::joined(classes, trace).view(), &options).text);
+inline Verdict check_fit(std::string_view fit, std::string_view history) {
+    return detail::Called(mte_tool_check_fit, detail::joined(fit, history).view(), nullptr).verdict();
 }
 
-/* The sheet of a trace's profile, and then the report with its table. */
-inline Text run(std::string_view trace, const Options &options) { return std::move(detail::Called(mte_tool_run, trace, &options).text); }
+/* The profile of a trace. */
+inline Text profile(std::string_view trace) {
+    return detail::Called(mte_tool_profile, trace, nullptr).text();
+}
+
+/* The report of the tagged heap over the table of a class line on a trace, by options.granules, options.quarantine and options.seed. */
+inline Text replay(std::string_view classes, std::string_view trace, const Options &options = Options()) {
+    return detail::Called(mte_tool_replay, detail::joined(classes, trace).view(), &options).text();
+}
+
+/* The sheet of a trace's profile, and then the report with its table, by options.limit, options.step, options.granules, options.quarantine
+    and options.seed. */
+inline Text run(std::string_view trace, const Options &options) {
+    return detail::Called(mte_tool_run, trace, &options).text();
+}
 
 /* ---- the same over arrays: sizes in bytes, ascending, from 0 to MTE_TOOL_LARGEST_SIZE; classes in granules of 16 bytes, ascending, from 2
    to 1024. An Error has the code, and in at() the index of the first faulty entry. */

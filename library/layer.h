@@ -4,16 +4,9 @@
 #define MTE_TOOL_LAYER_H
 
 #include "../include/mte_tool.h"
+#include "options.h"
 
-/* the structures of the proved functions */
-typedef struct narrow_options {
-    uint32_t granules;
-    uint32_t quarantine;
-    uint16_t seed;
-    uint8_t limit;
-    uint8_t step;
-} narrow_options;
-
+/* the other structures of the proved functions */
 typedef struct heap_settings {
     uint32_t granules;
     uint32_t quarantine;
@@ -84,7 +77,7 @@ extern const uint64_t layer_no_numbers;
 int layer_is_wrong(const void *sized);
 
 /* The options for the proved functions; MTE_TOOL_DONE, MTE_TOOL_MISUSE, or MTE_TOOL_BAD_OPTION where a member that nobody here knows is
-   set. A number that is too large for its place becomes one that is out of the option's range too. */
+   set. */
 int layer_options(const mte_tool_options *options, narrow_options *narrow);
 
 /* Puts what a call found into the caller's structure, or nowhere if that is null, and returns the end. */

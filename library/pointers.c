@@ -43,11 +43,7 @@ int layer_options(const mte_tool_options *options, narrow_options *narrow) {
         for (i = sizeof wide; i < options->size; i++)
             if (((const char *)options)[i]) return MTE_TOOL_BAD_OPTION;
     }
-    narrow->granules = wide.granules > UINT32_MAX ? 0 : (uint32_t)wide.granules;
-    narrow->quarantine = wide.quarantine > UINT32_MAX ? UINT32_MAX : (uint32_t)wide.quarantine;
-    narrow->seed = wide.seed > UINT16_MAX ? 0 : (uint16_t)wide.seed;
-    narrow->limit = wide.limit > UINT8_MAX ? 0 : (uint8_t)wide.limit;
-    narrow->step = wide.step > UINT8_MAX ? 0 : (uint8_t)wide.step;
+    *narrow = narrowed(&wide);
     return MTE_TOOL_DONE;
 }
 
@@ -236,7 +232,7 @@ static uint32_t request(size_t size) {
     return size > UINT32_MAX ? UINT32_MAX : (uint32_t)size;
 }
 
-static uint8_t narrowed(uint64_t number) {
+static uint8_t one_byte(uint64_t number) {
     return number > UINT8_MAX ? UINT8_MAX : (uint8_t)number; /* out of its range too */
 }
 
@@ -285,7 +281,7 @@ int mte_tool_heap_store(mte_tool_heap *heap, uint64_t address, const void *bytes
 }
 
 int mte_tool_heap_addg(mte_tool_heap *heap, uint64_t address, uint64_t granules, uint64_t step, mte_tool_outcome *outcome) {
-    return ON_HEAP(mte_heap_addg(heap, address, narrowed(granules), narrowed(step)));
+    return ON_HEAP(mte_heap_addg(heap, address, one_byte(granules), one_byte(step)));
 }
 
 void mte_tool_heap_close(mte_tool_heap *heap) {

@@ -2,11 +2,18 @@
 // `engines.begin(line, trace, options)` is a replay that goes on event by event. Runs in a page's worker and in node.
 "use strict";
 
-// The structures of options as the calling convention passes them, in two words: granules and quarantine; seed, and limit and step.
-const setUp = (o) => [BigInt.asIntN(64, (BigInt(o.quarantine) << 32n) | BigInt(o.granules)), o.seed];
-const allOptions = (o) => [setUp(o)[0], o.seed | (o.limit << 16) | (o.step << 24)];
-// The commands by their numbers.
-const COMMANDS = ["score", "tune", "check", "footprint", "fit", "check-fit", "profile", "replay", "run"];
+/** A structure of these options, of 9 to 16 bytes, as the calling convention passes it: in two words, the second of 4 bytes if these do. */
+function packed(names, options) {
+  const room = new DataView(new ArrayBuffer(16));
+  let at = 0;
+  for (const name of names) {
+    const bits = OPTION_BITS[name];
+    at = Math.ceil((8 * at) / bits) * (bits / 8);
+    room[`setUint${bits}`](at, options[name], true);
+    at += bits / 8;
+  }
+  return [room.getBigInt64(0, true), at > 12 ? room.getBigInt64(8, true) : room.getInt32(8, true)];
+}
 
 const asBytes = (input) => (typeof input === "string" ? new TextEncoder().encode(input) : input);
 const asText = (bytes) => new TextDecoder("latin1").decode(bytes);
@@ -74,7 +81,7 @@ class Steps {
     const [places, texts] = [[module.take(8)], [module.put(line), module.put(trace)]];
     [this.module, this.handle, this.granules, this.done] = [module, places[0], o.granules, 0];
     module.bytes(this.handle, 8).fill(0);
-    const status = module.run("mte_step_new", ...setUp(o), ...texts[0], ...texts[1], this.handle);
+    const status = module.run("mte_step_new", ...packed(HEAP_OPTIONS, o), ...texts[0], ...texts[1], this.handle);
     module.give(texts[0][0], texts[1][0]);
     if (status) {
       module.give(this.handle);
@@ -124,7 +131,7 @@ class Engines {
   /** The same in bytes, of a fault without the word before it. */
   answer(command, options, ...inputs) {
     const m = this.tool;
-    const words = allOptions({ ...DEFAULTS, ...options });
+    const words = packed(Object.keys(OPTION_BITS), { ...DEFAULTS, ...options });
     const [from, length] = m.put(...inputs);
     const [ending, text] = [m.take(16), m.take(16)];
     m.bytes(text, 16).fill(0);

@@ -1,4 +1,5 @@
-// The numbers of the formats, and the words of their codes. Written by scripts/tests/formats from scripts/mte_scripts/formats.py.
+// The numbers of the formats, the words of their codes, and the options and commands.
+// Written by scripts/tests/formats from scripts/mte_scripts/formats.py.
 "use strict";
 
 const GRANULE = 16;
@@ -8,6 +9,9 @@ const MOST_CLASSES = 32;
 const MOST_INPUT = 67108864;
 const REGION = 1n << 36n;
 const DEFAULTS = { granules: 65536, quarantine: 65536, seed: 1, limit: 8, step: 1 };
+const OPTION_BITS = { granules: 32, quarantine: 32, seed: 16, limit: 8, step: 8 };
+const HEAP_OPTIONS = ["granules", "quarantine", "seed"];
+const COMMANDS = ["score", "tune", "check", "footprint", "fit", "check-fit", "profile", "replay", "run"];
 const ENDED = ["done", "no", "refused", "out of memory", "bad option", "misuse"];
 const INPUT_CODES = {
   20: "there are more than 32 classes",

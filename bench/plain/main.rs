@@ -12,6 +12,7 @@
 mod checker;
 mod faults;
 mod fitter;
+mod formats;
 mod generator;
 mod heap;
 mod history;
@@ -70,9 +71,6 @@ Exit status: 0 done; 1 the verdict is no; 2 words or input are refused; 3 a read
 docs/FORMATS.md has the formats and the codes of faults, `error CODE NAME line L`.
 ";
 
-const HEAP: [&str; 3] = ["--granules", "--seed", "--quarantine"];
-const TUNER: [&str; 2] = ["--limit", "--step"];
-
 fn main() -> ExitCode {
     let words: Vec<String> = std::env::args_os()
         .skip(1)
@@ -94,18 +92,23 @@ fn answer(words: Vec<String>, out: &mut impl Write) -> Result<ExitCode, Fault> {
     }
     let mut words = words.into_iter();
     let command = words.next().unwrap_or_default();
+    let names = match command.as_str() {
+        "events" => &["--seed"],
+        command => formats::options_of(command),
+    };
+    let given = Options::new(names, words);
     match command.as_str() {
         "--version" => written(out, b"plain 1.0.0\n"),
-        "events" => events(&Options::new(&["--seed"], words)?, out),
-        "score" => Options::new(&[], words).and_then(|_| score(out)),
-        "tune" => tune(&Options::new(&TUNER, words)?, out),
-        "check" => Options::new(&[], words).and_then(|_| check(out)),
-        "footprint" => Options::new(&[], words).and_then(|_| footprint(out)),
-        "fit" => fit(&Options::new(&TUNER, words)?, out),
-        "check-fit" => Options::new(&[], words).and_then(|_| check_fit(out)),
-        "profile" => Options::new(&[], words).and_then(|_| profile(out)),
-        "replay" => replay(&Options::new(&HEAP, words)?, out),
-        "run" => run(&Options::new(&[&TUNER[..], &HEAP].concat(), words)?, out),
+        "events" => events(&given?, out),
+        "score" => given.and_then(|_| score(out)),
+        "tune" => tune(&given?, out),
+        "check" => given.and_then(|_| check(out)),
+        "footprint" => given.and_then(|_| footprint(out)),
+        "fit" => fit(&given?, out),
+        "check-fit" => given.and_then(|_| check_fit(out)),
+        "profile" => given.and_then(|_| profile(out)),
+        "replay" => replay(&given?, out),
+        "run" => run(&given?, out),
         _ => Err(Fault::Words(format!("there is no command {command:?}"))),
     }
 }

@@ -1,6 +1,7 @@
 //! The options of the command line: `--NAME N` or `--NAME=N` for each, in any order.
 
 use crate::faults::{Fault, BAD_OPTION};
+use crate::formats::NUMBERS;
 use crate::heap::Settings;
 use std::ops::RangeInclusive;
 
@@ -31,12 +32,12 @@ impl Options {
 
     /// The most classes of a table.
     pub fn limit(&self) -> Result<usize, Fault> {
-        Ok(self.number("--limit", 1..=32, None)? as usize)
+        Ok(self.number_of("--limit")? as usize)
     }
 
     /// What each class is a multiple of, in granules.
     pub fn step(&self) -> Result<u32, Fault> {
-        let step = self.number("--step", 1..=8, Some(1))?;
+        let step = self.number_of("--step")?;
         if step.is_power_of_two() {
             Ok(step as u32)
         } else {
@@ -52,10 +53,17 @@ impl Options {
     /// What the heap is made with.
     pub fn heap(&self) -> Result<Settings, Fault> {
         Ok(Settings {
-            granules: self.number("--granules", 64..=262_144, Some(65_536))? as u32,
-            seed: self.number("--seed", 1..=65_535, Some(1))? as u16,
-            quarantine: self.number("--quarantine", 0..=4_194_304, Some(65_536))?,
+            granules: self.number_of("--granules")? as u32,
+            seed: self.number_of("--seed")? as u16,
+            quarantine: self.number_of("--quarantine")?,
         })
+    }
+
+    /// The number of an option, in its range.
+    pub fn number_of(&self, name: &str) -> Result<u64, Fault> {
+        let it = NUMBERS.iter().find(|it| it.name == name);
+        let it = it.expect("each option is in the table");
+        self.number(name, it.least..=it.most, it.default)
     }
 
     fn number(

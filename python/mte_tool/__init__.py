@@ -32,8 +32,8 @@ from mte_tool._arrays import (
     score_profile, tune_profile,
 )  # fmt: skip
 from mte_tool._calls import Cost, Error, Fit, Verdict, strerror, version
+from mte_tool._commands import check, check_fit, fit, footprint, profile, replay, run, score, tune
 from mte_tool._heap import Heap, Outcome
-from mte_tool._texts import check, check_fit, fit, footprint, profile, replay, run, score, tune
 
 __version__ = "1.0.0"
 __all__ = [

@@ -6,6 +6,8 @@ import os
 from ctypes import c_char, c_char_p, c_int, c_size_t, c_uint8, c_uint16, c_uint32, c_uint64, c_void_p
 from typing import Any
 
+from mte_tool._formats import COMMANDS, OPTIONS
+
 DONE, NO, REFUSED, OUT_OF_MEMORY, BAD_OPTION, MISUSE = range(6)
 NAMES = ("libmte_tool.so.1", "libmte_tool.so")
 
@@ -18,7 +20,7 @@ class Sized(ctypes.Structure):
 
 
 class Options(Sized):
-    _fields_ = [("size", c_size_t), *((name, c_uint64) for name in ("granules", "quarantine", "seed", "limit", "step"))]
+    _fields_ = [("size", c_size_t), *((name, c_uint64) for name in OPTIONS)]
 
 
 class Result(Sized):
@@ -73,9 +75,8 @@ def loaded(path: str) -> ctypes.CDLL:
     classes, rows, moments = to(c_uint16), to(c_uint64), to(c_uint32)
     table, room = [classes, c_size_t], [classes, c_size_t, rows, c_size_t]
     claim = [classes, c_size_t, c_uint64, rows, c_size_t]
-    commands = "score tune check footprint fit check_fit profile replay run"
     types: "dict[str, list[Any]]" = {
-        **{name: [options, c_char_p, c_size_t, text, result] for name in commands.split()},
+        **{name: [options, c_char_p, c_size_t, text, result] for name in COMMANDS},
         "score_profile": [options, *table, profile, result],
         "footprint_history": [options, *table, history, result],
         "footprint_timeline": [options, *table, timeline, result],

@@ -4,6 +4,7 @@ import ctypes
 from typing import Any, Callable, NamedTuple, Optional
 
 from mte_tool import _c
+from mte_tool._formats import OPTIONS
 
 MOST = 2**64 - 1
 
@@ -68,10 +69,10 @@ def strerror(code: int) -> str:
     return str(_c.library.mte_tool_strerror(code).decode())
 
 
-def options(limit: int = 0, step: int = 1, granules: int = 65_536, quarantine: int = 65_536, seed: int = 1) -> _c.Options:
-    """The options as the library takes them: a number that 64 bits can't hold is out of its range, as others are."""
-    given = {"limit": limit, "step": step, "granules": granules, "quarantine": quarantine, "seed": seed}
-    return _c.Options(**{name: number if 0 <= number <= MOST else MOST for name, number in given.items()})
+def options(**given: int) -> _c.Options:
+    """The options as the library takes them, with the defaults of those that are not given: a number that 64 bits can't hold is out of its
+    range, as others are."""
+    return _c.Options(**{name: number if 0 <= number <= MOST else MOST for name, number in {**OPTIONS, **given}.items()})
 
 
 def is_yes(end: int, result: _c.Result, text: Optional[bytes] = None) -> bool:

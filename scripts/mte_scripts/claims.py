@@ -4,8 +4,8 @@ No other text that a script, the page, the library or the package prints has the
 scripts/tests/claims searches for them, and compares these sentences with all tables of small cases.
 
 A sentence is made from data: what was judged (Judged), and whether a proved program judged it (Trust). All words are in TEMPLATES, a flat
-dictionary from a name to a text with places like {limit}. `templates()` is that dictionary, plain enough for JSON, so that the page's
-script can have the same words. It fills them by these rules, KIND being profile, history or timeline:
+dictionary from a name to a text with places like {limit}, plain enough for JSON, so that the page's script can have the same words. It fills
+them by these rules, KIND being profile, history or timeline:
 
   {limit}    limit.one where the limit is 1, else limit.many; its {count} is the limit, its {block} is 16 * step
   {forced}   forced.one where one class is forced, else forced.many; its {classes} are in granules, joined as in "1, 2 and 3"
@@ -155,11 +155,6 @@ TEMPLATES = {
 }
 
 
-def templates() -> dict[str, str]:
-    """All words of this module, for JSON."""
-    return dict(TEMPLATES)
-
-
 def byte_text(count: int) -> str:
     return f"{count:,} byte{'' if count == 1 else 's'}"
 
@@ -307,11 +302,6 @@ def pools_unshown(bound: int) -> str:
 def not_proved(trust: Trust) -> str:
     """The note in a picture of what such a program computed."""
     return TEMPLATES["picture.unproved"].format(why=trust.why)
-
-
-def another_program(path: str) -> str:
-    """What is said before a program that MTE_TOOL names is run."""
-    return TEMPLATES["program.other"].format(path=path)
 
 
 def name(kind: str) -> str:

@@ -1,8 +1,8 @@
 """The numbers of the formats and of the library's interface, and the codes with their words: the one table of them beside the proofs.
 
 scripts/tests/formats compares it with the laws that the crates prove of their numbers, with the texts of the codes that contracts cite, and
-with what the program and the documents say. It writes the parts of include/, library/, python/, rust/, web/ and scripts/shims that have
-numbers or sentences.
+with what the program and the documents say. It writes the parts of include/, library/, python/, rust/, web/, bench/plain and scripts/shims
+that have numbers, sentences, options or a call for each command.
 """
 
 from typing import NamedTuple, Optional
@@ -55,20 +55,66 @@ NUMBERS = {name: value for name, value in list(globals().items()) if name.isuppe
 
 
 class Option(NamedTuple):
-    """An option of the commands: its range, and what it is where it is left out. A limit has to be given."""
+    """An option of the commands: its range, its default (a limit has none, and has to be given), the bits that its number has in the proved
+    functions' structure, and what it is, with its values where these are not all of the range."""
 
     least: int
     most: int
     default: Optional[int]
+    bits: int
+    words: str
+    values: str = ""
+
+    def described(self) -> str:
+        """What it is, with its values."""
+        return f"{self.words}: {self.values}" if self.values else f"{self.words}, {self.least} to {self.most}"
 
 
+# in the order of mte_tool_options, in which a new one is the last
 OPTIONS = {
-    "limit": Option(1, MOST_CLASSES, None),
-    "step": Option(1, 8, 1),  # 1, 2, 4 or 8
-    "granules": Option(FEWEST_GRANULES, MOST_GRANULES, 65_536),
-    "seed": Option(1, 65_535, 1),
-    "quarantine": Option(0, MOST_QUARANTINE, 65_536),
+    "granules": Option(FEWEST_GRANULES, MOST_GRANULES, 65_536, 32, "the granules of the heap"),
+    "quarantine": Option(0, MOST_QUARANTINE, 65_536, 32, "the bytes of freed blocks that the heap holds back"),
+    "seed": Option(1, 65_535, 1, 16, "the seed of the random tags"),
+    "limit": Option(1, MOST_CLASSES, None, 8, "the most classes of the table"),
+    "step": Option(1, 8, 1, 8, "the granules that each class is a multiple of", "1, 2, 4 or 8"),
 }
+
+
+class Command(NamedTuple):
+    """A command: the texts that it reads, one after the other, its options, and what a call of the library gives: "cost", "text", "verdict"
+    or "fit", with that in words."""
+
+    inputs: "tuple[str, ...]"
+    options: "tuple[str, ...]"
+    gives: str
+    words: str
+
+
+TUNER = ("limit", "step")
+HEAP = ("granules", "quarantine", "seed")
+
+# in the order of their numbers in C
+COMMANDS = {
+    "score": Command(("classes", "profile"), (), "cost", "What the table of a class line, such as `classes 2 8`, wastes on a profile"),
+    "tune": Command(("profile",), TUNER, "text", "The sheet of the table of least waste on a profile"),
+    "check": Command(
+        ("sheet", "profile"), (), "verdict", "Whether a sheet shows that no table within its limit and step wastes less on a profile"
+    ),
+    "footprint": Command(("classes", "history"), (), "cost", "What the table of a class line takes of memory over a history or a timeline"),
+    "fit": Command(("history",), TUNER, "fit", "The fit of the table of least footprint over a history or a timeline"),
+    "check_fit": Command(
+        ("fit", "history"), (), "verdict",
+        "Whether a fit shows that no table within its limit and step takes less over a history or a timeline",
+    ),
+    "profile": Command(("trace",), (), "text", "The profile of a trace"),
+    "replay": Command(("classes", "trace"), HEAP, "text", "The report of the tagged heap over the table of a class line on a trace"),
+    "run": Command(("trace",), (*TUNER, *HEAP), "text", "The sheet of a trace's profile, and then the report with its table"),
+}
+
+
+# the names of the totals, the last lines of a report
+TOTALS = ("events", "requests", "null large", "null no-class", "null exhausted", "faults tag", "faults unmapped", "refused frees", "loss")
+
 
 class End(NamedTuple):
     """How a call of the library ends: the sentence, and what it leaves."""

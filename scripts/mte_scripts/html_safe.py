@@ -12,7 +12,7 @@ INLINE = re.compile(r"<(script|style)>(.*?)</\1>", re.DOTALL)
 ENDS = re.compile(r"<!--|<script|</script", re.IGNORECASE)
 
 
-def shown(text: str) -> str:
+def shown(text: object) -> str:
     """A text from outside. Characters that are no text, as a file's name may have them, are shown escaped, and raw bytes by their number."""
     return "".join(c if c.isprintable() else escape_of(c) for c in str(text))
 

@@ -17,6 +17,7 @@ scripts/mte_tool writes the manifest after a build, and compares the program wit
                                                        hash SOURCES; where they have another one now, it says so in place of that. The
                                                        verdict is in LOG, which has what rt printed"""
 
+import contextlib
 import hashlib
 import os
 import re
@@ -93,16 +94,23 @@ def verdict_in(log: str, crate: str) -> str:
     return "" if ends else verdict
 
 
+def put(built: str, before: str, verdict: str, root: str) -> bool:
+    """Writes the manifest of what was just proved and built of the sources of the repository in this folder, which had the hash BEFORE. None
+    where they have another one now; whether it is there."""
+    sources, place = sources_of(root), path_of(built)
+    with contextlib.suppress(FileNotFoundError):
+        os.remove(place)
+    if sources == before:
+        kit = subprocess.run(["rt", "version"], stdout=subprocess.PIPE, check=True, text=True).stdout.split("\n")[0]
+        with open(f"{place}.new", "w", encoding="ascii") as file:
+            file.write(text_of(Manifest(hash_of(built), sources, kit, "proved", verdict)))
+        os.replace(f"{place}.new", place)
+    return sources == before
+
+
 def write(root: str, program: str, before: str, log: str = "") -> None:
-    sources = sources_of(root)
-    if sources != before:
+    if not put(program, before, verdict_in(log, os.path.basename(program)), root):
         running.say("mte_tool", "the sources were changed while the program was built: nothing is proved of what it answers")
-        return
-    kit = subprocess.run(["rt", "version"], stdout=subprocess.PIPE, check=True, text=True).stdout.split("\n")[0]
-    place = path_of(program)
-    with open(f"{place}.new", "w", encoding="ascii") as file:
-        file.write(text_of(Manifest(hash_of(program), sources, kit, "proved", verdict_in(log, os.path.basename(program)))))
-    os.replace(f"{place}.new", place)
 
 
 def why_unproved(program: str, root: "str | None") -> str:

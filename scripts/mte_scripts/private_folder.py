@@ -16,6 +16,7 @@ import contextlib
 import errno
 import os
 import stat
+from _collections_abc import Callable, Iterator
 
 from mte_scripts.running import Refused
 
@@ -53,7 +54,7 @@ class Place:
     def __enter__(self) -> "Place":
         return self
 
-    def __exit__(self, *_) -> None:
+    def __exit__(self, *_: object) -> None:
         self.close()
 
     def file(self, name: str) -> str:
@@ -71,9 +72,19 @@ class Place:
             return False
         return stat.S_ISREG(status.st_mode) and is_owned(status) and not is_written_by_others(status)
 
+    def kept(self, name: str, build: "Callable[[str], None]", remedy: str = "") -> str:
+        """The path of a file of this name; BUILD makes it, at another path, where it is not there."""
+        if not self.has(name):
+            try:
+                with self.new_file(name) as new:
+                    build(new)
+            except OSError as error:
+                raise Refused(3, f"{self.path} can't be written: {error.strerror}{remedy}") from None
+        return self.file(name)
+
     def fill(self, folder: str) -> None:
         """Copies the files of another folder into it. None may have a name that is taken."""
-        def new(name, flags):
+        def new(name: str, flags: int) -> int:
             return os.open(name, flags | os.O_NOFOLLOW | os.O_CLOEXEC, 0o644, dir_fd=self.descriptor)
 
         for name in os.listdir(folder):
@@ -82,7 +93,7 @@ class Place:
                     copy.write(piece)
 
     @contextlib.contextmanager
-    def new_file(self, name: str, mode: int = 0o755):
+    def new_file(self, name: str, mode: int = 0o755) -> "Iterator[str]":
         """The path of a new and empty file. It takes the name at the end, or is removed after an exception."""
         new = f"new.{os.urandom(8).hex()}"
         os.close(os.open(new, os.O_WRONLY | os.O_CREAT | os.O_EXCL | os.O_NOFOLLOW | os.O_CLOEXEC, 0o600, dir_fd=self.descriptor))
@@ -109,7 +120,7 @@ def opened(path: str, make: bool = False) -> Place:
         with place:
             at = os.path.dirname(place.path) if name == ".." else place.file(name)
             step = tested(entry(place, name, make), at)
-            if is_link(step):
+            if stat.S_ISLNK(os.fstat(step.descriptor).st_mode):
                 links += 1
                 with step:
                     target = os.readlink("", dir_fd=step.descriptor)
@@ -138,10 +149,6 @@ def make_folder(place: Place, name: str) -> None:
         os.mkdir(name, 0o700, dir_fd=place.descriptor)
     finally:
         os.umask(mask)
-
-
-def is_link(step: Place) -> bool:
-    return stat.S_ISLNK(os.fstat(step.descriptor).st_mode)
 
 
 def tested(descriptor: int, path: str) -> Place:
@@ -212,34 +219,27 @@ def look_at(path: str, flags: int) -> int:
     return os.open(path, flags | os.O_NOFOLLOW | os.O_NONBLOCK | os.O_CLOEXEC)
 
 
-class Folder:
-    """A new folder of the user's alone. `remove` removes what is in it and then itself, by descriptors, unless `keep` is set."""
+class Folder(Place):
+    """A new folder of the user's alone. `close` removes what is in it and then itself, by descriptors, unless `keep` is set."""
 
     def __init__(self, place: Place, name: str) -> None:
+        super().__init__(os.open(name, LIST, dir_fd=place.descriptor), place.file(name))
         self.place, self.name, self.keep = place, name, False
-        self.path = place.file(name)
-        self.descriptor = os.open(name, LIST, dir_fd=place.descriptor)
         status = os.fstat(self.descriptor)
         if status.st_uid != os.geteuid() or status.st_mode & 0o077:
-            os.close(self.descriptor)
+            super().close()
             raise NotPrivate(self.path)
 
     def __enter__(self) -> "Folder":
         return self
 
-    def __exit__(self, *_) -> None:
-        self.remove()
-
-    def file(self, name: str) -> str:
-        return os.path.join(self.path, name)
-
-    def remove(self) -> None:
+    def close(self) -> None:
         if not self.keep:
             with contextlib.suppress(OSError):
                 empty(self.descriptor)
                 if self.is_here():
                     os.rmdir(self.name, dir_fd=self.place.descriptor)
-        os.close(self.descriptor)
+        super().close()
         self.place.close()
 
     def is_here(self) -> bool:
@@ -289,7 +289,7 @@ def temporary_folder() -> Folder:
 
 
 @contextlib.contextmanager
-def temporary():
+def temporary() -> "Iterator[str]":
     """The path of such a folder, which is removed at the end."""
     with temporary_folder() as folder:
         yield folder.path
@@ -299,7 +299,7 @@ def remove_named(path: str) -> None:
     """Removes a folder that `make` printed."""
     above, name = os.path.split(path)
     try:
-        Folder(opened(above), name).remove()
+        Folder(opened(above), name).close()
     except (NotPrivate, OSError) as error:
         raise Refused(3, f"{path} can't be removed: {error}") from None
 

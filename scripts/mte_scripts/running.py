@@ -1,10 +1,8 @@
-"""How each Python script begins and ends. A script imports this before all but sys:
+"""How each Python script begins and ends. A script imports this alone, and has it import what it runs:
 
     sys.dont_write_bytecode = True
     from mte_scripts import running
-    from mte_scripts.recording.merge_profiles import merge    # raises Refused(2, "what is wrong, and how to mend it")
-
-    running.run("merge_profiles", merge)
+    running.run("merge_profiles", "recording.merge_profiles.merge")    # it raises Refused(2, "what is wrong, and how to mend it")
 
 From the import on, Ctrl-C ends the script quietly with status 130, as SIGTERM and SIGHUP do with 143 and 129; and what nobody foresaw ends
 it with status 3 and one line on standard error: no traceback, and no status 1, which means something else in most scripts. Nothing changes
@@ -13,6 +11,7 @@ for a test that imports this."""
 import _signal  # the module signal alone takes longer to import than this one
 import os
 import sys
+from _collections_abc import Callable
 
 FAILED, INTERRUPTED = 3, 130
 ENDING = (_signal.SIGTERM, _signal.SIGHUP)
@@ -33,14 +32,15 @@ def printable(text: str) -> str:
 
 
 def say(name: str, text: str) -> None:
-    """A line on standard error; texts.say where it is loaded, which knows what scripts are called."""
-    if hasattr(sys.modules.get("mte_scripts.texts"), "say"):
-        sys.modules["mte_scripts.texts"].say(name, text)
-    elif sys.stderr is not None:
-        try:
+    """A line on standard error. A name of a file may have any character: those that move the cursor are shown escaped."""
+    texts = sys.modules.get("mte_scripts.texts")
+    if hasattr(texts, "as_called"):  # it is imported whole, and knows what scripts are called
+        name, text = texts.called(name), texts.as_called(text)
+    try:
+        if sys.stderr is not None:
             print(f"{name}: {printable(text)}", file=sys.stderr, flush=True)
-        except OSError:
-            pass  # there is nowhere left to say it
+    except OSError:
+        pass  # there is nowhere left to say it
 
 
 def fail(name: str, error: BaseException) -> int:
@@ -73,9 +73,16 @@ def end(name: str, status: int) -> None:
     sys.exit(status)
 
 
-def run(name: str, main, prints: bool = True) -> None:
-    """Ends the process with what main(words) returns as the status, None for 0, or as it is refused. A script that PRINTS wants standard
-    output."""
+def named(path: str) -> "Callable[[list[str]], int | None]":
+    """The function of a module of this package."""
+    module, _, function = path.rpartition(".")
+    return getattr(__import__(f"mte_scripts.{module}", fromlist=[function]), function)
+
+
+def run(name: str, main: "str | Callable[[list[str]], int | None]", prints: bool = True) -> None:
+    """Ends the process with what main(words) returns as the status, None for 0, or as it is refused; MAIN is a function, or names one of a
+    module of this package. A script that PRINTS wants standard output."""
+    main = named(main) if isinstance(main, str) else main
     # what main has made is removed on its way out
     if _signal.getsignal(_signal.SIGINT) is quit_quietly:
         _signal.signal(_signal.SIGINT, _signal.default_int_handler)
@@ -92,7 +99,7 @@ def run(name: str, main, prints: bool = True) -> None:
     except KeyboardInterrupt:
         status = INTERRUPTED
     except SystemExit as asked:
-        status = asked.code or 0
+        status = asked.code or 0  # type: ignore[assignment]  # a text is printed by Python's own end
     except Exception as error:
         status = fail(name, error)
     for each in ending:
@@ -101,15 +108,15 @@ def run(name: str, main, prints: bool = True) -> None:
     end(name, status)
 
 
-def leave(number, frame) -> None:
+def leave(number: int, frame: object) -> None:
     sys.exit(128 + number)
 
 
-def quit_quietly(number, frame) -> None:
+def quit_quietly(number: int, frame: object) -> None:
     os._exit(INTERRUPTED)
 
 
-def unforeseen(kind, error, trace) -> None:
+def unforeseen(kind: type, error: BaseException, trace: object) -> None:
     """In place of a traceback while modules are imported."""
     os._exit(INTERRUPTED if kind is KeyboardInterrupt else fail(os.path.basename(sys.argv[0]), error))
 

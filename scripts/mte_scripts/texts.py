@@ -5,17 +5,21 @@ docs/FORMATS.md says what the texts are. Files are read as bytes, since they may
 
 import functools
 import io
+import operator
 import os
 import re
 import shlex
 import subprocess
 import sys
+import textwrap
 from collections import defaultdict, namedtuple
+from collections.abc import Callable, Iterable, Iterator, Sequence
+from typing import Any, BinaryIO
 
 from mte_scripts import claims, manifest
 from mte_scripts.formats import LARGEST_CLASS, LARGEST_SIZE, MOST_CLASSES, MOST_COUNT, MOST_INPUT, MOST_SNAPSHOTS
 from mte_scripts.places import ROOT, SCRIPTS
-from mte_scripts.running import Refused, printable
+from mte_scripts.running import Refused, printable, say
 
 EXAMPLES = os.path.join(ROOT, "examples")
 # scripts/package puts the program beside the scripts, and there is nothing to prove there
@@ -47,7 +51,7 @@ def called(name: str) -> str:
 
 
 @functools.lru_cache(maxsize=None)
-def script_names():
+def script_names() -> re.Pattern:
     """How a text names scripts: any by its path, and those by their name alone that have no other meaning, or where they are called."""
     names = sorted((name for name in os.listdir(SCRIPTS) if os.path.isfile(os.path.join(SCRIPTS, name))), key=len, reverse=True)
     every, own = ("|".join(map(re.escape, some)) for some in (names, [name for name in names if "_" in name and name != "mte_tool"]))
@@ -57,7 +61,7 @@ def script_names():
 def as_called(text: str) -> str:
     """A text that names the scripts as in the repository, with the names that they have here."""
 
-    def here(match):
+    def here(match: re.Match) -> str:
         name = match[1] or match[2] or match[3]
         return match[0].replace(f"scripts/{name}" if match[1] else name, called(name))
 
@@ -83,23 +87,21 @@ def write_help(text: str) -> None:
     write(help_text(text))
 
 
-def say(name: str, text: str) -> None:
-    """A line on standard error. A name of a file may have any character: those that move the cursor are shown escaped."""
-    if sys.stderr is not None:
-        try:
-            print(f"{called(name)}: {printable(as_called(text))}", file=sys.stderr, flush=True)
-        except OSError:
-            pass  # there is nowhere left to say it
+def say_reading(name: str, what: str = "") -> None:
+    """What a script that reads standard input says where somebody types it."""
+    if sys.stdin is not None and sys.stdin.isatty():
+        say(name, f"reading standard input{what}; Ctrl-D ends it")
 
 
-def write(text):
-    """Writes a text, or bytes, to standard output at once."""
+def write(text: "str | bytes") -> int:
+    """Writes a text, or bytes, to standard output at once; 0, the status of a script that does nothing after that."""
     left = memoryview(os.fsencode(text))
     try:
         while left:
             left = left[os.write(1, left) :]
     except OSError as error:
         raise Refused(3, f"standard output can't be written: {error.strerror}") from None
+    return 0
 
 
 def write_file(path: str, data: "str | bytes") -> None:
@@ -111,7 +113,19 @@ def write_file(path: str, data: "str | bytes") -> None:
         raise Refused(3, f"{path} can't be written: {error.strerror}") from None
 
 
-def opened(path):
+def wrapped(text: str, width: int = 80, indent: str = "") -> "list[str]":
+    """A text in lines of at most so many columns; those after the first are indented."""
+    return textwrap.wrap(text, width, subsequent_indent=indent, break_long_words=False, break_on_hyphens=False)
+
+
+def columns(rows: "Iterable[Sequence[str]]") -> "list[str]":
+    """Rows of cells as lines, all but the first cell to the right."""
+    widths = [max(map(len, column)) for column in zip(*rows)]
+    lines = [[row[0].ljust(widths[0]), *(cell.rjust(width) for cell, width in zip(row[1:], widths[1:]))] for row in rows]
+    return ["  ".join(line).rstrip() for line in lines]
+
+
+def opened(path: str) -> BinaryIO:
     """A file that is open for reading as bytes, not buffered; standard input for `-`."""
     try:
         if path != "-":
@@ -139,7 +153,17 @@ def read(path: str, most: "int | None" = None) -> bytes:
     return bytes(data[:most])
 
 
-def next_piece(file, path):
+def read_some(path: str, most: int = MOST_INPUT, whose: str = "mte_tool reads") -> bytes:
+    """The bytes of a file that has some, and no more than so many. No more are read, whatever it is."""
+    data, name = read(path, most + 1), printable(named(path))
+    if not data:
+        raise Refused(2, f"{name} is empty: did the command that writes it fail?")
+    if len(data) > most:
+        raise Refused(2, f"{name} has more than the {most:,} bytes that {whose}")
+    return data
+
+
+def next_piece(file: "BinaryIO | Begun", path: str) -> bytes:
     try:
         return file.read(PIECE)
     except OSError as error:
@@ -160,17 +184,33 @@ def parse_profile(data: bytes, name: str) -> dict:
     return counts_of(io.BytesIO(data), name)
 
 
-def counts_of(file, path):
-    counts = defaultdict(int)
+def counts_of(file: "BinaryIO | Begun", path: str) -> dict:
+    counts: "defaultdict[Any, int]" = defaultdict(int)
     line = 1
     for piece in whole_lines(file, path):
         if not add_lines(counts, piece):
             refuse_line(piece, line, path)
         line += piece.count(b"\n")
-    large = [size for size in counts if size > LARGEST_SIZE]
-    if large:
-        counts["large"] = sum(counts.pop(size) for size in large)
-    return dict(counts)
+    return with_large(counts)
+
+
+def with_large(counts: dict) -> dict:
+    """Counts by size, those of all larger sizes as of `large`."""
+    found = {size: count for size, count in counts.items() if size <= LARGEST_SIZE}
+    large = [count for size, count in counts.items() if size > LARGEST_SIZE]
+    return {**found, "large": sum(large)} if large else found
+
+
+def add_counts(sums: dict, counts: dict, factor: int = 1) -> None:
+    """Adds counts by size to others, each so many times."""
+    for size, count in counts.items():
+        sums[size] = sums.get(size, 0) + factor * count
+
+
+def add_row(rows: dict, key: object, counts: "list[int]", factor: int = 1) -> None:
+    """Adds the counts at each moment to those that have this key."""
+    more = counts if factor == 1 else [factor * count for count in counts]
+    rows[key] = list(map(operator.add, rows[key], more)) if key in rows else list(more)
 
 
 def is_history(data: bytes) -> bool:
@@ -183,13 +223,9 @@ def is_timeline(data: bytes) -> bool:
     return data.split(b"\n", 1)[0].rstrip(b"\r ") == b"timeline"
 
 
-def read_history(path):
-    """A history. As in a profile, its sizes come in any order and however often; a size above LARGEST_SIZE is large. Counts are summed."""
-    return parse_history(read(path), named(path))
-
-
-def parse_history(data, name="the history"):
-    """The same of bytes that were read from a file of this name."""
+def parse_history(data: bytes, name: str = "the history") -> History:
+    """A history of a file with this name. As in a profile, its sizes come in any order and however often; a size above LARGEST_SIZE is large.
+    Counts are summed."""
     lines = lines_of(data)
     first = lines[0] if lines else b""
     match = re.fullmatch(rb"snapshots ([1-9][0-9]{0,3})", first)
@@ -204,7 +240,7 @@ def parse_history(data, name="the history"):
             raise fault(first, 1, name, "SIZE N1 .. NT")
         raise Refused(2, f"{name}: line 1 is not `snapshots T` with T from 1 to {MOST_SNAPSHOTS}: {shown(first)}")
     snapshots = int(match[1])
-    counts = {}
+    counts: dict = {}
     for at, line in enumerate(lines[1:], 2):
         word, *numbers = line.split() or [b""]
         digits = numbers if word == b"large" else [word, *numbers]
@@ -213,15 +249,14 @@ def parse_history(data, name="the history"):
         if len(numbers) != snapshots:
             raise Refused(2, f"{name}: line {at} has not {snapshots} counts, one for each snapshot, but {len(numbers)}")
         size = "large" if word == b"large" or int(word) > LARGEST_SIZE else int(word)
-        numbers = list(map(int, numbers))
-        counts[size] = [one + other for one, other in zip(counts[size], numbers)] if size in counts else numbers
+        add_row(counts, size, list(map(int, numbers)))
     return History(snapshots, {size: numbers for size, numbers in counts.items() if any(numbers)})
 
 
 class Begun:
     """A file of which some bytes were read."""
 
-    def __init__(self, begin, file):
+    def __init__(self, begin: bytes, file: BinaryIO) -> None:
         self.begin = begin
         self.file = file
 
@@ -230,7 +265,7 @@ class Begun:
         return begin or self.file.read(most)
 
 
-def read_either(path):
+def read_either(path: str) -> "dict | History":
     """A profile as read_profile has it, or a History: the first line says which."""
     with opened(path) as file:
         begin = b""
@@ -246,26 +281,25 @@ def read_either(path):
 
 def history_text(history: History) -> str:
     """A history as FORMATS.md has it. Where a count is above the most that a text may have, all are scaled down alike, and rounded up."""
-    top = max((max(counts) for counts in history.counts.values()), default=0)
-    lines = [f"snapshots {history.snapshots}\n"]
-    for size in [*sorted(history.counts.keys() - {"large"}), "large"]:
-        if counts := history.counts.get(size):
-            scaled = [-(-count * MOST_COUNT // top) for count in counts] if top > MOST_COUNT else counts
-            lines.append(f"{size} {' '.join(map(str, scaled))}\n")
-    return "".join(lines)
+    return f"snapshots {history.snapshots}\n" + rows_text(history.counts)
 
 
 def profile_text(counts: dict) -> str:
     """A profile as FORMATS.md has it, scaled down as a history is."""
-    top = max(counts.values(), default=0)
+    return rows_text({size: [count] for size, count in counts.items() if count})
+
+
+def rows_text(rows: dict) -> str:
+    """The lines of sizes with their counts."""
+    top = max((max(counts) for counts in rows.values()), default=0)
     lines = []
-    for size in [*range(LARGEST_SIZE + 1), "large"]:
-        if count := counts.get(size):
-            lines.append(f"{size} {-(-count * MOST_COUNT // top) if top > MOST_COUNT else count}\n")
+    for size in [*sorted(rows.keys() - {"large"}), *["large"] * ("large" in rows)]:
+        scaled = [-(-count * MOST_COUNT // top) for count in rows[size]] if top > MOST_COUNT else rows[size]
+        lines.append(f"{size} {' '.join(map(str, scaled))}\n")
     return "".join(lines)
 
 
-def whole_lines(file, path):
+def whole_lines(file: "BinaryIO | Begun", path: str) -> "Iterator[bytes]":
     """The bytes of a file in pieces of whole lines. The last line is given the newline that it may lack."""
     rest = b""
     while True:
@@ -360,14 +394,10 @@ def encoding(text: bytes, line: "int | None" = 1) -> "str | None":
 
 
 def binary(text: bytes) -> bool:
-    return bool(re.search(rb"[^\t\x20-\x7e\x80-\xff]", text)) or not utf_8(text)
-
-
-def utf_8(text: bytes) -> bool:
     try:
-        return text.decode() is not None
+        return not re.fullmatch(r"[\t\x20-\x7e\x80-\U0010ffff]*", text.decode())
     except UnicodeDecodeError:
-        return False
+        return True
 
 
 def shown(text: bytes) -> str:
@@ -413,17 +443,17 @@ def parse_sheet(text: "str | bytes", name: str = "the sheet") -> Sheet:
     return parse_parts(text, name, "sheet", b"waste", Sheet)
 
 
-def parse_fit(text, name="the fit"):
+def parse_fit(text: "str | bytes", name: str = "the fit") -> Fit:
     """A fit as its parts. Only `mte_tool check-fit` says whether it is right."""
     lines = lines_of(os.fsencode(text))
     moments = None
     if lines and (match := re.fullmatch(rb"moments((?: (?:0|[1-9][0-9]{0,9}))+)", lines[-1])):
         moments = [int(at) for at in match[1].split()]
         text = b"\n".join(lines[:-1])
-    return parse_parts(text, name, "fit", b"footprint", lambda *parts: Fit(*parts, moments))
+    return parse_parts(text, name, "fit", b"footprint", lambda *parts: Fit(*parts, moments))  # type: ignore[call-arg]
 
 
-def parse_parts(text, name, kind, cost, make):
+def parse_parts(text: "str | bytes", name: str, kind: str, cost: bytes, make: Callable) -> Any:
     lines = lines_of(os.fsencode(text))
     classes = parse_class_line(lines[0] if lines else None, name)
     numbers = {b"step": 1}
@@ -457,7 +487,7 @@ def program() -> str:
     """The path of the program: $MTE_TOOL, or the proved one, built first where that has to be."""
     other = os.environ.get("MTE_TOOL")
     if other:
-        say("mte_tool", claims.another_program(other))
+        say("mte_tool", claims.TEMPLATES["program.other"].format(path=other))
         return os.path.abspath(other)
     launcher = os.path.join(SCRIPTS, "mte_tool")
     # the launcher says on standard error how far its build is

@@ -1,12 +1,18 @@
-"""The words of a command, by argparse: its help is a text of its own, and what is refused ends it with status 2 and one line."""
+"""The words of a command, by argparse. Its help is a text of its own, which has its options and their values; what is refused ends it with
+status 2 and one line.
+
+    options = Words(HELP, "files", limit=between(1, 32), defaults={"limit": 8}).take(words)
+"""
 
 import argparse
+import keyword
 import os
 import re
 import sys
-from typing import Callable, NoReturn
+from collections.abc import Sequence
+from typing import Any, Callable, NoReturn
 
-from mte_scripts import texts
+from mte_scripts import helps, texts
 from mte_scripts.formats import VERSION
 from mte_scripts.running import Refused
 
@@ -22,14 +28,32 @@ SAYINGS = (
 )
 
 
-class Words(argparse.ArgumentParser):
-    """Takes options and other words in any order; `--` ends the options. At most one argument takes other words, with nargs="*"."""
+def dest_of(option: str) -> str:
+    """What an option is called in Python."""
+    name = option.lstrip("-").replace("-", "_")
+    return f"{name}_" if keyword.iskeyword(name) else name
 
-    def __init__(self, help_text: str) -> None:
-        super().__init__(add_help=False, allow_abbrev=False)
-        self.help_text = help_text
-        self.add_argument("-h", "--help", action=Help, nargs=0, default=argparse.SUPPRESS)
-        self.add_argument("--version", action=Version, nargs=0, default=argparse.SUPPRESS)
+
+class Words(argparse.ArgumentParser):
+    """Takes the options of a help and other words, the option REST, in any order; `--` ends the options. An option without a value there is
+    True where it is given; a value is any word but an empty one, or of the type that KINDS has for it, which may also be what else argparse
+    has of an option. DEFAULTS is what options are where they are left out, else None. OF is which of the options are taken, if not all."""
+
+    def __init__(self, help_text: str, rest: str = "", defaults: "dict[str, Any] | None" = None, of: "Sequence[str]" = (),
+                 **kinds: Any) -> None:
+        super().__init__(add_help=False, allow_abbrev=False, conflict_handler="resolve")
+        options = {dest_of(option.names[-1]): option for option in helps.Help(help_text).options()}
+        if unknown := {*kinds, *(defaults or {}), *of} - options.keys():
+            raise ValueError(f"the help has no options {unknown}")
+        for name, option in options.items():
+            kind: Any = kinds.get(name, some if option.value else {"action": "store_true"})
+            how: dict = kind if isinstance(kind, dict) else {"type": kind, "default": (defaults or {}).get(name)}
+            if not of or name in of:
+                self.add_argument(option.names[-1], dest=how.pop("dest", name), **how)
+        self.add_argument("-h", "--help", action=Says, const=texts.help_text(help_text))
+        self.add_argument("--version", action=Says, const=f"{os.path.basename(sys.argv[0])} {VERSION}\n")
+        if rest:
+            self.add_argument(rest, nargs="*")
 
     def take(self, words: list, once: bool = False, into: "argparse.Namespace | None" = None) -> argparse.Namespace:
         """The options by their names, or INTO what has them then. With ONCE none of them may be there twice."""
@@ -87,15 +111,14 @@ class ProgramWords(Words):
         return options
 
 
-class Help(argparse.Action):
-    def __call__(self, parser, namespace, values, option_string=None):
-        texts.write_help(parser.help_text)
-        parser.exit()
+class Says(argparse.Action):
+    """An option that prints a text, and ends the command."""
 
+    def __init__(self, option_strings: "Sequence[str]", dest: str, const: str) -> None:
+        super().__init__(option_strings, argparse.SUPPRESS, nargs=0, const=const)
 
-class Version(argparse.Action):
-    def __call__(self, parser, namespace, values, option_string=None):
-        texts.write(f"{os.path.basename(sys.argv[0])} {VERSION}\n")
+    def __call__(self, parser: argparse.ArgumentParser, *_: object) -> None:
+        texts.write(self.const)
         parser.exit()
 
 
@@ -105,6 +128,16 @@ def between(least: int, most: int) -> Callable[[str], int]:
         if not re.fullmatch("[0-9]{1,18}", word) or not least <= int(word) <= most:
             raise argparse.ArgumentTypeError(f"takes a number from {least} to {most}, and not {word}")
         return int(word)
+
+    return taken
+
+
+def decimal(least: float, most: float, what: str) -> Callable[[str], float]:
+    """A number of a range that may have a point."""
+    def taken(word: str) -> float:
+        if not re.fullmatch(r"[0-9]{1,9}(\.[0-9]{1,9})?", word) or not least <= float(word) <= most:
+            raise argparse.ArgumentTypeError(f"takes {what} from {least:g} to {most:g}, and not {word}")
+        return float(word)
 
     return taken
 

@@ -174,6 +174,13 @@ static int is_own(void) {
   return !inside && !untouched;
 }
 
+// an aligned request counts as the bytes that an allocator with 16-byte granules sets aside for it
+static size_t aligned(size_t alignment, size_t size) {
+  size_t all = size;
+  if (alignment > 16 && __builtin_add_overflow(size, alignment - 16, &all)) all = -1;
+  return all;
+}
+
 static volatile int reached;  // whether a call came to the library's malloc while it may not record
 
 // Whether the program's malloc is the library's: of two, the loader takes the first. A program at a fixed place may have a stub of its own,

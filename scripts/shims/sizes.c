@@ -10,6 +10,7 @@
 // SIZES_TIMELINE=1 as SIZES_LIVE=1, and the record of the run after the counters (timeline.h). Its order is that in which the calls come to
 //                  the library, by one lock: a request as soon as it has its block, and a free before the block is given back.
 // SIZES_CLASSES=.. the same, but a history from the start: of the moments at which the classes of this table, in granules, have the most blocks.
+// SIZES_SCUDO=1    with live blocks: a realloc that Scudo serves in the block that is there, without another class, leaves it as it was.
 #include "recorder.h"
 #include "timeline.h"
 
@@ -129,32 +130,49 @@ static void change(size_t size, int64_t by) {
 }
 
 // A live block has 8 bytes more than requested. Its last 8 usable bytes are a word: MARK in the upper 16 bits, its counted size in the
-// others.
-static const uint64_t MARK = 0x5AFEULL << 48;
+// others. Of a block that was made smaller, and counts as before, SHRUNK is set too: the size is above 14 bits, which have by how much.
+static const uint64_t MARK = 0x5AFEULL << 48, SHRUNK = 1ULL << 47;
+enum { SHRUNK_BITS = 14, MOST_SHRUNK = (1 << SHRUNK_BITS) - 1 };
 
 static size_t usable(void *block) { return block ? next.usable(block) : 0; }
 
+static void write_tail(void *block, uint64_t tail) { memcpy((char *)block + usable(block) - 8, &tail, 8); }
+
+static void write_size(void *block, size_t size, size_t less) {
+  write_tail(block, less ? MARK | SHRUNK | size << SHRUNK_BITS | less : MARK | size);
+}
+
 static void *come(void *block, size_t size) {
-  uint64_t tail = MARK | size;
   if (!block) return block;
-  memcpy((char *)block + usable(block) - 8, &tail, 8);
+  write_size(block, size, 0);
   change(size, 1);
   return block;
 }
 
-static int size_of(void *block, size_t *size) {
+// the size that a block counts with, and by how much the program has less
+static int size_of(void *block, size_t *size, size_t *less) {
   uint64_t tail;
   if (!block || usable(block) < 8) return 0;
   memcpy(&tail, (char *)block + usable(block) - 8, 8);
-  *size = tail & ~(0xFFFFULL << 48);
-  return (tail & (0xFFFFULL << 48)) == MARK && *size <= tail;
+  *size = tail & (SHRUNK - 1), *less = 0;
+  if (tail & SHRUNK) *less = *size & MOST_SHRUNK, *size >>= SHRUNK_BITS;
+  return (tail & (0xFFFFULL << 48)) == MARK;
 }
 
 static void go(void *block) {
-  size_t size;
-  if (!size_of(block, &size)) return;
-  memset((char *)block + usable(block) - 8, 0, 8);
+  size_t size, less;
+  if (!size_of(block, &size, &less)) return;
+  write_tail(block, 0);
   change(size, -1);
+}
+
+// Whether a realloc leaves a block of Scudo as it is: one that it fits in, and that it makes larger, or smaller by less than a page. (Scudo
+// also leaves it where a larger size has the same class, which does not show.)
+static int as_scudo;
+
+static int stays(size_t size, size_t less, size_t wanted) {
+  int fits = wanted <= size && size - wanted <= MOST_SHRUNK && size < SHRUNK >> SHRUNK_BITS;
+  return as_scudo && fits && (wanted >= size - less || size - less - wanted < PAGE);
 }
 
 static int is_small(size_t size) { return size < 1UL << 46; }  // no larger request can succeed
@@ -192,24 +210,20 @@ void free(void *block) {
 void *realloc(void *block, size_t size) {
   if (!is_own()) return next.realloc(block, size);
   int is_free = block && !size;
-  size_t old;
+  size_t old, less;
   inside++;
   if (!is_free) request(size);
-  int known = live && (is_free || is_small(size)) && size_of(block, &old);
-  if (known) go(block);
+  int known = live && (is_free || is_small(size)) && size_of(block, &old, &less);
+  int remains = known && !is_free && stays(old, less, size);
+  if (remains) write_tail(block, 0);
+  else if (known) go(block);
   int follows = live && !is_free && is_small(size);
   void *moved = next.realloc(block, follows ? size + 8 : size);
-  if (!moved && known && !is_free) come(block, old);
-  if (follows) come(moved, size);
+  if (remains) write_size(moved ? moved : block, old, moved ? old - size : less);
+  else if (!moved && known && !is_free) come(block, old);
+  else if (follows) come(moved, size);
   inside--;
   return moved;
-}
-
-// an aligned request is counted as the bytes that an allocator with 16-byte granules sets aside for it
-static size_t aligned(size_t alignment, size_t size) {
-  size_t all = size;
-  if (alignment > 16 && __builtin_add_overflow(size, alignment - 16, &all)) all = -1;
-  return all;
 }
 
 static int is_aligned_own;  // whether the allocator has its memalign and posix_memalign; else their blocks are not followed
@@ -265,11 +279,11 @@ int posix_memalign(void **result, size_t alignment, size_t size) {
 // A live block has no room beyond its request. So a program that fills a block to its end before it requests more, such as redis, requests
 // what it needs, and not what its present allocator's classes leave it.
 size_t malloc_usable_size(void *block) {
-  size_t size;
+  size_t size, less;
   if (!is_own()) return next.usable(block);
   inside++;
   size_t all = usable(block);
-  if (live && size_of(block, &size)) all = size < all - 8 ? size : all - 8;
+  if (live && size_of(block, &size, &less)) all = size - less < all - 8 ? size - less : all - 8;
   inside--;
   return all;
 }
@@ -278,6 +292,7 @@ static void begin(void) {
   const char *only = getenv("SIZES_ONLY"), *history = getenv("SIZES_HISTORY"), *timeline = getenv("SIZES_TIMELINE");
   char *table = getenv("SIZES_CLASSES");
   if (table) timeline = table;
+  as_scudo = !!getenv("SIZES_SCUDO");
   if (only && strcmp(only, program_invocation_short_name)) return;
   int number = history ? atoi(history) : 1, follow = timeline || history || getenv("SIZES_LIVE");
   size_t room = sizeof early * (number < 1 || timeline ? 1 : number > SNAPSHOTS ? SNAPSHOTS : number), most = room;

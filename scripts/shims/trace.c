@@ -208,13 +208,6 @@ void *realloc(void *pointer, size_t size) {
   return moved;
 }
 
-// an aligned request is traced as the bytes that an allocator with 16-byte granules sets aside for it
-static size_t aligned(size_t alignment, size_t size) {
-  size_t all = size;
-  if (alignment > 16 && __builtin_add_overflow(size, alignment - 16, &all)) all = LARGEST_REQUEST;
-  return all;
-}
-
 #define ALIGNED(call, alignment, size) \
   if (!is_own()) return next.call; \
   inside++; \

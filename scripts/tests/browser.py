@@ -62,7 +62,7 @@ class Page:
         self.process.wait()
         os.close(self.down)
         os.close(self.up)
-        self.folder.remove()
+        self.folder.close()
 
     def message(self):
         while b"\0" not in self.rest:

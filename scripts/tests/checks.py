@@ -16,6 +16,7 @@ The last line of a part has its name and how many checks passed, failed and were
 
 import argparse
 import os
+import re
 import shutil
 import signal
 import subprocess
@@ -26,6 +27,7 @@ import traceback
 import unittest
 from typing import Optional
 
+from mte_scripts.formats import TOTALS
 from mte_scripts.places import ROOT
 
 SHOWN = 900  # characters of each thing that was seen
@@ -49,6 +51,11 @@ def expect(name: str, condition: object, *seen: object) -> bool:
         failed += 1
         print(": ".join([f"FAILED {name}", *[" ".join(map(shown, seen))] * bool(seen)]), flush=True)
     return bool(condition)
+
+
+def totals(**counted: int) -> str:
+    """The lines of totals of a report: of these counts, as null_no_class=1, and else 0."""
+    return "".join(f"{name} {counted.get(re.sub('[ -]', '_', name), 0)}\n" for name in TOTALS)
 
 
 def fail(text: str) -> None:

@@ -5,8 +5,8 @@
    library_calls refuse FOLDER COUNT   each call with each growth of memory refused in turn; then the calls over arrays, a text that is
                                        appended to, and a new heap
 
-   A call N has the files N.call (command, limit, step, granules, seed, quarantine, end, fault, line), N.input and N.want, the text that it
-   has to leave. The first call that goes wrong ends the run with status 1. */
+   A call N has the files N.call (the command, the options in the order of mte_tool_options, and end, fault and line), N.input and N.want, the
+   text that it has to leave. The first call that goes wrong ends the run with status 1. */
 #include <mte_tool.h>
 
 #include <pthread.h>
@@ -78,14 +78,13 @@ static uint8_t *read_file(const char *folder, int number, const char *ending, si
 
 static call read_call(const char *folder, int number) {
     call c;
-    size_t n;
-    unsigned limit, step, granules, seed, quarantine, end, fault;
-    unsigned long line;
-    char *words = (char *)read_file(folder, number, "call", &n);
-    if (sscanf(words, "%15s %u %u %u %u %u %u %u %lu", c.command, &limit, &step, &granules, &seed, &quarantine, &end, &fault, &line) != 9)
-        exit(2);
-    c.options = (mte_tool_options){sizeof c.options, granules, quarantine, seed, limit, step};
-    c.want_ending = (ending){(int)end, fault, line};
+    size_t n, i;
+    char *words = (char *)read_file(folder, number, "call", &n), *rest = words + strcspn(words, " ");
+    uint64_t options[sizeof c.options / sizeof(uint64_t)] = {sizeof c.options};
+    if (sscanf(words, "%15s", c.command) != 1) exit(2);
+    for (i = 1; i < sizeof options / sizeof *options; i++) options[i] = strtoull(rest, &rest, 10);
+    memcpy(&c.options, options, sizeof options);
+    if (sscanf(rest, "%d %u %lu", &c.want_ending.end, &c.want_ending.code, &c.want_ending.line) != 3) exit(2);
     c.input = read_file(folder, number, "input", &c.length);
     c.want = read_file(folder, number, "want", &c.want_length);
     __real_free(words);

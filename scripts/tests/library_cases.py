@@ -9,8 +9,8 @@ from mte_scripts import formats
 from mte_scripts.places import ROOT
 
 EXAMPLES = f"{ROOT}/examples"
-OPTIONS = {"limit": 1, "step": 1, "granules": 65536, "seed": 1, "quarantine": 65536}
-OPTIONS_OF = {"tune": ["limit", "step"], "fit": ["limit", "step"], "replay": ["granules", "seed", "quarantine"], "run": list(OPTIONS)}
+OPTIONS = {name: 1 if option.default is None else option.default for name, option in formats.OPTIONS.items()}
+OPTIONS_OF = {name.replace("_", "-"): command.options for name, command in formats.COMMANDS.items()}
 DONE, NO, REFUSED, OUT_OF_MEMORY, BAD_OPTION, MISUSE = range(len(formats.ENDS))
 SECONDS = 600
 

@@ -1,50 +1,46 @@
 -- The call that words mean.
-use Rattle.std.proofs.Common.{◌≡◌, List, Option, Some, None, ap, arith, option_map, slice_index}
+use Rattle.std.proofs.Common.{◌≡◌, ◌∙◌, List, ap, codes, if◌then◌else◌, refl, subst, sym}
+use Rattle.std.specs.Str.{bytes_eq}
 use Rattle.clap.specs.Words.{Row, Text}
-use Rattle.command_words.specs.Calls.{HasConfig, Names}
-use Rattle.command_words.specs.Spellings.{fit_name, replay_name, run_name, tune_name}
-use Rattle.heap_theory.specs.declared.config.Config.{Config}
+use Rattle.command_words.specs.AcceptedWords.{name_of}
+use Rattle.command_words.specs.Calls.{Names}
+use Rattle.command_words.specs.Options.{HasOptions}
 use Rattle.tool_call.specs.declared.call.Call.{Call}
-use Rattle.tool_call.specs.declared.call.Call.TheVariants.{Score, Tune, Check, Footprint, Fit, CheckFit, Profile, Replay, Run}
+use Rattle.tool_call.specs.declared.call.CommandName.{CommandName}
+use Rattle.tool_call.specs.declared.call.CommandName.TheVariants.{Score, Tune, Check, Footprint, Fit, CheckFit, Profile, Replay, Run}
+use Rattle.tool_call.specs.declared.options.Options.{Options}
 
--- `replay` is no call where its options are none
-pub no_replay : (options : List Row) → ((config : Config) → HasConfig options config → ⊥) → (call : Call) →
-    Names replay_name options call → ⊥
-no_replay options none Score named = cc
-no_replay options none (Tune limits) named = let bad : replay_name ≡ tune_name = named.0 in cc
-no_replay options none Check named = cc
-no_replay options none Footprint named = cc
-no_replay options none (Fit limits) named = let bad : replay_name ≡ fit_name = named.0 in cc
-no_replay options none CheckFit named = cc
-no_replay options none Profile named = cc
-no_replay options none (Replay config) named = none config named.1
-no_replay options none (Run limits config) named = let bad : replay_name ≡ run_name = named.0 in cc
+-- two commands of one name are one
+named : Text → CommandName
+named name =
+    if bytes_eq name (codes "score") then Score
+    else if bytes_eq name (codes "tune") then Tune
+    else if bytes_eq name (codes "check") then Check
+    else if bytes_eq name (codes "footprint") then Footprint
+    else if bytes_eq name (codes "fit") then Fit
+    else if bytes_eq name (codes "check-fit") then CheckFit
+    else if bytes_eq name (codes "profile") then Profile
+    else if bytes_eq name (codes "replay") then Replay
+    else Run
 
-run_is_not_tune : run_name ≡ tune_name → ⊥
-run_is_not_tune same = cc
+named_back : (command : CommandName) → named (name_of command) ≡ command
+unfolding named
+named_back Score = refl
+named_back Tune = refl
+named_back Check = refl
+named_back Footprint = refl
+named_back Fit = refl
+named_back CheckFit = refl
+named_back Profile = refl
+named_back Replay = refl
+named_back Run = refl
 
-run_is_not_fit : run_name ≡ fit_name → ⊥
-run_is_not_fit same = omega (arith, ap (λ (text : Text). slice_index text 0) same)
+same_command : (a b : CommandName) → name_of a ≡ name_of b → a ≡ b
+same_command a b same = sym (named_back a) ∙ ap named same ∙ named_back b
 
-run_is_not_replay : run_name ≡ replay_name → ⊥
-run_is_not_replay same = cc
-
--- `run` is no call where its configuration is none
-pub no_run : (options : List Row) → ((config : Config) → HasConfig options config → ⊥) → (call : Call) → Names run_name options call → ⊥
-no_run options none Score named = cc
-no_run options none (Tune limits) named = run_is_not_tune named.0
-no_run options none Check named = cc
-no_run options none Footprint named = cc
-no_run options none (Fit limits) named = run_is_not_fit named.0
-no_run options none CheckFit named = cc
-no_run options none Profile named = cc
-no_run options none (Replay config) named = run_is_not_replay named.0
-no_run options none (Run limits config) named = none config named.2
-
--- a subcommand's name and its rows are those of one subcommand
-pub entered : {X : Type 0} (name_of : X → Text) (rows_in : X → List Row) (sub : Option X) (name : Text) (rows : List Row) →
-    option_map name_of sub ≡ Some name
-    → option_map (λ (p : Text × List Row). p.1) (option_map {U = Text × List Row} (λ x. (name_of x, rows_in x)) sub) ≡ Some rows →
-    option_map {U = Text × List Row} (λ x. (name_of x, rows_in x)) sub ≡ Some (name, rows)
-entered name_of rows_in None name rows is_name is_rows = cc
-entered name_of rows_in (Some x) name rows is_name is_rows = cc
+-- a command is no call where its options are none
+pub no_call : (name : Text) (command : CommandName) (rows : List Row) → name ≡ name_of command
+    → ((options : Options) → HasOptions command rows options → ⊥) → (call : Call) → Names name rows call → ⊥
+no_call name command rows is none call names =
+    let same = same_command names.command command (sym names.named ∙ is) in
+    none names.options (subst (λ (c : CommandName). HasOptions c rows names.options) same names.given)

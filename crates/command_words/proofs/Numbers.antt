@@ -4,7 +4,7 @@ use Rattle.std.specs.Option.{MatchOption}
 use Rattle.std.specs.Str.Parse.{IsNumeral, ParsesUnsigned, digits_value, without_leading_plus}
 use Rattle.std.proofs.lemmas.Option.{none-some, same_Some}
 use Rattle.clap.specs.Words.{Row, ReadsOne, Text, one_of}
-use Rattle.command_words.specs.Calls.{HasNumber}
+use Rattle.command_words.specs.Options.{HasNumber}
 
 module _ {E : Type 0} (G : Text → Result ℕ E → Type 0) (bits : ℕ)
     (only : (text : Text) (r : Result ℕ E) → G text r → ParsesUnsigned bits 10 text r) (options : List Row) (name : Text) where

@@ -2,21 +2,22 @@
 use Rattle.std.proofs.Common.{◌≡◌, ℕ, ◌+◌, ◌<◌, List, fold, get_or, length, take, ap, sym, ◌∙◌}
 use Rattle.std.proofs.lemmas.List.Sums.{fold_more}
 use Rattle.clap.specs.Words.{App, Rule, with_rule, with_subcommand}
-use Rattle.command_words.specs.AcceptedWords.{rule_for, with_named, with_option, words_named}
-use Rattle.command_words.specs.declared.commands.CommandName.{CommandName}
+use Rattle.command_words.specs.AcceptedWords.{with_command, words_of}
+use Rattle.command_words.specs.Options.{facts_of, option_rule, with_option}
 use Rattle.command_words.specs.declared.options.NumberOption.{NumberOption}
+use Rattle.tool_call.specs.declared.call.CommandName.{CommandName}
 
 -- one more option
 pub option_more : (before start : App) (options : List NumberOption) (i : ℕ) (d : NumberOption) (rule : Rule) → i < length options
-    → before ≡ fold with_option start (take i options) → rule ≡ rule_for (get_or options i d)
+    → before ≡ fold with_option start (take i options) → rule ≡ option_rule (facts_of (get_or options i d))
     → with_rule before rule ≡ fold with_option start (take (i + 1) options)
 option_more before start options i d rule lt so_far is =
     ap (with_rule before) is ∙ ap (λ (a : App). with_option a (get_or options i d)) so_far ∙ sym (fold_more with_option start options i d lt)
 
 -- one more command
 pub command_more : (before start : App) (names : List CommandName) (i : ℕ) (d : CommandName) (words : App) → i < length names
-    → before ≡ fold with_named start (take i names) → words ≡ words_named (get_or names i d)
-    → with_subcommand before words.top ≡ fold with_named start (take (i + 1) names)
+    → before ≡ fold with_command start (take i names) → words ≡ words_of (get_or names i d)
+    → with_subcommand before words.top ≡ fold with_command start (take (i + 1) names)
 command_more before start names i d words lt so_far is =
-    ap (λ (a : App). with_subcommand before a.top) is ∙ ap (λ (a : App). with_named a (get_or names i d)) so_far
-    ∙ sym (fold_more with_named start names i d lt)
+    ap (λ (a : App). with_subcommand before a.top) is ∙ ap (λ (a : App). with_command a (get_or names i d)) so_far
+    ∙ sym (fold_more with_command start names i d lt)

@@ -1,6 +1,5 @@
-pub mod Bounds
+pub mod AcceptedWords
 pub mod Calls
 pub mod FaultText
-pub mod AcceptedWords
-pub mod Spellings
+pub mod Options
 pub mod Words

@@ -1,8 +1,13 @@
-//! The commands: the words, the help and the options of each. `Call::run` runs their engines.
-ghost use Rattle.std.specs.Prelude.{◌≡◌};
-ghost use Rattle.command_words.specs.AcceptedWords.{described, words_named};
+//! The commands: the words and the help of each.
+ghost use Rattle.std.specs.Prelude.{◌≡◌, IfOk};
+ghost use Rattle.command_words.specs.AcceptedWords.{HasWords, name_of, words_of};
+ghost use Rattle.command_words.specs.Calls.{IsNamed};
 
 use self::shared_help::Words;
+use crate::options::options_of;
+use clap::Command;
+use std::alloc::{AllocError, Global};
+use tool_call::CommandName;
 
 pub mod check;
 pub mod check_fit;
@@ -15,63 +20,59 @@ pub mod score;
 pub mod shared_help;
 pub mod tune;
 
-/// The name of a command.
-#[derive(Clone, Copy)]
-pub enum CommandName {
-    Score,
-    Tune,
-    Check,
-    Footprint,
-    Fit,
-    CheckFit,
-    Profile,
-    Replay,
-    Run,
+/// The words of a command for clap, with its options and its help.
+#[inline(always)]
+pub fn clap_words<'a>(alloc: Global, name: CommandName) -> Result<Command<'a>, AllocError>
+    ensures { IfOk result (λ command. HasWords command (words_of name)) }
+{
+    name_and_about(name).command(alloc, options_of(name), text_after(name))
 }
 
-/// The commands, in the order in which the help lists them.
-pub const COMMANDS: &[CommandName] = &[
-    CommandName::Score,
-    CommandName::Tune,
-    CommandName::Check,
-    CommandName::Footprint,
-    CommandName::Fit,
-    CommandName::CheckFit,
-    CommandName::Profile,
-    CommandName::Replay,
-    CommandName::Run,
-];
-
-impl CommandName {
-    /// The command's words.
-    pub fn words(self) -> Words
-        ensures { described result ≡ words_named self }
-    {
-        match self {
-            CommandName::Score => score::WORDS,
-            CommandName::Tune => tune::WORDS,
-            CommandName::Check => check::WORDS,
-            CommandName::Footprint => footprint::WORDS,
-            CommandName::Fit => fit::WORDS,
-            CommandName::CheckFit => check_fit::WORDS,
-            CommandName::Profile => profile::WORDS,
-            CommandName::Replay => replay::WORDS,
-            CommandName::Run => run::WORDS,
-        }
+/// The command of this name.
+pub fn command_named(name: &str) -> Option<CommandName>
+    ensures { IsNamed name.now result }
+{
+    match name {
+        score::NAME => Some(CommandName::Score),
+        tune::NAME => Some(CommandName::Tune),
+        check::NAME => Some(CommandName::Check),
+        footprint::NAME => Some(CommandName::Footprint),
+        fit::NAME => Some(CommandName::Fit),
+        check_fit::NAME => Some(CommandName::CheckFit),
+        profile::NAME => Some(CommandName::Profile),
+        replay::NAME => Some(CommandName::Replay),
+        run::NAME => Some(CommandName::Run),
+        _ => None,
     }
+}
 
-    /// The text after the options in the command's own help. It is no part of the words, so that the proofs that read those don't read it.
-    pub fn after(self) -> &'static str {
-        match self {
-            CommandName::Score => score::AFTER,
-            CommandName::Tune => tune::AFTER,
-            CommandName::Check => check::AFTER,
-            CommandName::Footprint => footprint::AFTER,
-            CommandName::Fit => fit::AFTER,
-            CommandName::CheckFit => check_fit::AFTER,
-            CommandName::Profile => profile::AFTER,
-            CommandName::Replay => replay::AFTER,
-            CommandName::Run => run::AFTER,
-        }
+fn name_and_about(name: CommandName) -> Words
+    ensures { result.name.now ≡ name_of name }
+{
+    match name {
+        CommandName::Score => score::WORDS,
+        CommandName::Tune => tune::WORDS,
+        CommandName::Check => check::WORDS,
+        CommandName::Footprint => footprint::WORDS,
+        CommandName::Fit => fit::WORDS,
+        CommandName::CheckFit => check_fit::WORDS,
+        CommandName::Profile => profile::WORDS,
+        CommandName::Replay => replay::WORDS,
+        CommandName::Run => run::WORDS,
+    }
+}
+
+// The text after the options in the command's own help. It is no part of the words, so that the proofs that read those don't read it.
+fn text_after(name: CommandName) -> &'static str {
+    match name {
+        CommandName::Score => score::AFTER,
+        CommandName::Tune => tune::AFTER,
+        CommandName::Check => check::AFTER,
+        CommandName::Footprint => footprint::AFTER,
+        CommandName::Fit => fit::AFTER,
+        CommandName::CheckFit => check_fit::AFTER,
+        CommandName::Profile => profile::AFTER,
+        CommandName::Replay => replay::AFTER,
+        CommandName::Run => run::AFTER,
     }
 }

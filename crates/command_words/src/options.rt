@@ -1,15 +1,16 @@
-//! The options that commands share.
-ghost use Rattle.std.specs.Prelude.{ℕ, ◌<◌, ◌^◌, MatchOption, MatchResult};
-ghost use Rattle.clap.specs.Words.{found_of, rows_of, with_rule};
-ghost use Rattle.command_words.specs.Calls.{HasConfig, HasLimit, HasLimits, HasNumber, HasNumberIn, HasSeed, HasStep, IsRead};
-ghost use Rattle.command_words.specs.AcceptedWords.{IsOption, number_rule, rule_for};
+//! The options: the words of each, which of them a command has, and what the words of a command line give them.
+ghost use Rattle.std.specs.Prelude.{◌≡◌, ℕ, ◌<◌, ◌^◌, MatchOption, MatchResult, fold};
+ghost use Rattle.clap.specs.Words.{App, found_of, rows_of, with_rule};
+ghost use Rattle.command_words.specs.Options.{AreRead, Has, HasConfig, HasLimits, HasNumber, HasStep, IsOption, IsRead};
+ghost use Rattle.command_words.specs.Options.{facts_of, limit_facts, number_rule, option_rule, seed_facts, with_option, with_options};
+ghost use Rattle.tool_call.specs.Options.{config_of as heap_of, limits_of as tuner_of};
 
 use crate::refusal::OptionFault;
 use clap::{Arg, ArgMatches, value_parser};
 use class_table::{FEWEST_GRANULES, MOST_CLASSES, MOST_GRANULES, is_step};
 use heap_theory::Config;
 use std::alloc::Global;
-use tool_call::Limits;
+use tool_call::{CommandName, Limits, Options};
 
 /// An option whose value is a number within bounds. In the code, its name, its bounds and its help stand here alone.
 #[derive(Clone, Copy)]
@@ -68,20 +69,84 @@ const QUARANTINE: NumberOption = NumberOption {
     help: "Bytes of freed blocks held back from reuse, 0 to 4194304",
 };
 
-/// `--limit` and `--step`.
-pub const LIMITS: &[NumberOption] = &[LIMIT, STEP];
+const LIMITS: &[NumberOption] = &[LIMIT, STEP];
 
-/// The options of the heap's configuration: `--granules`, `--seed` and `--quarantine`.
-pub const CONFIG: &[NumberOption] = &[GRANULES, SEED, QUARANTINE];
+const CONFIG: &[NumberOption] = &[GRANULES, SEED, QUARANTINE];
 
-/// All of these.
-pub const LIMITS_AND_CONFIG: &[NumberOption] = &[LIMIT, STEP, GRANULES, SEED, QUARANTINE];
+const LIMITS_AND_CONFIG: &[NumberOption] = &[LIMIT, STEP, GRANULES, SEED, QUARANTINE];
+
+/// The options of a command, in the order in which the help lists them.
+pub fn options_of(command: CommandName) -> &'static [NumberOption]
+    ensures { (a : App) → fold with_option a result.now ≡ with_options command a }
+{
+    match command {
+        CommandName::Score
+        | CommandName::Check
+        | CommandName::Footprint
+        | CommandName::CheckFit
+        | CommandName::Profile => &[],
+        CommandName::Tune | CommandName::Fit => LIMITS,
+        CommandName::Replay => CONFIG,
+        CommandName::Run => LIMITS_AND_CONFIG,
+    }
+}
+
+/// What the words give the options of a command; the other options are any numbers. `BadOption` if an option is outside its range, or the
+/// step is not 1, 2, 4 or 8.
+pub fn given_options(command: CommandName, words: &ArgMatches<'_>) -> Result<Options, OptionFault>
+    ensures { AreRead command (rows_of (found_of words.now)) result }
+{
+    match command {
+        CommandName::Score
+        | CommandName::Check
+        | CommandName::Footprint
+        | CommandName::CheckFit
+        | CommandName::Profile => Ok(options_from(NO_LIMITS, NO_CONFIG)),
+        CommandName::Tune | CommandName::Fit => match limits_of(words) {
+            Ok(limits) => Ok(options_from(limits, NO_CONFIG)),
+            Err(fault) => Err(fault),
+        },
+        CommandName::Replay => match config_of(words) {
+            Ok(config) => Ok(options_from(NO_LIMITS, config)),
+            Err(fault) => Err(fault),
+        },
+        CommandName::Run => match limits_of(words) {
+            Ok(limits) => match config_of(words) {
+                Ok(config) => Ok(options_from(limits, config)),
+                Err(fault) => Err(fault),
+            },
+            Err(fault) => Err(fault),
+        },
+    }
+}
+
+// what options are that a command does not have
+const NO_LIMITS: Limits = Limits { limit: 0, step: 0 };
+
+const NO_CONFIG: Config = Config {
+    granules: 0,
+    seed: 0,
+    quarantine: 0,
+};
+
+fn options_from(limits: Limits, config: Config) -> Options
+    ensures limits { tuner_of result ≡ limits }
+    ensures config { heap_of result ≡ config }
+{
+    Options {
+        granules: config.granules,
+        quarantine: config.quarantine,
+        seed: config.seed,
+        limit: limits.limit,
+        step: limits.step,
+    }
+}
 
 impl NumberOption {
     /// The option for clap.
     #[inline(always)]
     pub fn arg<'a>(&self, alloc: Global) -> Arg<'a>
-        ensures { IsOption result (rule_for self.now) }
+        ensures { IsOption result (option_rule (facts_of self.now)) }
     {
         match self.default {
             Some(text) => self.number_arg(alloc).default_value(text),
@@ -92,7 +157,7 @@ impl NumberOption {
     // an option for clap, which refuses numbers outside the bounds
     #[inline(always)]
     fn number_arg<'a>(&self, alloc: Global) -> Arg<'a>
-        ensures { IsOption result (number_rule self.now.name.now (self.now.least, self.now.most)) }
+        ensures { IsOption result (number_rule (facts_of self.now)) }
     {
         Arg::new(alloc, self.name)
             .long(self.name)
@@ -104,7 +169,7 @@ impl NumberOption {
     // The number of the option, which must be within its bounds. clap has refused any other number before; its contract doesn't say so, so
     // the function tests again.
     fn number_in(self, options: &ArgMatches<'_>) -> Result<u32, OptionFault>
-        ensures { IsRead (HasNumberIn (rows_of (found_of options.now)) self.name.now (self.least, self.most)) result }
+        ensures { IsRead (Has (rows_of (found_of options.now)) (facts_of self)) result }
     {
         let Some(n) = number(options, self.name) else {
             return Err(OptionFault::BadOption);
@@ -117,8 +182,8 @@ impl NumberOption {
     }
 }
 
-/// `--limit` and `--step` of the options. `BadOption` if the limit is not from 1 to 32, or the step not 1, 2, 4 or 8.
-pub fn limits_of(options: &ArgMatches<'_>) -> Result<Limits, OptionFault>
+// `--limit` and `--step` of the options. `BadOption` if the limit is not from 1 to 32, or the step not 1, 2, 4 or 8.
+fn limits_of(options: &ArgMatches<'_>) -> Result<Limits, OptionFault>
     ensures { MatchResult result
         (HasLimits (rows_of (found_of options.now)))
         (λ _. (limits : Limits) → HasLimits (rows_of (found_of options.now)) limits → ⊥) }
@@ -131,7 +196,7 @@ pub fn limits_of(options: &ArgMatches<'_>) -> Result<Limits, OptionFault>
 
 // the most classes that the options allow
 fn limit_of(options: &ArgMatches<'_>) -> Result<u8, OptionFault>
-    ensures { IsRead (HasLimit (rows_of (found_of options.now))) result }
+    ensures { IsRead (Has (rows_of (found_of options.now)) limit_facts) result }
 {
     match LIMIT.number_in(options) {
         Ok(limit) => Ok(limit as u8),
@@ -150,8 +215,8 @@ fn step_of(options: &ArgMatches<'_>) -> Result<u8, OptionFault>
     }
 }
 
-/// The heap's configuration by the options. `BadOption` if one of them is outside its range.
-pub fn config_of(options: &ArgMatches<'_>) -> Result<Config, OptionFault>
+// The heap's configuration by the options. `BadOption` if one of them is outside its range.
+fn config_of(options: &ArgMatches<'_>) -> Result<Config, OptionFault>
     ensures { MatchResult result
         (HasConfig (rows_of (found_of options.now)))
         (λ _. (config : Config) → HasConfig (rows_of (found_of options.now)) config → ⊥) }
@@ -164,7 +229,7 @@ pub fn config_of(options: &ArgMatches<'_>) -> Result<Config, OptionFault>
 }
 
 fn seed_of(options: &ArgMatches<'_>) -> Result<u16, OptionFault>
-    ensures { IsRead (HasSeed (rows_of (found_of options.now))) result }
+    ensures { IsRead (Has (rows_of (found_of options.now)) seed_facts) result }
 {
     match SEED.number_in(options) {
         Ok(seed) => Ok(seed as u16),

@@ -5,11 +5,11 @@ ghost use Rattle.command_words.specs.AcceptedWords.{program, top};
 ghost use Rattle.command_words.specs.Words.{AreRefused, Mean};
 
 use crate::call::call_of;
-use crate::commands::COMMANDS;
+use crate::commands::clap_words;
 use crate::refusal::Refusal;
 use clap::Command;
 use std::alloc::{AllocError, Global};
-use tool_call::Call;
+use tool_call::{COMMANDS, Call};
 
 const ABOUT: &str = "\
 Find the table of at most K size classes that wastes least, or takes least, for what a program
@@ -36,7 +36,7 @@ pub fn command<'a>(alloc: Global) -> Result<Command<'a>, AllocError>
 {
     let mut command = top_words(alloc);
     for name in COMMANDS {
-        match name.words().command(alloc, name.after()) {
+        match clap_words(alloc, *name) {
             Ok(words) => command = command.subcommand(words)?,
             Err(error) => return Err(error),
         }

@@ -1,6 +1,7 @@
 //! What C holds. A `HandedText` is a structure in C's memory: a pointer to a text of this library, or null, and the text's length.
-//! `BoxParts` are the parts of a box, of which a handle to another type is made. The pointers' proofs stand in `parts.rt` and `handle.rt`;
-//! what is built on them is ordinary code. The constants are the numbers by which C is told how a call ended.
+//! `BoxParts` are the parts of a box, of which a handle is made. The pointers' proofs are those of `parts.rt` and `handle.rt`; what is built
+//! on them is ordinary code. Handles to other types take the latter too (`proofs/LawLemmas/Handles.antt`). The constants are the numbers by
+//! which C is told how a call ended.
 #![tactic(auto)]
 
 mod ends;

@@ -1,4 +1,3 @@
 pub mod Calls
 pub mod Held
 pub mod Outcomes
-pub mod Ownership

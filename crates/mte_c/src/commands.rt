@@ -10,4 +10,4 @@ mod two_parts;
 pub use calls::call;
 pub use ended::Ended;
 pub use faults::{code_of, line_of};
-pub use structures::{Ending, Options};
+pub use structures::{Ending, command_numbered};

@@ -5,16 +5,17 @@
 ghost use Rattle.std.specs.Prelude.{◌≡◌, ◌⊎◌, ◌++◌, [], drop, false, length, min, true, ◌-◌};
 ghost use Rattle.handed_text.specs.Bytes.{bytes_of, filled, is_answer_of};
 ghost use Rattle.mte_c.specs.Commands.Ending.{AnswersIfCall};
-ghost use Rattle.mte_c.specs.Commands.Settings.{call_of};
+ghost use Rattle.mte_c.specs.Commands.Settings.{call_numbered};
 
 mod arrays;
 mod heap;
 
-use crate::commands::{Ended, Ending, Options};
+use crate::commands::{Ended, Ending, command_numbered};
 use handed_text::{DONE, HandedText, MISUSE, OUT_OF_MEMORY};
 use std::alloc::Global;
+use tool_call::{Call, Options};
 
-/// Runs the command of this number (`Options::call`) with the options that are its own.
+/// Runs the command of this number (`command_numbered`) with those of the options that are its own.
 #[unsafe(no_mangle)]
 pub extern "C" fn mte_c_call(
     alloc: Global,
@@ -23,10 +24,15 @@ pub extern "C" fn mte_c_call(
     input: &[u8],
     text: &mut HandedText,
 ) -> Ending
-    ensures { AnswersIfCall (call_of options command) text.old input.now text.new result }
+    ensures { AnswersIfCall (call_numbered options command) text.old input.now text.new result }
 {
-    match options.call(command) {
-        Some(call) => Ending::of(crate::commands::call(alloc, call, input, text)),
+    match command_numbered(command) {
+        Some(name) => Ending::of(crate::commands::call(
+            alloc,
+            Call::of(name, options),
+            input,
+            text,
+        )),
         None => Ending::of(Ended::Misuse),
     }
 }

@@ -1,29 +1,40 @@
 -- The call that words mean is one that its engine takes.
-use Rattle.std.proofs.Common.{arith, List, Option, Some, None}
+use Rattle.std.proofs.Common.{arith, List, Option, Some, None, subst, sym}
 use Rattle.clap.specs.Words.{Row, Text}
-use Rattle.command_words.specs.Calls.{HasConfig, IsCall}
+use Rattle.command_words.specs.Calls.{IsCall}
+use Rattle.command_words.specs.Options.{HasConfig, HasLimits, HasOptions}
 use Rattle.heap_theory.specs.Config.{IsConfig}
 use Rattle.heap_theory.specs.declared.config.Config.{Config}
-use Rattle.tool_call.specs.Options.{IsValid}
+use Rattle.tool_call.specs.Options.{AreTuneOptions, IsValid, call_of, config_of, limits_of}
 use Rattle.tool_call.specs.declared.call.Call.{Call}
-use Rattle.tool_call.specs.declared.call.Call.TheVariants.{Score, Tune, Check, Footprint, Fit, CheckFit, Profile, Replay, Run}
+use Rattle.tool_call.specs.declared.call.CommandName.{CommandName}
+use Rattle.tool_call.specs.declared.call.CommandName.TheVariants.{Score, Tune, Check, Footprint, Fit, CheckFit, Profile, Replay, Run}
+use Rattle.tool_call.specs.declared.options.Limits.{Limits}
+use Rattle.tool_call.specs.declared.options.Options.{Options}
 
-valid_config : (options : List Row) (config : Config) → HasConfig options config → IsConfig config
-valid_config options config has = record {
+valid_limits : (rows : List Row) (limits : Limits) → HasLimits rows limits → AreTuneOptions limits.limit limits.step
+valid_limits rows limits has = record { some = has.0.1; few = has.0.2; is_step = has.1.1 }
+
+valid_config : (rows : List Row) (config : Config) → HasConfig rows config → IsConfig config
+valid_config rows config has = record {
   granules = (has.0.1, has.0.2);
   seed = λ zero. omega (arith, has.1.1);
   quarantine = has.2.2;
 }
 
+valid_options : (command : CommandName) (rows : List Row) (options : Options) → HasOptions command rows options
+    → IsValid (call_of command options)
+valid_options Score rows options has = tt
+valid_options Tune rows options has = valid_limits rows (limits_of options) has
+valid_options Check rows options has = tt
+valid_options Footprint rows options has = tt
+valid_options Fit rows options has = valid_limits rows (limits_of options) has
+valid_options CheckFit rows options has = tt
+valid_options Profile rows options has = tt
+valid_options Replay rows options has = valid_config rows (config_of options) has
+valid_options Run rows options has = (valid_limits rows (limits_of options) has.0, valid_config rows (config_of options) has.1)
+
 pub call_is_valid : (command : Option (Text × List Row)) (call : Call) → IsCall command call → IsValid call
 call_is_valid None call is = absurd is
-call_is_valid (Some command) Score is = tt
-call_is_valid (Some command) (Tune limits) is = record { some = is.1.0.1; few = is.1.0.2; is_step = is.1.1.1 }
-call_is_valid (Some command) Check is = tt
-call_is_valid (Some command) Footprint is = tt
-call_is_valid (Some command) (Fit limits) is = record { some = is.1.0.1; few = is.1.0.2; is_step = is.1.1.1 }
-call_is_valid (Some command) CheckFit is = tt
-call_is_valid (Some command) Profile is = tt
-call_is_valid (Some command) (Replay config) is = valid_config command.1 config is.1
-call_is_valid (Some command) (Run limits config) is =
-    (record { some = is.1.0.1; few = is.1.0.2; is_step = is.1.1.1 }, valid_config command.1 config is.2)
+call_is_valid (Some command) call is =
+    subst (λ (c : Call). IsValid c) (sym is.is) (valid_options is.command command.1 is.options is.given)

@@ -1,10 +1,33 @@
--- The ranges of the options.
+-- The calls, each with the options that are its own, and their ranges.
 use Rattle.std.specs.Prelude.{ℕ, ◌≤◌, ⊤}
 use Rattle.class_table.specs.Steps.{IsStep}
 use Rattle.class_table.specs.declared.table.TheConstants.{MOST_CLASSES}
 use Rattle.heap_theory.specs.Config.{IsConfig}
+use Rattle.heap_theory.specs.declared.config.Config.{Config}
 use Rattle.tool_call.specs.declared.call.Call.{Call}
 use Rattle.tool_call.specs.declared.call.Call.TheVariants.{Score, Tune, Check, Footprint, Fit, CheckFit, Profile, Replay, Run}
+use Rattle.tool_call.specs.declared.call.CommandName.{CommandName}
+use Rattle.tool_call.specs.declared.call.CommandName.TheVariants as name
+use Rattle.tool_call.specs.declared.options.Limits.{Limits}
+use Rattle.tool_call.specs.declared.options.Options.{Options}
+
+abbrev pub limits_of : Options → Limits
+limits_of options = record { limit = options.limit; step = options.step }
+
+abbrev pub config_of : Options → Config
+config_of options = record { granules = options.granules; seed = options.seed; quarantine = options.quarantine }
+
+-- The call of a command with those of the options that are its own.
+abbrev pub call_of : CommandName → Options → Call
+call_of name.Score options = Score
+call_of name.Tune options = Tune (limits_of options)
+call_of name.Check options = Check
+call_of name.Footprint options = Footprint
+call_of name.Fit options = Fit (limits_of options)
+call_of name.CheckFit options = CheckFit
+call_of name.Profile options = Profile
+call_of name.Replay options = Replay (config_of options)
+call_of name.Run options = Run (limits_of options) (config_of options)
 
 -- The most classes of a table, 1 to 32, and the step.
 pub record AreTuneOptions (limit step : ℕ) : Type 0 where

@@ -1,8 +1,35 @@
-ghost use Rattle.std.specs.Prelude.{◌↔◌, IsTrue};
-ghost use Rattle.tool_call.specs.Options.{IsValid};
+//! The commands, and the calls.
+ghost use Rattle.std.specs.Prelude.{◌≡◌, ◌↔◌, IsTrue};
 
-use crate::limits::Limits;
+use crate::options::{Limits, Options};
 use heap_theory::Config;
+
+/// The name of a command.
+#[derive(Clone, Copy, Debug, PartialEq, Eq)]
+pub enum CommandName {
+    Score,
+    Tune,
+    Check,
+    Footprint,
+    Fit,
+    CheckFit,
+    Profile,
+    Replay,
+    Run,
+}
+
+/// The commands, in the order in which the help lists them.
+pub const COMMANDS: &[CommandName] = &[
+    CommandName::Score,
+    CommandName::Tune,
+    CommandName::Check,
+    CommandName::Footprint,
+    CommandName::Fit,
+    CommandName::CheckFit,
+    CommandName::Profile,
+    CommandName::Replay,
+    CommandName::Run,
+];
 
 /// A command with its options.
 #[derive(Clone, Copy, Debug)]
@@ -19,6 +46,25 @@ pub enum Call {
 }
 
 impl Call {
+    ghost use Rattle.tool_call.specs.Options.{IsValid, call_of};
+
+    /// The call of a command with those of the options that are its own.
+    pub fn of(command: CommandName, options: Options) -> Call
+        ensures { result ≡ call_of command options }
+    {
+        match command {
+            CommandName::Score => Call::Score,
+            CommandName::Tune => Call::Tune(options.limits()),
+            CommandName::Check => Call::Check,
+            CommandName::Footprint => Call::Footprint,
+            CommandName::Fit => Call::Fit(options.limits()),
+            CommandName::CheckFit => Call::CheckFit,
+            CommandName::Profile => Call::Profile,
+            CommandName::Replay => Call::Replay(options.config()),
+            CommandName::Run => Call::Run(options.limits(), options.config()),
+        }
+    }
+
     /// Whether the options are in their ranges.
     pub fn is_valid(self) -> bool
         ensures { IsTrue result ↔ IsValid self }

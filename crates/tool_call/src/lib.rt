@@ -1,9 +1,9 @@
-//! A command of the tool with its options, as one value: what the words of a command line mean, and what an engine is asked for. It stands on
-//! no engine and no words, so that both know it.
+//! A command of the tool with its options, as one value: what the words of a command line mean, what a caller from C passes, and what an
+//! engine is asked for. It stands on no engine and no words, so that all know it.
 #![tactic(auto)]
 
 mod call;
-mod limits;
+mod options;
 
-pub use call::Call;
-pub use limits::Limits;
+pub use call::{COMMANDS, Call, CommandName};
+pub use options::{Limits, Options};

@@ -1,6 +1,7 @@
 //! The same over numbers. Sizes are in bytes, ascending, from 0 to 16,368; classes in granules of 16 bytes, ascending, from 2 to 1,024. An
 //! [`Error`] has the code, and in `at` the index of the first faulty entry.
-use crate::calls::{is_yes, no_result, Cost, Error, Options, Verdict};
+use crate::calls::{is_yes, no_result, Cost, Error, Verdict};
+use crate::options::Options;
 use mte_tool_sys as c;
 
 const MOST_CLASSES: usize = 32;

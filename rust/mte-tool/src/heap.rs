@@ -1,5 +1,6 @@
 //! One modelled heap with memory tags (docs/HEAP.md).
-use crate::calls::{is_yes, no_result, sentence, Error, Options};
+use crate::calls::{is_yes, no_result, sentence, Error};
+use crate::options::Options;
 use mte_tool_sys as c;
 use std::fmt;
 

@@ -29,13 +29,17 @@
 
 mod arrays;
 mod calls;
+mod commands;
 mod heap;
+mod options;
 mod texts;
 
 pub use arrays::{
     check_fit_history, check_fit_timeline, check_profile, fit_history, fit_timeline, footprint_history, footprint_timeline, score_profile,
     tune_profile, History, Profile, Table, Timeline,
 };
-pub use calls::{sentence, version, Cost, End, Error, Options, Verdict};
+pub use calls::{sentence, version, Cost, End, Error, Verdict};
+pub use commands::{check, check_fit, fit, footprint, profile, replay, run, score, tune};
 pub use heap::{Granule, Heap, Refusal};
-pub use texts::{check, check_fit, fit, footprint, profile, replay, run, score, tune, Fit, Text};
+pub use options::Options;
+pub use texts::{Fit, Text};

@@ -16,6 +16,7 @@ import signal
 import subprocess
 import sys
 import tempfile
+from pathlib import Path
 
 from mte_scripts.builds.crate_list import CrateList
 
@@ -25,22 +26,21 @@ MEMORY_OF_A_PROOF = 4 << 30
 GIVES_WAY = ["nice", "-n", "5"]
 
 
-def lanes():
+def lanes() -> int:
     """As many as there are cores, and memory for each."""
-    with open("/proc/meminfo", encoding="ascii") as file:
-        free = 1024 * int(re.search(r"MemAvailable: *(\d+)", file.read()).group(1))
+    free = 1024 * int(re.search(r"MemAvailable: *(\d+)", Path("/proc/meminfo").read_text())[1])
     return max(1, min(len(os.sched_getaffinity(0)), free // MEMORY_OF_A_PROOF))
 
 
-def lines(folder):
+def lines(folder: str) -> int:
     """The lines of a crate's code, by which the time of its proof is guessed."""
     files = [os.path.join(at, name) for at, _, names in os.walk(os.path.join(folder, "src")) for name in names]
-    return sum(len(open(file, "rb").readlines()) for file in files)
+    return sum(Path(file).read_bytes().count(b"\n") for file in files)
 
 
-def chains(crates, below):
+def chains(crates: CrateList, below: "dict[str, list[str]]") -> "dict[str, int]":
     """For each crate the lines of the longest chain from it up to the program, its own included."""
-    longest = {}
+    longest: "dict[str, int]" = {}
     for name in reversed(list(below)):
         above = [longest[other] for other in below if name in below[other]]
         longest[name] = lines(crates.folder(name)) + max(above, default=0)
@@ -50,19 +50,19 @@ def chains(crates, below):
 class Proof:
     """A crate that is being proved, in a copy."""
 
-    def __init__(self, crates, name, folder, jobs, way):
+    def __init__(self, crates: CrateList, name: str, folder: str, jobs: int, way: "list[str]") -> None:
         self.crates, self.name = crates, name
         self.copy = os.path.join(folder, name)
         self.place = os.path.join(self.copy, "crates", name)
         below = crates.below([name])
-        crates.copy(below, self.copy)
+        crates.copy(list(below), self.copy)
         for library in [os.path.join("crates", it, "out", "rlib") for it in below if it != name]:
             shutil.copytree(os.path.join(crates.root, library), os.path.join(self.copy, library), copy_function=os.link)
         self.said = tempfile.TemporaryFile()
-        how = {"cwd": self.place, "stdin": subprocess.DEVNULL, "stdout": self.said, "stderr": subprocess.STDOUT}
+        how: dict = {"cwd": self.place, "stdin": subprocess.DEVNULL, "stdout": self.said, "stderr": subprocess.STDOUT}
         self.run = subprocess.Popen([*way, "rt", "lib", "--jobs", str(jobs)], **how)
 
-    def end(self):
+    def end(self) -> int:
         """Waits for rt, moves what it has kept to the repository, and returns its status."""
         status = self.run.wait()
         kept, place = os.path.join(self.place, "out"), os.path.join(self.crates.folder(self.name), "out")
@@ -80,16 +80,17 @@ class Proof:
 class Build:
     """The proofs of all crates below a program."""
 
-    def __init__(self, crates, program):
+    def __init__(self, crates: CrateList, program: str) -> None:
         self.crates, self.below = crates, crates.below([program])
         self.folder = os.path.join(crates.folder(program), "out", "first_build")
         self.chain = chains(crates, self.below)
         self.left = sorted(set(self.below) - {program}, key=self.chain.get, reverse=True)
         # what only the program stands on
         self.last = set(self.left).difference(*(self.below[it] for it in self.left))
-        self.running, self.proved = {}, set()
+        self.running: "dict[int, Proof]" = {}
+        self.proved: "set[str]" = set()
 
-    def begin(self, lanes):
+    def begin(self, lanes: int) -> None:
         """Begins the crates whose libraries are there, while lanes are idle."""
         idle = lanes - len(self.running)
         can = [it for it in self.left if self.proved.issuperset(self.below[it])]
@@ -98,14 +99,11 @@ class Build:
             begun += [it for it in can if it in self.last][: idle - len(begun)]
         for name in begun:
             self.left.remove(name)
-            if all(self.chain[name] >= self.chain[it.name] for it in self.running.values()):
-                how = (lanes, [])
-            else:
-                how = (1, GIVES_WAY)
-            proof = Proof(self.crates, name, self.folder, *how)
+            is_longest = all(self.chain[name] >= self.chain[it.name] for it in self.running.values())
+            proof = Proof(self.crates, name, self.folder, lanes if is_longest else 1, [] if is_longest else GIVES_WAY)
             self.running[proof.run.pid] = proof
 
-    def prove(self, lanes):
+    def prove(self, lanes: int) -> int:
         """Proves all, and returns 0, or rt's status for the first crate that is not proved."""
         while self.left or self.running:
             self.begin(lanes)
@@ -127,7 +125,7 @@ class Build:
         shutil.rmtree(self.folder, ignore_errors=True)
 
 
-def main(words):
+def main(words: "list[str]") -> "int | None":
     if not words:
         return print(lanes())
     for number in (signal.SIGTERM, signal.SIGHUP):

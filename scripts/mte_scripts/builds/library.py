@@ -3,6 +3,7 @@
 import os
 import shutil
 import subprocess
+from pathlib import Path
 
 from mte_scripts import manifest, private_folder, texts
 from mte_scripts.builds import static_libraries
@@ -99,32 +100,13 @@ def lay_out(work: str, folder: str) -> None:
         shutil.copyfile(f"{ROOT}/include/{name}", f"{folder}/include/{name}")
     for name in ("libmte_tool.a", SHARED):
         shutil.copyfile(f"{work}/{name}", f"{folder}/lib/{name}")
-    with open(f"{folder}/lib/pkgconfig/mte_tool.pc", "w", encoding="ascii") as file:
-        file.write(PKG_CONFIG)
-    name = f"{folder}/lib/libmte_tool.so"
-    if os.path.lexists(name):
-        os.unlink(name)
-    os.symlink(SHARED, name)
-
-
-def put_manifests(folder: str, before: str, verdict: str) -> None:
-    """The manifests of both libraries, which were built of sources with the hash BEFORE; none where they have changed since."""
-    sources = manifest.sources_of(ROOT)
-    kit = static_libraries.run(["rt", "version"]).split("\n")[0]
-    for name in ("libmte_tool.a", SHARED):
-        path = f"{folder}/lib/{name}"
-        if os.path.exists(manifest.path_of(path)):
-            os.unlink(manifest.path_of(path))
-        if sources == before:
-            with open(manifest.path_of(path), "w", encoding="ascii") as file:
-                file.write(manifest.text_of(manifest.Manifest(manifest.hash_of(path), sources, kit, "proved", verdict)))
-    if sources != before:
-        texts.say("library", "the sources were changed while the library was built: it has no manifest")
+    Path(folder, "lib/pkgconfig/mte_tool.pc").write_text(PKG_CONFIG)
+    Path(folder, "lib/libmte_tool.so").unlink(missing_ok=True)
+    os.symlink(SHARED, f"{folder}/lib/libmte_tool.so")
 
 
 def make_library(words: "list[str]") -> None:
-    parser = Words(HELP)
-    parser.add_argument("folders", nargs="*")
+    parser = Words(HELP, "folders")
     folders = parser.take(words).folders
     if len(folders) != 1:
         parser.error(f"it takes one folder, and not {len(folders)}")
@@ -138,7 +120,8 @@ def make_library(words: "list[str]") -> None:
             objects, verdict = proved_objects(work)
             link(work, objects)
             lay_out(work, folders[0])
-        put_manifests(folders[0], sources, verdict)
+        if not all([manifest.put(f"{folders[0]}/lib/{name}", sources, verdict, ROOT) for name in ("libmte_tool.a", SHARED)]):
+            texts.say("library", "the sources were changed while the library was built: it has no manifest")
     except (subprocess.CalledProcessError, OSError) as error:
         raise Refused(3, f"the library could not be built: {error}") from None
     texts.say("library", f"built in {os.path.abspath(folders[0])}")

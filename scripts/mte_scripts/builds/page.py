@@ -30,7 +30,7 @@ Example:
 """
 
 
-def given(path):
+def given(path: str) -> "tuple[str, str]":
     data = texts.read(path, texts.MOST_INPUT + 1)
     if len(data) > texts.MOST_INPUT:
         raise Refused(2, f"{path} has more than {texts.MOST_INPUT} bytes")
@@ -39,9 +39,6 @@ def given(path):
     return (texts.named(path) if path == "-" else os.path.basename(path)), data.decode()
 
 
-def print_page(words):
-    parser = Words(HELP)
-    for name in ("--profile", "--trace"):
-        parser.add_argument(name, type=given)
-    files = {name: file for name, file in vars(parser.take(words)).items() if file}
+def print_page(words: "list[str]") -> int:
+    files = {name: file for name, file in vars(Words(HELP, profile=given, trace=given).take(words)).items() if file}
     return texts.write(web_page.page(web_page.built("page"), **files))

@@ -6,22 +6,24 @@ import os
 import shutil
 import subprocess
 import sys
+from pathlib import Path
+from typing import Any
 
 from mte_scripts.builds.crate_list import CrateList
 from mte_scripts.places import ROOT
 
 
-def kit():
+def kit() -> "str | None":
     """The toolchain's folder, or None."""
     command = shutil.which("rt")
     return command and os.path.dirname(os.path.dirname(os.path.realpath(command)))
 
 
-def jobs():
+def jobs() -> "list[str]":
     return ["--jobs", os.environ.get("RT_JOBS", "1")]
 
 
-def run(words, **how):
+def run(words: "list[str]", **how: Any) -> str:
     """Runs a command; what it says goes to standard error, and only where it fails."""
     done = subprocess.run(words, stdout=subprocess.PIPE, stderr=subprocess.STDOUT, stdin=subprocess.DEVNULL, **how)
     if done.returncode:
@@ -30,25 +32,25 @@ def run(words, **how):
     return done.stdout.decode(errors="replace")
 
 
-def crates_below(crate):
+def crates_below(crate: str) -> "list[str]":
     return [name for name in CrateList(ROOT).below([crate]) if name != crate]
 
 
-def are_left(crate):
+def are_left(crate: str) -> bool:
     """Whether `rt ci` has just left each library below the crate. What it built has no stamp; a library with one was there before it ran."""
-    def is_left(name):
+    def is_left(name: str) -> bool:
         place = f"{ROOT}/crates/{name}/out/rlib"
         return os.path.exists(f"{place}/{name}.rlib/format") and not os.path.exists(f"{place}/stamp")
 
     return bool(os.environ.get("MTE_AFTER_CI")) and all(map(is_left, crates_below(crate)))
 
 
-def is_cheap(crate):
+def is_cheap(crate: str) -> bool:
     """Whether the crate can be built without a proof of those below it: `rt ci` left their libraries, or `rt lib` kept them."""
     return are_left(crate) or all(os.path.exists(f"{ROOT}/crates/{name}/out/rlib/stamp") for name in crates_below(crate))
 
 
-def words(crate):
+def words(crate: str) -> "list[str]":
     """The crate, its kind and its libraries, for the compiler."""
     crates = CrateList(ROOT)
     said = ["--crate-name", crate, "src/lib.rt", "-L", f"dependency={kit()}/rlibs", "--crate-type", "staticlib"]
@@ -60,7 +62,7 @@ def words(crate):
     return [*said, "--antt-project", f"{kit()}/rattle/logic/antt-project.json"]
 
 
-def build(crate, archive, toolchain):
+def build(crate: str, archive: str, toolchain: str) -> str:
     """Builds the static library by this toolchain's compiler, of what was proved; what the proof printed."""
     place = os.path.join(ROOT, "crates", crate)
     over = ["--logic-built", f"{kit()}/logic_built"]
@@ -73,26 +75,16 @@ def build(crate, archive, toolchain):
     proved, log = f"{place}/out/proved", f"{place}/out/proved.log"
     compiled = [f"{kit()}/bin/rattle", "build", *words(crate), "--crate-checked", proved, *made]
     if os.path.exists(proved) and not subprocess.run(compiled, cwd=place, capture_output=True, stdin=subprocess.DEVNULL).returncode:
-        return read(log)
+        return Path(log).read_text(encoding="utf-8") if os.path.exists(log) else ""  # what an earlier proof printed, where it is kept
     shutil.rmtree(proved, ignore_errors=True)
     os.makedirs(os.path.dirname(proved), exist_ok=True)
     said = run([f"{kit()}/bin/rattle", "check", *words(crate), *over, *jobs(), "-o", proved], cwd=place)
-    with open(log, "w", encoding="utf-8") as file:
-        file.write(said)
+    Path(log).write_text(said, encoding="utf-8")
     run(compiled, cwd=place)
     return said
 
 
-def read(log):
-    """What an earlier proof printed, where it is kept."""
-    try:
-        with open(log, encoding="utf-8") as file:
-            return file.read()
-    except OSError:
-        return ""
-
-
-def make(folder, crates):
+def make(folder: str, crates: "list[str]") -> "dict[str, str]":
     """Builds libCRATE.a of each crate in that folder; what the proof of each printed."""
     said = {}
     for crate in crates:

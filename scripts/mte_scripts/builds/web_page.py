@@ -4,6 +4,8 @@ import base64
 import functools
 import os
 import subprocess
+from collections.abc import Callable, Iterable
+from pathlib import Path
 
 from mte_scripts import claims, html_safe, manifest, texts
 from mte_scripts.builds import webassembly
@@ -18,6 +20,7 @@ SCRIPT = ("formats", "model", "words", "claims", "counts", "pictures", "tune", "
 MODULES = {"tool": ("mte_c", "mte_c_"), "steps": ("mte_step", "mte_step_")}
 # what the page's policy lets it do: compile the engines, and start the worker that it makes of its own text
 ALLOWED = {"script-src": "'wasm-unsafe-eval'", "worker-src": "blob:"}
+Named = tuple[str, str]  # a name and a text
 EXAMPLES = {
     "the requests of sqlite3": "sqlite.profile",
     "the requests of jq": "jq.profile",
@@ -26,21 +29,20 @@ EXAMPLES = {
 }
 
 
-def source(name):
-    with open(os.path.join(WEB, name), encoding="utf-8") as file:
-        return file.read()
+def source(name: str) -> str:
+    return Path(WEB, name).read_text(encoding="utf-8")
 
 
-def scripts(names):
+def scripts(names: "Iterable[str]") -> str:
     """The sources as one script; no word in it ends the element that it stands in."""
     return html_safe.code("\n".join(source(f"{name}.js") for name in names))
 
 
-def example(name):
+def example(name: str) -> str:
     return texts.read(os.path.join(texts.EXAMPLES, name)).decode()
 
 
-def newest_source():
+def newest_source() -> float:
     """When a source of the crates, or of the way to WebAssembly, was changed last."""
     files = [os.path.join(webassembly.ROOT, "crates.txt"), webassembly.HEAP, webassembly.__file__]
     for folder, below, names in os.walk(os.path.join(webassembly.ROOT, "crates")):
@@ -57,31 +59,27 @@ def kept_at(name: str) -> str:
 
 
 @functools.lru_cache(maxsize=None)
-def sources_at_first():
+def sources_at_first() -> str:
     """The hash of the sources, as they were when it was asked for first."""
     return manifest.sources_of(webassembly.ROOT)
 
 
-def is_old(kept, newest):
+def is_old(kept: str, newest: float) -> bool:
     """Whether a module has to be built: it is older than a source, or not the one of the manifest that its build wrote beside it."""
     if not os.path.exists(kept) or os.stat(kept).st_mtime < newest:
         return True
     return not texts.IS_PACKAGED and bool(manifest.why_unproved(kept, None) or manifest.read(kept).sources != sources_at_first())
 
 
-def keep(kept, data, newest, sources):
+def keep(kept: str, data: bytes, newest: float, sources: str) -> None:
     """Keeps a module that was just built of sources with this hash, with its manifest; none where they have changed since."""
-    with open(f"{kept}.new", "wb") as file:
-        file.write(data)
+    Path(f"{kept}.new").write_bytes(data)
     os.utime(f"{kept}.new", (newest, newest))
     os.replace(f"{kept}.new", kept)
-    if manifest.sources_of(webassembly.ROOT) == sources:
-        version = webassembly.run(["rt", "version"]).split("\n")[0]
-        with open(manifest.path_of(kept), "w", encoding="ascii") as file:
-            file.write(manifest.text_of(manifest.Manifest(manifest.hash_of(kept), sources, version, "proved")))
+    manifest.put(kept, sources, "", webassembly.ROOT)
 
 
-def at_hand():
+def at_hand() -> "dict[str, bytes] | None":
     """The bytes of each module where nothing has to be built for them, else None."""
     places = {name: kept_at(name) for name in MODULES}
     if not all(map(os.path.exists, places.values())):
@@ -90,7 +88,7 @@ def at_hand():
     return None if any(is_old(kept, newest) for kept in places.values()) else {name: texts.read(kept) for name, kept in places.items()}
 
 
-def engines(tell=lambda words: None):
+def engines(tell: "Callable[[str], None]" = lambda words: None) -> "dict[str, bytes]":
     """The bytes of each module, built where it is none of these sources."""
     found, newest = {}, newest_source()
     for name, (crate, prefix) in MODULES.items():
@@ -98,12 +96,11 @@ def engines(tell=lambda words: None):
         if is_old(kept, newest):
             tell(f"proving {crate} and compiling it to WebAssembly; the first time this takes as long as proving all")
             keep(kept, webassembly.wasm(crate, prefix), newest, sources_at_first())
-        with open(kept, "rb") as file:
-            found[name] = file.read()
+        found[name] = Path(kept).read_bytes()
     return found
 
 
-def built(name):
+def built(name: str) -> "dict[str, bytes]":
     """The same for a script of this name, which is refused where they can't be built."""
     if texts.IS_PACKAGED:
         if modules := at_hand():
@@ -117,15 +114,16 @@ def built(name):
         raise texts.Refused(3, f"the engines of the page could not be built: {error}") from None
 
 
-def page(modules, profile=None, trace=None, replay=None, options=None):
+def page(modules: "dict[str, bytes]", profile: "Named | None" = None, trace: "Named | None" = None, replay: "dict | None" = None,
+         options: "dict | None" = None) -> str:
     """The page. A profile (or a history) and a trace are (name, text), or left out. OPTIONS are those with which it tunes first: the limit,
     the step, and whether class 1024 is kept. A trace may come with its replay: the class line, the numbers of the heap, and notes, each
     (event, text)."""
-    data = {name: base64.b64encode(bytes_).decode() for name, bytes_ in modules.items()}
+    data: dict = {name: base64.b64encode(bytes_).decode() for name, bytes_ in modules.items()}
     data["examples"] = {name: example(file) for name, file in EXAMPLES.items()}
     data["scudo"], data["android"] = example("scudo.classes").strip(), example("scudo_android.classes").strip()
     data["importer"] = f"{texts.called('profile_program')} --import"
-    data["claims"], data["map"] = claims.templates(), scudo_map.for_page()
+    data["claims"], data["map"] = claims.TEMPLATES, scudo_map.for_page()
     data["given"] = {name: {"name": html_safe.shown(of[0]), "text": of[1]} for name, of in (("profile", profile), ("trace", trace)) if of}
     if options:
         data["given"]["options"] = options

@@ -5,6 +5,7 @@ nothing proves the steps of this file. scripts/tests/page compares what comes ou
 import os
 import re
 import shutil
+from pathlib import Path
 
 from mte_scripts import private_folder
 from mte_scripts.builds import static_libraries
@@ -30,7 +31,7 @@ class Missing(Exception):
     """What this machine lacks for the way, in words."""
 
 
-def kit():
+def kit() -> str:
     if not static_libraries.kit():
         raise Missing("the toolchain's command rt")
     if not shutil.which("wasm-opt"):
@@ -38,7 +39,7 @@ def kit():
     return static_libraries.kit()
 
 
-def llvm_module(crate, kept, folder):
+def llvm_module(crate: str, kept: str, folder: str) -> None:
     """Proves and builds the static library by a clang that keeps the module in the file KEPT."""
     toolchain = os.path.join(folder, "toolchain")
     os.makedirs(os.path.join(toolchain, "bin"))
@@ -46,8 +47,7 @@ def llvm_module(crate, kept, folder):
     for name in os.listdir(f"{kit()}/toolchain/bin"):
         os.symlink(f"{kit()}/toolchain/bin/{name}", f"{toolchain}/bin/{name}")
     os.unlink(f"{toolchain}/bin/clang")
-    with open(f"{toolchain}/bin/clang", "w", encoding="utf-8") as script:
-        script.write(KEEPER.format(kept=kept, clang=f"{kit()}/toolchain/bin/clang"))
+    Path(toolchain, "bin/clang").write_text(KEEPER.format(kept=kept, clang=f"{kit()}/toolchain/bin/clang"))
     os.chmod(f"{toolchain}/bin/clang", 0o755)
     static_libraries.build(crate, f"{folder}/kept.a", toolchain)
 
@@ -57,7 +57,7 @@ def llvm_module(crate, kept, folder):
 SHUFFLE, SHUFFLED = "llvm.x86.ssse3.pshuf.b.128", "mte_shuffled"
 
 
-def shuffled():
+def shuffled() -> str:
     """The definition of SHUFFLED, a byte at a time."""
     lines = [f"define internal <16 x i8> @{SHUFFLED}(<16 x i8> %bytes, <16 x i8> %numbers) {{"]
     made = "zeroinitializer"
@@ -75,7 +75,7 @@ def shuffled():
     return "\n".join([*lines, f"  ret <16 x i8> {made}", "}"])
 
 
-def without_x86(module):
+def without_x86(module: str) -> str:
     """The module with a function in place of the instruction of x86. Another one of x86 is no module for WebAssembly."""
     if f"@{SHUFFLE}" in module:
         module = re.sub(rf"^declare [^\n]*@{re.escape(SHUFFLE)}\(.*$", lambda _: shuffled(), module, flags=re.M)
@@ -86,16 +86,14 @@ def without_x86(module):
     return module
 
 
-def as_wasm64(module, prefix, folder):
+def as_wasm64(module: str, prefix: str, folder: str) -> str:
     """The module as text for wasm64: with its data layout, without the attributes of x86; it exports the functions of this prefix."""
     clang, text = f"{kit()}/toolchain/bin/clang", f"{folder}/module.ll"
     as_it_is = ["-O0", "-Xclang", "-disable-llvm-passes"]
     run([clang, f"--target={HERE}", "--no-default-config", "-x", "ir", "-S", "-emit-llvm", *as_it_is, module, "-o", text])
-    with open(f"{folder}/none.c", "w", encoding="utf-8") as source:
-        source.write("int none;\n")
+    Path(folder, "none.c").write_text("int none;\n")
     layout = run([clang, f"--target={THERE}", "-S", "-emit-llvm", f"{folder}/none.c", "-o", "-"])
-    with open(text, encoding="utf-8") as lines:
-        module = lines.read()
+    module = Path(text).read_text(encoding="utf-8")
     module = re.sub(r"^target datalayout = .*$", re.search(r"^target datalayout = .*$", layout, re.M)[0], module, flags=re.M)
     module = re.sub(r"^target triple = .*$", f'target triple = "{THERE}"', module, flags=re.M)
     module = without_x86(module)
@@ -104,12 +102,11 @@ def as_wasm64(module, prefix, folder):
     module, count = re.subn(exported, r'\1 "wasm-export-name"="\2" \3', module, flags=re.M)
     if not count:
         raise ValueError(f"the module defines no function {prefix}..")
-    with open(text, "w", encoding="utf-8") as out:
-        out.write(module)
+    Path(text).write_text(module, encoding="utf-8")
     return text
 
 
-def linked(text, folder):
+def linked(text: str, folder: str) -> str:
     """The module with the heap, as WebAssembly of 64 bits."""
     clang, tools = f"{kit()}/toolchain/bin/clang", f"{kit()}/toolchain"
     common = [clang, f"--target={THERE}", PROCESSOR, "--no-default-config", "-ffunction-sections", "-c"]
@@ -121,7 +118,7 @@ def linked(text, folder):
     return f"{folder}/wide.wasm"
 
 
-def number_at(data, at):
+def number_at(data: "bytes | bytearray", at: int) -> "tuple[int, int]":
     """An unsigned number of LEB128, and where it ends."""
     value = shift = 0
     while True:
@@ -132,7 +129,7 @@ def number_at(data, at):
             return value, at
 
 
-def as_number(value):
+def as_number(value: int) -> bytes:
     data = bytearray()
     while value > 127:
         data.append(value & 127 | 128)
@@ -140,7 +137,7 @@ def as_number(value):
     return bytes([*data, value])
 
 
-def with_narrow_tables(data):
+def with_narrow_tables(data: bytes) -> bytes:
     """The same module with tables of 32 bits: binaryen lowers memories of 64 bits, and knows no such tables. No code calls through one."""
     out, at = bytearray(data[:8]), 8
     while at < len(data):
@@ -159,18 +156,14 @@ def with_narrow_tables(data):
     return bytes(out)
 
 
-def wasm(crate, prefix):
+def wasm(crate: str, prefix: str) -> bytes:
     """The bytes of the crate's library as WebAssembly of 32 bits. Its functions that begin with PREFIX are exported."""
     with private_folder.temporary() as folder:
         module = f"{folder}/module.bc"
         llvm_module(crate, module, folder)
         wide = linked(as_wasm64(module, prefix, folder), folder)
-        with open(wide, "rb") as file:
-            narrow = with_narrow_tables(file.read())
-        with open(f"{folder}/tables.wasm", "wb") as file:
-            file.write(narrow)
+        Path(folder, "tables.wasm").write_bytes(with_narrow_tables(Path(wide).read_bytes()))
         run(["wasm-opt", "--enable-memory64", "--enable-bulk-memory", "--enable-sign-ext", "--enable-mutable-globals",
              "--enable-nontrapping-float-to-int", "--enable-multivalue", "--enable-extended-const",
              "--memory64-lowering", "-O2", f"{folder}/tables.wasm", "-o", f"{folder}/small.wasm"])  # fmt: skip
-        with open(f"{folder}/small.wasm", "rb") as file:
-            return file.read()
+        return Path(folder, "small.wasm").read_bytes()

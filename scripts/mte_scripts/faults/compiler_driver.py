@@ -4,6 +4,7 @@ runtime.
 They run for each file of a build and each question of a `configure`, so what takes long to import is imported where it is needed."""
 
 import os
+from _collections_abc import Callable
 
 from mte_scripts import places, private_folder
 from mte_scripts.recording import programs
@@ -106,20 +107,17 @@ def reader() -> "str | None":
     """The path of the program that reduces large logs, built as the runtime is; None where there is no compiler or no place for it."""
     try:
         plain = found("TRACED_CC", "gcc", "clang")
-        return kept(f"reader-{sum_of(READER_FLAGS, [READER, *HEADERS])}", "neighbourhood", build_reader(plain))
+        return kept(f"reader-{sum_of(READER_FLAGS, [READER, *HEADERS])}", "neighbourhood", lambda new: build_reader(plain, new))
     except Refused:
         return None
 
 
-def build_reader(plain: str):
-    def build_new(to: str) -> None:
-        if compile_alone([plain, *READER_FLAGS, READER, "-o", to]):
-            raise Refused(3, "the reader could not be compiled")
-
-    return build_new
+def build_reader(plain: str, to: str) -> None:
+    if compile_alone([plain, *READER_FLAGS, READER, "-o", to]):
+        raise Refused(3, "the reader could not be compiled")
 
 
-def kept(folder: str, name: str, build_new) -> str:
+def kept(folder: str, name: str, build_new: "Callable[[str], None]") -> str:
     """The path of what is built, which stands in a folder of the cache that nobody else can change."""
     try:
         place = private_folder.cache(folder)
@@ -129,13 +127,7 @@ def kept(folder: str, name: str, build_new) -> str:
         # it goes into the program as its rpath, by a list that has commas
         if any(c in place.path for c in ":,$"):
             raise Refused(3, f"the loader takes no path with a colon, a comma or a dollar sign, as in {place.path}: {PLACE}")
-        if not place.has(name):
-            try:
-                with place.new_file(name) as new:
-                    build_new(new)
-            except OSError as error:
-                raise Refused(3, f"{place.path} can't be written: {error.strerror}: {PLACE}") from None
-        return place.file(name)
+        return place.kept(name, build_new, f": {PLACE}")
 
 
 def build(plain: str, to: str) -> None:

@@ -4,6 +4,7 @@ import argparse
 import os
 import re
 from collections import Counter, namedtuple
+from collections.abc import Iterator
 
 from mte_scripts.faults import fault_report, findings, sarif, tombstone
 from mte_scripts.faults.fault_entries import RESULTS, Entry
@@ -86,7 +87,7 @@ def document(processes: list[Judged], program: str, status: int, ended: int) -> 
     return findings.document(program, status, ended, listed)
 
 
-def files(options, processes, program, status, ended):
+def files(options: argparse.Namespace, processes: list[Judged], program: str, status: int, ended: int) -> "Iterator[tuple[str, str]]":
     """The files that were asked for: (name, text)."""
     answer = document(processes, program, status, ended)
     if options.json:

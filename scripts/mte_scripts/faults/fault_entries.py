@@ -21,7 +21,7 @@ import itertools
 from collections import namedtuple
 
 from mte_scripts.faults.fault_log import Error, Log
-from mte_scripts.faults.fault_places import Frame
+from mte_scripts.faults.fault_places import Frame, Places
 
 OVERFLOW, UNDERFLOW, USE_AFTER_FREE, USE_AFTER_REALLOC = "overflow", "underflow", "use after free", "use after realloc"
 DOUBLE_FREE, INVALID_FREE, WILD = "double free", "invalid free", "access of no block"
@@ -51,7 +51,7 @@ def stacks_of(log: Log, errors: list[Error]) -> set[int]:
     return numbers | ({log.crash.stack} if log.crash else set())
 
 
-def its_calls(log, error, places):
+def its_calls(log: Log, error: Error, places: Places) -> "list[tuple]":
     """Of a use after free: the calls that made the block, freed it and used it, by the program's innermost functions and their callers. A
     block that has such three calls in common with another one is of one object with it, as a text with the struct that names it. What
     all have in common does not count: the program's first function."""
@@ -72,7 +72,7 @@ def within(frames: list[Frame], others: list[Frame]) -> int:
     return names.index((frames[0].function, frames[0].source)) + 1 if frames and (frames[0].function, frames[0].source) in names else 0
 
 
-def entries(log, outcomes, places):
+def entries(log: Log, outcomes: "list[tuple]", places: Places) -> "list[Entry]":
     """The entries of a log, in the order of their first use. An outcome of an error is (verdict, result, why). places has learned the
     stacks of all errors."""
     lines = {}  # of a stack: its innermost place
@@ -90,13 +90,16 @@ def entries(log, outcomes, places):
         own = frames[: within(places.frames(error.stack), frames)]
         return " ".join(frame.show() for frame in own) or callers(stack)
 
-    of_block, of_object, causes = {}, {}, {}
+    of_block: "dict[tuple, tuple]" = {}
+    of_object: "dict[tuple, tuple]" = {}
+    causes: "dict[tuple, list[int]]" = {}
     for at, error in enumerate(log.errors):
         kind, block = kind_of(error), error.block
         if kind in (USE_AFTER_FREE, USE_AFTER_REALLOC) and block:
             if (kind, block) not in of_block:
                 # what another block's first wrong use is one cause with
-                key, ways = (kind, line(error.stack), callers_within(error, log.ended[block])), its_calls(log, error, places)
+                key: tuple = (kind, line(error.stack), callers_within(error, log.ended[block]))
+                ways = its_calls(log, error, places)
                 if key not in causes:
                     key = next((of_object[kind, way] for way in ways if (kind, way) in of_object), key)
                 of_object.update(((kind, way), key) for way in ways if (kind, way) not in of_object)
@@ -108,7 +111,7 @@ def entries(log, outcomes, places):
         causes.setdefault(key, []).append(at)
     found = []
     for (kind, *_), numbers in causes.items():
-        uses = {}
+        uses: "dict[tuple, Use]" = {}
         for at in numbers:
             error, (verdict, result, why) = log.errors[at], outcomes[at]
             key = error.letter, error.state, line(error.stack), result

@@ -8,7 +8,9 @@ import re
 import stat
 import struct
 from array import array
-from collections import namedtuple
+from collections import Counter, namedtuple
+from collections.abc import Iterator
+from typing import BinaryIO, Optional
 
 from mte_scripts import checksum
 from mte_scripts.formats import LARGEST_SIZE, MOST_COUNT
@@ -56,7 +58,7 @@ class Error(namedtuple("Error", "letter block offset size stack state times", de
 class Text:
     """The lines of a log, and what is missing of it."""
 
-    def __init__(self, file):
+    def __init__(self, file: BinaryIO) -> None:
         if os.fstat(file.fileno()).st_size > HEAD + MOST_BYTES:
             raise NoLog
         self.file, self.missing, self.is_damaged = file, [], False
@@ -68,18 +70,18 @@ class Text:
         if len(head) < HEAD or not head.startswith(FORM):
             raise NoLog
         (turn,) = struct.unpack_from("<Q", head, len(FORM))
-        marks = [MARK.unpack_from(head, len(FORM) + 8 + at * MARK.size) for at in range(2)]
+        marks: list[tuple] = [MARK.unpack_from(head, len(FORM) + 8 + at * MARK.size) for at in range(2)]
         if turn > 1 or not is_whole(marks[turn]):
             self._damaged("its head was overwritten")
             marks = [mark for mark in marks if is_whole(mark)] or [(0, 0, 0, ENDED, 0)]
             turn = -1
         self.length, self.sum, self.not_logged, self.state, _ = marks[turn]
 
-    def _damaged(self, how):
+    def _damaged(self, how: str) -> None:
         self.is_damaged = True
         self.missing.append(f"the log is damaged: {how}. What it tells may be wrong")
 
-    def lines(self):
+    def lines(self) -> "Iterator[bytes]":
         """The whole lines that the head speaks of."""
         left, found, rest = 0 if self.is_empty else self.length, 0, b""
         while left:
@@ -109,7 +111,7 @@ class Text:
             self.missing.append(f"wrong accesses that the runtime could not log: {self.not_logged}")
 
 
-def is_whole(mark: tuple[int, int, int, int, int]) -> bool:
+def is_whole(mark: tuple) -> bool:
     """Whether the check of a mark is right."""
     return checksum.folded(mark[:4]) == mark[4]
 
@@ -121,21 +123,26 @@ class Log:
     sentences. A log that took the place of a large one (fault_neighbourhood.py) has the places that its errors meet there; it is replayed
     with the quarantine 0, and leaves some blocks out."""
 
-    def __init__(self, path):
+    def __init__(self, path: str) -> None:
         self.letters = bytearray()
         self.first, self.second, self.third = array("q"), array("q"), array("q")
         self.size, self.made, self.ended = array("q", [0]), array("q", [0]), array("q", [0])
         self.chain = array("q", [0])  # of a block: the block that reallocs made it from, or itself
         self.next = array("q", [0])  # of a block: the one that a realloc made from it, or 0
         self.stacks = [""]  # a stack is a text PC,PC,..; block 0 and stack 0 are unknown ones
-        self.errors, self.modules = [], []
-        self.crash = self.status = self.places = self.quarantine = self._profile = None
+        self.errors: list[Error] = []
+        self.modules: list[Module] = []
+        self.crash: Optional[Crash] = None
+        self.status: Optional[int] = None
+        self.places: Optional[list[str]] = None
+        self.quarantine: Optional[int] = None
+        self._profile: Optional[str] = None
         self.left_out = 0
-        self._times = {}
+        self._times: dict[int, int] = {}
         self._numbers = {0: 0}
-        self.unrecorded = set()  # blocks that a handler of a signal requested have no record
-        self._taken_back = set()
-        self._kept = None  # where some were taken back: the numbers in the log of the others
+        self.unrecorded: set[int] = set()  # blocks that a handler of a signal requested have no record
+        self._taken_back: set[int] = set()
+        self._kept: Optional[list[int]] = None  # where some were taken back: the numbers in the log of the others
         descriptor = os.open(path, os.O_RDONLY | os.O_NONBLOCK | os.O_NOCTTY | os.O_CLOEXEC)
         with open(descriptor, "rb") as file:
             if not stat.S_ISREG(os.fstat(descriptor).st_mode):
@@ -160,7 +167,7 @@ class Log:
                     return
                 raise NoLog from None
 
-    def _read(self, line):
+    def _read(self, line: bytes) -> None:
         letter, *words = line.split(b" ")
         if letter in (b"l", b"s"):
             block, offset, length = map(int, words)
@@ -170,25 +177,25 @@ class Log:
                     raise NoLog
                 self._add(letter, block, offset, length)
         elif letter in (b"m", b"c"):
-            block, size, stack = words
-            self._block(int(block), int(size), self._stack(stack), int(block))
-            self._add(letter, int(block), int(size))
+            (block, size), stack = self._parts(words)
+            self._block(block, size, stack, block)
+            self._add(letter, block, size)
         elif letter == b"f":
-            block, stack = words
-            self._end(int(block), self._stack(stack))
-            self._add(letter, int(block))
+            (block,), stack = self._parts(words)
+            self._end(block, stack)
+            self._add(letter, block)
         elif letter == b"r":
-            old, new, size = map(int, words[:3])
-            stack = self._stack(words[3])
+            (old, new, size), stack = self._parts(words)
             self._end(old, stack)
             self._block(new, size, stack, self.chain[old])
             self.next[old] = new
             self._add(letter, old, new, size)
         elif letter == b"M":
-            low, high, offset, path = b" ".join(words).decode(errors="surrogateescape").split(" ", 3)
-            if "\0" in path or max(len(low), len(high), len(offset)) > 16:
+            *places, path = b" ".join(words).decode(errors="surrogateescape").split(" ", 3)
+            low, high, place = (int(each, 16) for each in places if len(each) <= 16)
+            if "\0" in path:
                 raise NoLog
-            self.modules.append(Module(int(low, 16), int(high, 16), int(offset, 16), path))
+            self.modules.append(Module(low, high, place, path))
         elif letter == b"-":
             (number,) = map(int, words)
             if not 0 < number <= len(self.errors):
@@ -200,22 +207,27 @@ class Log:
                 raise NoLog
             self._times[number - 1] = times
         elif letter == b"C":
-            number, code, place, stack = words
-            if not ADDRESS.fullmatch(place) or int(number) not in SIGNALS:
+            signal, code, at, frames = words
+            if not ADDRESS.fullmatch(at):
                 raise NoLog
-            is_known = SIGNALS[int(number)] in ("SIGSEGV", "SIGBUS") and 0 < int(code) < KERNEL
-            self.crash = self.crash or Crash(SIGNALS[int(number)], int(place, 16) if is_known else None, self._stack(stack))
+            name = SIGNALS[int(signal)]
+            is_known = name in ("SIGSEGV", "SIGBUS") and 0 < int(code) < KERNEL
+            self.crash = self.crash or Crash(name, int(at, 16) if is_known else None, self._stack(frames))
         elif letter == b"e":
             (self.status,) = map(int, words)
             if not 0 <= self.status < 256:
                 raise NoLog
         elif letter in (b"L", b"S", b"x", b"o", b"n"):
-            *numbers, stack = words
-            self._error(letter.decode(), list(map(int, numbers)), self._stack(stack))
+            self._error(letter.decode(), *self._parts(words))
         else:
             raise NoLog
 
-    def _add(self, letter, first, second=0, third=0):
+    def _parts(self, words: "list[bytes]") -> "tuple[list[int], int]":
+        """The numbers of a record, and its stack."""
+        *numbers, stack = words
+        return list(map(int, numbers)), self._stack(stack)
+
+    def _add(self, letter: bytes, first: int, second: int = 0, third: int = 0) -> None:
         self.letters += letter
         self.first.append(first)
         self.second.append(second)
@@ -230,14 +242,14 @@ class Log:
             for column, value in ((self.size, 0), (self.made, 0), (self.ended, -1), (self.chain, len(self.size)), (self.next, 0)):
                 column.append(value)
 
-    def _block(self, block, size, stack, chain):
+    def _block(self, block: int, size: int, stack: int, chain: int) -> None:
         if block < len(self.size) or not 0 <= size < MOST_SIZE:
             raise NoLog
         self._know(block)
         self.unrecorded.discard(block)
         self.size[block], self.made[block], self.chain[block] = size, stack, chain
 
-    def _end(self, block, stack):
+    def _end(self, block: int, stack: int) -> None:
         self._know(block)
         if self.ended[block] != -1:
             raise NoLog
@@ -261,7 +273,7 @@ class Log:
         for at, times in self._times.items():
             self.errors[at] = self.errors[at]._replace(times=times)
 
-    def _drop_taken_back(self):
+    def _drop_taken_back(self) -> None:
         """The runtime took some errors back as it learned more; their records are left as frees of no block, which are passed over."""
         if not self._taken_back:
             return
@@ -288,23 +300,22 @@ class Log:
             self._numbers[number] = len(self.stacks) - 1
         return self._numbers[number]
 
-    def record(self, at):
+    def record(self, at: int) -> "tuple[str, int, int, int]":
         return chr(self.letters[at]), self.first[at], self.second[at], self.third[at]
 
-    def take_place(self, profile, places, missing):
+    def take_place(self, profile: str, places: "list[str]", missing: "list[str]") -> None:
         """Is the log in place of a large one, with its profile, the place of each error, and what is missing of it."""
         self._profile, self.quarantine, self.missing = profile, 0, missing
         self.places = [places[at] for at in self._kept] if self._kept is not None else places
         blocks = sum(int(line.split()[1]) for line in profile.split("\n") if line)
         self.left_out = max(0, blocks - len(self.size) + 1)
 
-    def profile(self):
+    def profile(self) -> str:
         """How often each size was requested, as the text of a profile."""
         if self._profile is not None:
             return self._profile
-        counts = {}
+        counts: Counter[int] = Counter()
         for letter, second, third in zip(self.letters, self.second, self.third):
             if letter in b"mcr":
-                size = min(third if letter == ord("r") else second, LARGEST_SIZE + 1)
-                counts[size] = counts.get(size, 0) + 1
+                counts[min(third if letter == ord("r") else second, LARGEST_SIZE + 1)] += 1
         return "".join(f"{size if size <= LARGEST_SIZE else 'large'} {min(counts[size], MOST_COUNT)}\n" for size in sorted(counts))

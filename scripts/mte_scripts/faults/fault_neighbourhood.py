@@ -7,6 +7,7 @@ says of the whole log (fault_trace.Trace.misplaced). Where it does not, or the p
 
 import os
 import subprocess
+from collections.abc import Callable, Iterable
 
 from mte_scripts import private_folder
 from mte_scripts.faults import compiler_driver
@@ -15,7 +16,7 @@ from mte_scripts.faults.fault_log import Log, NoLog, Text
 LARGE = 4 << 20  # bytes; what is smaller is read in a few seconds
 
 
-def small(path, table_of, granules, quarantine, least=LARGE):
+def small(path: str, table_of: "Callable[[str], list[int]]", granules: int, quarantine: int, least: int = LARGE) -> "Log | None":
     """The small Log of a large log, or None where there is none. table_of(profile) gives the heap's classes."""
     try:
         with open(path, "rb", opener=lambda path, how: os.open(path, how | os.O_NONBLOCK | os.O_NOCTTY)) as file:
@@ -49,9 +50,9 @@ def small(path, table_of, granules, quarantine, least=LARGE):
     return log
 
 
-def profile_in(lines):
+def profile_in(lines: "Iterable[str]") -> "str | None":
     """The lines before the one that is a point; None where there is none."""
-    found = []
+    found: "list[str]" = []
     for line in lines:
         if line == ".\n":
             return "".join(found)

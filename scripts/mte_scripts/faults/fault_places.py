@@ -6,6 +6,7 @@ import shutil
 import stat
 import subprocess
 from collections import defaultdict, namedtuple
+from collections.abc import Iterable
 
 from mte_scripts.faults.fault_log import Log
 
@@ -38,9 +39,9 @@ class Places:
         self.log = log
         self._frames: dict[int, list[Frame]] = {}  # of an address, the innermost inlined first
 
-    def learn(self, stacks):
+    def learn(self, stacks: "Iterable[int]") -> None:
         """Looks up the addresses of these stacks all at once."""
-        wanted = defaultdict(dict)
+        wanted: dict[str, dict[int, int]] = defaultdict(dict)
         for address in {int(pc, 16) for stack in stacks for pc in self.log.stacks[stack].split(",") if pc} - set(self._frames):
             module = next((module for module in self.log.modules if module.low <= address < module.high), None)
             name = f"{os.path.basename(module.path)}+0x{address - module.low + module.offset:x}" if module else f"0x{address:x}"
@@ -115,7 +116,7 @@ def short(function: str) -> str:
     return function
 
 
-def loaded_segments(path):
+def loaded_segments(path: str) -> "list[tuple[int, ...]]":
     """(offset in the file, address, bytes) of what is loaded of an ELF file; nothing where it is none, or a log names a pipe."""
     try:
         if not stat.S_ISREG(os.stat(path).st_mode):

@@ -2,12 +2,14 @@
 
 import html
 from collections import Counter
+from collections.abc import Iterable
 
 from mte_scripts import html_safe
 from mte_scripts.faults.fault_entries import CAUGHT, CRASH, NOT_CAUGHT, NOT_REPLAYED, RESULTS, Entry, entries, stacks_of
 from mte_scripts.faults.fault_log import Crash, Error, Log
 from mte_scripts.faults.fault_places import Places
-from mte_scripts.faults.fault_trace import Verdict
+from mte_scripts.faults.fault_trace import Trace, Verdict
+from mte_scripts.faults.odds import Odds
 from mte_scripts.running import printable
 
 MOST_USES = 8  # of a cause that are shown
@@ -74,19 +76,19 @@ def crash_sentence(crash: Crash) -> str:
     return crash.signal + (f" at the address 0x{crash.address:x}" if crash.address is not None else "")
 
 
-def history(entry: Entry, log: Log, places: Places) -> list[str]:
+def history(entry: Entry, places: Places) -> list[str]:
     """Where the block of an entry was allocated, and freed or resized: a line each."""
     error = entry.uses[0].error
     lines = [f"allocated at {places.show(entry.made)}"] if error.block else []
     return lines + ([f"{error.state} at {places.show(entry.ended)}"] if error.block and error.state != "live" else [])
 
 
-def tell(log, found, places, odds):
+def tell(log: Log, found: "list[Entry]", places: Places, odds: Odds) -> "list[str]":
     """The text of some entries."""
     return [line for entry in found for line in tell_entry(entry, log, places, odds)]
 
 
-def tell_entry(entry, log, places, odds):
+def tell_entry(entry: Entry, log: Log, places: Places, odds: Odds) -> "list[str]":
     """What was done and where, with the callers; what came of it, and the odds; and the same of what else has this cause."""
     place, *callers = [frame.show() for frame in places.frames(entry.stack)] or ["an unknown place"]
     from_callers = [f"    from {caller}" for caller in callers]
@@ -99,14 +101,14 @@ def tell_entry(entry, log, places, odds):
         lines.append(f"    then {at}: {sentence(use.error, log)}{often(use.times)}: {use.result}: {use.why}")
     if len(others) >= MOST_USES:
         lines.append(f"    and so at {count(len(others) - MOST_USES + 1, 'other place')}")
-    return lines + [f"    {line}" for line in (odds.line(entry.numbers), *history(entry, log, places))]
+    return lines + [f"    {line}" for line in (odds.line(entry.numbers), *history(entry, places))]
 
 
 def often(times: int) -> str:
     return f" ({times} times)" if times > 1 else ""
 
 
-def notes(log, trace, report):
+def notes(log: Log, trace: Trace, report: "dict[int, str]") -> "list[tuple[int, str]]":
     """For each error that an event of the trace asks: the event, and what the program did, what came of it, and whose block it was."""
     asked = [(error, verdict) for error, verdict in zip(log.errors, trace.verdicts) if verdict.event]
     places = Places(log)
@@ -122,7 +124,7 @@ def notes(log, trace, report):
     return told
 
 
-def totals(log, found, trace):
+def totals(log: Log, found: "list[Entry]", trace: Trace) -> "list[str]":
     lines = [f"errors {len(found)}"]
     reasons = Counter((entry.result, entry.uses[0].why) for entry in found if entry.result not in (CAUGHT, None))
     for result in RESULTS:
@@ -141,26 +143,26 @@ def ending(status: int) -> list:
     return [f"the program ended with status {status}"] if status else []
 
 
-def incomplete(log):
+def incomplete(log: Log) -> "list[str]":
     """A line for each thing that is missing of the log."""
     return [f"incomplete: {each}" for each in log.missing]
 
 
-def answers(verdicts):
+def answers(verdicts: "list[Verdict]") -> "list[str]":
     """What the laws promise of each error, in a word."""
     by_kind = {"left": "not replayed", "large": "not caught", "ruled": "caught"}
     by_answer = {"refused": "caught", "accepted": "not caught", "open": "open"}
     return [by_kind.get(verdict.kind) or by_answer[verdict.promise.answer] for verdict in verdicts]
 
 
-def changed_promises(trace, whole):
+def changed_promises(trace: Trace, whole: Trace) -> str:
     """A line on the promises that the blocks which the trace leaves out change; whole is the trace of everything."""
     changes = Counter(both for both in zip(answers(trace.verdicts), answers(whole.verdicts)) if both[0] != both[1])
     text = "".join(f", {number} from {mine} to {all_of_it}" for (mine, all_of_it), number in sorted(changes.items()))
     return f"promises that the blocks left out change: {sum(changes.values())}{text}"
 
 
-def tell_differences(differences, trace):
+def tell_differences(differences: "Iterable[tuple]", trace: Trace) -> "list[str]":
     """What to say where the replay, the recorder and the laws do not agree."""
     lines = []
     for event, promise, line in differences:
@@ -172,7 +174,7 @@ def tell_differences(differences, trace):
     return lines
 
 
-def tell_seeds(log, found, places, reports, odds):
+def tell_seeds(log: Log, found: "list[Entry]", places: Places, reports: "list[dict[int, str]]", odds: Odds) -> "list[str]":
     """A line for each use of each entry: over how many seeds it was caught, and what that rests on; and the odds of the entry."""
     lines = []
     for entry in found:

@@ -6,10 +6,11 @@ be accepted, since both compare the same tags, and the slot is live."""
 
 from array import array
 from collections import namedtuple
+from collections.abc import Iterator
 
-from mte_scripts.faults.fault_log import Error
-from mte_scripts.faults.fault_variables import NONE, SHARED, most_events
-from mte_scripts.faults.slot_model import IN_PLACE, LAST_GRANULE, Promise, Slot
+from mte_scripts.faults.fault_log import Error, Log
+from mte_scripts.faults.fault_variables import NONE, SHARED, Choice, Everything, most_events
+from mte_scripts.faults.slot_model import IN_PLACE, LAST_GRANULE, Meeting, Promise, Slot, Slots
 from mte_scripts.formats import FARTHEST_ACCESS, FARTHEST_MOVE, LARGEST_REQUEST, LARGEST_SIZE, MOST_EVENTS
 
 MOST_MOVES = 2000  # of one wrong free
@@ -34,20 +35,24 @@ class Trace:
     error. conflicts: right accesses that the model of the slots does not let succeed. misplaced: how many errors meet other slots than
     those that the log names."""
 
-    def __init__(self, log, slots, choice, is_asked=True):
+    def __init__(self, log: Log, slots: Slots, choice: "Choice | Everything", is_asked: bool = True) -> None:
         self.log, self.slots, self.choice = log, slots, choice
-        self.lines, self.expected, self.conflicts, self.verdicts, self.misplaced = [], {}, [], [], 0
+        self.lines: list[str] = []
+        self.expected: dict[int, Promise] = {}
+        self.conflicts: list[int] = []
+        self.verdicts: list[Verdict] = []
+        self.misplaced = 0
         self.is_asked = is_asked  # else no event is made, and there is no limit on them
         self.left_out = choice.left_out.copy()
         if log.left_out:
             self.left_out["blocks that no error meets"] += log.left_out
         self.fixed = choice.fixed  # the most events that are still to come beside right accesses
-        self.pointer = {}  # of a block: its pointer, if it has a slot
+        self.pointer: dict[int, tuple[Slot, int]] = {}  # of a block: its pointer, if it has a slot
         self.holder = array("q", [NONE]) * (SHARED + 1)  # of a variable: the chain that has it
         for record in zip(log.letters, log.first, log.second, log.third):
             self._add(chr(record[0]), *record[1:])
 
-    def _add(self, letter, first, second, third):
+    def _add(self, letter: str, first: int, second: int, third: int) -> None:
         if letter not in "ls" and (letter == "E" or self._variable(first) != NONE):
             self.fixed -= most_events(self.log, letter, first)
         is_full = self.is_asked and len(self.lines) > MOST_EVENTS - 32
@@ -124,15 +129,16 @@ class Trace:
             self.left_out["large blocks" if size > LARGEST_SIZE else "blocks without a slot"] += 1
         return pointer
 
-    def _refusal(self, size, pointer):
+    def _refusal(self, size: int, pointer: "tuple[Slot, int] | None") -> "Promise | None":
         if pointer:
             return None
         return Promise("refused", "null large" if size > LARGEST_SIZE else "null exhausted", None)
 
-    def _resize(self, old, new, size):
+    def _resize(self, old: int, new: int, size: int) -> None:
         variable = self._variable(old)
         if variable in (NONE, SHARED) or old not in self.pointer:
-            return self._request("malloc", new, size)
+            self._request("malloc", new, size)
+            return
         given = self._gone(old)
         slot = given[0]
         if old in self.choice.stale:
@@ -141,15 +147,16 @@ class Trace:
         if size <= LARGEST_SIZE and self.slots.class_of(size) == slot.class_number:
             slot.size = size
             self.pointer[new] = given
-            return self._event(f"realloc {variable} {size}")
+            self._event(f"realloc {variable} {size}")
+            return
         pointer = self._take(new, size)
         self._event(f"realloc {variable} {min(size, LARGEST_REQUEST)}", self._refusal(size, pointer))
         if not pointer:  # the heap keeps the old block, and the program does not
             self._event(f"free {variable}")
-        return self.slots.free(slot)
+        self.slots.free(slot)
 
     def _wrong(self, error: Error) -> Verdict:
-        def verdict(kind, promise, event=None, meeting=None):
+        def verdict(kind: str, promise: "Promise | str", event: "int | None" = None, meeting: "Meeting | None" = None) -> Verdict:
             return Verdict(kind, promise if isinstance(promise, Promise) else Promise("open", None, promise), event, error.is_free(), meeting)
 
         if error.letter == "n":
@@ -190,7 +197,7 @@ class Trace:
         return promise, self._event(f"free {variable}" if promise.answer == "refused" else f"load {variable} 0 1", promise)
 
 
-def differences(trace, report):
+def differences(trace: Trace, report: "dict[int, str]") -> "Iterator[tuple[int, Promise, str | None]]":
     """The events whose line in the report is not what is promised, as (event, promise, line). The report is a line for each event that
     has one, loads that succeed left out."""
     for event, line in report.items():

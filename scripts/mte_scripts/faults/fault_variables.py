@@ -9,6 +9,7 @@ from collections import Counter
 from heapq import heappop, heappush
 
 from mte_scripts.faults.fault_log import Log
+from mte_scripts.faults.slot_model import Slots
 from mte_scripts.formats import LARGEST_SIZE, LAST_VARIABLE, MOST_EVENTS
 
 VARIABLES, SHARED, NONE = LAST_VARIABLE, LAST_VARIABLE, -1
@@ -27,9 +28,10 @@ class Choice:
     """variable: of each chain, or NONE where the trace does not have it. stale: the variable of a block's stale pointer. fixed: the most
     events beside right accesses. left_out: what the trace does not have, in words, with counts."""
 
-    def __init__(self, log, slots, variables=VARIABLES, events=MOST_EVENTS):
-        self.left_out = Counter()
-        self.moved, self.last_wrong = {}, {}  # of a block: where a realloc moved it, and where it was last wrongly used
+    def __init__(self, log: Log, slots: Slots, variables: int = VARIABLES, events: int = MOST_EVENTS) -> None:
+        self.left_out: Counter[str] = Counter()
+        self.moved: dict[int, int] = {}  # of a block: where a realloc moved it,
+        self.last_wrong: dict[int, int] = {}  # and where it was last wrongly used
         begin, end = self._lives(log)
         rank = self._ranks(log, slots)
         least_kept = self._fit_events(log, rank, events)
@@ -54,8 +56,7 @@ class Choice:
     def _lives(self, log: Log) -> tuple[array, array]:
         """Where each chain begins, -1 for a block that is not the first of one, and where it last needs a variable."""
         begin, end = array("q", [-1]) * len(log.chain), array("q", [-1]) * len(log.chain)
-        for at, (letter, first) in enumerate(zip(log.letters, log.first)):
-            letter = chr(letter)
+        for at, (letter, first) in enumerate(zip(map(chr, log.letters), log.first)):
             if letter in "mc":
                 begin[first] = end[first] = at
             elif letter in "fr":
@@ -70,7 +71,7 @@ class Choice:
             end[chain] = max(end[chain], at)
         return begin, end
 
-    def _ranks(self, log, slots):
+    def _ranks(self, log: Log, slots: Slots) -> bytearray:
         served = range(LARGEST_SIZE + 1)
         classes = {slots.class_of(log.size[block]) for block in self.last_wrong if log.size[block] in served}
         rank = bytearray([OTHERS]) * len(log.chain)
@@ -81,11 +82,10 @@ class Choice:
                 rank[chain] = OF_THEIR_CLASSES
         return rank
 
-    def _fit_events(self, log, rank, events):
+    def _fit_events(self, log: Log, rank: bytearray, events: int) -> int:
         """The last rank that is kept, so that the trace has room. Without errors it may be cut at its end."""
         cost = [0, 0, 0]
-        for letter, first in zip(log.letters, log.first):
-            letter = chr(letter)
+        for letter, first in zip(map(chr, log.letters), log.first):
             if letter not in "ls":
                 cost[OF_ERRORS if letter == "E" else rank[log.chain[first]]] += most_events(log, letter, first)
         least = OTHERS
@@ -94,11 +94,13 @@ class Choice:
         self.fixed = sum(cost[: least + 1])
         return least
 
-    def _schedule(self, needs, variables):
+    def _schedule(self, needs: "list[tuple[int, int, int, int]]", variables: int) -> "dict[int, int]":
         """Gives variables to (begin, end, rank, key), a variable to one at a time. Where there is none, the one of the greatest rank gives
         way, among these the one that would need it longest."""
-        given, free, active = {}, list(range(variables)), set()
-        ends, worst = [], []
+        given: dict[int, int] = {}
+        free, active = list(range(variables)), set[int]()
+        ends: list[tuple] = []
+        worst: list[tuple] = []
         for begin, end, rank, key in sorted(needs):
             while ends and ends[0][0] < begin:
                 key_of_end = heappop(ends)[1]
@@ -125,9 +127,9 @@ class Choice:
 class Everything:
     """The choice that leaves nothing out. No trace can have it; what the laws promise can be asked all the same."""
 
-    def __init__(self, log):
+    def __init__(self, log: Log) -> None:
         self.variable = array("i", [0]) * len(log.chain)
         self.last_wrong = {error.block: 0 for error in log.errors}
         self.stale = {error.block: 0 for error in log.errors if error.state == "resized"}
         self.fixed = 0
-        self.left_out = Counter()
+        self.left_out: Counter[str] = Counter()

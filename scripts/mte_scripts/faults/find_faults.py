@@ -4,6 +4,8 @@ import argparse
 import contextlib
 import os
 import shutil
+from collections.abc import Iterator
+from typing import Any
 
 from mte_scripts import private_folder, texts
 from mte_scripts.builds import web_page
@@ -73,13 +75,8 @@ ENDED = "status"  # the file of a kept folder that has the exit status of the pr
 
 
 def read_words(words: list[str]) -> argparse.Namespace:
-    parser = ProgramWords(HELP)
-    for name, (least, most, default) in RANGES.items():
-        parser.add_argument(f"--{name}", type=between(least, most), default=default)
-    for name in ("keep", "read", "only", "page", "json", "sarif", "suppressions", "baseline", "tombstone", "tombstones"):
-        parser.add_argument(f"--{name}")
-    for name in ("annotations", "children", "whole"):
-        parser.add_argument(f"--{name}", action="store_true")
+    kinds: dict[str, Any] = {name: between(its.least, its.most) for name, its in RANGES.items()}
+    parser = ProgramWords(HELP, defaults={name: its.default for name, its in RANGES.items()}, **kinds)
     options = parser.take(words)
     if bool(options.words) == bool(options.read):
         parser.error("there is no program" if not options.words else "--read takes no program")
@@ -134,10 +131,10 @@ def read_log(path: str) -> Log:
     return log
 
 
-def small_log(options, path):
+def small_log(options: argparse.Namespace, path: str) -> "Log | None":
     """A log in place of a large one, unless all of it is asked for."""
 
-    def table_of(profile):
+    def table_of(profile: str) -> "list[int]":
         return texts.parse_sheet(run_tool(["tune", "--limit", str(options.limit)], profile.encode())).classes
 
     return None if options.whole else fault_neighbourhood.small(path, table_of, options.granules, options.quarantine)
@@ -289,7 +286,7 @@ def write_page(options: argparse.Namespace, judged: Judged, lines: list[str]) ->
 
 
 @contextlib.contextmanager
-def place_of_run(kept):
+def place_of_run(kept: "str | None") -> "Iterator[str]":
     """The path of a folder. The one to keep is filled at the end if others can change the way to it."""
     with contextlib.ExitStack() as open_until_the_end:
         if kept:

@@ -12,7 +12,9 @@ import os
 from collections import Counter, namedtuple
 
 from mte_scripts.faults import fault_entries, odds as shares
-from mte_scripts.faults.fault_places import Frame
+from mte_scripts.faults.fault_entries import Entry
+from mte_scripts.faults.fault_log import Log
+from mte_scripts.faults.fault_places import Frame, Places
 from mte_scripts.faults.fault_report import count, crash_sentence, sentence
 
 FORM = 1  # of the JSON
@@ -33,10 +35,10 @@ class Unreadable(Exception):
     """A file of suppressions or a baseline can't be read, or is none."""
 
 
-def all_of(log, found, places, odds):
+def all_of(log: Log, found: "list[Entry]", places: Places, odds: "shares.Odds") -> "list[dict]":
     """The findings of the entries of a log."""
     made = [finding(entry, log, places, odds) for entry in found]
-    seen = Counter()
+    seen: Counter[str] = Counter()
     for each in made:
         seen[each["id"]] += 1
         if seen[each["id"]] > 1:
@@ -44,7 +46,7 @@ def all_of(log, found, places, odds):
     return made
 
 
-def finding(entry, log, places, odds):
+def finding(entry: Entry, log: Log, places: Places, odds: "shares.Odds") -> dict:
     frames, made = places.frames(entry.stack), places.frames(entry.made)
     ended = places.frames(entry.ended)
     value = {
@@ -103,7 +105,7 @@ def name_of(frame: Frame) -> str:
     return f"{frame.function}@{os.path.basename(frame.source or frame.module or '')}"
 
 
-def hashed(*words):
+def hashed(*words: str) -> str:
     return hashlib.sha256("\0".join(words).encode(errors="surrogateescape")).hexdigest()[:16]
 
 

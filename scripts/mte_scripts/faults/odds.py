@@ -6,10 +6,12 @@ two draws have the same tag, and that is counted: over the draws of the slots be
 only that is said which holds whatever the places are."""
 
 from collections import defaultdict, namedtuple
+from collections.abc import Callable, Iterable
 from fractions import Fraction
 from functools import lru_cache
+from typing import Optional
 
-from mte_scripts.faults.fault_log import Log
+from mte_scripts.faults.fault_log import Error, Log
 from mte_scripts.faults.fault_trace import Verdict
 from mte_scripts.faults.slot_model import Meeting
 
@@ -21,6 +23,9 @@ SHOWN = 10_000  # the greatest denominator that is shown as a fraction
 SCUDO_PRIMARY, GLIBC_HEAP = 65_536, 131_040  # bytes of the largest request that each surely serves from its tagged heap
 ERROR, RESIZED, ENDS, REQUESTS = ord("E"), ord("r"), b"fr", b"mc"  # letters of records
 HEAPS = ("this heap", "without parity", "Scudo", "glibc")
+
+Draw = tuple[int, int, bool]  # slot, generation, and whether it is the draw of its free
+Pair = tuple[Draw, Draw]
 
 # The probability that an error is caught: exactly, or at least; and a condition in words.
 Share = namedtuple("Share", "least is_exact unless", defaults=("",))
@@ -37,44 +42,44 @@ PADDED = Share(Fraction(0), False, "always, unless its block is 16 bytes larger 
 
 
 @lru_cache(maxsize=None)
-def same_after(draws, tags):
+def same_after(draws: int, tags: int) -> Fraction:
     """How probable it is that a slot has a tag again after so many draws, each of which excludes the tag that was there before."""
     return Fraction(1, tags) + Fraction(tags - 1, tags) * Fraction(-1, tags - 1) ** min(draws, LONGEST_CHAIN + draws % 2)
 
 
-def draws_of(meeting: Meeting) -> tuple[tuple[int, int, bool], tuple[int, int, bool]]:
-    """The two draws that decide a meeting, each as (slot, generation, whether it is the draw of its free)."""
+def draws_of(meeting: Meeting) -> Pair:
+    """The two draws that decide a meeting."""
     return (meeting.own, meeting.generation, False), (meeting.other, meeting.other_generation, meeting.is_dead)
 
 
-def tags_of(slot, has_parity):
+def tags_of(slot: int, has_parity: bool) -> int:
     return ALL if not has_parity else EVEN if slot % 2 else ODD
 
 
-def missed(pairs, has_parity):
+def missed(pairs: "Iterable[Pair]", has_parity: bool) -> "tuple[Fraction, bool]":
     """How probable it is that both draws of each pair have the same tag: (probability, whether it is exact and no upper bound)."""
-    pairs = sorted(set(pairs))
-    kept = []
-    for pair in pairs[:MOST_PAIRS]:
+    every = sorted(set(pairs))
+    kept: list[Pair] = []
+    for pair in every[:MOST_PAIRS]:
         if all(len(draws) <= MOST_DRAWS for draws in components([*kept, pair])[0].values()):
             kept.append(pair)
     find = joined(kept)
     draws_in, links_in = components(kept)
     found = Fraction(1)
     for component, draws in draws_in.items():
-        names = {}
+        names: dict[Draw, int] = {}
         number = {draw: names.setdefault(find(draw), len(names)) for draw in draws}
         links = [(number[one], number[other], length) for one, other, length in links_in[component]]
         slots = {draw[0] for draw in draws}
         found *= count_same(len(names), links, tags_of(draws[0][0], has_parity), len(slots))
-    return found, len(kept) == len(pairs)
+    return found, len(kept) == len(every)
 
 
-def joined(pairs):
+def joined(pairs: "Iterable[Pair]") -> "Callable[[Draw], Draw]":
     """A function that gives the same draw for all draws that pairs join."""
-    root = {}
+    root: dict[Draw, Draw] = {}
 
-    def find(draw):
+    def find(draw: Draw) -> Draw:
         while root.setdefault(draw, draw) != draw:
             draw = root[draw]
         return draw
@@ -84,9 +89,9 @@ def joined(pairs):
     return find
 
 
-def components(pairs):
+def components(pairs: "Iterable[Pair]") -> "tuple[dict, dict]":
     """The draws of the pairs, with the draws between, in groups that hang together; and of each group its links (draw, draw, length)."""
-    by_slot = defaultdict(set)
+    by_slot: dict[int, set[Draw]] = defaultdict(set)
     for draw in (draw for pair in pairs for draw in pair):
         by_slot[draw[0]] |= {draw, (draw[0], draw[1], False)}
     links = []
@@ -95,7 +100,8 @@ def components(pairs):
         links += [(one, other, other[1] - one[1]) for one, other in zip(given, given[1:])]
         links += [((draw[0], draw[1], False), draw, 1) for draw in draws if draw[2]]
     find = joined([link[:2] for link in links] + list(pairs))
-    draws_in, links_in = defaultdict(list), defaultdict(list)
+    draws_in: dict[Draw, list] = defaultdict(list)
+    links_in: dict[Draw, list] = defaultdict(list)
     for draw in sorted(set().union(*by_slot.values())):
         draws_in[find(draw)].append(draw)
     for link in links:
@@ -103,13 +109,13 @@ def components(pairs):
     return draws_in, links_in
 
 
-def count_same(classes, links, tags, slots):
+def count_same(classes: int, links: "list[tuple[int, int, int]]", tags: int, slots: int) -> Fraction:
     """The sum over all tags of some classes of draws: of each the product over the links of how probable the second tag is after the first,
     and of the first draw of each slot. Only which classes have the same tag matters, so it goes over these partitions."""
     total = Fraction(0)
     first = Fraction(1, tags) ** slots
 
-    def weight(block, number):
+    def weight(block: "list[int]", number: int) -> Fraction:
         product = first
         for one, other, length in links:
             same = same_after(length, tags)
@@ -120,7 +126,7 @@ def count_same(classes, links, tags, slots):
             product *= tags - at
         return product
 
-    def walk(block, number):
+    def walk(block: "list[int]", number: int) -> None:
         nonlocal total
         if len(block) == classes:
             total += weight(block, number)
@@ -161,7 +167,7 @@ def rounded(size: int) -> int:
     return -(-size // GRANULE) * GRANULE
 
 
-def on_scudo(error, size, after, since):
+def on_scudo(error: Error, size: int, after: "int | None", since: "int | None") -> Share:
     """By the rules of LLVM's Scudo with odd and even tags. `after` is the size that a realloc asked for, where the block lives on."""
     if error.is_free():
         return ALWAYS if error.block and (error.offset % GRANULE or (error.offset == 0 and error.state == "freed" and since == 0)) else UNKNOWN
@@ -184,7 +190,7 @@ def on_scudo(error, size, after, since):
     return OTHER_OF_SCUDO
 
 
-def on_glibc(error, size, after, since, is_cut):
+def on_glibc(error: Error, size: int, after: "int | None", since: "int | None", is_cut: bool) -> Share:
     """By the rules of glibc's malloc with mem.tagging. `is_cut`: whether the block may come from a free one that is 16 bytes larger."""
     if not error.block or size > GLIBC_HEAP:
         return UNKNOWN
@@ -223,13 +229,15 @@ class Odds:
         self.log, self.verdicts = log, verdicts
         self.since, self.cut = self._requests()
 
-    def _requests(self):
+    def _requests(self) -> "tuple[list, set[int]]":
         """Of each error, how many requests came since its block was freed or moved, or None. And the blocks of errors that were requested
         after a free or by a realloc: the others are cut from no free block."""
         if not self.log.errors:
             return [], set()
         wanted = {error.block for error in self.log.errors}
-        requests, has_freed, ended, since, cut = 0, False, {}, [None] * len(self.log.errors), set()
+        requests, has_freed, cut = 0, False, set[int]()
+        since: list[Optional[int]] = [None] * len(self.log.errors)
+        ended: dict[int, int] = {}
         for letter, one, two in zip(self.log.letters, self.log.first, self.log.second):
             if letter == ERROR:
                 block = self.log.errors[one].block
@@ -281,7 +289,7 @@ def in_words(share: Share, says: str = "") -> str:
     return ("" if share.is_exact else "at least ") + f"{as_text(share.least)} {runs}"
 
 
-def as_text(number):
+def as_text(number: Fraction) -> str:
     return f"{number.numerator}/{number.denominator}" if number.denominator <= SHOWN else f"{float(number):.6f}"
 
 

@@ -36,8 +36,8 @@ def artifact(path: str) -> dict[str, str]:
     return {"uri": urllib.parse.quote(path, errors="surrogateescape"), "uriBaseId": ROOT}
 
 
-def location(frame, message=None):
-    value = {"logicalLocations": [{"name": frame["function"], "kind": "function"}]}
+def location(frame: dict, message: "str | None" = None) -> dict:
+    value: dict = {"logicalLocations": [{"name": frame["function"], "kind": "function"}]}
     if frame["file"]:
         value["physicalLocation"] = {"artifactLocation": artifact(frame["file"])}
         if frame["line"]:

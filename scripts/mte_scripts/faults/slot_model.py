@@ -31,16 +31,17 @@ class Slot:
 class Slots:
     """A pointer is (slot, generation) as it was given out; a chunk begins one granule after its slot."""
 
-    def __init__(self, table, granules, quarantine):
+    def __init__(self, table: "list[int]", granules: int, quarantine: int) -> None:
         self.table, self.granules, self.limit = table, granules, quarantine
         self.share = granules // len(table) if table else granules
         self.numbers = [0]
         for size in table:
             self.numbers.append(self.numbers[-1] + self.share // size)
         self.fresh = [0] * len(table)
-        self.released = [[] for _ in table]
-        self.used = {}
-        self.queue, self.held = deque(), 0
+        self.released: list[list[Slot]] = [[] for _ in table]
+        self.used: dict[int, Slot] = {}
+        self.queue: deque[Slot] = deque()
+        self.held = 0
 
     def class_of(self, size: int) -> int:
         """The number of the class that serves a request, from 0."""
@@ -144,7 +145,7 @@ class Slots:
         met = [self.at(granule)[1] for granule in range(begin // GRANULE, (begin + length - 1) // GRANULE + 1)]
         return meets(pointer, met[0]) if all(met) else None
 
-    def meeting_of_free(self, pointer, moved):
+    def meeting_of_free(self, pointer: "tuple[Slot, int]", moved: int) -> "Meeting | None":
         """The chunk that decides the free of a pointer that was moved by so many granules; None where there is no live one."""
         place = self.slot_at(pointer[0].start + moved)
         slot = self.used.get(place[0]) if place and place[1] == 0 else None

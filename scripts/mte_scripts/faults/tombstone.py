@@ -7,10 +7,14 @@ a message, and not by a fault."""
 import os
 import re
 from collections import namedtuple
+from collections.abc import Iterator
+from typing import Any
 
 from mte_scripts.faults import fault_entries, findings
-from mte_scripts.faults.fault_entries import CAUGHT
+from mte_scripts.faults.fault_entries import CAUGHT, Entry, Use
+from mte_scripts.faults.fault_log import Error
 from mte_scripts.faults.fault_places import RUNTIME
+from mte_scripts.faults.fault_report import count
 
 BASE, TAG_SHIFT = 0x7000_0000_0000, 56
 GRANULE = 16
@@ -34,20 +38,16 @@ Tombstone = namedtuple("Tombstone", "signal causes abort backtrace allocated fre
 Cause = namedtuple("Cause", "kind offset size")  # the offset is in bytes from the start of the block
 
 
-def count(number: int, word: str) -> str:
-    return f"{number} {word}" + ("" if number == 1 else "s")
-
-
 # writing
 
-def texts_of(judged):
+def texts_of(judged: Any) -> "Iterator[str]":
     """A tombstone of each entry that is told and that the replay catches."""
     for entry, value in zip(judged.found, judged.values):
         if value["state"] == "new" and entry.result == CAUGHT:
             yield text_of(judged, entry)
 
 
-def text_of(judged, entry):
+def text_of(judged: Any, entry: Entry) -> str:
     use = next(use for use in entry.uses if use.result == CAUGHT)
     process = judged.name if judged.name.isdigit() else "1"
     head = [STARS, "ABI: 'arm64'", f"pid: {process}, tid: {process}, name: {judged.program[:15]}  >>> {judged.program} <<<"]
@@ -61,7 +61,7 @@ def text_of(judged, entry):
     return "\n".join(told) + "\n\n"
 
 
-def of_access(judged, use):
+def of_access(judged: Any, use: Use) -> "list[str]":
     size = judged.log.size[use.error.block]
     offset = offset_of(use.error, size)
     found = FAULT.match(judged.reports[0].get(use.verdict.event, ""))
@@ -72,7 +72,7 @@ def of_access(judged, use):
     return [f"signal 11 (SIGSEGV), code 9 (SEGV_MTESERR), fault addr 0x{int(found[2]) << TAG_SHIFT | place:016x}", f"Cause: [MTE]: {cause}"]
 
 
-def offset_of(error, size):
+def offset_of(error: Error, size: int) -> int:
     """Where the fault is, from the start of the block: the first byte with another tag."""
     begin, _ = error.window(size)
     chunk = max(GRANULE, -(-size // GRANULE) * GRANULE)
@@ -85,7 +85,7 @@ def where(offset: int, size: int) -> str:
     return f"{count(offset, 'byte')} into" if offset < size else f"{count(offset - size, 'byte')} right of"
 
 
-def of_free(error):
+def of_free(error: Error) -> "list[str]":
     """The message of Scudo."""
     if error.block and error.offset % GRANULE == 0 and error.offset == 0:
         says = "invalid chunk state when deallocating address"
@@ -96,9 +96,9 @@ def of_free(error):
     return ["signal 6 (SIGABRT), code -1 (SI_QUEUE), fault addr --------", f"Abort message: 'Scudo ERROR: {says}'"]
 
 
-def frames_of(judged, stack):
+def frames_of(judged: Any, stack: int) -> "list[str]":
     """The frames of a stack as debuggerd has them: its pc in the file, the file and the function; and the source, which a phone has not."""
-    lines = []
+    lines: "list[str]" = []
     for pc in filter(None, judged.log.stacks[stack].split(",")):
         address = int(pc, 16)
         module = next((module for module in judged.log.modules if module.low <= address < module.high), None)
@@ -125,9 +125,9 @@ def read(text: str) -> Tombstone:
                      functions(text, "allocated by thread"), functions(text, "deallocated by thread"))
 
 
-def functions(text, head):
+def functions(text: str, head: str) -> "list[str]":
     """The functions of the frames after a line that begins so; a frame without one has the name of its file."""
-    found, is_in = [], False
+    found, is_in = list[str](), False
     for line in text.split("\n"):
         frame = FRAME.match(line)
         if line.strip().startswith(head):
@@ -157,11 +157,11 @@ def in_common(one: list[str], other: list[str]) -> int:
     return row[-1]
 
 
-def fit(entry, judged, wanted):
+def fit(entry: Entry, judged: Any, wanted: Tombstone) -> "tuple[float, int, list[str]]":
     """(how well an entry fits, of how much; why)."""
-    rank, most, why = 0, 0, []
+    rank, most, why = 0.0, 0, []
 
-    def count_in(weight, share, says):
+    def count_in(weight: int, share: float, says: str) -> None:
         nonlocal rank, most
         rank, most = rank + weight * share, most + weight
         if share:
@@ -187,7 +187,7 @@ def fit(entry, judged, wanted):
     return rank, most, why
 
 
-def ranking(processes, wanted):
+def ranking(processes: list, wanted: Tombstone) -> "list[str]":
     """The lines that say which errors fit a tombstone, the best first."""
     causes = ", or ".join(f"{cause.kind}, {where(cause.offset, cause.size)} a {cause.size}-byte allocation" for cause in wanted.causes)
     lines = [f"tombstone: {wanted.signal}" + (f", {causes or wanted.abort}" if causes or wanted.abort else "")]

@@ -6,13 +6,23 @@ some moment of each member added up, than over the members: a class has its most
 some tables have the most blocks bound all tables. The fit over them is a further table; with its columns too, until a fit comes again,
 the bound is what the last one takes."""
 
+import argparse
 from collections.abc import Iterable, Sequence
-from typing import NamedTuple, Optional
+from typing import Any, NamedTuple, Optional
 
 from mte_scripts import claims, texts
 from mte_scripts.fleet.loads import FORCED, GRANULE, Load
 from mte_scripts.tables import figures
 from mte_scripts.texts import LARGEST_SIZE, MOST_COUNT, MOST_SNAPSHOTS, Refused
+from mte_scripts.words import between, one_of
+
+AMONG_HELP = """\
+  --limit K          among tables of at most K classes, 1 to 32; 32 where it is left out
+  --step S           whose classes are multiples of S granules of 16 bytes: 1, 2, 4 or 8; 1 where it is left out
+  --no-largest       without it, only tables with class 1024 are meant, which serve every size that any can"""
+# these options in Words
+AMONG_KINDS: "dict[str, Any]" = {"limit": between(1, texts.MOST_CLASSES), "step": one_of(1, 2, 4, 8)}
+AMONG_DEFAULTS: "dict[str, Any]" = {"limit": texts.MOST_CLASSES, "step": 1}
 
 ROUNDS = 24  # of fits over more and more columns
 MOST_TABLES = MOST_SNAPSHOTS // texts.MOST_CLASSES
@@ -24,6 +34,10 @@ class Among(NamedTuple):
     limit: int
     step: int
     largest: bool
+
+    @classmethod
+    def of(cls, options: argparse.Namespace) -> "Among":
+        return cls(options.limit, options.step, not options.no_largest)
 
     def words(self) -> list:
         return ["--limit", str(self.limit), "--step", str(self.step)]
@@ -95,8 +109,7 @@ def sheet(parts: Iterable[tuple], divisor: int, among: Among) -> Certified:
     sum is at least the divisor times the cost."""
     sums: dict = {}
     for factor, load in parts:
-        for size, count in load.counts.items():
-            sums[size] = sums.get(size, 0) + factor * count
+        texts.add_counts(sums, load.counts, factor)
     counts = {size: count // divisor for size, count in sums.items() if count >= divisor}
     tuned = figures.with_largest(counts) if among.largest else counts
     text = figures.profile_text(tuned)
@@ -141,8 +154,7 @@ def columns(parts: Iterable[tuple], divisor: int, tables: list) -> list:
         for at in range(len(classes)):
             sums: dict = {}
             for factor, peaks in of_loads:
-                for size, count in peaks[at].items():
-                    sums[size] = sums.get(size, 0) + factor * count
+                texts.add_counts(sums, peaks[at], factor)
             column = {size: count // divisor for size, count in sums.items() if count >= divisor}
             if column and column not in found[-2 * texts.MOST_CLASSES :]:
                 found.append(column)

@@ -5,19 +5,21 @@ worst of the ratios c(T, p) / b(p), times the sum of m(p) b(p). So a sheet or a 
 ratio of every table from below. Loads with a high ratio get higher numbers, round by round; each round's table is a candidate. A candidate
 whose worst ratio is the bound has the lowest one of all. Else other tables may be between the two."""
 
+import argparse
 import json
 import math
 import os
 from collections.abc import Iterable, Sequence
 from fractions import Fraction
+from pathlib import Path
 from typing import NamedTuple, Optional
 
 from mte_scripts import claims, texts
-from mte_scripts.fleet import bounds, loads, options, regret
+from mte_scripts.fleet import bounds, loads, regret
 from mte_scripts.recording import timelines
 from mte_scripts.tables import figures
 from mte_scripts.texts import MOST_COUNT, Refused
-from mte_scripts.words import Words, between, named, some
+from mte_scripts.words import Words, between, named
 
 HELP = f"""\
 {claims.TEMPLATES["worst.help"]}.
@@ -29,7 +31,7 @@ own table.
 
   --by worst|total   worst: the highest percentage above the bound of a load is to be low; so it is where this is left out. total:
                      the sum over all loads is, in which large ones weigh more
-{options.AMONG_HELP}
+{bounds.AMONG_HELP}
   --hold-out N       cut the days into N runs; for each, make a table of the others, and say how far it is above the bounds of these
                      days, which it has not seen. All loads of a day are held out together. With as many runs as days, each day is
                      by itself
@@ -184,8 +186,7 @@ def together(given: Sequence[loads.Load]) -> loads.Load:
         return loads.Load("all loads", "histories", members=[member for load in given for member in load.members])
     sums: dict = {}
     for load in given:
-        for size, count in load.counts.items():
-            sums[size] = sums.get(size, 0) + count
+        texts.add_counts(sums, load.counts)
     return loads.Load("all loads", "profile", sums)
 
 
@@ -227,16 +228,13 @@ def write_certificates(folder: str, own: Iterable[bounds.Bound], table: Table, s
     """The folder with the sheet or fit of each load, and of the loads joined, each beside its counts."""
     files, lines = {}, []
     pairs = [(bound.certificate, bound.counts, bound.judged.kind) for bound in own]
-    pairs.append(
-        (table.certified.certificate, table.certified.counts.encode(), "profile" if table.certified.command == "check" else "history")
-    )
+    joined = table.certified
+    pairs.append((joined.certificate, joined.counts.encode(), "profile" if joined.command == "check" else "history"))
     for at, (certificate, counts, kind) in enumerate(pairs):
         is_sheet = kind in ("profile", "scaled")
         name = "joined" if at == len(pairs) - 1 else f"load{at + 1}"
-        names = [
-            f"{name}.{'sheet' if is_sheet else 'fit'}",
-            f"{name}.{'history' if kind == 'histories' else 'profile' if is_sheet else kind}",
-        ]
+        of_counts = "history" if kind == "histories" else "profile" if is_sheet else kind
+        names = [f"{name}.{'sheet' if is_sheet else 'fit'}", f"{name}.{of_counts}"]
         files[names[0]], files[names[1]] = certificate.encode(), counts
         shell = " ".join(texts.quoted(os.path.join(folder, each)) for each in names)
         lines.append(f"{said[at]}\n\n    cat {shell} | {texts.as_called('scripts/mte_tool')} {'check' if is_sheet else 'check-fit'}\n\n")
@@ -246,40 +244,33 @@ def write_certificates(folder: str, own: Iterable[bounds.Bound], table: Table, s
     try:
         os.mkdir(folder)
         for name, data in files.items():
-            with open(os.path.join(folder, name), "wb") as file:
-                file.write(data)
+            Path(folder, name).write_bytes(data)
     except OSError as error:
         raise Refused(3, f"{error.filename or folder} can't be written: {error.strerror}") from None
 
 
-def main(words: list) -> None:
-    parser = Words(HELP)
-    parser.add_argument("--by", type=named("worst", "total"), default="worst")
-    options.add_among(parser)
-    parser.add_argument("--hold-out", type=between(2, 1000))
-    parser.add_argument("--output", type=some)
-    parser.add_argument("--certificates", type=some)
-    parser.add_argument("--json", action="store_true")
-    parser.add_argument("names", nargs="*")
-    options_given = parser.take(words, once=True)
-    if not options_given.names or options_given.names.count("-") > 1:
+def main(words: list) -> int:
+    defaults = {"by": "worst", **bounds.AMONG_DEFAULTS}
+    parser = Words(HELP, "names", defaults, by=named("worst", "total"), hold_out=between(2, 1000), **bounds.AMONG_KINDS)
+    options = parser.take(words, once=True)
+    if not options.names or options.names.count("-") > 1:
         raise Refused(2, "name the loads, standard input once; --help says more")
-    among = options.among(options_given)
-    given = loads.read(options_given.names)
+    among = bounds.Among.of(options)
+    given = loads.read(options.names)
     if len({load.kind == "profile" for load in given}) > 1:
         raise Refused(2, "there are profiles, and histories or timelines: give one kind alone")
     own = [bounds.of(load, among) for load in given]
-    if options_given.by == "total":
+    if options.by == "total":
         whole = together(given)
         made = of([whole], [bounds.of(whole, among)], among)
     else:
         made = of(given, own, among)
     found = [regret.compared(load, bound, made.classes) for load, bound in zip(given, own)]
-    folds = held_out(given, own, among, options_given.hold_out) if options_given.hold_out else []
-    finish(options_given, among, made, found, folds)
+    folds = held_out(given, own, among, options.hold_out) if options.hold_out else []
+    return finish(options, among, made, found, folds)
 
 
-def finish(given, among: bounds.Among, made: Table, found: list, folds: list) -> None:
+def finish(given: argparse.Namespace, among: bounds.Among, made: Table, found: list, folds: list) -> int:
     """Writes the files, and prints the text or the JSON."""
     lines = figures.class_text(made.classes)
     of_all = [each.load for each in found] if given.by == "worst" else [together([each.load for each in found])]
@@ -298,9 +289,6 @@ def finish(given, among: bounds.Among, made: Table, found: list, folds: list) ->
     if folds:
         served = [each.above for each in folds if each.above is not None]
         mean = f"{sum(served) / len(served):,.2f}%" if served else "none"
-        text.append(
-            regret.wrapped(
-                f"Held out, in {given.hold_out} runs of days: the worst is {regret.shown(regret.farthest(folds))}, the mean {mean}."
-            )
-        )
+        worst = regret.shown(regret.farthest(folds))
+        text.append(regret.wrapped(f"Held out, in {given.hold_out} runs of days: the worst is {worst}, the mean {mean}."))
     return texts.write("".join(text))

@@ -31,7 +31,7 @@ class Member:
         by_need: dict[int, list] = {}
         for size, counts in history.counts.items():
             if size != "large":
-                add(by_need, timelines.need_of(size), counts)
+                texts.add_row(by_need, timelines.need_of(size), counts)
         self.needs = sorted(by_need)
         sums = [0] * history.snapshots
         self.sums = [sums]
@@ -52,13 +52,15 @@ class Member:
         if self.timeline is not None:
             status, answer = figures.run(["footprint"], figures.class_text(classes).encode() + b"\n" + self.timeline)
             return int(answer.split()[-1])
+        return self.at_moments(classes)
+
+    def at_moments(self, classes: list) -> int:
+        """The same, at the moments that are known."""
         return sum(GRANULE * each * max(counts) for each, counts in self.spans(classes) if counts)
 
     def refine(self, classes: list) -> None:
         """Of a timeline: also the moments at which the classes of this table have the most blocks."""
-        if self.timeline is None or sum(GRANULE * each * max(counts) for each, counts in self.spans(classes) if counts) == self.footprint(
-            classes
-        ):
+        if self.timeline is None or self.at_moments(classes) == self.footprint(classes):
             return
         more = timelines.history_at(self.timeline, timelines.peaks_of(self.timeline, classes))
         both = {
@@ -73,34 +75,20 @@ class Member:
         return max(max(counts) for counts in self.history.counts.values())
 
     def at_peaks(self, classes: list) -> list:
-        """For each class of a table the live blocks, by size, at the moment at which the class has the most; None for one without a
-        block."""
+        """For each class of a table the live blocks, by size, at the moment at which the class has the most; none for one without a block."""
         found = []
         for _, counts in self.spans(classes):
             at = counts.index(max(counts)) if counts and max(counts) else None
-            found.append(
-                None if at is None else {size: row[at] for size, row in self.history.counts.items() if size != "large" and row[at]}
-            )
+            counts_at = self.history.counts.items() if at is not None else ()
+            found.append({size: row[at] for size, row in counts_at if size != "large" and row[at]})
         return found
-
-
-def add(by_need: dict, need: int, counts: list) -> None:
-    by_need[need] = [one + other for one, other in zip(by_need[need], counts)] if need in by_need else list(counts)
 
 
 class Load:
     """A profile, or the members of which each has a history or a timeline."""
 
-    def __init__(
-        self,
-        name: str,
-        kind: str,
-        counts: Optional[dict] = None,
-        members: Iterable[Member] = (),
-        text: bytes = b"",
-        program: str = "",
-        day: str = "",
-    ):
+    def __init__(self, name: str, kind: str, counts: Optional[dict] = None, members: Iterable[Member] = (), text: bytes = b"",
+                 program: str = "", day: str = "") -> None:
         self.name, self.kind, self.text, self.program, self.day = name, kind, text, program, day or name
         self.members = list(members)
         served = {size: count for size, count in (counts or {}).items() if size != "large" and count}
@@ -139,8 +127,7 @@ class Load:
             for member in self.members:
                 member.refine(classes)
                 for column, live in zip(sums, member.at_peaks(classes)):
-                    for size, count in (live or {}).items():
-                        column[size] += member.weight * count
+                    texts.add_counts(column, live, member.weight)
             self.known_peaks[key] = sums
         return self.known_peaks[key]
 

@@ -3,12 +3,11 @@
 import argparse
 import os
 import re
-import sys
 
 from mte_scripts import texts
 from mte_scripts.fleet import rows
 from mte_scripts.texts import LARGEST_SIZE, MOST_SNAPSHOTS, Refused
-from mte_scripts.words import Words, some
+from mte_scripts.words import Words
 
 HELP = f"""\
 Make profiles and histories of the rows of a fleet's database, each count times its weight; or rows of a profile or a history.
@@ -55,12 +54,11 @@ Examples:
 UNSAFE = re.compile(r"[^A-Za-z0-9._+@=,-]")
 
 
-class Days(argparse.Action):
-    def __call__(self, parser, namespace, values, option_string=None):
-        first, dots, last = values.partition("..")
-        if not dots or not all(rows.DAY.fullmatch(day) for day in (first, last)) or first > last:
-            raise Refused(2, f"--days takes a first and a last day as 2026-12-01..2026-12-31, and not {values}")
-        namespace.days = (first, last)
+def days(word: str) -> "tuple[str, str]":
+    first, dots, last = word.partition("..")
+    if not dots or not all(rows.DAY.fullmatch(day) for day in (first, last)) or first > last:
+        raise argparse.ArgumentTypeError(f"takes a first and a last day as 2026-12-01..2026-12-31, and not {word}")
+    return first, last
 
 
 def columns(word: str) -> list:
@@ -89,9 +87,8 @@ def name_of(value: str) -> str:
 
 def write_folder(folder: str, groups: list) -> int:
     """A file for each group, where no file was before. All texts are made before the first is written."""
-    made = [
-        (os.path.join(folder, *map(name_of, values)) + ending, text) for values, records in groups for ending, text in texts_of(records)
-    ]
+    every = [(values, ending, text) for values, records in groups for ending, text in texts_of(records)]
+    made = [(os.path.join(folder, *map(name_of, values)) + ending, text) for values, ending, text in every]
     try:
         os.mkdir(folder)
         for path, text in made:
@@ -115,7 +112,7 @@ def array_rows(found: dict) -> str:
     return "".join(lines)
 
 
-def write_rows(word: str, files: list) -> None:
+def write_rows(word: str, files: list) -> int:
     """The rows of one profile or history."""
     values = word.split(",")
     if len(values) not in (4, 5) or len(values) == 5 and not re.fullmatch("[0-9]{1,10}", values[4]):
@@ -131,22 +128,14 @@ def write_rows(word: str, files: list) -> None:
     if not text:
         raise Refused(3, "there is no request to count")
     rows.add({}, text.encode(), "--rows")  # refuses what would be refused there
-    texts.write(text)
+    return texts.write(text)
 
 
-def main(words: list) -> None:
-    parser = Words(HELP)
-    parser.add_argument("--by", type=columns, default=["program", "day"])
-    parser.add_argument("--program", type=some)
-    parser.add_argument("--days", action=Days)
-    parser.add_argument("--output", type=some)
-    parser.add_argument("--arrays", action="store_true")
-    parser.add_argument("--rows", type=some)
-    parser.add_argument("files", nargs="*")
-    given = parser.take(words, once=True)
+def main(words: list) -> int:
+    given = Words(HELP, "files", {"by": ["program", "day"]}, by=columns, days=days).take(words, once=True)
     files = given.files or ["-"]
-    if not given.files and sys.stdin is not None and sys.stdin.isatty():
-        texts.say("fleet_profiles", "reading standard input; Ctrl-D ends it")
+    if not given.files:
+        texts.say_reading("fleet_profiles")
     if given.rows:
         return write_rows(given.rows, files)
     found = rows.read(files)
@@ -158,7 +147,8 @@ def main(words: list) -> None:
         return texts.write(array_rows(kept))
     if given.output:
         made = write_folder(given.output, list(rows.grouped(kept, given.by)))
-        return texts.say("fleet_profiles", f"{made} files in {given.output}")
+        texts.say("fleet_profiles", f"{made} files in {given.output}")
+        return 0
     whole = texts_of(list(kept.values()))
     if len(whole) > 1:
         raise Refused(2, "there are rows of profiles and of histories: --output makes a file of each")

@@ -2,15 +2,14 @@
 
 import json
 import math
-import textwrap
 from collections.abc import Iterable, Sequence
 from typing import NamedTuple, Optional
 
 from mte_scripts import claims, texts
-from mte_scripts.fleet import bounds, loads, options, regret_picture
+from mte_scripts.fleet import bounds, loads, regret_picture
 from mte_scripts.tables import figures
 from mte_scripts.texts import Refused
-from mte_scripts.words import Words, some
+from mte_scripts.words import Words, decimal
 
 HELP = f"""\
 Say {claims.TEMPLATES["regret.help"]}, by a certificate for
@@ -25,7 +24,7 @@ TABLE is a file whose first line is a class line: a sheet, a fit, what fleet_tab
   - rows of the fleet's database (fleet_profiles --help has their form): of each program and day what its machines counted. Over
     histories, the footprint is the sum of each machine's by itself, times its weight
 
-{options.AMONG_HELP}
+{bounds.AMONG_HELP}
   --limit-percent X  end with status 1 where the table is more than X percent above the bound of a load, or does not serve one
   --json             print all as JSON, with a sentence for each load
   --plot FILE        draw the percentages over the days into FILE too, as SVG, a line for each program: of a file its folder's name
@@ -114,12 +113,8 @@ def table_text(found: list, held_out: Sequence[Regret] = ()) -> str:
         rows = [(*row, cell) for row, cell in zip(rows, ["held out", *map(shown, held_out)])]
     widths = [max(map(len, column)) for column in zip(*rows)]
     name = min(widths[0], max(WIDTH - sum(widths[1:]) - 2 * len(widths[1:]), 12))
-    lines = []
-    for row in rows:
-        first = row[0] if len(row[0]) <= name else ".." + row[0][2 - name :]
-        cells = [word.rjust(width) for word, width in zip(row[1:], widths[1:])]
-        lines.append("  ".join([first.ljust(name), *cells]).rstrip() + "\n")
-    return "".join(lines)
+    cut = [(row[0] if len(row[0]) <= name else ".." + row[0][2 - name :], *row[1:]) for row in rows]
+    return "".join(f"{line}\n" for line in texts.columns(cut))
 
 
 def summary(found: list, name: str, limit: Optional[float]) -> str:
@@ -134,51 +129,34 @@ def summary(found: list, name: str, limit: Optional[float]) -> str:
 
 
 def wrapped(text: str) -> str:
-    return "".join(f"{line}\n" for line in textwrap.wrap(text, WIDTH, break_long_words=False, break_on_hyphens=False))
+    return "".join(f"{line}\n" for line in texts.wrapped(text, WIDTH))
 
 
 def as_json(found: list, name: str, classes: list, among: bounds.Among, limit: Optional[float]) -> str:
     trust = texts.trust()
     each_load = [
         {
-            "name": each.load.name,
-            "program": each.load.program,
-            "day": each.load.day,
-            "kind": each.load.kind,
-            "table_bytes": each.cost,
-            "bound_bytes": each.bound.amount,
-            "above_percent": each.percent(),
-            "unserved_bytes": each.unserved,
-            "sentences": each.sentences(name),
+            "name": each.load.name, "program": each.load.program, "day": each.load.day, "kind": each.load.kind,
+            "table_bytes": each.cost, "bound_bytes": each.bound.amount, "above_percent": each.percent(),
+            "unserved_bytes": each.unserved, "sentences": each.sentences(name),
         }
         for each in found
     ]
     whole = {
-        "table": name,
-        "classes": classes,
-        "among": {"limit": among.limit, "step": among.step, "largest": among.largest},
-        "is_proved": trust.is_proved,
-        "why_not": trust.why,
-        "limit_percent": limit,
-        "is_within": is_within(found, limit),
-        "loads": each_load,
+        "table": name, "classes": classes, "among": among._asdict(), "is_proved": trust.is_proved, "why_not": trust.why,
+        "limit_percent": limit, "is_within": is_within(found, limit), "loads": each_load,
     }
     return json.dumps(whole, indent=1) + "\n"
 
 
 def main(words: list) -> int:
-    parser = Words(HELP)
-    options.add_among(parser)
-    parser.add_argument("--limit-percent", type=options.decimal(0, 1_000_000, "a percentage"))
-    parser.add_argument("--json", action="store_true")
-    parser.add_argument("--plot", type=some)
-    parser.add_argument("names", nargs="*")
-    given = parser.take(words, once=True)
+    percentage = decimal(0, 1_000_000, "a percentage")
+    given = Words(HELP, "names", bounds.AMONG_DEFAULTS, limit_percent=percentage, **bounds.AMONG_KINDS).take(words, once=True)
     if len(given.names) < 2:
         raise Refused(2, "name a table, and then the loads of its days; --help says more")
     if given.names.count("-") > 1:
         raise Refused(2, "standard input can be named once")
-    among = options.among(given)
+    among = bounds.Among.of(given)
     classes = texts.class_line(given.names[0])
     name = texts.printable(figures.without_ending(given.names[0], ".classes", ".sheet", ".fit"))
     found = [regret_of(load, classes, among) for load in loads.read(given.names[1:])]

@@ -102,8 +102,7 @@ def profile_of(records: Iterable[Record]) -> dict:
     unbiased."""
     sums: dict = {}
     for record in records:
-        for size, count in record.moments.get(0, {}).items():
-            sums[size] = sums.get(size, 0) + record.weight * count
+        texts.add_counts(sums, record.moments.get(0, {}), record.weight)
     return sums
 
 
@@ -128,6 +127,5 @@ def added(histories: list) -> texts.History:
     rows: dict = {}
     for weight, history in histories:
         for size, counts in history.counts.items():
-            sums = rows.setdefault(size, [0] * longest)
-            rows[size] = [one + weight * other for one, other in zip(sums, counts)]
+            texts.add_row(rows, size, counts, weight)
     return texts.History(longest, rows)

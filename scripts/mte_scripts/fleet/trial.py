@@ -1,6 +1,7 @@
 """The trial of a new table on some machines: who gets it, how many show a saving, and what the result says. `fleet_trial --help` says
 all."""
 
+import argparse
 import json
 import math
 import random
@@ -9,10 +10,10 @@ from collections.abc import Callable, Iterable
 from typing import NamedTuple, Optional
 
 from mte_scripts import texts
-from mte_scripts.fleet import loads, options, regret, samples
+from mte_scripts.fleet import loads, regret, samples
 from mte_scripts.fleet.samples import Difference, Group
 from mte_scripts.running import Refused
-from mte_scripts.words import Words, between, some
+from mte_scripts.words import Words, between, decimal
 
 HELP = """\
 Plan the trial of a new table on some machines beside others, and read its result: difference, interval and verdict.
@@ -187,6 +188,11 @@ class Read(NamedTuple):
         return Difference(*(amount / self.mean for amount in self.whole))
 
     @property
+    def more(self) -> Difference:
+        """The requests of the tuned machines beyond the others', as a share."""
+        return Difference(-self.requests.mean, -self.requests.high, -self.requests.low)
+
+    @property
     def is_load_alike(self) -> bool:
         return self.requests.low <= 0 <= self.requests.high
 
@@ -224,15 +230,14 @@ def text_of(result: Read, predicted: Optional[float], is_change: bool, is_adjust
         interval = f"{each.low:,.0f} to {each.high:,.0f}"
         cells = (f"{first.number} + {second.number}", f"{first.mean:,.0f}", f"{second.mean:,.0f}", f"{each.mean:,.0f}", interval)
         rows.append((texts.printable(program), *cells))
-    lines = [columns(rows)]
+    lines = [f"{line}\n" for line in texts.columns(rows)]
     said = f"Over all, each program with its share of the machines: the tuned ones take {result.whole.mean:,.0f} KiB less of "
     said += f"{result.mean:,.0f}, {percents(result.shares)}. {verdict(result)}"
     lines += ["\n", regret.wrapped(said)]
     if predicted is not None:
         where = "within" if result.shares.low <= predicted <= result.shares.high else "below" if predicted < result.shares.low else "above"
         lines.append(regret.wrapped(f"Predicted: {100 * predicted:.2f}%, which is {where} the interval."))
-    more = Difference(-result.requests.mean, -result.requests.high, -result.requests.low)
-    lines.append(regret.wrapped(f"Requests: the tuned machines differ by {percents(more)}."))
+    lines.append(regret.wrapped(f"Requests: the tuned machines differ by {percents(result.more)}."))
     if not result.is_load_alike:
         also = "" if is_adjusted else ": what is measured may be of that, unless it is read with --adjust"
         lines.append(regret.wrapped(f"! The groups did not serve alike{also}."))
@@ -241,20 +246,11 @@ def text_of(result: Read, predicted: Optional[float], is_change: bool, is_adjust
 
 def as_json(result: Read, predicted: Optional[float], is_adjusted: bool) -> str:
     whole = {
-        "is_adjusted": is_adjusted,
-        "level_percent": 100 * result.level,
-        "control_kib": result.mean,
-        "saving_kib": result.whole._asdict(),
+        "is_adjusted": is_adjusted, "level_percent": 100 * result.level, "control_kib": result.mean, "saving_kib": result.whole._asdict(),
         "saving_percent": {name: 100 * value for name, value in result.shares._asdict().items()},
-        "more_requests_percent": {
-            "mean": -100 * result.requests.mean,
-            "low": -100 * result.requests.high,
-            "high": -100 * result.requests.low,
-        },
-        "predicted_percent": None if predicted is None else 100 * predicted,
-        "is_saving": result.is_saving,
-        "is_load_alike": result.is_load_alike,
-        "verdict": verdict(result),
+        "more_requests_percent": {name: 100 * value for name, value in result.more._asdict().items()},
+        "predicted_percent": None if predicted is None else 100 * predicted, "is_saving": result.is_saving,
+        "is_load_alike": result.is_load_alike, "verdict": verdict(result),
         "programs": [
             {"program": program, "control": first._asdict(), "tuned": second._asdict(), "saving_kib": each._asdict()}
             for program, first, second, each in result.rows
@@ -276,7 +272,7 @@ def spread_of(values: Values) -> tuple[float, float]:
     return mean, math.sqrt(sum(group.number * group.variance for group in groups) / whole) / mean
 
 
-def plan_text(saving: float, spread: float, given) -> str:
+def plan_text(saving: float, spread: float, given: argparse.Namespace) -> str:
     lines = [f"{'Saving':>8}  machines in each group\n"]
     for each in (saving / 2, saving, 2 * saving):
         lines.append(f"{100 * each:>7.2f}%  {samples.needed(each, spread, given.level / 100, given.power / 100):,}\n")
@@ -309,16 +305,26 @@ def predicted(old: list, new: list, given: Iterable[loads.Load]) -> list[Predict
             raise Refused(2, f"a table does not serve all sizes of {load.name}")
         own = sums.setdefault(load.program, [0, 0, 0])
         sums[load.program] = [own[0] + load.machines, own[1] + (costs[0] or 0), own[2] + (costs[1] or 0)]
-    return [
-        Predicted(program, machines, was / machines / 1024, now / machines / 1024) for program, (machines, was, now) in sorted(sums.items())
-    ]
+    return [Predicted(name, machines, was / machines / 1024, now / machines / 1024) for name, (machines, was, now) in sorted(sums.items())]
+
+
+def options_of(words: list, rest: str, *names: str) -> argparse.Namespace:
+    """The options of a step: those of these names, and other words as REST."""
+    chance = decimal(50, 99.9999, "a chance in percent")
+    kinds = {
+        "seed": between(0, 10**9),
+        "machines": between(FEWEST, 10**9),
+        "saving": decimal(0.001, 99, "a percentage"),
+        "spread": decimal(0.001, 10_000, "a percentage"),
+        "predicted": decimal(0, 99, "a percentage"),
+        "level": chance,
+        "power": chance,
+    }
+    return Words(HELP, rest, {"seed": 1, "level": 95.0, "power": 90.0}, names, **kinds).take(words, once=True)
 
 
 def predict(words: list) -> int:
-    parser = Words(HELP)
-    parser.add_argument("--json", action="store_true")
-    parser.add_argument("names", nargs="*")
-    given = parser.take(words, once=True)
+    given = options_of(words, "names", "json")
     if len(given.names) < 3 or given.names.count("-") > 1:
         raise Refused(2, "predict takes the old table, the new one and the loads; --help says more")
     old, new = (texts.class_line(name) for name in given.names[:2])
@@ -330,52 +336,27 @@ def predict(words: list) -> int:
         each_row = [{**each._asdict(), "saving_kib": each.old - each.new} for each in (*found, whole)]
         texts.write(json.dumps({"programs": each_row[:-1], "all": each_row[-1]}, indent=1) + "\n")
         return 0
-    rows = [("Program", "machines", "old, KiB", "new, KiB", "saving, KiB")]
+    rows: list[tuple] = [("Program", "machines", "old, KiB", "new, KiB", "saving, KiB")]
     for each in (*found, whole):
-        rows.append(
-            (texts.printable(each.program), f"{each.machines:,}", f"{each.old:,.0f}", f"{each.new:,.0f}", f"{each.old - each.new:,.0f}")
-        )
-    texts.write(columns(rows))
+        rows.append((texts.printable(each.program), *(f"{value:,.0f}" for value in (each.machines, each.old, each.new, each.old - each.new))))
+    texts.write("".join(f"{line}\n" for line in texts.columns(rows)))
     return 0
 
 
-def columns(rows: list) -> str:
-    """Rows of cells, all but the first to the right."""
-    widths = [max(map(len, column)) for column in zip(*rows)]
-    return "".join(
-        "  ".join([row[0].ljust(widths[0]), *(cell.rjust(width) for cell, width in zip(row[1:], widths[1:]))]) + "\n" for row in rows
-    )
-
-
-def file_of(given) -> str:
+def file_of(given: argparse.Namespace) -> str:
     if len(given.names) > 1:
         raise Refused(2, f"there is one file, so no place for {given.names[1]}")
     return given.names[0] if given.names else "-"
 
 
 def assign(words: list) -> int:
-    parser = Words(HELP)
-    parser.add_argument("--seed", type=between(0, 10**9), default=1)
-    parser.add_argument("names", nargs="*")
-    given = parser.take(words, once=True)
+    given = options_of(words, "names", "seed")
     texts.write(assigned(lines_of(file_of(given), 2, "program and machine"), given.seed))
     return 0
 
 
-def add_chances(parser: Words) -> None:
-    parser.add_argument("--level", type=options.decimal(50, 99.9999, "a chance in percent"), default=95.0)
-
-
 def plan(words: list) -> int:
-    parser = Words(HELP)
-    parser.add_argument("--saving", type=options.decimal(0.001, 99, "a percentage"))
-    parser.add_argument("--spread", type=options.decimal(0.001, 10_000, "a percentage"))
-    parser.add_argument("--pilot", type=some)
-    parser.add_argument("--adjust", action="store_true")
-    parser.add_argument("--machines", type=between(FEWEST, 10**9))
-    parser.add_argument("--power", type=options.decimal(50, 99.9999, "a chance in percent"), default=90.0)
-    add_chances(parser)
-    given = parser.take(words, once=True)
+    given = options_of(words, "", "saving", "spread", "pilot", "adjust", "machines", "power", "level")
     if given.saving is None or (given.spread is None) == (given.pilot is None):
         raise Refused(2, "plan takes --saving, and --spread or --pilot; --help says more")
     spread, begin = (given.spread or 0) / 100, ""
@@ -390,13 +371,7 @@ def plan(words: list) -> int:
 
 
 def read_result(words: list) -> int:
-    parser = Words(HELP)
-    parser.add_argument("--predicted", type=options.decimal(0, 99, "a percentage"))
-    parser.add_argument("--adjust", action="store_true")
-    parser.add_argument("--json", action="store_true")
-    add_chances(parser)
-    parser.add_argument("names", nargs="*")
-    given = parser.take(words, once=True)
+    given = options_of(words, "names", "predicted", "adjust", "json", "level")
     values = values_of(file_of(given))
     if not any(group in groups for groups in values.resident.values() for group in GROUPS[:2]):
         raise Refused(2, "the result has no machine in the groups control and tuned")
@@ -404,9 +379,8 @@ def read_result(words: list) -> int:
         values = at_same_requests(values)
     predicted = None if given.predicted is None else given.predicted / 100
     result = read(values, given.level / 100)
-    texts.write(
-        as_json(result, predicted, given.adjust) if given.json else text_of(result, predicted, values.before is not None, given.adjust)
-    )
+    is_change = values.before is not None
+    texts.write(as_json(result, predicted, given.adjust) if given.json else text_of(result, predicted, is_change, given.adjust))
     return 0 if result.is_saving else 1
 
 

@@ -1,14 +1,17 @@
 """Compares mte_tool with the same in plain Rust. `bench --help` says all."""
 
+import contextlib
 import os
 import random
 import re
 import shutil
 import subprocess
+from collections.abc import Callable
 from pathlib import Path
 
-from mte_scripts import formats, places, private_folder, running
+from mte_scripts import formats, places, private_folder
 from mte_scripts.gate import growth
+from mte_scripts.running import Refused
 from mte_scripts.words import Words, between
 
 HELP = """\
@@ -66,7 +69,7 @@ REPLAYED = "classes 2 4 6 8 12 18 32 65\n"
 RUN = ["run", "--limit", "32", "--granules", "262144"]
 
 # each row: its words, its input, and what the table says of it
-ROWS = {
+ROWS: "dict[str, tuple]" = {
     "start": (["--version"], None, "the start alone, `--version`"),
     "score": (["score"], "score.in", "`score`, all sizes, 32 classes ({size})"),
     "tune": (["tune", "--limit", "32"], "tune.in", "`tune --limit 32`, 1,023 needs ({size})"),
@@ -90,60 +93,50 @@ ROWS = {
 }
 
 
-def fail(status, text):
-    raise running.Refused(status, text)
-
-
-def options_of(words):
-    parser = Words(HELP)
-    for name in ("--growth", "--instructions", "--branches"):
-        parser.add_argument(name, action="store_true")
-    parser.add_argument("--runs", type=between(1, 10_000), default=20)
-    parser.add_argument("--seed", type=between(1, formats.OPTIONS["seed"].most), default=1)
-    parser.add_argument("--keep")
-    parser.add_argument("rows", nargs="*")
-    options = vars(parser.take(words))
+def options_of(words: "list[str]") -> dict:
+    seed = between(1, formats.OPTIONS["seed"].most)
+    options = vars(Words(HELP, "rows", {"runs": 20, "seed": 1}, runs=between(1, 10_000), seed=seed).take(words))
     if unknown := [row for row in options["rows"] if row not in ROWS]:
-        fail(2, f"there is no row {unknown[0]}; --help says what there is")
+        raise Refused(2, f"there is no row {unknown[0]}; --help says what there is")
     if options["growth"] and (options["rows"] or options["keep"] or options["instructions"] or options["branches"]):
-        fail(2, "--growth takes no row and no option but --seed")
+        raise Refused(2, "--growth takes no row and no option but --seed")
     return options
 
 
-def check_tools(options):
+def check_tools(options: dict) -> None:
     tools = [(RUSTC, "the plain program"), ("valgrind", "the count of instructions")]
     if not options["instructions"]:
         tools.append((GNU_TIME, "the memory"))
     for tool, purpose in tools:
         if not shutil.which(tool):
-            fail(3, f"there is no {tool}, which is needed for {purpose}")
+            raise Refused(3, f"there is no {tool}, which is needed for {purpose}")
 
 
-def build(folder):
+def build(folder: Path) -> "dict[str, Path]":
     """The two programs, built."""
     if subprocess.run([ROOT / "scripts/mte_tool", "--version"], stdout=subprocess.DEVNULL).returncode != 0:
-        fail(3, "mte_tool could not be built")
+        raise Refused(3, "mte_tool could not be built")
     plain = folder / "plain"
     source = ROOT / "bench/plain/main.rs"
     if subprocess.run([RUSTC, "-O", "--edition", "2021", source, "-o", plain]).returncode != 0:
-        fail(3, "rustc could not build bench/plain")
+        raise Refused(3, "rustc could not build bench/plain")
     return {"mte_tool": OURS, "plain": plain}
 
 
-def output_of(command, source=None):
+def output_of(command: list, source: "Path | None" = None) -> bytes:
     """What a command writes; it has to succeed."""
     with open(source or os.devnull, "rb") as given:
         done = subprocess.run(command, stdin=given, stdout=subprocess.PIPE)
     if done.returncode != 0:
-        fail(3, f"{' '.join(map(str, command))} ended with status {done.returncode}")
+        raise Refused(3, f"{' '.join(map(str, command))} ended with status {done.returncode}")
     return done.stdout
 
 
-def make_inputs(folder, seed, plain):
+def make_inputs(folder: Path, seed: int, plain: Path) -> None:
     """Writes the inputs of all rows."""
     chance = random.Random(seed)
 
-    def line(size):
+    def line(size: int) -> str:
         return f"{size} {chance.randint(1, 10**9)}\n"
 
     sizes = "".join(line(size) for size in range(1, formats.LARGEST_SIZE + 1))
@@ -169,10 +162,10 @@ def make_inputs(folder, seed, plain):
     (folder / "check-fit-over.in").write_bytes(fit + timeline.encode())
 
 
-def timeline_of(chance):
+def timeline_of(chance: random.Random) -> str:
     """A timeline of a million events: blocks of 300 sizes, of which others are live in each of ten phases."""
     sizes = [chance.randint(1, chance.choice([200, 1_000, 16_000])) for _ in range(300)]
-    lines, live = ["timeline"], []
+    lines, live = ["timeline"], list[int]()
     for _ in range(10):
         favoured = chance.sample(sizes, 40)
         for event in range(100_000):
@@ -186,10 +179,10 @@ def timeline_of(chance):
     return "\n".join(lines) + "\n"
 
 
-def make_traces(folder, chance):
+def make_traces(folder: Path, chance: random.Random) -> None:
     """Writes the traces that allocate much, of 300,000 events each."""
 
-    def write(name, event):
+    def write(name: str, event: "Callable[[int], str]") -> None:
         (folder / name).write_text("".join(event(number) + "\n" for number in range(300_000)))
 
     write("fifo.trace", lambda e: f"free {(e // 2 + 1) % 1000}" if e % 2 else f"malloc {e // 2 % 1000} {chance.randrange(1, 600)}")
@@ -199,42 +192,42 @@ def make_traces(folder, chance):
     write("realloc.trace", lambda e: f"realloc 0 {16_000 if e % 2 else 16}")
 
 
-def run(command, source, target):
+def run(command: "list[str]", source: Path, target: "Path | str") -> "tuple[int, str]":
     """Runs a command from file to file: its status and its standard error."""
     with open(source, "rb") as given, open(target, "wb") as taken:
         done = subprocess.run(command, stdin=given, stdout=taken, stderr=subprocess.PIPE, env=ENVIRONMENT)
     return done.returncode, done.stderr.decode()
 
 
-def instructions(command, source, target, branches=False):
+def instructions(command: "list[str]", source: Path, target: Path, branches: bool = False) -> "tuple[int, int, int]":
     """How many instructions a command takes, how many branches are mispredicted (0 where they are not counted), and its status."""
     valgrind = [shutil.which("valgrind"), "--tool=callgrind", "--callgrind-out-file=/dev/null"]
     status, errors = run(valgrind + ["--branch-sim=yes"] * branches + command, source, target)
     collected = re.search(r"Collected : ([\d ]+)", errors)
     if not collected:
-        fail(3, f"valgrind did not count {' '.join(command)}: {errors.strip()}")
+        raise Refused(3, f"valgrind did not count {' '.join(command)}: {errors.strip()}")
     # instructions; with branches: conditional ones, mispredicted, indirect ones, mispredicted
     numbers = [int(number) for number in collected[1].split()]
     return numbers[0], sum(numbers[2::2]), status
 
 
-def milliseconds(command, source):
+def milliseconds(command: "list[str]", source: Path) -> float:
     """The processor time that a command takes, its own and the system's."""
     files = [(os.POSIX_SPAWN_OPEN, 0, source, os.O_RDONLY, 0), (os.POSIX_SPAWN_OPEN, 1, os.devnull, os.O_WRONLY, 0)]
     _, _, usage = os.wait4(os.posix_spawn(command[0], command, ENVIRONMENT, file_actions=files), 0)
     return 1000 * (usage.ru_utime + usage.ru_stime)
 
 
-def memory(command, source):
+def memory(command: "list[str]", source: Path) -> int:
     """The most bytes that a command has resident."""
     _, errors = run([GNU_TIME, "-f", "%M"] + command, source, os.devnull)
     return 1024 * int(errors.split()[-1])
 
 
-def measure(name, options, programs, folder):
+def measure(name: str, options: dict, programs: "dict[str, Path]", folder: Path) -> str:
     """One line of the table, after the outputs were compared."""
-    words, source, title = ROWS[name]
-    source = folder / source if source else Path(os.devnull)
+    words, given, title = ROWS[name]
+    source = folder / given if given else Path(os.devnull)
     commands = [[str(program)] + words for program in programs.values()]
     targets = [folder / f"{name}.{program}.out" for program in programs]
     counted = [instructions(command, source, target, options["branches"]) for command, target in zip(commands, targets)]
@@ -251,20 +244,20 @@ def measure(name, options, programs, folder):
     return "| " + " | ".join([title] + cells) + " |"
 
 
-def size_of(file):
+def size_of(file: Path) -> str:
     size = file.stat().st_size
     return f"{size / 1e6:.1f} MB" if size >= 1e6 else f"{size / 1e3:.0f} KB"
 
 
-def compare(words, statuses, targets):
+def compare(words: str, statuses: "list[int]", targets: "list[Path]") -> None:
     """Ends the script where the two programs disagree."""
     if statuses != [0, 0]:
-        fail(1, f"`{words}` ended with status {statuses[0]} of mte_tool and {statuses[1]} of the plain program")
+        raise Refused(1, f"`{words}` ended with status {statuses[0]} of mte_tool and {statuses[1]} of the plain program")
     if len({target.read_bytes() for target in targets}) > 1:
-        fail(1, f"`{words}`: the outputs of mte_tool and of the plain program differ")
+        raise Refused(1, f"`{words}`: the outputs of mte_tool and of the plain program differ")
 
 
-def print_table(options, folder):
+def print_table(options: dict, folder: Path) -> None:
     programs = build(folder)
     make_inputs(folder, options["seed"], programs["plain"])
     heads = ["What", "instructions", "plain", "ratio"] + ["mispredicted", "plain"] * options["branches"]
@@ -276,40 +269,30 @@ def print_table(options, folder):
         print(measure(name, options, programs, folder), flush=True)
 
 
-def print_growth(options, folder):
+def print_growth(options: dict, folder: Path) -> None:
     programs = build(folder)
     events = output_of([programs["plain"], "events", "--seed", str(options["seed"])]).decode().splitlines(keepends=True)
 
-    def write(name, text):
+    def write(name: str, text: str) -> Path:
         (folder / name).write_text(text)
         return folder / name
 
-    def counted(command, source):
+    def counted(command: "list[str]", source: Path) -> int:
         count, _, status = instructions(command, source, folder / "out")
         if status != 0:
-            fail(3, f"{' '.join(command)} ended with status {status}")
+            raise Refused(3, f"{' '.join(command)} ended with status {status}")
         return count
 
     growth.print_table(str(programs["mte_tool"]), events, options["seed"], counted, memory, write)
 
 
-def main(words):
+def bench(words: "list[str]") -> None:
     options = options_of(words)
     check_tools(options)
-    if options["growth"]:
-        with private_folder.temporary() as folder:
-            print_growth(options, Path(folder))
-    elif options["keep"]:
-        folder = Path(options["keep"]).resolve()
-        folder.mkdir(parents=True, exist_ok=True)
-        print_table(options, folder)
-    else:
-        with private_folder.temporary() as folder:
-            print_table(options, Path(folder))
-
-
-def bench(words):
     try:
-        main(words)
+        if options["keep"]:
+            os.makedirs(options["keep"], exist_ok=True)
+        with contextlib.nullcontext(os.path.realpath(options["keep"])) if options["keep"] else private_folder.temporary() as folder:
+            (print_growth if options["growth"] else print_table)(options, Path(folder))
     except OSError as error:
-        fail(3, f"{error.filename or 'standard output'}: {error.strerror or error}")
+        raise Refused(3, f"{error.filename or 'standard output'}: {error.strerror or error}")

@@ -15,8 +15,7 @@ import shutil
 from mte_scripts import texts
 from mte_scripts.builds.crate_list import CrateList
 from mte_scripts.places import ROOT
-from mte_scripts.words import Words, some
-
+from mte_scripts.words import Words
 
 
 def what_it_is(folder: str) -> str:
@@ -44,11 +43,8 @@ def copy(crates: CrateList, names: list[str], folder: str) -> None:
         raise texts.Refused(3, f"{folder} can't be written: {error}") from None
 
 
-def main(words):
-    parser = Words(__doc__)
-    parser.add_argument("--copy", type=some)
-    parser.add_argument("crates", nargs="*")
-    options = parser.take(words)
+def main(words: "list[str]") -> int:
+    options = Words(__doc__, "crates").take(words)
     words, folder = options.crates, options.copy
     crates = CrateList(ROOT)
     unknown = [it for it in words if it not in crates.stands_on]
@@ -58,4 +54,5 @@ def main(words):
     names = list(crates.below(words))
     if folder is None:
         return texts.write(listing(crates, names))
-    return copy(crates, names, folder)
+    copy(crates, names, folder)
+    return 0

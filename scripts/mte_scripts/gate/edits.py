@@ -14,6 +14,7 @@ import pathlib
 import re
 import sys
 import textwrap
+from collections.abc import Iterator
 
 from mte_scripts.places import ROOT
 from mte_scripts.words import Words
@@ -22,15 +23,16 @@ CRATES = pathlib.Path(ROOT) / "crates"
 KEYS = ("of", "what", "breaks", "file", "old", "new")
 
 
-def lines_of(edit):
+def lines_of(edit: pathlib.Path) -> "list[tuple[str, str]]":
     """The lines of an edit as pairs of a key and a text."""
     lines = [line.partition(":") for line in edit.read_text(encoding="utf-8").splitlines()]
     return [(key, text.removeprefix(" ")) for key, _, text in lines]
 
 
-def faults(edit):
+def faults(edit: pathlib.Path) -> "Iterator[str]":
     """Yields what is wrong with an edit. Its pairs `old`, `new` apply one after the other."""
-    lines, texts, path, old = lines_of(edit), {}, None, None
+    lines, path, old = lines_of(edit), None, None
+    texts: dict[pathlib.Path, str] = {}
     for key in ("of", "what"):
         if [it for it, text in lines if text.strip()].count(key) != 1:
             yield f"it has not one line `{key}:`"
@@ -54,9 +56,9 @@ def faults(edit):
         yield "it changes nothing"
 
 
-def listing(crate, edits):
+def listing(crate: str, edits: "list[pathlib.Path]") -> "Iterator[str]":
     """The lines that show the edits of a crate, by the function that each makes wrong."""
-    by_function = {}
+    by_function: dict[str, list] = {}
     for edit in edits:
         said = dict(lines_of(edit))
         by_function.setdefault(said.get("of", "?"), []).append((edit.stem, said))
@@ -72,9 +74,7 @@ def listing(crate, edits):
 
 
 def main(words: list[str]) -> int:
-    parser = Words(__doc__)
-    parser.add_argument("--check", action="store_true")
-    parser.add_argument("crates", nargs="*")
+    parser = Words(__doc__, "crates")
     options = parser.take(words)
     check, names = options.check, options.crates
     wrong = [it for it in names if not re.fullmatch(r"\w+", it) or not (CRATES / it).is_dir()]

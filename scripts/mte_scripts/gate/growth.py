@@ -2,6 +2,7 @@
 
 import random
 from collections import namedtuple
+from collections.abc import Callable, Sequence
 
 # mixed events that are the same in each series, but for the series of events
 EVENTS = 100_000
@@ -15,7 +16,7 @@ Trial = namedtuple("Trial", "words given without count")
 TABLE = "classes 2 4 6 8 12 18 32 65\n"
 
 
-def all_series(events, seed):
+def all_series(events: "list[str]", seed: int) -> "list[Series]":
     """The series, over the lines of a trace of a million mixed events."""
     mixed = "".join(events[:EVENTS])
     return [
@@ -31,25 +32,25 @@ def all_series(events, seed):
     ]
 
 
-def over_events(title, words, before, events):
+def over_events(title: str, words: "list[str]", before: str, events: "list[str]") -> Series:
     values = [10_000, 100_000, 1_000_000]
     trials = [Trial(words, before + "".join(events[:count]), before, count) for count in values]
     return Series(title, "event", values, trials)
 
 
-def over_options(title, name, values, mixed, others=()):
+def over_options(title: str, name: str, values: "list[int]", mixed: str, others: "Sequence[str]" = ()) -> Series:
     trials = [Trial(["replay", name, str(value), *others], TABLE + mixed, TABLE, EVENTS) for value in values]
     return Series(title, "event", values, trials)
 
 
-def over_tables(mixed):
+def over_tables(mixed: str) -> Series:
     values = [1, 2, 8, 32]
     tables = [f"classes {' '.join(str(2 + 63 * place // count) for place in range(1, count + 1))}\n" for count in values]
     words = ["replay", "--granules", "262144"]
     return Series("`replay`, classes", "event", values, [Trial(words, table + mixed, table, EVENTS) for table in tables])
 
 
-def over_live_blocks(mixed):
+def over_live_blocks(mixed: str) -> Series:
     # the last variable is written over, so that its blocks stay; two classes have room for all of them
     values = [0, 1_000, 10_000, 60_000]
     tables = ["classes 2 65\n" + "malloc 1023 16\n" * count for count in values]
@@ -57,24 +58,24 @@ def over_live_blocks(mixed):
     return Series("`replay`, live blocks besides", "event", values, [Trial(words, table + mixed, table, EVENTS) for table in tables])
 
 
-def profile_of(needs, chance):
+def profile_of(needs: int, chance: random.Random) -> str:
     return "".join(f"{16 * need - 16} {chance.randint(1, 10**9)}\n" for need in range(2, needs + 2))
 
 
-def over_needs(seed):
+def over_needs(seed: int) -> Series:
     values = [16, 128, 1023]
     trials = [Trial(["tune", "--limit", "8"], profile_of(count, random.Random(seed)), "", count) for count in values]
     return Series("`tune --limit 8`, sizes that need other granules", "size", values, trials)
 
 
-def over_limits(seed):
+def over_limits(seed: int) -> Series:
     values = [1, 4, 16, 32]
     profile = profile_of(1023, random.Random(seed))
     trials = [Trial(["tune", "--limit", str(limit)], profile, "", limit) for limit in values]
     return Series("`tune` of 1,023 such sizes, classes", "class", values, trials)
 
 
-def print_table(program, events, seed, instructions, memory, write):
+def print_table(program: str, events: "list[str]", seed: int, instructions: Callable, memory: Callable, write: Callable) -> None:
     """Prints a row for each series. `write` makes a file of a text; the other two measure a command on a file."""
     print("| What grows | values | before | for each | instructions | memory in MiB |")
     print("|---|---:|---:|---|---:|---:|")
@@ -85,7 +86,7 @@ def print_table(program, events, seed, instructions, memory, write):
         print(f"| {series.title} | {values} | {before} | {series.unit} | {each} | {resident} |", flush=True)
 
 
-def measured(program, trial, instructions, memory, write):
+def measured(program: str, trial: Trial, instructions: Callable, memory: Callable, write: Callable) -> "tuple[str, str, str]":
     command = [program, *trial.words]
     given, without = write("given", trial.given), write("without", trial.without)
     before = instructions(command, without)

@@ -34,7 +34,7 @@ FIGURES = ("refused", "proves", "same", "not-judged", "not-run")
 Known = namedtuple("Known", "figures reasons")
 
 
-def known():
+def known() -> Known:
     """The figures of each crate, and the reason of each wrong body that is known, by crate and body."""
     figures, reasons = {}, {}
     with open(KNOWN, encoding="utf-8") as file:
@@ -48,7 +48,7 @@ def known():
     return Known(figures, reasons)
 
 
-def planted(crate, minutes):
+def planted(crate: str, minutes: int) -> "tuple[list[str], list[str]]":
     """What `rt plant` says of a crate: the wrong bodies that are proved, and its figures."""
     command = ["rt", "plant", "--minutes", str(minutes), "--max", "2000"]
     done = subprocess.run(command, cwd=os.path.join(ROOT, "crates", crate), stdout=subprocess.PIPE, stderr=subprocess.STDOUT, text=True)
@@ -60,21 +60,18 @@ def planted(crate, minutes):
     return bodies, [figures[it] for it in FIGURES]
 
 
-def table(figures):
+def table(figures: dict) -> None:
     print("| Crate | Refused | Let through | The same answer | Not judged | Not tried |\n|---|---:|---:|---:|---:|---:|")
     for crate, its in figures.items():
         print(f"| `{crate}` | " + " | ".join(its[it] for it in FIGURES) + " |")
 
 
-def plants(words):
-    parser = Words(__doc__)
-    parser.add_argument("--minutes", type=between(1, 10_000), default=10)
-    parser.add_argument("--table", action="store_true")
-    parser.add_argument("crates", nargs="*")
-    options = parser.take(words)
+def plants(words: "list[str]") -> int:
+    options = Words(__doc__, "crates", {"minutes": 10}, minutes=between(1, 10_000)).take(words)
     its = known()
     if options.table:
-        return table(its.figures)
+        table(its.figures)
+        return 0
     crates = CrateList(ROOT)
     names = options.crates or [it for it in crates.stands_on if os.path.exists(os.path.join(crates.folder(it), "src", "lib.rt"))]
     unknown = [it for it in names if it not in crates.stands_on]

@@ -38,9 +38,7 @@ def table() -> str:
     """The counts of all topics."""
     rows: list = [("", "definitions", "lines", "modules", "types and constants")]
     rows += [(topic, *map(str, statements.statement(topic).counts)) for topic in statements.TOPICS]
-    widths = [max(map(len, column)) for column in zip(*rows)]
-    lines = [[row[0].ljust(widths[0])] + [cell.rjust(width) for cell, width in zip(row[1:], widths[1:])] for row in rows]
-    return "".join("  ".join(line).rstrip() + "\n" for line in lines)
+    return "".join(f"{line}\n" for line in texts.columns(rows))
 
 
 def printed(options: argparse.Namespace) -> str:
@@ -51,10 +49,7 @@ def printed(options: argparse.Namespace) -> str:
 
 
 def statement(words: "list[str]") -> int:
-    parser = Words(HELP)
-    parser.add_argument("--html", action="store_true")
-    parser.add_argument("--count", action="store_true")
-    parser.add_argument("names", nargs="*")
+    parser = Words(HELP, "names")
     options = parser.take(words)
     if options.count and (options.html or options.names):
         parser.error("--count takes no name")

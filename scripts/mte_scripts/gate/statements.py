@@ -6,6 +6,7 @@ is printed. Names of std and of clap are the kit's: they are listed, and not pri
 import functools
 import os
 import re
+from collections.abc import Iterable
 from dataclasses import dataclass, field
 
 from mte_scripts.places import ROOT
@@ -205,17 +206,12 @@ def item_at(text: str, name: str, kinds: str) -> "re.Match | None":
 
 
 def item_end(text: str, start: int) -> int:
-    """Where an item that is no function ends: after its braces, or its semicolon."""
+    """Where an item that is no function ends, or what begins with a brace: after its braces, or its semicolon."""
     depth = 0
     for match in TOKEN.finditer(text, start):
-        mark = match["mark"]
-        if mark and mark in "([{":
-            depth += 1
-        elif mark and mark in ")]}":
-            depth -= 1
-            if depth == 0 and mark == "}":
-                return match.end()
-        elif mark == ";" and depth == 0:
+        mark = match["mark"] or " "
+        depth += (mark in "([{") - (mark in ")]}")
+        if depth == 0 and mark in "};":
             return match.end()
     return len(text)
 
@@ -257,10 +253,10 @@ def item(crate: str, name: str, kinds: str, within: str = "") -> "tuple | None":
         end = signature_end(text, found.end(), indent) if is_function else item_end(text, found.start())
         shown = dedented(text[found.start() : end].rstrip(), indent)
         model = re.search(rf"(?m)^impl(?:<[^\n]*>)? Model for {re.escape(name)}\b[^\n]*", text)
-        block = text[model.start() : item_end_of_brace(text, model.start())] if model else ""
+        block = text[model.start() : item_end(text, model.start())] if model else ""
         if "    ghost Value" in block and not is_function:
             start = block.index("    ghost Value")
-            value = block[start : item_end_of_brace(block, start)]
+            value = block[start : item_end(block, start)]
             shown = f"{shown.split('{')[0].rstrip()} {{ .. }}\n\n{model[0]}\n{value};\n    ..\n}}"
         return file, commented(text, found.start()), shown
     return None
@@ -329,12 +325,12 @@ def target(place: str, name: str) -> "Key | Foreign":
     raise Unresolved(f"{place} does not define {name}")
 
 
-def operators(names) -> dict:
+def operators(names: "Iterable[str]") -> dict:
     """The parts of names with holes: `≡` of `◌≡◌`."""
     return {part: name for name in names if "◌" in name and name != "◌" for part in name.split("◌") if part}
 
 
-def known_in(imports: dict, blocks, constructors: dict, place: str) -> dict:
+def known_in(imports: dict, blocks: "Iterable[str]", constructors: dict, place: str) -> dict:
     """What each word means in a module or a source."""
     known = {name: ("import", *found) for name, found in imports.items()}
     known.update({name: ("here", place, name) for name in blocks})
@@ -447,24 +443,12 @@ def spec_definition(key: Key) -> Definition:
 
 
 def bound_operators(name: str) -> set:
-    return {part for part in name.split("◌") if part} if "◌" in name else {name}
+    return set(filter(None, name.split("◌")))
 
 
 def ghost_parts(text: str) -> "list[tuple[int, int]]":
     """Where the clauses of an item stand, and what else is ghost."""
-    return [(match.end() - 1, item_end_of_brace(text, match.end() - 1)) for match in GHOST.finditer(text)]
-
-
-def item_end_of_brace(text: str, start: int) -> int:
-    depth = 0
-    for match in TOKEN.finditer(text, start):
-        if match["mark"] == "{":
-            depth += 1
-        elif match["mark"] == "}":
-            depth -= 1
-            if depth == 0:
-                return match.end()
-    return len(text)
+    return [(match.end() - 1, item_end(text, match.end() - 1)) for match in GHOST.finditer(text)]
 
 
 def source_links(file: str, text: str, own: str) -> list:
@@ -514,16 +498,11 @@ def cited_in_clause(part: str, start: int, scope: dict, bound: set, own: str, fi
 
 def rust_meaning(there: Source, word: str, before: str) -> "Key | Foreign | None":
     """What a type, a trait or a constant of Rust is."""
-    path = re.search(r"([a-z_]\w*)::$", before)
-    if path and path[1] in there.uses:
-        path = there.uses[path[1]]
-        return source_key(path[0], word) if path[0] != "crate" else source_key(there.crate, word)
+    module = re.search(r"([a-z_]\w*)::$", before)
+    path = there.uses.get(module[1] if module else word) or ([module[1]] if module else [])
     if path:
-        return source_key(there.crate if path[1] in ("crate", "self", "super") else path[1], word)
-    if word in there.uses:
-        path = there.uses[word]
         crate = there.crate if path[0] in ("crate", "self", "super") else path[0]
-        return source_key(crate, path[-1])
+        return source_key(crate, word if module else path[-1])
     if word in KIT_OWN:
         return Foreign("std", word)
     return source_key(there.crate, word, there.file)

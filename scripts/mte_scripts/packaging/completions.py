@@ -1,8 +1,10 @@
 """Completions for bash, zsh and fish, made of the helps. A command is (name, Help); mte_tool has commands of its own, {name: Help}."""
 
 import shlex
+from collections.abc import Iterator
 
-from mte_scripts.packaging import helps
+from mte_scripts import helps
+from mte_scripts.helps import Help
 
 BASH = """\
 # Made by scripts/package, of the helps.
@@ -14,23 +16,23 @@ complete -o bashdefault -o default -F {function} {name}
 """
 
 
-def text_of(option, most=70):
+def text_of(option: helps.Option, most: int = 70) -> str:
     """What a list of completions says of an option: the begin of what its help does."""
     text = option.text.split(";")[0].split(". ")[0].split(" [")[0]
     return text if len(text) <= most else text[:most].rsplit(" ", 1)[0] + " .."
 
 
-def own_options(help_):
+def own_options(help_: Help) -> "list[str]":
     return [name for option in help_.options() for name in option.names]
 
 
 # ---- bash
 
-def bash_reply(words):
+def bash_reply(words: str) -> str:
     return f'mapfile -t COMPREPLY < <(compgen {words} -- "$word")'
 
 
-def bash_options(help_, indent):
+def bash_options(help_: Help, indent: int) -> str:
     """The value after an option, else the options; files where there is nothing else to say."""
     pad, lines = " " * indent, []
     for option in help_.options():
@@ -48,7 +50,7 @@ def bash_options(help_, indent):
     return "".join(lines)
 
 
-def bash(name, help_, commands=None):
+def bash(name: str, help_: Help, commands: "dict[str, Help] | None" = None) -> str:
     function = "_" + name.replace("+", "x")
     if not commands:
         return BASH.format(function=function, name=name, body=bash_options(help_, 4))
@@ -62,11 +64,11 @@ def bash(name, help_, commands=None):
 
 # ---- zsh
 
-def zsh_text(text):
+def zsh_text(text: str) -> str:
     return text.translate({ord(sign): "\\" + sign for sign in "[]:\\"})
 
 
-def zsh_arguments(help_, rest="*:file:_files"):
+def zsh_arguments(help_: Help, rest: str = "*:file:_files") -> str:
     """The words of _arguments for a command."""
     words = ["-s", "-S"]
     for option in help_.options():
@@ -80,7 +82,7 @@ def zsh_arguments(help_, rest="*:file:_files"):
     return " ".join(shlex.quote(word) for word in words if word)
 
 
-def zsh(scripts, name, help_, commands):
+def zsh(scripts: "dict[str, Help]", name: str, help_: Help, commands: "dict[str, Help]") -> str:
     """One file for all commands."""
     out = [f"#compdef {' '.join([name, *scripts])}", "# Made by scripts/package, of the helps.", "local -a own", "case $service in"]
     for script, its in scripts.items():
@@ -96,7 +98,7 @@ def zsh(scripts, name, help_, commands):
 
 # ---- fish
 
-def fish_options(name, help_, condition=""):
+def fish_options(name: str, help_: Help, condition: str = "") -> "Iterator[str]":
     for option in help_.options():
         words = ["complete", "-c", name, *(["-n", condition] if condition else [])]
         for each in option.names:
@@ -111,11 +113,11 @@ def fish_options(name, help_, condition=""):
         yield " ".join(fish_word(word) for word in words)
 
 
-def fish_word(word):
+def fish_word(word: str) -> str:
     return word if all(sign.isalnum() or sign in "-_+" for sign in word) else "'" + word.replace("\\", "\\\\").replace("'", "\\'") + "'"
 
 
-def fish(name, help_, commands=None):
+def fish(name: str, help_: Help, commands: "dict[str, Help] | None" = None) -> str:
     lines = ["# Made by scripts/package, of the helps."]
     if commands:
         lines.append(f"complete -c {name} -f")

@@ -4,6 +4,7 @@ import hashlib
 import os
 import re
 import textwrap
+from pathlib import Path
 from typing import NamedTuple
 
 from mte_scripts import texts
@@ -36,7 +37,7 @@ def packages(tree: Tree, parts: Parts) -> "list[Package]":
                      "This package has the program, the scripts, the page, the documents and the examples.", commands_fields(tree), "")]
     if provenance.has_library(tree):
         soname = packaging.soname_of(tree)
-        library = library_name(soname)
+        library = f"lib{NAME}{soname.rpartition('.')[2]}"
         moved = f"Breaks: {NAME} (<< {ONCE})\nReplaces: {NAME} (<< {ONCE})\n"
         found += [
             Package(library, "libs", "size-class tables with certificates - shared library", "This package has the shared library.",
@@ -48,10 +49,6 @@ def packages(tree: Tree, parts: Parts) -> "list[Package]":
     return found
 
 
-def library_name(soname: str) -> str:
-    return f"lib{NAME}{soname.rpartition('.')[2]}"
-
-
 def commands_fields(tree: Tree) -> str:
     helped, recommended = "binutils, gcc | c-compiler, g++ | c++-compiler, libc6-dev | libc-dev", ""
     if not tree.has(f"{packaging.PRIVATE}/recorders"):
@@ -60,7 +57,7 @@ def commands_fields(tree: Tree) -> str:
 
 
 def paragraph(text: str) -> str:
-    return "".join(f" {line}\n" for line in textwrap.wrap(text, 77))
+    return textwrap.indent(textwrap.fill(text, 77), " ") + "\n"
 
 
 def control(tree: Tree, parts: Parts, package: Package) -> str:
@@ -84,8 +81,8 @@ Description: {package.title}
 
 
 def copyright_text(parts: Parts) -> str:
-    with open(os.path.join(texts.ROOT, "LICENSE"), encoding="utf-8") as file:
-        _, mark, exceptions = file.read().partition("---- LLVM Exceptions to the Apache 2.0 License ----\n")
+    license_text = Path(texts.ROOT, "LICENSE").read_text(encoding="utf-8")
+    _, mark, exceptions = license_text.partition("---- LLVM Exceptions to the Apache 2.0 License ----\n")
     if not mark:
         raise Refused(3, "LICENSE has no exceptions of LLVM: scripts/mte_scripts/packaging/debian.py says that it has")
     # an empty line of a field is a dot

@@ -1,17 +1,21 @@
 """Manual pages, made of the helps."""
 
+from collections.abc import Iterator, Sequence
+
+from mte_scripts.helps import Block, Help
+
 
 SECTIONS = ["DESCRIPTION", "COMMANDS", "OPTIONS", "EXIT STATUS", "EXAMPLES"]
 
 
-def escaped(text):
+def escaped(text: str) -> str:
     """A line of text for roff, as it stands: a hyphen stays one that can be copied, and no line begins a request."""
     for old, new in (("\\", "\\e"), ("-", "\\-"), ("'", "\\(aq"), ("`", "\\(ga"), ("^", "\\(ha"), ("~", "\\(ti")):
         text = text.replace(old, new)
     return "\\&" + text if text.startswith(".") else text
 
 
-def prose(text):
+def prose(text: str) -> str:
     """The same; words between backquotes are bold."""
     parts = text.split("`")
     if len(parts) % 2 == 0:
@@ -20,7 +24,7 @@ def prose(text):
     return "\\&" + marked if marked.startswith(("\\.", ".")) else marked
 
 
-def lines_of(block):
+def lines_of(block: Block) -> "Iterator[str]":
     if block.kind == "text":
         yield from (".PP", prose(block.content))
     elif block.kind == "terms":
@@ -33,7 +37,7 @@ def lines_of(block):
         yield from (".PP", ".RS 4", ".EX", *map(escaped, block.content), ".EE", ".RE")
 
 
-def page(name, help_, date, version, also, files=()):
+def page(name: str, help_: Help, date: str, version: str, also: "list[str]", files: "Sequence[tuple[str, str]]" = ()) -> str:
     """The manual page of a command. ALSO names other pages, FILES are (path, what it is)."""
     title = name.replace(" ", "-")
     out = [f'.TH "{escaped(title.upper())}" 1 "{date}" "{version}" "User Commands"', ".nh"]

@@ -7,13 +7,13 @@ import re
 import shutil
 import subprocess
 
-from mte_scripts import manifest, private_folder, texts
+from mte_scripts import helps, manifest, private_folder, texts
 from mte_scripts.builds import web_page
-from mte_scripts.packaging import crates, debian, helps, packaging, provenance, wheel
+from mte_scripts.packaging import crates, debian, packaging, provenance, wheel
 from mte_scripts.packaging.packaging import Parts
 from mte_scripts.packaging.tree import Tree, run, source, write_tar
 from mte_scripts.texts import Refused
-from mte_scripts.words import Words, some
+from mte_scripts.words import Words
 
 OPTIONS = """\
   --program FILE   the program, where it was built elsewhere, with its manifest beside it; without it scripts/mte_tool proves and builds it
@@ -59,22 +59,12 @@ Example:
 """
 
 
-def options_of(words: list, help_text: str, may_leave_out: bool) -> "tuple[argparse.Namespace, str]":
+def options_of(words: list, help_text: str) -> "tuple[argparse.Namespace, str]":
     """The options, and the folder."""
-    parser = Words(help_text)
-    for name in ("--program", "--kit", "--maintainer"):
-        parser.add_argument(name, type=some)
+    options = Words(help_text, "folders").take(words, into=argparse.Namespace(no_library=False, no_page=False))
     for name in ("library", "page"):
-        either = parser.add_mutually_exclusive_group()
-        either.add_argument(f"--{name}", type=some)
-        if may_leave_out:
-            either.add_argument(f"--no-{name}", action="store_true")
-        else:
-            parser.set_defaults(**{f"no_{name}": False})
-    parser.add_argument("folders", nargs="*")
-    if not may_leave_out:
-        parser.add_argument("--gate", type=some)
-    options = parser.take(words)
+        if getattr(options, name) and getattr(options, f"no_{name}"):
+            raise Refused(2, f"--{name} and --no-{name} can't be given both; --help says what there is")
     if len(options.folders) != 1:
         raise Refused(2, "name one folder for the packages; --help says more")
     return options, options.folders[0]
@@ -228,7 +218,7 @@ def want_tools(*more: str) -> None:
 
 
 def package(words: list) -> None:
-    options, folder = options_of(words, HELP, may_leave_out=True)
+    options, folder = options_of(words, HELP)
     want_tools()
     os.umask(0o022)
     try:

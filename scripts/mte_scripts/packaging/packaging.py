@@ -7,12 +7,12 @@ import json
 import os
 import re
 import shutil
-import subprocess
+from pathlib import Path
 from typing import NamedTuple
 
-from mte_scripts import manifest, texts
+from mte_scripts import helps, manifest, texts
 from mte_scripts.builds import web_page
-from mte_scripts.packaging import completions, helps, manual
+from mte_scripts.packaging import completions, manual
 from mte_scripts.packaging.tree import Tree, run, source, tracked
 from mte_scripts.texts import Refused
 
@@ -115,16 +115,20 @@ def trusted(parts: Parts) -> str:
 
 
 def modules_of_commands() -> "list[str]":
-    """The modules of mte_scripts that a command imports, also by others."""
+    """The modules of mte_scripts that a command has run or imports, also by others."""
     found: "set[str]" = set()
     left = [f"scripts/{name}" for name in COMMANDS]
     while left:
         for node in ast.walk(ast.parse(texts.read(source(left.pop())))):
-            if isinstance(node, ast.ImportFrom) and node.module and node.module.split(".")[0] == "mte_scripts":
-                place = f"scripts/{node.module.replace('.', '/')}"
-                names = {f"{place}.py", f"{place}/__init__.py", "scripts/mte_scripts/__init__.py"}
-                names |= {f"{place}/{each.name}.py" for each in node.names}
-                new = {name for name in names - found if os.path.isfile(source(name))}
+            module, names = "", []
+            if isinstance(node, ast.ImportFrom) and node.module:
+                module, names = node.module, [each.name for each in node.names]
+            elif isinstance(node, ast.Call) and ast.unparse(node.func) == "running.run" and len(node.args) > 1:
+                module = f"mte_scripts.{ast.literal_eval(node.args[1]).rpartition('.')[0]}"
+            if module.split(".")[0] == "mte_scripts":
+                place = f"scripts/{module.replace('.', '/')}"
+                files = {f"{place}.py", f"{place}/__init__.py", "scripts/mte_scripts/__init__.py", *(f"{place}/{name}.py" for name in names)}
+                new = {name for name in files - found if os.path.isfile(source(name))}
                 found |= new
                 left += new
     return sorted(found)
@@ -135,8 +139,7 @@ def put_scripts(tree: Tree) -> None:
     for name in [*modules_of_commands(), *tracked("scripts/shims")]:
         tree.copy(source(name), f"{PRIVATE}/{name}")
     for name in ["mte_tool", *COMMANDS]:
-        with open(source(f"scripts/{name}"), encoding="utf-8") as file:
-            first, rest = file.read().split("\n", 1)
+        first, rest = Path(source(f"scripts/{name}")).read_text(encoding="utf-8").split("\n", 1)
         # Debian's interpreters, and not the first ones on the path
         shell = {"#!/usr/bin/env bash": "#!/bin/bash", "#!/usr/bin/env python3": "#!/usr/bin/python3"}[first]
         tree.write(f"{PRIVATE}/scripts/{name}", f"{shell}\n{rest}", 0o755)

@@ -82,12 +82,9 @@ def counts_in(path: "str | None") -> str:
 
 def last_tag() -> str:
     """The last tag before this commit, or nothing."""
-    tags = run(["git", "-C", texts.ROOT, "tag", "--merged", "HEAD^", "--sort=-creatordate"]).split() if has_parent() else []
+    has_parent = len(run(["git", "-C", texts.ROOT, "rev-list", "-1", "--parents", "HEAD"]).split()) > 1
+    tags = run(["git", "-C", texts.ROOT, "tag", "--merged", "HEAD^", "--sort=-creatordate"]).split() if has_parent else []
     return tags[0] if tags else ""
-
-
-def has_parent() -> bool:
-    return len(run(["git", "-C", texts.ROOT, "rev-list", "-1", "--parents", "HEAD"]).split()) > 1
 
 
 def changes() -> str:
@@ -106,11 +103,6 @@ def notes(parts: Parts, tested: str) -> str:
                         manifest=provenance.NAME, tools=tools)
 
 
-def want_proved(program: str) -> None:
-    if why := manifest.why_unproved(program, texts.ROOT):
-        raise Refused(1, f"the program is not known to be proved: {why}")
-
-
 def want_whole(parts: Parts) -> None:
     if parts.left_out:
         raise Refused(1, f"a release has all parts, and this one would lack {parts.left_out[0]}")
@@ -126,12 +118,13 @@ def new_folder(folder: str) -> None:
 
 
 def release(words: list) -> None:
-    options, folder = package.options_of(words, HELP, may_leave_out=False)
+    options, folder = package.options_of(words, HELP)
     package.want_tools("dpkg-deb")
     os.umask(0o022)
     want_clean()
     tested = counts_in(options.gate)
-    want_proved(package.program_of(options))
+    if why := manifest.why_unproved(package.program_of(options), texts.ROOT):
+        raise Refused(1, f"the program is not known to be proved: {why}")
     try:
         new_folder(folder)
         with private_folder.temporary() as work:

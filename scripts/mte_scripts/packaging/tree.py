@@ -13,12 +13,13 @@ import tarfile
 import time
 import typing
 import zipfile
+from pathlib import Path
 
 from mte_scripts import texts
 from mte_scripts.texts import Refused
 
 
-def run(words: "list[str]", **how) -> str:
+def run(words: "list[str]", **how: typing.Any) -> str:
     """What a command prints; a failure ends the script."""
     try:
         done = subprocess.run(words, stdout=subprocess.PIPE, stderr=subprocess.PIPE, stdin=subprocess.DEVNULL, **how)
@@ -55,10 +56,9 @@ class Tree:
         return os.path.lexists(os.path.join(self.root, name))
 
     def write(self, name: str, data: "str | bytes", mode: int = 0o644) -> None:
-        path = self.path(name)
-        with open(path, "wb") as file:
-            file.write(data.encode() if isinstance(data, str) else data)
-        os.chmod(path, mode)
+        path = Path(self.path(name))
+        path.write_bytes(data.encode() if isinstance(data, str) else data)
+        path.chmod(mode)
 
     def copy(self, source: str, name: str, mode: int = 0o644) -> None:
         try:
@@ -89,8 +89,7 @@ class Tree:
         return [name for name in self.entries() if os.path.isfile(self.path(name)) and not os.path.islink(self.path(name))]
 
     def read(self, name: str) -> bytes:
-        with open(os.path.join(self.root, name), "rb") as file:
-            return file.read()
+        return Path(self.root, name).read_bytes()
 
     def stripped(self, name: str) -> None:
         """Takes from an object what only a debugger reads. Its comments stay: the program's name the logic that it was proved in."""
@@ -149,5 +148,4 @@ def write_wheel(tree: Tree, path: str, record: str, seconds: int) -> None:
             entry.create_system = 3  # Unix, whose modes follow
             entry.external_attr = (0o100755 if os.access(tree.path(name), os.X_OK) else 0o100644) << 16
             archive.writestr(entry, tree.read(name), zipfile.ZIP_DEFLATED, 9)
-    with open(path, "wb") as file:
-        file.write(kept.getvalue())
+    Path(path).write_bytes(kept.getvalue())

@@ -3,7 +3,6 @@
 Each text asserts what it takes for granted of the machine, so that it does not compile where that is not so; but for lwippools.h, which lwIP
 includes within an enumeration."""
 
-import textwrap
 from typing import Callable, NamedTuple
 
 from mte_scripts import texts
@@ -24,7 +23,7 @@ class Form(NamedTuple):
 
 def comment(said: list[str]) -> str:
     """Sentences as a comment of C."""
-    lines = [line for text in said for line in textwrap.wrap(text.replace("*/", "* /"), WIDTH - 3, break_long_words=False, break_on_hyphens=False)]
+    lines = [line for text in said for line in texts.wrapped(text.replace("*/", "* /"), WIDTH - 3)]
     return "/* " + "\n * ".join(lines) + " */\n"
 
 

@@ -10,17 +10,17 @@ the most of a class over all is the most in any run."""
 
 import re
 from bisect import bisect_left
-from collections import Counter, defaultdict
-from collections.abc import Iterable, Iterator
+from collections import Counter
+from collections.abc import Callable, Iterable, Iterator
 from typing import NamedTuple, Union
 
 from mte_scripts import texts
 from mte_scripts.formats import CODES, GRANULE_BYTES, LARGEST_CLASS, LARGEST_SIZE, MOST_COUNT, MOST_INPUT, MOST_SNAPSHOTS
+from mte_scripts.recording import timelines
 from mte_scripts.running import Refused
 
 UNITS = (4, 8, 16, 32)
 MOST_OVERHEAD = 4096
-PIECE = 1 << 20
 
 
 class Block(NamedTuple):
@@ -45,7 +45,7 @@ class Timeline:
 
     def __init__(self, name: str, data: bytes) -> None:
         self.name = name
-        self.data = data[data.find(b"\n") + 1 :] if b"\n" in data else b""
+        self.data = data
         self.events = set().union(*self.pieces())
         self.sizes = {int(event) for event in self.events if event.isdigit()}
         self.has_large = b"large" in self.events
@@ -53,12 +53,7 @@ class Timeline:
 
     def pieces(self) -> Iterator[list[bytes]]:
         """The events, some thousands at once."""
-        at = 0
-        while at < len(self.data):
-            end = self.data.find(b"\n", at + PIECE)
-            end = len(self.data) if end < 0 else end
-            yield self.data[at:end].removesuffix(b"\n").split(b"\n")
-            at = end + 1
+        return timelines.events_of(self.data)
 
     def most(self, holds: list[int]) -> list[int]:
         """The most blocks live at once of each pool, whose largest requests ascend; the last number is of what no pool holds."""
@@ -123,11 +118,11 @@ class History:
     def most(self, holds: list[int]) -> list[int]:
         return [max(counts) for counts in self.summed(lambda size: bisect_left(holds, size), range(len(holds) + 1)).values()]
 
-    def summed(self, key, keys: Iterable = ()) -> dict[int, list[int]]:
+    def summed(self, key: Callable[[int], int], keys: Iterable = ()) -> dict[int, list[int]]:
         """The counts of all sizes of one key, added up."""
-        sums = defaultdict(lambda: [0] * self.snapshots, {each: [0] * self.snapshots for each in keys})
+        sums: dict[int, list[int]] = {each: [0] * self.snapshots for each in keys}
         for size, counts in self.counts.items():
-            sums[key(size)] = [one + other for one, other in zip(sums[key(size)], counts)]
+            texts.add_row(sums, key(size), counts)
         return sums
 
 
@@ -160,12 +155,7 @@ def runs_of(paths: list[str]) -> list[Run]:
 
 
 def run_of(path: str) -> Run:
-    data = texts.read(path, MOST_INPUT + 1)
-    name = texts.printable(texts.named(path))
-    if len(data) > MOST_INPUT:
-        raise Refused(2, f"{name} has more than the {MOST_INPUT:,} bytes that mte_tool reads")
-    if not data:
-        raise Refused(2, f"{name} is empty: did the command that writes it fail?")
+    data, name = texts.read_some(path), texts.printable(texts.named(path))
     first = data.split(b"\n", 1)[0]
     if first == b"timeline":
         well_formed(name, data)
@@ -198,7 +188,8 @@ def joined(runs: list[Run], block: Block) -> Given:
     if block.units(sizes[-1]) > most:
         raise Refused(2, out_of_range(sizes, scale, most, block))
     given = {size: GRANULE_BYTES * scale * block.units(size) - GRANULE_BYTES for size in sizes}
-    text = joined_histories(runs, given) if runs[0].is_sampled else joined_timelines(runs, given)
+    timeline = (run.mapped(given, run is runs[-1]) for run in runs if isinstance(run, Timeline))
+    text = joined_histories(runs, given) if runs[0].is_sampled else b"timeline\n" + b"".join(timeline)
     if len(text) > MOST_INPUT:
         raise Refused(2, f"all runs together have {len(text):,} bytes, and mte_tool reads {MOST_INPUT:,}: leave a run out")
     return Given(text, scale)
@@ -212,10 +203,6 @@ def out_of_range(sizes: list[int], scale: int, most: int, block: Block) -> str:
     if scale == 2:
         text += f" where a request takes one unit, as one of {sizes[0]:,} bytes does"
     return text + (f": take --unit {helps[0]}" if helps else ": leave such requests out of the timeline, and give them memory of their own")
-
-
-def joined_timelines(runs: list, given: dict[int, int]) -> bytes:
-    return b"timeline\n" + b"".join(run.mapped(given, run is runs[-1]) for run in runs)
 
 
 def joined_histories(runs: list, given: dict[int, int]) -> bytes:

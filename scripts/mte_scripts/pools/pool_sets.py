@@ -11,6 +11,7 @@ from mte_scripts import claims, texts
 from mte_scripts.pools import pool_runs
 from mte_scripts.pools.pool_runs import Block, Given, Run
 from mte_scripts.running import Refused
+from mte_scripts.tables import figures
 
 LINE = re.compile(r"(unit|overhead) (0|[1-9][0-9]{0,4})|pool ([1-9][0-9]{0,5}) ([1-9][0-9]{0,9})")
 
@@ -54,10 +55,7 @@ def found(runs: list[Run], block: Block, limit: int) -> PoolSet:
     """The pools for these runs, at most so many."""
     given = pool_runs.joined(runs, block)
     step = ["--step", str(given.scale)] if given.scale > 1 else []
-    status, out, error = texts.mte_tool(["fit", "--limit", str(limit), *step], given.text)
-    text = out.decode("ascii", "replace")
-    if status not in (0, 1):
-        raise Refused(2 if status == 2 else 3, f"`mte_tool fit` failed: {error or f'its status is {status}'}")
+    status, text = figures.run(["fit", "--limit", str(limit), *step], given.text)
     lines = text.split("\n")
     classes = texts.parse_class_line(lines[0], "the answer of `mte_tool fit`")
     footprint = int(re.search(r"(?m)^footprint (\d+)$", text)[1])
@@ -65,7 +63,7 @@ def found(runs: list[Run], block: Block, limit: int) -> PoolSet:
     if bytes_of(pools) != given.bytes_of(footprint, block):
         raise Refused(3, f"the pools take {bytes_of(pools):,} bytes, and `mte_tool fit` has {given.bytes_of(footprint, block):,}: please report it")
     if status == 0:
-        return PoolSet(block, pools, text, 0, given)
+        return PoolSet(block, pools, f"{text}\n", 0, given)
     return PoolSet(block, pools, "", given.bytes_of(int(lines[2].split()[-1]), block), given)
 
 
@@ -83,9 +81,7 @@ def text_of(pools: PoolSet) -> str:
 
 def read(path: str) -> PoolSet:
     """The pools in a file. They have the form; only `judged` says whether they are right."""
-    name, data = texts.printable(texts.named(path)), texts.read(path, texts.MOST_INPUT)
-    if not data:
-        raise Refused(2, f"{name} is empty: did the command that writes it fail?")
+    name, data = texts.printable(texts.named(path)), texts.read_some(path)
     lines = data.decode("utf-8", "replace").removesuffix("\n").split("\n")
     at = next((at for at, line in enumerate(lines) if line.startswith("classes")), len(lines))
     values = []

@@ -4,12 +4,14 @@ import argparse
 import os
 import re
 import textwrap
+from collections.abc import Iterator
+from typing import Any
 
 from mte_scripts import claims, texts
 from mte_scripts.pools import pool_forms, pool_runs, pool_sets
 from mte_scripts.running import Refused
 from mte_scripts.tables.figures import number, percent
-from mte_scripts.words import Words, between, named, one_of, some
+from mte_scripts.words import Words, between, named, one_of
 
 HELP = f"""\
 Find static pools for the runs of a program: which sizes of blocks, and how many of each. Pools are what firmware has in place
@@ -70,19 +72,10 @@ WIDTH = 100
 
 class Options(argparse.Namespace):
     def __init__(self, words: list[str]) -> None:
-        parser = Words(HELP)
-        parser.add_argument("--limit", type=between(1, texts.MOST_CLASSES))
-        parser.add_argument("--unit", type=one_of(*pool_runs.UNITS))
-        parser.add_argument("--overhead", type=between(0, pool_runs.MOST_OVERHEAD))
-        parser.add_argument("--reserve", type=between(0, 1000), default=0)
-        parser.add_argument("--today", type=today_of, default=[])
-        parser.add_argument("--as", type=named(*pool_forms.FORMS), dest="form")
-        parser.add_argument("--name", type=name_in_c, default="app")
-        for name in ("--certificate", "--check", "--read"):
-            parser.add_argument(name, type=some)
-        for name in ("--each", "--units"):
-            parser.add_argument(name, action="store_true")
-        parser.add_argument("runs", nargs="*")
+        kinds: dict[str, Any] = {"limit": between(1, texts.MOST_CLASSES), "unit": one_of(*pool_runs.UNITS), "today": today_of}
+        kinds |= {"overhead": between(0, pool_runs.MOST_OVERHEAD), "reserve": between(0, 1000)}
+        kinds |= {"as_": named(*pool_forms.FORMS), "name": name_in_c}
+        parser = Words(HELP, "runs", {"reserve": 0, "today": [], "name": "app"}, **kinds)
         parser.take(words, into=self)
         self.agree(parser.given(words))
 
@@ -93,13 +86,13 @@ class Options(argparse.Namespace):
                 if other not in own:
                     raise Refused(2, f"{one} takes the pools of a file: {other} has no place beside it")
         if self.read is not None:
-            if self.form is None or self.runs:
+            if self.as_ is None or self.runs:
                 raise Refused(2, "--read prints the pools of a file by --as FORM, and reads no run: --check compares them with runs")
         elif not self.runs:
             raise Refused(2, "name a timeline, or several; --help says more")
         elif self.check is None and not self.units and self.limit is None:
             raise Refused(2, "--limit K is wanted: at most how many pools?")
-        if self.each and (self.form or self.certificate or self.today or self.reserve or self.units):
+        if self.each and (self.as_ or self.certificate or self.today or self.reserve or self.units):
             raise Refused(2, "--each prints what pools take, and no pools: it goes with --limit, --unit and --overhead alone")
         if self.runs.count("-") > 1:
             raise Refused(2, "standard input can be read once")
@@ -127,13 +120,13 @@ def name_in_c(value: str) -> str:
     return value
 
 
-def pools(words):
+def pools(words: list[str]) -> int:
     options = Options(words)
     if options.read is not None:
         its = pool_sets.read(options.read)
         name = texts.printable(texts.named(options.read))
         said = [f"{name} has their certificate, which `{texts.called('pools')} --check` checks.", *reserve_words(options, its)]
-        return texts.write(pool_forms.written(options.form, options.name, its.block, its.with_reserve(options.reserve), said))
+        return texts.write(pool_forms.written(options.as_, options.name, its.block, its.with_reserve(options.reserve), said))
     if options.check is not None:
         return check(options)
     runs = pool_runs.runs_of(options.runs)
@@ -144,19 +137,19 @@ def pools(words):
     its = pool_sets.found(runs, options.block(), options.limit)
     if its.fit and options.certificate is not None:
         texts.write_file(options.certificate, pool_sets.text_of(its))
-    known = known_of(options, runs, its)
+    known = known_of(runs, its)
     notes = list(warnings(runs))
-    if options.form is None:
+    if options.as_ is None:
         texts.write(summary(options, runs, its, known, notes))
     else:
         said = [known, *notes, *reserve_words(options, its)]
-        texts.write(pool_forms.written(options.form, options.name, its.block, its.with_reserve(options.reserve), said))
+        texts.write(pool_forms.written(options.as_, options.name, its.block, its.with_reserve(options.reserve), said))
         for note in notes:
             texts.say("pools", note)
     return 0 if its.fit else 1
 
 
-def known_of(options, runs, its):
+def known_of(runs: list, its: pool_sets.PoolSet) -> str:
     """What is known of the pools that were found."""
     if not its.fit:
         return claims.pools_unshown(its.bound)
@@ -166,12 +159,12 @@ def known_of(options, runs, its):
     return claims.pools_sentence(found.judged, texts.trust())
 
 
-def each_number(options, runs):
+def each_number(options: Options, runs: list) -> int:
     """What the pools take for each limit from 1 to K, each found and checked by itself."""
     rows, its, known = [[claims.TEMPLATES["pools.each.limit"], claims.TEMPLATES["pools.each.bytes"]]], None, ""
     for limit in range(1, options.limit + 1):
         its = pool_sets.found(runs, options.block(), limit)
-        known = known_of(options, runs, its)
+        known = known_of(runs, its)
         rows.append([number(limit), number(its.bytes)])
         if not its.fit:
             break
@@ -201,7 +194,7 @@ def check(options: Options) -> int:
     return 0
 
 
-def warnings(runs):
+def warnings(runs: list) -> "Iterator[str]":
     """Where the pools may not be enough."""
     for run in runs:
         if run.is_sampled:
@@ -217,7 +210,7 @@ def reserve_words(options: Options, its: pool_sets.PoolSet) -> list[str]:
     return [f"With a reserve of {options.reserve}% they take {number(its.bytes + more)} bytes, {number(more)} more."]
 
 
-def summary(options, runs, its, known, notes):
+def summary(options: Options, runs: list, its: pool_sets.PoolSet, known: str, notes: list[str]) -> str:
     names = claims.listed(run.name for run in runs)
     lines = wrapped(f"Pools for {names}, in units of {its.block.unit} bytes, {its.block.overhead} of overhead in each block", "  ")
     lines += ["", *table(options, runs, its), ""]
@@ -231,7 +224,7 @@ def summary(options, runs, its, known, notes):
 
 
 def wrapped(text: str, indent: str = "") -> list[str]:
-    return textwrap.wrap(text, WIDTH, subsequent_indent=indent, break_long_words=False, break_on_hyphens=False)
+    return texts.wrapped(text, WIDTH, indent)
 
 
 def table(options: Options, runs: list, its: pool_sets.PoolSet) -> list[str]:

@@ -3,11 +3,12 @@
 import signal
 import subprocess
 import threading
+from collections.abc import Callable
 
 HANDED_ON = (signal.SIGTERM, signal.SIGHUP)
 
 
-def run(words: list, grace: "float | None" = None, start=subprocess.Popen, **how) -> int:
+def run(words: "list[str]", grace: "float | None" = None, start: Callable = subprocess.Popen, **how: object) -> int:
     """The status of a program, which is negative where a signal ended it. Ctrl-C reaches the program too, and is left to it; SIGTERM and
     SIGHUP are handed on to it. The script goes on then: what the program did until its end counts. With GRACE, it is killed where it is
     still there so many seconds after a signal that was handed on. START starts it."""
@@ -15,7 +16,7 @@ def run(words: list, grace: "float | None" = None, start=subprocess.Popen, **how
     asked: list = []
     kept: dict = {}
 
-    def hand_on(number: int, _) -> None:
+    def hand_on(number: int, _: object) -> None:
         asked.append(number)
         for one in child:
             one.send_signal(number)

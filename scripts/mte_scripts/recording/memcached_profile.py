@@ -2,6 +2,7 @@
 
 import re
 import socket
+from collections import Counter
 
 from mte_scripts import texts
 from mte_scripts.words import Words
@@ -42,25 +43,22 @@ LONGEST_LINE = 4096  # of an answer; a key takes at most three characters for ea
 WAIT = 30  # seconds
 
 
-def profile(words):
-    parser = Words(HELP)
-    for name in ("--each", "--flags", "--no-cas", "--items"):
-        parser.add_argument(name, action="store_true")
-    parser.add_argument("names", nargs="*")
-    options = parser.take(words, once=True)
+def profile(words: "list[str]") -> None:
+    options = Words(HELP, "names", items={"action": "store_true"}).take(words, once=True)
     if len(options.names) != 1:
         raise texts.Refused(2, "name a server as HOST:PORT, or a file after --items; `memcached_profile --help` says all")
     if options.each if options.items else options.flags or options.no_cas:
         raise texts.Refused(2, "--each is for a server; --flags and --no-cas are for --items, as a server says itself how large an item is")
     if options.items:
         header = HEADER + (0 if options.no_cas else CAS) + (FLAGS if options.flags else 0)
-        write_profile(of_file(options.names[0], header))
+        counts = of_file(options.names[0], header)
     else:
-        write_profile(of_server(options.names[0], options.each))
+        counts = of_server(options.names[0], options.each)
+    texts.write(texts.profile_text(texts.with_large(counts)))
 
 
-def of_file(path, header):
-    counts = {}
+def of_file(path: str, header: int) -> "Counter[int]":
+    counts: "Counter[int]" = Counter()
     for number, line in enumerate(texts.lines_of(texts.read(path)), 1):
         match = re.fullmatch(rb"[ \t]*([0-9]{1,10})[ \t]+([0-9]{1,10})(?:[ \t]+([0-9]{1,10}))?[ \t]*", line)
         if not match:
@@ -71,17 +69,17 @@ def of_file(path, header):
             wrong = f"a key has 1 to {LONGEST_KEY} bytes, and a value at most {MOST_VALUE}"
             raise texts.Refused(2, f"{texts.named(path)}: line {number}: {wrong}")
         size = header + key + 1 + value + 2
-        counts[size] = counts.get(size, 0) + count
+        counts[size] += count
     if not any(counts.values()):
         raise texts.Refused(3, f"{texts.named(path)}: there is no item: did the command that writes it fail?")
     return counts
 
 
-def of_server(name, each):
+def of_server(name: str, each: bool) -> "Counter[int]":
     match = re.fullmatch(r"\[?([^\[\]]+)\]?:([0-9]{1,5})", name)
     if not match or not 1 <= int(match[2]) <= 65535:
         raise texts.Refused(2, f"{name} is not HOST:PORT, such as 127.0.0.1:11211")
-    counts = {}
+    counts: "Counter[int]" = Counter()
     try:
         with socket.create_connection((match[1], int(match[2])), WAIT) as connection, connection.makefile("rb") as answer:
             connection.sendall(b"lru_crawler metadump all\r\n" if each else b"stats sizes\r\n")
@@ -102,29 +100,14 @@ def of_server(name, each):
     return counts
 
 
-def read_answer(name, line, each, counts):
+def read_answer(name: str, line: bytes, each: bool, counts: "Counter[int]") -> None:
     """Adds a line of the server's answer to the counts."""
     match = re.fullmatch(rb"key=.* size=([0-9]{1,20})\r?\n" if each else rb"STAT ([0-9]{1,20}) ([0-9]{1,20})\r\n", line)
     if match:
-        size = min(int(match[1]), texts.LARGEST_SIZE + 1)
-        counts[size] = counts.get(size, 0) + (1 if each else int(match[2]))
+        counts[int(match[1])] += 1 if each else int(match[2])
     elif line == b"STAT sizes_status disabled\r\n":
         raise texts.Refused(3, f"{name} does not count sizes: start it with `-o track_sizes`, or ask with --each")
     elif line.startswith(b"BUSY"):
         raise texts.Refused(3, f"{name} already goes through its items for another: try again")
     else:
         raise texts.Refused(3, f"{name} does not answer as memcached 1.6 does: {texts.shown(line.rstrip())}")
-
-
-def write_profile(counts):
-    """A profile counts at most 1,000,000,000 of a size: above that, all counts are scaled down alike, and rounded up."""
-    sums = {}
-    for size, count in counts.items():
-        size = size if size <= texts.LARGEST_SIZE else texts.LARGEST_SIZE + 1
-        sums[size] = sums.get(size, 0) + count
-    top = max(texts.MOST_COUNT, *sums.values())
-    lines = []
-    for size, count in sorted(sums.items()):
-        if count:
-            lines.append(f"{size if size <= texts.LARGEST_SIZE else 'large'} {-(-count * texts.MOST_COUNT // top)}\n")
-    texts.write("".join(lines))

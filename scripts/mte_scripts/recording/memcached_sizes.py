@@ -1,7 +1,5 @@
 """Prints a class table as the chunk sizes that memcached takes. `memcached_sizes --help` says all."""
 
-import sys
-
 from mte_scripts import texts
 from mte_scripts.words import Words, between
 
@@ -32,11 +30,8 @@ PAGES_A_CLASS = 4  # of 1 MiB; examples/memcached has the measurement
 
 
 def chunk_sizes(words: list[str]) -> None:
-    parser = Words(HELP)
-    parser.add_argument("--memory", type=between(1, 1_000_000_000))
-    memory = parser.take(words).memory
-    if sys.stdin is not None and sys.stdin.isatty():
-        texts.say("memcached_sizes", "reading standard input, a sheet; Ctrl-D ends it")
+    memory = Words(HELP, memory=between(1, 1_000_000_000)).take(words).memory
+    texts.say_reading("memcached_sizes", ", a sheet")
     classes = texts.class_line("-")
     rooms = [16 * number - 16 for number in classes]
     if not rooms:

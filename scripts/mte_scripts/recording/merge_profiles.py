@@ -1,9 +1,9 @@
 """Makes one profile of many, or one history of many. `merge_profiles --help` says all."""
 
+import argparse
 import heapq
-import operator
 import os
-import sys
+from collections.abc import Iterator
 
 from mte_scripts import texts
 from mte_scripts.texts import LARGEST_SIZE, MOST_COUNT, MOST_SNAPSHOTS, Refused
@@ -40,7 +40,7 @@ Examples:
 """
 
 
-def files_of(options) -> list[str]:
+def files_of(options: argparse.Namespace) -> list[str]:
     if options.files_from is not None and options.files:
         raise Refused(2, "--files-from takes a list of names, or `-`, and no other file beside it")
     files = options.files if options.files_from is None else listed(options.files_from)
@@ -90,7 +90,7 @@ def chosen(histories: list[texts.History], kept: set[int]) -> list[texts.History
     return found
 
 
-def numbered(histories):
+def numbered(histories: list[texts.History]) -> Iterator[range]:
     """For each history, the numbers of its snapshots."""
     first = 0
     for each in histories:
@@ -103,14 +103,14 @@ def served(history: texts.History) -> dict[int, list[int]]:
     return {size: counts for size, counts in history.counts.items() if size != "large"}
 
 
-def undominated(histories):
+def undominated(histories: list[texts.History]) -> set[int]:
     """The snapshots but those that have in no size more blocks than another one. Of equal ones, the first."""
     blocks = [total for each in histories for total in map(sum, zip([0] * each.snapshots, *served(each).values()))]
     order = sorted(range(len(blocks)), key=lambda number: -blocks[number])
     ranks = [0] * len(order)
     for rank, number in enumerate(order):
         ranks[number] = rank
-    rows = {}
+    rows: dict[int, list] = {}
     for history, numbers in zip(histories, numbered(histories)):
         for size, counts in served(history).items():
             rows.setdefault(size, []).append((ranks[numbers.start : numbers.stop], counts))
@@ -130,18 +130,20 @@ def undominated(histories):
     return {number for rank, number in enumerate(order) if rank not in waiting}
 
 
-def greatest(histories, wanted):
+def greatest(histories: list[texts.History], wanted: int) -> set[int]:
     """So many snapshots. One after the other is taken by how much more it has than those before it, in bytes of
     blocks, in the classes of eleven tables: of all classes, of each second one, of each fourth one, .., of one class. Of equal ones, the
     first."""
-    places, left, waiting = {}, [], []
+    places: dict[tuple[int, int], int] = {}
+    left: list = []
+    waiting: list[tuple[int, int]] = []
     for history in histories:
         found = dict(in_classes(history))
         here = [places.setdefault(class_, len(places)) for class_ in found]
         for column in zip(*found.values()):
             waiting.append((-sum(column), len(left)))
             left.append(zip(here, column))
-    most, kept = [0] * len(places), set()
+    most, kept = [0] * len(places), set[int]()
     # what a snapshot has more only falls while others are taken: the first whose own is still the most is the one
     heapq.heapify(waiting)
     while len(kept) < wanted:
@@ -157,40 +159,32 @@ def greatest(histories, wanted):
     return kept
 
 
-def in_classes(history):
+def in_classes(history: texts.History) -> Iterator[tuple[tuple[int, int], list[int]]]:
     """The blocks in the classes of the eleven tables, in bytes: ((end, table), bytes at each snapshot)."""
-    ends = {}
+    ends: dict[int, list[int]] = {}
     for size, counts in served(history).items():
-        add(ends, (size + 31) // 16, counts)
+        texts.add_row(ends, (size + 31) // 16, counts)
     for table in range(11):
-        wider = {}
+        wider: dict[int, list[int]] = {}
         for end, counts in ends.items():
             yield (end << table, table), [count * (end << table) for count in counts]
-            add(wider, (end + 1) // 2, counts)
+            texts.add_row(wider, (end + 1) // 2, counts)
         ends = wider
 
 
-def add(rows: dict[int, list[int]], key: int, counts: list[int]) -> None:
-    rows[key] = list(map(operator.add, rows[key], counts)) if key in rows else counts
-
-
-def merge(words):
-    parser = Words(HELP)
-    parser.add_argument("--snapshots", type=between(1, MOST_SNAPSHOTS), default=MOST_SNAPSHOTS)
-    parser.add_argument("--files-from")
-    parser.add_argument("files", nargs="*")
-    options = parser.take(words)
+def merge(words: list[str]) -> int:
+    options = Words(HELP, "files", {"snapshots": MOST_SNAPSHOTS}, snapshots=between(1, MOST_SNAPSHOTS)).take(words)
     files = files_of(options)
-    if not words and sys.stdin is not None and sys.stdin.isatty():
-        texts.say("merge_profiles", "reading standard input; Ctrl-D ends it")
-    sums, histories = {}, []
+    if not words:
+        texts.say_reading("merge_profiles")
+    sums: dict = {}
+    histories: list = []
     for at, file in enumerate(files):
         found = texts.read_either(file)
         if isinstance(found, texts.History):
             histories.append(found)
         else:
-            for size, count in found.items():
-                sums[size] = sums.get(size, 0) + count
+            texts.add_counts(sums, found)
         if histories and len(histories) <= at:
             raise Refused(2, f"{texts.named(files[0])} and {texts.named(file)} are a profile and a history: merge one kind alone")
     if histories:

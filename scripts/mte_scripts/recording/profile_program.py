@@ -2,17 +2,17 @@
 
 import argparse
 import array
-import contextlib
 import os
 import stat
 import time
+from typing import Any
 
 from mte_scripts import private_folder, texts
 from mte_scripts.private_folder import NotPrivate
 from mte_scripts.recording import counts, recording, timelines
 from mte_scripts.recording.imports import found, importing
 from mte_scripts.running import Refused
-from mte_scripts.words import ProgramWords, between, named, some
+from mte_scripts.words import ProgramWords, between, named
 
 HELP = f"""\
 Run a program, and print how often it requested each size: a profile, the input of `mte_tool tune`.
@@ -34,6 +34,8 @@ Usage: profile_program [--live] [--only NAME] [--said FILE] PROGRAM ARGS..
                  with these and --live: write into FILE what the process took of memory at most, in bytes, as lines
                  `large N`, blocks above {texts.LARGEST_SIZE:,} bytes; `resident N`, its resident set; and `glibc N`, what glibc's malloc had of
                  the system. The last two are looked at from time to time; what the recorder takes is left out, by an estimate
+  --as-scudo     with these and --live: a realloc leaves a block as it was where LLVM's Scudo does, which makes it smaller by up to
+                 4,095 bytes in its place, and as large again as it had been
   --only NAME    count only processes whose program has this name, as NAME of /usr/bin/NAME
   --library      print the path of the library that counts, and run nothing; with DIR, put it there for services
   --read COUNTS  print the profile, the history or the timeline of the counts in the file COUNTS, also while they are still made
@@ -69,7 +71,8 @@ set-user-id program, a C library other than glibc, and an allocator inside the p
 
 For a service that something else starts: set LD_PRELOAD to the path that --library DIR prints, SIZES to a file that does not exist
 yet and that the service may write (and SIZES_LIVE=1 for --live, SIZES_TIMELINE=1 for --timeline, SIZES_HISTORY=T for --history=T,
-SIZES_CLASSES='2 4 ..' for --classes, with the table's numbers, SIZES_ONLY=NAME for --only); then read the file with --read.
+SIZES_CLASSES='2 4 ..' for --classes, with the table's numbers, SIZES_SCUDO=1 for --as-scudo, SIZES_ONLY=NAME for --only); then read
+the file with --read.
 
 --import takes these formats, packed by gzip or zstd or not:
 {importing.HELP}
@@ -100,16 +103,9 @@ FOREGROUND = "run it in the foreground (nginx: daemon off)"
 
 class Options(argparse.Namespace):
     def __init__(self, words: list[str]) -> None:
-        parser = ProgramWords(HELP)
-        parser.add_argument("--live", action="store_const", const="--live")
-        parser.add_argument("--timeline", action="store_true")
-        parser.add_argument("--library", action="store_true")
-        parser.add_argument("--history", type=between(1, counts.SNAPSHOTS), nargs="?", const=32)
-        for name in ("--classes", "--peak", "--read", "--measured", "--only", "--said"):
-            parser.add_argument(name, type=some)
-        parser.add_argument("--import", type=some, dest="file")
-        parser.add_argument("--as", type=named(*importing.NAMES), dest="format")
-        parser.take(words, into=self)
+        history = {"type": between(1, counts.SNAPSHOTS), "nargs": "?", "const": 32}
+        live = {"action": "store_const", "const": "--live"}
+        ProgramWords(HELP, history=history, live=live, as_=named(*importing.NAMES)).take(words, into=self)
         self.table = None if self.classes is None else texts.class_line(self.classes)
         if self.classes is not None and not self.table:
             raise Refused(2, "the table of --classes has no class")
@@ -120,16 +116,17 @@ class Options(argparse.Namespace):
             self.live = over_time[0]
         elif self.peak:
             raise Refused(2, "--peak goes with --timeline, --history or --classes")
-        if self.measured and not self.live:
-            raise Refused(2, "--measured goes with --live, --timeline, --history or --classes")
-        if self.file is not None:
+        for name in ("measured", "as_scudo"):
+            if getattr(self, name) and not self.live:
+                raise Refused(2, f"--{name.replace('_', '-')} goes with --live, --timeline, --history or --classes")
+        if self.import_ is not None:
             self.refuse_beside_import()
-        elif self.format is not None:
+        elif self.as_ is not None:
             raise Refused(2, "--as goes with --import")
 
     def refuse_beside_import(self) -> None:
         others = {"--read": self.read, "--only": self.only, "--measured": self.measured, "--classes": self.table,
-                  "--library": self.library}
+                  "--as-scudo": self.as_scudo, "--library": self.library}
         if given := [name for name, value in others.items() if value]:
             raise Refused(2, f"--import reads a file, and {given[0]} is for a run")
         if self.words:
@@ -137,7 +134,7 @@ class Options(argparse.Namespace):
 
     def settings(self) -> "dict[str, str | None]":
         """The library's variables; those without a value are unset."""
-        chosen = {"SIZES_LIVE": self.live == "--live", "SIZES_TIMELINE": self.timeline}
+        chosen = {"SIZES_LIVE": self.live == "--live", "SIZES_TIMELINE": self.timeline, "SIZES_SCUDO": self.as_scudo}
         found = {name: "1" if is_so else None for name, is_so in chosen.items()}
         found["SIZES_CLASSES"] = None if self.table is None else " ".join(map(str, self.table))
         return {**found, "SIZES_ONLY": self.only, "SIZES_HISTORY": str(self.history) if self.history else None}
@@ -150,7 +147,7 @@ class Options(argparse.Namespace):
 
 # ---- counts
 
-def print_counts(speaker, notes, found, file, peak=None):
+def print_counts(speaker: recording.Speaker, notes: recording.Notes, found: Any, file: str, peak: "str | None" = None) -> bool:
     """Prints what was counted, of the words of a file of counts, which may still be written, or of a Record. False where that is nothing."""
     if notes.form == timelines.FORM:
         return print_record(speaker, found, peak)
@@ -163,7 +160,7 @@ def print_counts(speaker, notes, found, file, peak=None):
     return print_history(counts.history_text(found, read_counts(file, 8 * counts.PAGE)), profile, peak)
 
 
-def print_history(history, profile, peak):
+def print_history(history: str, profile: str, peak: "str | None") -> bool:
     if not history:
         return False
     recording.write("the history", history)
@@ -190,27 +187,19 @@ def print_record(speaker: recording.Speaker, record: timelines.Record, peak: "st
 
 def write_peak(peak: "str | None", profile: str) -> None:
     if peak:
-        write_file(peak, profile)
-
-
-def write_file(path: str, text: str) -> None:
-    try:
-        with open(path, "w", encoding="ascii") as file:
-            file.write(text)
-    except OSError as error:
-        raise Refused(3, f"{path} could not be written: {error.strerror}") from None
+        texts.write_file(peak, profile)
 
 
 def write_measured(path: "str | None", notes: recording.Notes) -> None:
     if path:
         found = {"large": notes.large, "resident": notes.resident, "glibc": notes.system}
-        write_file(path, "".join(f"{name} {value}\n" for name, value in found.items() if value))
+        texts.write_file(path, "".join(f"{name} {value}\n" for name, value in found.items() if value))
 
 
-def say_uncounted(speaker, notes, live, program):
+def say_uncounted(speaker: recording.Speaker, notes: recording.Notes, live: str, program: str) -> None:
     """What the counts are not of."""
     if notes.foreign:
-        speaker.say(f"{program} has another allocator than glibc's, {notes.allocator}; what it requests of that is counted")
+        speaker.say(recording.foreign(program, notes, "counted"))
     if notes.other_requests:
         others = f"(processes: {notes.others}, requests: {notes.other_requests})"
         remedy = f"run it as one process, name one by --only, or count all requests, without {live}"
@@ -230,7 +219,7 @@ def read_counts(path: str, most: int = 8 * counts.MOST + 1) -> array.array:
         raise Refused(3, f"{path} is no file of counts") from None
 
 
-def sound_counts(path, forms):
+def sound_counts(path: str, forms: "list[int]") -> "array.array | timelines.Record | None":
     """The words of a file of counts of one of these forms, or the Record in it. The library may still write there. None where it is none, or
     was overwritten."""
     for _ in range(READINGS):
@@ -250,7 +239,7 @@ def sound_counts(path, forms):
     return None
 
 
-def read_only(options, speaker):
+def read_only(options: Options, speaker: recording.Speaker) -> int:
     """Prints what --read names; the library may still write there."""
     if options.words:
         raise Refused(2, "--read takes one file, and runs no program")
@@ -266,10 +255,10 @@ def read_only(options, speaker):
     raise Refused(3, f"nothing was counted in {options.read} yet")
 
 
-def import_file(options, speaker):
+def import_file(options: Options, speaker: recording.Speaker) -> int:
     """Prints what a file of another tool counts, and says what that is."""
     wanted = options.live.removeprefix("--") if options.live else found.ALL
-    got = importing.imported(options.file, options.format, wanted, options.history)
+    got = importing.imported(options.import_, options.as_, wanted, options.history)
     for line in got.told:
         speaker.say(line)
     for piece in got.text:
@@ -294,7 +283,7 @@ def print_library(options: Options, speaker: recording.Speaker) -> int:
     return 0
 
 
-def installed(library, folder, work):
+def installed(library: str, folder: str, work: private_folder.Folder) -> str:
     """Puts the library where a service may read it."""
     if not os.path.isdir(folder):
         raise Refused(3, f"there is no folder {folder}")
@@ -317,7 +306,7 @@ def installed(library, folder, work):
     return path
 
 
-def refuse_unreachable(path):
+def refuse_unreachable(path: str) -> None:
     """Refuses a folder that a service's user can't enter, or one below such a folder."""
     while True:
         if not os.stat(path).st_mode & stat.S_IXOTH:
@@ -342,10 +331,9 @@ def say_left(speaker: recording.Speaker, run: recording.Run, options: Options, l
     return True
 
 
-def run_program(options, speaker, path, work):
+def run_program(options: Options, speaker: recording.Speaker, path: str, work: private_folder.Folder) -> int:
     program = options.words[0]
-    library = recording.Library(recording.make_library("sizes", work), work)
-    try:
+    with recording.Library(recording.make_library("sizes", work), work) as library:
         run = recording.Run(speaker, "SIZES", work, library, options.settings())
         notes = run.run(options.words, path)
         say_uncounted(speaker, notes, options.live, program)
@@ -358,24 +346,13 @@ def run_program(options, speaker, path, work):
             raise Refused(3, f"{program} overwrote what was recorded: nothing of it counts")
         write_measured(options.measured, notes)
         if not print_counts(speaker, notes, found, run.recorded, options.peak):
-            if notes.untouched:
-                own = f"{program} has an allocator of its own, in {notes.allocator}, that can't be followed"
-                raise Refused(3, f"{own}: it ran as ever, and nothing is counted")
-            raise Refused(3, f"{program} requested nothing from malloc; perhaps it has an allocator of its own inside")
+            recording.refuse_nothing(program, notes, "counted")
         if left and options.live:
-            keep_library(run, library)
+            run.keep_library()
         if notes.untouched:
             whose = f"the last one in {notes.allocator}"
             speaker.say(f"{notes.untouched} processes with an allocator of their own, {whose}, are not counted")
-    finally:
-        library.remove()
     return 1 if run.status else 0
-
-
-def keep_library(run, library):
-    with contextlib.suppress(OSError):
-        os.unlink(run.recorded)
-    library.keep()
 
 
 def profile(words: list[str], speaker: recording.Speaker) -> int:
@@ -383,16 +360,15 @@ def profile(words: list[str], speaker: recording.Speaker) -> int:
     speaker.said = options.said
     if options.library:
         return print_library(options, speaker)
-    if options.file is not None:
+    if options.import_ is not None:
         return import_file(options, speaker)
     if options.read:
         return read_only(options, speaker)
     if not options.words:
         return recording.print_usage(HELP)
     path = recording.find_program(options.words[0])
-    if options.live and not options.only and recording.is_script(path):
-        interpreter = f"{options.live} counts its interpreter alone"
-        speaker.say(f"{options.words[0]} is a script, and {interpreter}; --only NAME counts a program that it starts")
+    if options.live and not options.only:
+        recording.say_script(speaker, options.words[0], path, f"{options.live} counts its interpreter alone; --only NAME counts")
     with private_folder.temporary_folder() as work:
         return run_program(options, speaker, path, work)
 

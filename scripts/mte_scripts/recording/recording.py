@@ -14,6 +14,9 @@ import subprocess
 import sys
 import threading
 import time
+import types
+from collections.abc import Callable, Iterator
+from typing import NoReturn
 
 from mte_scripts import private_folder, texts
 from mte_scripts.private_folder import NotPrivate
@@ -37,13 +40,12 @@ MEASURED = 155  # the place of `requests`, and of those after it
 ALLOCATOR = slice(2048, 3072)
 
 
-class Notes:
+class Notes(types.SimpleNamespace):
     """What the library noted; the file's form is tested by the caller."""
 
     def __init__(self, page: bytes) -> None:
         page = page.ljust(PAGE, b"\0")
-        for name, value in zip(NOTES, struct.unpack_from(f"={len(NOTES)}Q", page)):
-            setattr(self, name, value)
+        super().__init__(**dict(zip(NOTES, struct.unpack_from(f"={len(NOTES)}Q", page))))
         self.all = struct.unpack_from("=Q", page, 8 * COUNTED)[0]
         measures = struct.unpack_from("=6Q", page, 8 * MEASURED)
         self.requests, self.live, self.large, self.resident, self.system, self.executed = measures
@@ -64,7 +66,7 @@ class Speaker:
                 file.write(os.fsencode("".join(c if c.isprintable() or "\udc80" <= c <= "\udcff" else "?" for c in text) + "\n"))
 
 
-def write(what: str, data) -> None:
+def write(what: str, data: "str | bytes") -> None:
     try:
         texts.write(data)
     except Refused as refused:
@@ -95,28 +97,17 @@ def is_plain(path: str) -> bool:
 
 # ---- the library
 
-def make_library(name: str, work) -> str:
+def make_library(name: str, work: private_folder.Folder) -> str:
     """The path of shims/NAME.c compiled. A package brings it, for its own glibc or a later one. Else it stays in the cache, or in WORK if
     there is no cache that nobody else can change."""
     if texts.IS_PACKAGED and (path := packaged(name)):
         return path
     file = f"{name}-{sources_sum(name)}.so"
     with cache_or(work, file) as place:
-        if place.has(file):
-            return place.file(file)
-        compiler = os.environ.get("CC") or "cc"
-        if not shutil.which(compiler):
-            install = "install one, for example by `apt-get install gcc libc6-dev`, or set CC"
-            raise Refused(3, f"there is no C compiler `{compiler}`: {install}")
-        try:
-            with place.new_file(file) as new:
-                compile_library(compiler, name, new, work)
-        except OSError as error:
-            raise Refused(3, f"{place.path} can't be written: {error.strerror}") from None
-        return place.file(file)
+        return place.kept(file, lambda new: compile_library(name, new, work))
 
 
-def packaged(name: str):
+def packaged(name: str) -> "str | None":
     path = os.path.realpath(os.path.join(RECORDERS, f"{name}.so"))
     try:
         with private_folder.closed(os.path.dirname(path)) as place:
@@ -143,7 +134,11 @@ def cache_or(work: private_folder.Folder, file: str) -> private_folder.Place:
     return private_folder.closed(work.path)
 
 
-def compile_library(compiler: str, name: str, to: str, work) -> None:
+def compile_library(name: str, to: str, work: private_folder.Folder) -> None:
+    compiler = os.environ.get("CC") or "cc"
+    if not shutil.which(compiler):
+        install = "install one, for example by `apt-get install gcc libc6-dev`, or set CC"
+        raise Refused(3, f"there is no C compiler `{compiler}`: {install}")
     words = [compiler, *FLAGS, os.path.join(SHIMS, f"{name}.c"), "-o", to, "-pthread", "-ldl"]
     if subprocess.run(words, stdin=subprocess.DEVNULL, stdout=2, env={**os.environ, "TMPDIR": work.path}).returncode:
         raise Refused(3, f"{SHIMS}/{name}.c could not be compiled: it needs glibc, and room in {os.path.dirname(to)}")
@@ -173,7 +168,7 @@ class Library:
                 if is_plain(name):
                     os.symlink(self.path, name)
                     return name
-                self.link.remove()
+                self.link.close()
         raise Refused(3, f"the loader takes no path with a space, a colon or a dollar sign, as in {self.path}: {ANOTHER_PLACE}")
 
     def keep(self) -> None:
@@ -183,9 +178,12 @@ class Library:
         if self.path.startswith(self.work.path + "/") or (self.link and self.link.path.startswith(self.work.path + "/")):
             self.work.keep = True
 
-    def remove(self) -> None:
+    def __enter__(self) -> "Library":
+        return self
+
+    def __exit__(self, *_: object) -> None:
         if self.link:
-            self.link.remove()
+            self.link.close()
 
 
 # ---- the program
@@ -208,8 +206,23 @@ def begins(path: str) -> bytes:
     return b""
 
 
-def is_script(path: str) -> bool:
-    return begins(path).startswith(b"#!")
+def say_script(speaker: Speaker, word: str, path: str, how: str) -> None:
+    """Says how a script is recorded, where the program is one."""
+    if begins(path).startswith(b"#!"):
+        speaker.say(f"{word} is a script, and {how} a program that it starts")
+
+
+def foreign(program: str, notes: Notes, done: str) -> str:
+    """What is said of another allocator; DONE says how its requests are recorded."""
+    return f"{program} has another allocator than glibc's, {notes.allocator}; what it requests of that is {done}"
+
+
+def refuse_nothing(program: str, notes: Notes, done: str) -> NoReturn:
+    """Says why there are no requests."""
+    if notes.untouched:
+        own = f"{program} has an allocator of its own, in {notes.allocator}, that can't be followed"
+        raise Refused(3, f"{own}: it ran as ever, and nothing is {done}")
+    raise Refused(3, f"{program} requested nothing from malloc; perhaps it has an allocator of its own inside")
 
 
 def has_sanitizer(path: str) -> bool:
@@ -269,6 +282,12 @@ class Run:
             raise Refused(3, f"no process that could be recorded has the name {only}")
         raise Refused(3, f"{word} can't be recorded: it is static or set-user-id, or its C library is not this machine's glibc")
 
+    def keep_library(self) -> None:
+        """For processes that are left, without what is recorded."""
+        with contextlib.suppress(OSError):
+            os.unlink(self.recorded)
+        self.library.keep()
+
     def left(self) -> list:
         """The processes that still have the record."""
         found = having(self.recorded)
@@ -279,7 +298,7 @@ class Run:
 
 
 @contextlib.contextmanager
-def watched(page):
+def watched(page: "Callable[[], bytes]") -> "Iterator[None]":
     """While the program runs, a line on a terminal says how far it is. PAGE() is the first page of the record."""
     if not os.isatty(2):
         yield
@@ -330,7 +349,7 @@ def having(file: str) -> list:
     return sorted(found)
 
 
-def spoken(name: str, script):
+def spoken(name: str, script: "Callable[[list[str], Speaker], int]") -> "Callable[[list[str]], int]":
     """The function of a script that says what is refused as it says all else; script(words, speaker) returns the status."""
     def run(words: list[str]) -> int:
         speaker = Speaker(name)
@@ -342,4 +361,3 @@ def spoken(name: str, script):
             return refused.status
 
     return run
-

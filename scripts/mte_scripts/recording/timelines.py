@@ -8,7 +8,7 @@ import os
 import struct
 from array import array
 from collections import Counter
-from collections.abc import Iterator
+from collections.abc import Callable, Iterator
 from typing import BinaryIO, NamedTuple, Optional, Union
 
 from mte_scripts import texts
@@ -251,18 +251,18 @@ def requests_of(text: bytes) -> dict:
 class Amounts(dict):
     """How much each event adds to an amount; the events are looked up but once."""
 
-    def __init__(self, of_size):
+    def __init__(self, of_size: Callable[[int], int]) -> None:
         super().__init__()
         self.of_size = of_size
 
     def __missing__(self, event: bytes) -> int:
         size = size_of(event)
-        amount = 0 if size == "large" else self.of_size(size)
+        amount = self.of_size(size) if isinstance(size, int) else 0
         self[event] = -amount if event.startswith(b"-") else amount
         return self[event]
 
 
-def most_of(text: bytes, amount) -> tuple:
+def most_of(text: bytes, amount: Callable[[int], int]) -> tuple[int, int]:
     """The most of all live blocks, each with an amount of its size, and the first moment of that. Large blocks have none."""
     amounts, now, most, at, seen = Amounts(amount), 0, 0, 0, 0
     for lines in events_of(text):
@@ -288,6 +288,27 @@ def peaks_of(text: bytes, classes: list) -> list:
                     most[place - 1], at[place - 1] = now[place - 1], moment
         seen += len(lines)
     return sorted(at.values())
+
+
+def most_and_freed(text: bytes, classes: list) -> tuple[list[int], int]:
+    """The most live blocks of each class of a table that serves the timeline; and the most blocks, of all classes together, that were freed
+    and not yet given out again. A block is given out again before a class has a new one."""
+    now, most = [0] * (len(classes) + 1), [0] * (len(classes) + 1)
+    freed = longest = 0
+    of_event = Amounts(lambda size: bisect.bisect_left(classes, need_of(size)) + 1)  # the class by its place from 1, or 0
+    for lines in events_of(text):
+        for place in map(of_event.__getitem__, lines):
+            if place < 0:
+                now[-place] -= 1
+                freed += 1
+                longest = max(longest, freed)
+            elif place:
+                now[place] += 1
+                if now[place] > most[place]:
+                    most[place] = now[place]
+                else:
+                    freed -= 1
+    return most[1:], longest
 
 
 def heights(text: bytes, classes: list, parts: int) -> list[list[int]]:

@@ -1,15 +1,17 @@
 """Runs a program and prints what it does with its allocator as a trace. `trace_program --help` says all."""
 
+import argparse
 import contextlib
 import os
-import struct
+from array import array
+from collections.abc import Iterator
 
 from mte_scripts import private_folder
 from mte_scripts.checksum import crc, folded
 from mte_scripts.formats import MOST_EVENTS
-from mte_scripts.recording import recording
+from mte_scripts.recording import counts, recording, timelines
 from mte_scripts.running import Refused
-from mte_scripts.words import ProgramWords, between, some
+from mte_scripts.words import ProgramWords, between
 
 HELP = """\
 Run a program, and print what it does with its allocator as a trace, the input of `mte_tool run`, `replay` and `profile`.
@@ -44,19 +46,15 @@ Example:
 
 PIECE = 1 << 20
 FORM = 0x3145434152544C
-SEAL, TURN, MARK = 77, 144, 5  # in struct notes: the places of two words, and how many a mark has
 NO_ROOM = 2  # why a trace ended
 REASON = "So a replay is of a sample; for a whole one trace a smaller job, one program of it (--only), or its start (--first N)"
 
 
-def options_of(words):
-    parser = ProgramWords(HELP)
-    parser.add_argument("--only", type=some)
-    parser.add_argument("--first", type=between(3, MOST_EVENTS))
-    return parser.take(words)
+def options_of(words: "list[str]") -> argparse.Namespace:
+    return ProgramWords(HELP, first=between(3, MOST_EVENTS)).take(words)
 
 
-def remarks(options, notes, work, left):
+def remarks(options: argparse.Namespace, notes: recording.Notes, work: private_folder.Folder, left: "list[int]") -> "Iterator[str]":
     """What is to be said of the trace."""
     program = options.words[0]
     if left:
@@ -66,12 +64,9 @@ def remarks(options, notes, work, left):
         others = f"(processes: {notes.others}, requests: {notes.other_requests})"
         yield f"one process is traced. Others requested too {others}: --only NAME traces another"
     if notes.foreign:
-        yield f"{program} has another allocator than glibc's, {notes.allocator}; what it requests of that is traced"
-    if notes.untouched:
-        own = f"{program} has an allocator of its own, in {notes.allocator}, that can't be followed"
-        raise Refused(3, f"{own}: it ran as ever, and nothing is traced")
-    if not notes.length:
-        raise Refused(3, f"{program} requested nothing from malloc; perhaps it has an allocator of its own inside")
+        yield recording.foreign(program, notes, "traced")
+    if notes.untouched or not notes.length:
+        recording.refuse_nothing(program, notes, "traced")
     if notes.ended == 1:
         yield f"the trace is cut at {options.first or 'a million'} events"
     if notes.ended == NO_ROOM:
@@ -82,7 +77,7 @@ def remarks(options, notes, work, left):
         yield frees if notes.wrong == 1 else f"{notes.wrong} frees are of no live block, and a replay refuses them"
 
 
-def variables(notes):
+def variables(notes: recording.Notes) -> str:
     """How many blocks have a variable of their own."""
     blocks = notes.variables + notes.shared
     if not notes.shared:
@@ -92,18 +87,15 @@ def variables(notes):
     return f"{own}; the other {notes.shared} are never freed in the trace{sample}"
 
 
-def is_sound(file, notes):
+def is_sound(file: str, notes: recording.Notes) -> bool:
     """Whether the trace is as the library wrote it. The notes get its length, its events and why it ended from the mark that is whole."""
     with contextlib.suppress(OSError), open(file, "rb", opener=private_folder.look_at) as recorded:
-        words = struct.unpack(f"={recording.PAGE // 8}Q", recorded.read(recording.PAGE).ljust(recording.PAGE, b"\0"))
+        words = array("Q", recorded.read(recording.PAGE).ljust(recording.PAGE, b"\0"))
         room = os.fstat(recorded.fileno()).st_size - recording.PAGE
-        turn = words[TURN]
-        if words[0] != FORM or words[SEAL] != folded((FORM, room)) or turn > 1:
+        mark = timelines.mark_of(words)
+        if words[0] != FORM or words[counts.SEAL] != folded((FORM, room)) or not mark or mark.length > room:
             return False
-        *mark, total, check = words[TURN + 1 + turn * MARK : TURN + 1 + (turn + 1) * MARK]
-        notes.length, notes.events, notes.ended = mark
-        if check != folded((*mark, total)) or notes.length > room:
-            return False
+        notes.length, notes.events, notes.ended, total, _ = mark
         found, left = 0, notes.length
         while left and (piece := recorded.read(min(left, PIECE))):
             found, left = crc(piece, found), left - len(piece)
@@ -123,9 +115,8 @@ def print_trace(file: str, length: int) -> None:
         raise Refused(3, f"what was recorded can't be read: {error.strerror}") from None
 
 
-def run_program(options, speaker, path, work):
-    library = recording.Library(recording.make_library("trace", work), work)
-    try:
+def run_program(options: argparse.Namespace, speaker: recording.Speaker, path: str, work: private_folder.Folder) -> int:
+    with recording.Library(recording.make_library("trace", work), work) as library:
         settings = {"TRACE_ONLY": options.only, "TRACE_FIRST": str(options.first) if options.first else None}
         run = recording.Run(speaker, "TRACE", work, library, settings)
         notes = run.run(options.words, path)
@@ -138,11 +129,7 @@ def run_program(options, speaker, path, work):
             print_trace(run.recorded, notes.length)
         finally:
             if left:
-                with contextlib.suppress(OSError):
-                    os.unlink(run.recorded)
-                library.keep()
-    finally:
-        library.remove()
+                run.keep_library()
     return 3 if notes.ended == NO_ROOM else 1 if run.status else 0
 
 
@@ -151,9 +138,8 @@ def trace(words: list[str], speaker: recording.Speaker) -> int:
     if not options.words:
         return recording.print_usage(HELP)
     path = recording.find_program(options.words[0])
-    if not options.only and recording.is_script(path):
-        interpreter = "its interpreter alone is traced"
-        speaker.say(f"{options.words[0]} is a script, and {interpreter}; --only NAME traces a program that it starts")
+    if not options.only:
+        recording.say_script(speaker, options.words[0], path, "its interpreter alone is traced; --only NAME traces")
     with private_folder.temporary_folder() as work:
         return run_program(options, speaker, path, work)
 

@@ -2,11 +2,12 @@
 
 import html
 import math
+from collections.abc import Callable
 
 from mte_scripts import html_safe
 
 
-def escape(text):
+def escape(text: object) -> str:
     """A text within a page or a picture. A name from outside may have any byte: what is no text in it is shown escaped."""
     return html.escape(html_safe.shown(text))
 
@@ -26,29 +27,29 @@ def round_values(top: float, most: int) -> list[float]:
 class Picture:
     """A picture within a page, with a left and a lower axis. It takes its colors from the page's style."""
 
-    def __init__(self, kind, width, height, below, title):
+    def __init__(self, kind: str, width: int, height: int, below: int, title: str) -> None:
         self.kind = kind
         self.width = width
         self.height = height
         self.left, self.right, self.top, self.bottom = 62, width - 20, 26, height - below
         self.middle = (self.left + self.right) // 2
-        self.parts = []
+        self.parts: "list[str]" = []
         self.text(0, 12, title)
 
-    def text(self, x, y, words, anchor="start"):
+    def text(self, x: float, y: float, words: object, anchor: str = "start") -> None:
         self.parts.append(f'<text x="{shown(x)}" y="{shown(y)}" text-anchor="{anchor}">{escape(words)}</text>')
 
     def y(self, value: float, top: float) -> float:
         return self.bottom - (self.bottom - self.top) * value / top
 
-    def levels(self, top, most, words):
+    def levels(self, top: float, most: int, words: "Callable[[float], str]") -> None:
         """The grid of round values from 0 to TOP."""
         for value in round_values(top, most):
             y = shown(self.y(value, top))
             self.parts.append(f'<path class="grid" d="M{self.left} {y}H{self.right}"/>')
             self.text(self.left - 6, self.y(value, top) + 4, words(value), "end")
 
-    def tick(self, x, words):
+    def tick(self, x: float, words: object) -> None:
         self.parts.append(f'<path class="axis" d="M{shown(x)} {self.bottom}v4"/>')
         self.text(x, self.bottom + 17, words, "middle")
 
@@ -72,12 +73,12 @@ STYLE_DARK = """text{fill:#e6edf3;stroke:#0d1117} .back{fill:#0d1117} .grid{stro
 class Drawing(Picture):
     """A picture that is a file of its own, with curves in colors of their own. It is light or dark as its reader is."""
 
-    def __init__(self, width, height, below, title):
+    def __init__(self, width: int, height: int, below: int, title: str) -> None:
         super().__init__("drawing", width, height, below, title)
         area = f'x="{self.left}" y="{self.top}" width="{self.right - self.left}" height="{self.bottom - self.top + 6}"'
         self.parts.append(f'<clipPath id="plot"><rect {area}/></clipPath>')
 
-    def curve(self, at, points):
+    def curve(self, at: int, points: "list[tuple[float, float, str]]") -> None:
         """Curve number AT, over (x, y, title); what is above the picture is cut off."""
         line = " ".join(f"{shown(x)},{shown(max(y, -10 * self.height))}" for x, y, _ in points)
         marks = "".join(
@@ -87,18 +88,18 @@ class Drawing(Picture):
         )
         self.parts.append(f'<g class="c{at % len(LIGHT)}" clip-path="url(#plot)"><polyline class="curve" points="{line}"/>{marks}</g>')
 
-    def square(self, at, x, y, title):
+    def square(self, at: int, x: float, y: float, title: str) -> None:
         """A point beside curve number AT."""
         box = f'x="{shown(x - 4)}" y="{shown(y - 4)}" width="8" height="8"'
         self.parts.append(f'<g class="c{at % len(LIGHT)}"><rect class="mark" {box}><title>{escape(title)}</title></rect></g>')
 
-    def key(self, at, x, y, words, anchor="start"):
+    def key(self, at: int, x: float, y: float, words: str, anchor: str = "start") -> None:
         """The name of curve number AT, after a piece of it or before it."""
         begin = x if anchor == "start" else x - 44
         self.parts.append(f'<g class="c{at % len(LIGHT)}"><path class="curve" d="M{shown(begin)} {shown(y - 4)}h44"/></g>')
         self.text(x + 52 if anchor == "start" else x - 52, y, words, anchor)
 
-    def svg(self, name):
+    def svg(self, name: str) -> str:
         colors, dark = ("".join(f".c{at}{{color:{color}}}" for at, color in enumerate(some)) for some in (LIGHT, DARK))
         style = f"<style>{STYLE}{colors}\n@media (prefers-color-scheme:dark){{{STYLE_DARK}{dark}}}</style>"
         back = f'<rect class="back" width="{self.width}" height="{self.height}"/>'

@@ -36,11 +36,7 @@ Example:
 
 
 def report(words: list[str]) -> int:
-    parser = Words(HELP)
-    parser.add_argument("--title")
-    parser.add_argument("--against", action="append", default=[])
-    parser.add_argument("names", nargs="*")
-    options = parser.take(words)
+    options = Words(HELP, "names", title=str, against={"action": "append", "default": []}).take(words)
     names, title = options.names, options.title
     if len(names) != 2 or names == ["-", "-"]:
         raise texts.Refused(2, "it wants a profile and a sheet: report PROFILE SHEET; --help says more")

@@ -1,6 +1,7 @@
 """The page report.html: it has no script, and takes nothing from elsewhere. All text from outside is escaped."""
 
 import math
+from collections.abc import Iterable
 
 from mte_scripts import claims, html_safe, texts
 from mte_scripts.reports.pictures import Picture, escape, shown
@@ -72,7 +73,7 @@ SIZE_TICKS = [(16, "16"), (64, "64"), (256, "256"), (1024, "1 KiB"), (4096, "4 K
 FIRST_OCTAVE, OCTAVES = 3, 11  # the sizes from 8 bytes to 16 KiB
 
 
-def page(figures, name, counted, warnings, checks, tables=None):
+def page(figures: Figures, name: str, counted: str, warnings: list[str], checks: list[str], tables: "str | None" = None) -> str:
     """The page for a program or a profile of this name. COUNTED says what was counted, CHECKS are the commands that check the sheet or the fit of
     the first table, and that of the other one, if there is one. TABLES is the file beside it with the page of scripts/page, if that is made."""
     first, judged = figures.first, figures.first_judged
@@ -174,11 +175,11 @@ def share(figures: Figures, table: Table) -> str:
     return percent(table.waste, figures.bytes)
 
 
-def lines(parts):
+def lines(parts: Iterable[str]) -> str:
     return "\n".join(parts)
 
 
-def headings(*names):
+def headings(*names: str) -> str:
     cells = "".join(f'<th scope="col">{name}</th>' for name in names)
     return f"<thead><tr>{cells}</tr></thead>"
 
@@ -187,7 +188,7 @@ def card(name: str, title: str, value: int, note: str) -> str:
     return f'<div><dt>{title}</dt><dd id="{name}" data-value="{value}">{number(value)} <small>{note}</small></dd></div>'
 
 
-def cell(name, value, text):
+def cell(name: str, value: int, text: object) -> str:
     return f'<td data-name="{name}" data-value="{value}">{text}</td>'
 
 
@@ -258,7 +259,7 @@ def style_of(at: int) -> int:
     return 1 + at % (COLORS - 1)
 
 
-def key(entries):
+def key(entries: Iterable[tuple[int, str]]) -> str:
     items = (f'<li><svg viewBox="-7 -7 14 14" aria-hidden="true">{mark(style, 0, 0)}</svg>{escape(words)}</li>' for style, words in entries)
     return f'<ul class="key">{"".join(items)}</ul>'
 
@@ -347,7 +348,7 @@ def layers_of(classes: list[int], rows: list[list[int]]) -> list[tuple[str, str,
     return found
 
 
-def live_blocks(figures, layers, kind, width, height):
+def live_blocks(figures: Figures, layers: list, kind: str, width: int, height: int) -> str:
     """The bytes of the live blocks over the run, the layers one upon the other, and the footprint."""
     picture = Picture(kind, width, height, 46, "bytes of live blocks")
     footprint = figures.first.footprint
@@ -358,7 +359,7 @@ def live_blocks(figures, layers, kind, width, height):
     x = [shown(picture.left + (picture.right - picture.left) * at / columns) for at in range(columns + 1)]
     below = [0] * columns
     for words, form, values, most in layers:
-        above = list(map(sum, zip(below, values)))
+        above = [one + other for one, other in zip(below, values)]
         up = "".join(f"H{x[at]}V{shown(picture.y(value / unit, top))}" for at, value in enumerate(above))
         down = "".join(f"H{x[at + 1]}V{shown(picture.y(below[at] / unit, top))}" for at in reversed(range(columns)))
         title = f"{words}: at most {numbered(most, 'byte')}"
@@ -378,9 +379,9 @@ def square(form: str) -> str:
     return f'<svg viewBox="0 0 12 12" aria-hidden="true"><rect width="12" height="12" {form}/></svg>'
 
 
-def bars(counts, per_octave):
+def bars(counts: dict[int, int], per_octave: int) -> dict[int, tuple[int, int, int, int]]:
     """The sizes in groups: by the place of its bar, each group's least and greatest size, requests and bytes."""
-    groups = {}
+    groups: dict[int, tuple[int, int, int, int]] = {}
     for size, count in counts.items():
         octave = math.log2(max(size, 1)) - FIRST_OCTAVE
         place = max(0, math.ceil(octave * per_octave - 1e-9) - 1)

@@ -1,7 +1,9 @@
 """Checks a sheet or a fit in a build, and says what it finds in words. `check_sheet --help` says all."""
 
+import argparse
 import os
 import re
+from typing import Any
 
 from mte_scripts import claims, texts
 from mte_scripts.words import Words, between, one_of
@@ -36,10 +38,7 @@ MOST_OF_A_SHEET = 1 << 20
 
 
 def check(words: list[str]) -> int:
-    parser = Words(HELP)
-    parser.add_argument("--limit", type=between(1, texts.MOST_CLASSES))
-    parser.add_argument("--step", type=one_of(1, 2, 4, 8), default=1)
-    parser.add_argument("names", nargs="*")
+    parser = Words(HELP, "names", {"step": 1}, limit=between(1, texts.MOST_CLASSES), step=one_of(1, 2, 4, 8))
     options = parser.take(words, once=True)
     names = options.names
     if len(names) != 2:
@@ -68,16 +67,16 @@ def check(words: list[str]) -> int:
     return 0
 
 
-def whole_sheet(name, data, is_fit):
+def whole_sheet(name: str, data: bytes, is_fit: bool) -> Any:
     """The sheet or the fit, whose rows are all there."""
-    sheet = (texts.parse_fit if is_fit else texts.parse_sheet)(data, name)
+    sheet: Any = (texts.parse_fit if is_fit else texts.parse_sheet)(data, name)
     if len(sheet.rows) != sheet.limit:
         raise texts.Refused(2, f"{name} has {len(sheet.rows)} rows for a limit of {sheet.limit}: did the command that writes it fail?")
     texts.write(f"the {'fit' if is_fit else 'sheet'} is whole: a table of {claims.class_text(len(sheet.classes))}\n")
     return sheet
 
 
-def meets_options(name, sheet, options):
+def meets_options(name: str, sheet: Any, options: argparse.Namespace) -> None:
     """Its limit and its step are those that were asked for."""
     wanted = {"limit": options.limit or sheet.limit, "step": options.step}
     for option, value in wanted.items():
@@ -114,15 +113,9 @@ COUNTED = {"profile": counted_in_profile, "history": counted_in_history, "timeli
 
 
 def non_empty(path: str, most: int, whose: str) -> bytes:
-    """The bytes of a file. No more are read than it may have, whatever it is."""
     if os.path.isdir(path):
         raise texts.Refused(2, f"{path} is a folder")
-    data = texts.read(path, most + 1)
-    if not data:
-        raise texts.Refused(2, f"{path} is empty: did the command that writes it fail?")
-    if len(data) > most:
-        raise texts.Refused(2, f"{path} has more than the {most:,} bytes that {whose}")
-    return data
+    return texts.read_some(path, most, whose)
 
 
 def whose_fault(error: str, lines: int, names: list[str], kind: str) -> str:

@@ -60,7 +60,7 @@ def answer(path: str, words: list[str], given: bytes) -> bytes:
     return out
 
 
-def table(curves):
+def table(curves: list[Curve]) -> str:
     lines = []
     for curve in curves:
         lines += [f"{curve.name} {classes} {share:.4f}\n" for classes, share in enumerate(curve.shares, 1)]
@@ -99,12 +99,8 @@ def picture(curves: list[Curve]) -> str:
     return drawing.svg(claims.TEMPLATES["profile.curve"])
 
 
-def draw(words):
-    parser = Words(HELP)
-    parser.add_argument("--table", action="store_true")
-    parser.add_argument("--name")
-    parser.add_argument("profiles", nargs="*")
-    options = parser.take(words)
+def draw(words: list[str]) -> int:
+    options = Words(HELP, "profiles", name=str).take(words)
     if not options.profiles:
         raise Refused(2, "there is no profile; --help says how it is used")
     first, *others = options.profiles

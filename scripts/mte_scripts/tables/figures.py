@@ -3,12 +3,14 @@
 The program itself scores, checks and tunes; here is only what its outputs mean for memory."""
 
 import bisect
+import functools
 import os
 import re
 from typing import NamedTuple
 
 from mte_scripts import claims, texts
 from mte_scripts.recording import timelines
+from mte_scripts.tables import scudo_map, scudo_memory
 
 GRANULE = claims.GRANULE  # bytes; a block begins with a header of one granule
 NOTHING = f"no bytes are counted in requests of at most {texts.LARGEST_SIZE:,} bytes: there is nothing to tune"
@@ -239,13 +241,33 @@ class Figures:
         history."""
         if self.timed.kind == "timeline":
             return timelines.heights(self.timed.text, self.first.classes, parts)
-        rows, blocks = [[0] * len(self.first.classes) for _ in range(self.timed.history.snapshots)], Blocks(self.first.classes)
+        return self.at_moments(self.first.classes)
+
+    def at_moments(self, classes: list[int]) -> list[list[int]]:
+        """The live blocks of each class of a table at each moment of a history. What the table does not serve is left out."""
+        rows, blocks = [[0] * len(classes) for _ in range(self.timed.history.snapshots)], Blocks(classes)
         for size, counts in self.timed.history.counts.items():
             if size != "large" and blocks.of(size):
-                place = self.first.classes.index(blocks.of(size) // GRANULE)
+                place = classes.index(blocks.of(size) // GRANULE)
                 for row, count in zip(rows, counts):
                     row[place] += count
         return rows
+
+    def in_scudo(self, classes: list[int]) -> int:
+        """The bytes that Scudo is predicted to take with a map of these classes while it gives nothing back."""
+        if self.timed.kind == "timeline":
+            return scudo_memory.taken(classes, *timelines.most_and_freed(self.timed.text, classes))
+        most, freed = [0] * len(classes), 0
+        for row in self.at_moments(classes):
+            most = [max(pair) for pair in zip(most, row)]
+            freed = max(freed, sum(most) - sum(row))
+        return scudo_memory.taken(classes, most, freed)
+
+    @functools.cached_property
+    def saved_in_scudo(self) -> int:
+        """By how many bytes Scudo is predicted to take less with the map of the first table than with its default, the first of the others,
+        while it gives nothing back."""
+        return self.in_scudo(self.others[0].classes) - self.in_scudo(scudo_map.in_map(self.first.classes))
 
     def requested(self) -> dict:
         """How often each size was requested over time; of a history, which has not all, how many blocks it has."""

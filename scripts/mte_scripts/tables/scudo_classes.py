@@ -1,7 +1,5 @@
 """Prints a class table as the C++ that LLVM Scudo takes. `scudo_classes --help` says all."""
 
-import sys
-
 from mte_scripts import texts
 from mte_scripts.tables import scudo_map
 from mte_scripts.texts import Refused
@@ -37,16 +35,13 @@ Examples:
 """
 
 
-def print_map(words):
-    parser = Words(HELP)
-    parser.add_argument("--config", action="store_true")
-    parser.add_argument("files", nargs="*")
-    options = parser.take(words)
+def print_map(words: "list[str]") -> int:
+    options = Words(HELP, "files").take(words)
     files, whole = options.files, options.config
     if len(files) > 1:
         raise Refused(2, f"there is one sheet, so no argument {files[1]}")
-    if not files and sys.stdin is not None and sys.stdin.isatty():
-        texts.say("scudo_classes", "reading standard input, a sheet; Ctrl-D ends it")
+    if not files:
+        texts.say_reading("scudo_classes", ", a sheet")
     classes = texts.class_line(files[0] if files else "-")
     made = scudo_map.config(classes) if whole else scudo_map.as_default(classes)
     for warning in scudo_map.warnings(classes):

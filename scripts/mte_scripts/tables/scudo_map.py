@@ -125,9 +125,14 @@ def warnings(classes: list[int]) -> list[str]:
     return [] if classes[-1:] == [LARGEST_CLASS] or not classes else [NEXT_OWN.format(size=f"{GRANULE * classes[-1] - GRANULE:,}")]
 
 
+def in_map(classes: list[int]) -> list[int]:
+    """The classes that serve requests up to 16,368 bytes in the map of a table: its own below 1024, and Scudo's first."""
+    return [c for c in classes if c < LARGEST_CLASS] + [LARGEST_CLASS + 1]
+
+
 def filled(classes: list[int]) -> str:
     """The map of a table that ascends from 2 to 1024."""
-    granules = [f"{c}," for c in classes if c < LARGEST_CLASS]
+    granules = [f"{c}," for c in in_map(classes)[:-1]]
     if not granules:
         raise Refused(2, NO_CLASS)
     lines = textwrap.fill(" ".join(granules), 75, initial_indent=" " * 6, subsequent_indent=" " * 6)

@@ -186,7 +186,7 @@ def count(options, folder, given):
     """Runs the program and writes its profile. Returns the status of the run, 0 or 1, what profile_program said of it, and what it measured."""
     said, measured, profile = (folder.file(name) for name in ("said", "measured", "program.profile"))
     printed = profile if options.all else folder.file("program.timeline")
-    words = [] if options.all else ["--timeline", "--peak", profile, "--measured", measured]
+    words = [] if options.all else ["--timeline", "--as-scudo", "--peak", profile, "--measured", measured]
     words += [] if options.only is None else ["--only", options.only]
     try:
         with open(printed, "wb") as file:
@@ -362,13 +362,13 @@ def larger_blocks(found: figures.Figures) -> str:
 def predicted(found: figures.Figures) -> str:
     """The range of what the map saves, and on what it rests."""
     default = found.others[0]
-    saved = found.saved_footprint(default)
-    if saved is None:
+    if found.saved_footprint(default) is None:
         return "Nothing is predicted, since one of the tables does not serve all sizes."
     at_once = found.most_live(default) - found.most_live(found.first)
-    rests = "exact over the recorded run" if found.timed.kind == "timeline" else "as far as the recorded moments show it"
+    rests = "each moment of the run" if found.timed.kind == "timeline" else "the recorded moments"
     return (
-        f"Predicted against {default.name}, {rests}: the peak memory falls by {kibibytes(saved)} where Scudo gives nothing back, and by "
+        f"Predicted of Scudo from {rests}, and not proved: against {default.name} the peak memory falls by "
+        f"{kibibytes(found.saved_in_scudo)} where it gives nothing back, in whole pages and with its lists of free blocks, and by "
         f"{kibibytes(at_once)} where it gives back each block as it is freed."
     )
 

@@ -1,6 +1,6 @@
 //! `check-fit`.
 
-use crate::commands::shared_help::{About, Options, Words, about, help_text};
+use crate::commands::shared_help::{About, Words, about, help_text};
 
 /// The command's name.
 pub const NAME: &str = "check-fit";
@@ -63,9 +63,8 @@ Refused input, exit status 2:
     history_refusals
 );
 
-/// The command's words.
+/// The command's name, and what it does.
 pub const WORDS: Words = Words {
     name: NAME,
     about: ABOUT,
-    options: Options::Nothing,
 };

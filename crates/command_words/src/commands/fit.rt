@@ -1,5 +1,5 @@
 //! `fit`.
-use crate::commands::shared_help::{About, Options, Words, about, help_text};
+use crate::commands::shared_help::{About, Words, about, help_text};
 
 /// The command's name.
 pub const NAME: &str = "fit";
@@ -46,9 +46,8 @@ of 4 granules takes 3 blocks of 64 bytes, two classes take 3 blocks of 32 and on
     history_refusals
 );
 
-/// The command's words.
+/// The command's name, and what it does.
 pub const WORDS: Words = Words {
     name: NAME,
     about: ABOUT,
-    options: Options::Limits,
 };

@@ -1,6 +1,6 @@
 //! `footprint`.
 
-use crate::commands::shared_help::{About, Options, Words, about, help_text};
+use crate::commands::shared_help::{About, Words, about, help_text};
 
 /// The command's name.
 pub const NAME: &str = "footprint";
@@ -35,9 +35,8 @@ Refused input, exit status 2:",
     history_refusals
 );
 
-/// The command's words.
+/// The command's name, and what it does.
 pub const WORDS: Words = Words {
     name: NAME,
     about: ABOUT,
-    options: Options::Nothing,
 };

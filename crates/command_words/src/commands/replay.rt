@@ -1,5 +1,5 @@
 //! `replay`.
-use crate::commands::shared_help::{About, Options, Words, about, help_text};
+use crate::commands::shared_help::{About, Words, about, help_text};
 
 /// The command's name.
 pub const NAME: &str = "replay";
@@ -42,9 +42,8 @@ Refused input, exit status 2; line 1 is the class line, the trace begins in line
     trace_refusals
 );
 
-/// The command's words.
+/// The command's name, and what it does.
 pub const WORDS: Words = Words {
     name: NAME,
     about: ABOUT,
-    options: Options::Config,
 };

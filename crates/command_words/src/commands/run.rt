@@ -1,5 +1,5 @@
 //! `run`.
-use crate::commands::shared_help::{About, Options, Words, help_text};
+use crate::commands::shared_help::{About, Words, help_text};
 
 /// The command's name.
 pub const NAME: &str = "run";
@@ -46,9 +46,8 @@ writes the lines `classes 2`, `limit 1`, `waste 0` and `row 0`, then
     trace_refusals
 );
 
-/// The command's words.
+/// The command's name, and what it does.
 pub const WORDS: Words = Words {
     name: NAME,
     about: ABOUT,
-    options: Options::LimitsAndConfig,
 };

@@ -1,9 +1,10 @@
 //! What the words of the commands share: how clap gets them, and the parts of the help that several of them have.
-ghost use Rattle.std.specs.Prelude.{◌≡◌, IfOk, fold};
-ghost use Rattle.clap.specs.Words.{App, new_app};
-ghost use Rattle.command_words.specs.AcceptedWords.{HasWords, described, with_option, with_options};
+ghost use Rattle.std.specs.Prelude.{IfOk, fold};
+ghost use Rattle.clap.specs.Words.{new_app};
+ghost use Rattle.command_words.specs.AcceptedWords.{HasWords};
+ghost use Rattle.command_words.specs.Options.{with_option};
 
-use crate::options::{CONFIG, LIMITS, LIMITS_AND_CONFIG, NumberOption};
+use crate::options::NumberOption;
 use clap::Command;
 use std::alloc::{AllocError, Global};
 
@@ -16,52 +17,28 @@ pub struct About {
     pub sentence: &'static str,
 }
 
-/// The options that a command has.
-#[derive(Clone, Copy)]
-pub enum Options {
-    /// None.
-    Nothing,
-    /// `--limit` and `--step`.
-    Limits,
-    /// Those of the heap's configuration.
-    Config,
-    /// All of these.
-    LimitsAndConfig,
-}
-
-impl Options {
-    // the options, in the order in which the help lists them
-    fn list(self) -> &'static [NumberOption]
-        ensures { (a : App) → fold with_option a result.now ≡ with_options self a }
-    {
-        match self {
-            Options::Nothing => &[],
-            Options::Limits => LIMITS,
-            Options::Config => CONFIG,
-            Options::LimitsAndConfig => LIMITS_AND_CONFIG,
-        }
-    }
-}
-
-/// A command's name, what it does, and its options.
+/// A command's name, and what it does.
 #[derive(Clone, Copy)]
 pub struct Words {
     /// The command's name.
     pub name: &'static str,
     /// What the command does.
     pub about: About,
-    /// Its options.
-    pub options: Options,
 }
 
 impl Words {
-    /// The command for clap, with the text after the options in the command's own help.
+    /// The command for clap with these options, and with the text after them in the command's own help.
     #[inline(always)]
-    pub fn command<'a>(&self, alloc: Global, after: &'static str) -> Result<Command<'a>, AllocError>
-        ensures { IfOk result (λ command. HasWords command (described self.now)) }
+    pub fn command<'a>(
+        &self,
+        alloc: Global,
+        options: &[NumberOption],
+        after: &'static str,
+    ) -> Result<Command<'a>, AllocError>
+        ensures { IfOk result (λ command. HasWords command (fold with_option (new_app self.now.name.now) options.now)) }
     {
         let mut command = self.without_options(alloc, after);
-        for option in self.options.list() {
+        for option in options {
             command = command.arg(option.arg(alloc))?;
         }
         Ok(command)

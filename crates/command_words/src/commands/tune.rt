@@ -1,5 +1,5 @@
 //! `tune`.
-use crate::commands::shared_help::{About, Options, Words, about, help_text};
+use crate::commands::shared_help::{About, Words, about, help_text};
 
 /// The command's name.
 pub const NAME: &str = "tune";
@@ -42,9 +42,8 @@ waste 104 bytes, two waste 8.
     profile_refusals
 );
 
-/// The command's words.
+/// The command's name, and what it does.
 pub const WORDS: Words = Words {
     name: NAME,
     about: ABOUT,
-    options: Options::Limits,
 };

@@ -1,21 +1,15 @@
 -- The call that a caller from C passes.
-use Rattle.std.specs.Prelude.{ℕ, List, [], ◌∷◌, slice_get, Option}
-use Rattle.heap_theory.specs.declared.config.Config.{Config}
-use Rattle.mte_c.specs.declared.commands.structures.Options.{Options}
+use Rattle.std.specs.Prelude.{ℕ, List, [], ◌∷◌, slice_get, Option, option_map}
+use Rattle.tool_call.specs.Options.{call_of}
 use Rattle.tool_call.specs.declared.call.Call.{Call}
-use Rattle.tool_call.specs.declared.call.Call.TheVariants.{Score, Tune, Check, Footprint, Fit, CheckFit, Profile, Replay, Run}
-use Rattle.tool_call.specs.declared.limits.Limits.{Limits}
+use Rattle.tool_call.specs.declared.call.CommandName.{CommandName}
+use Rattle.tool_call.specs.declared.call.CommandName.TheVariants.{Score, Tune, Check, Footprint, Fit, CheckFit, Profile, Replay, Run}
+use Rattle.tool_call.specs.declared.options.Options.{Options}
 
-abbrev pub limits_of : Options → Limits
-limits_of options = record { limit = options.limit; step = options.step }
+-- The commands in the order of their numbers, from 0 on.
+abbrev pub commands : List CommandName
+commands = Score ∷ Tune ∷ Check ∷ Footprint ∷ Fit ∷ CheckFit ∷ Profile ∷ Replay ∷ Run ∷ []
 
-abbrev pub config_of : Options → Config
-config_of options = record { granules = options.granules; seed = options.seed; quarantine = options.quarantine }
-
--- The commands in the order of their numbers, from 0 on, each with those of the options that are its own.
-abbrev pub calls_of : Options → List Call
-calls_of options = Score ∷ Tune (limits_of options) ∷ Check ∷ Footprint ∷ Fit (limits_of options) ∷ CheckFit ∷ Profile
-    ∷ Replay (config_of options) ∷ Run (limits_of options) (config_of options) ∷ []
-
-abbrev pub call_of : Options → ℕ → Option Call
-call_of options command = slice_get (calls_of options) command
+-- The call of the command of this number, with those of the options that are its own.
+abbrev pub call_numbered : Options → ℕ → Option Call
+call_numbered options number = option_map (λ name. call_of name options) (slice_get commands number)

@@ -1,67 +1,27 @@
-//! The structures that cross to C.
-ghost use Rattle.std.specs.Prelude.{◌≡◌};
+//! The numbers and structures that cross to C.
+ghost use Rattle.std.specs.Prelude.{◌≡◌, slice_get};
+ghost use Rattle.mte_c.specs.Commands.Settings.{commands};
 
 use crate::commands::ended::Ended;
 use crate::commands::faults::{code_of, line_of};
 use handed_text::{BAD_OPTION, DONE, MISUSE, NO, OUT_OF_MEMORY, REFUSED};
-use heap_theory::Config;
-use mte_engine::{Call, Limits};
+use tool_call::CommandName;
 
-/// The options. A call reads those that are its own.
-#[repr(C)]
-#[derive(Clone, Copy)]
-pub struct Options {
-    /// The granules of the heap, 64 to 262,144.
-    pub granules: u32,
-    /// The limit of its quarantine in bytes, 0 to 4,194,304.
-    pub quarantine: u32,
-    /// The seed of the random tags, not 0.
-    pub seed: u16,
-    /// The most classes of the table, 1 to 32.
-    pub limit: u8,
-    /// The granules that each class is a multiple of: 1, 2, 4 or 8.
-    pub step: u8,
-}
-
-impl Options {
-    ghost use Rattle.mte_c.specs.Commands.Settings.{call_of, config_of, limits_of};
-
-    /// The call of the command of this number, with the options that are its own: `score` 0, `tune` 1, `check` 2, `footprint` 3, `fit` 4,
-    /// `check_fit` 5, `profile` 6, `replay` 7 and `run` 8.
-    pub fn call(self, command: u8) -> Option<Call>
-        ensures { result ≡ call_of self command }
-    {
-        match command {
-            0 => Some(Call::Score),
-            1 => Some(Call::Tune(self.limits())),
-            2 => Some(Call::Check),
-            3 => Some(Call::Footprint),
-            4 => Some(Call::Fit(self.limits())),
-            5 => Some(Call::CheckFit),
-            6 => Some(Call::Profile),
-            7 => Some(Call::Replay(self.config())),
-            8 => Some(Call::Run(self.limits(), self.config())),
-            _ => None,
-        }
-    }
-
-    fn limits(self) -> Limits
-        ensures { result ≡ limits_of self }
-    {
-        Limits {
-            limit: self.limit,
-            step: self.step,
-        }
-    }
-
-    fn config(self) -> Config
-        ensures { result ≡ config_of self }
-    {
-        Config {
-            granules: self.granules,
-            seed: self.seed,
-            quarantine: self.quarantine,
-        }
+/// The command of this number: `score` 0, `tune` 1, `check` 2, `footprint` 3, `fit` 4, `check_fit` 5, `profile` 6, `replay` 7 and `run` 8.
+pub fn command_numbered(number: u8) -> Option<CommandName>
+    ensures { result ≡ slice_get commands number }
+{
+    match number {
+        0 => Some(CommandName::Score),
+        1 => Some(CommandName::Tune),
+        2 => Some(CommandName::Check),
+        3 => Some(CommandName::Footprint),
+        4 => Some(CommandName::Fit),
+        5 => Some(CommandName::CheckFit),
+        6 => Some(CommandName::Profile),
+        7 => Some(CommandName::Replay),
+        8 => Some(CommandName::Run),
+        _ => None,
     }
 }
 

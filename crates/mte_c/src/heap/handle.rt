@@ -1,7 +1,8 @@
 //! A handle to a heap, which C can hold.
 ghost use Rattle.std.specs.Prelude.{◌≡◌, Option, Some, None, IsSome};
 ghost use Rattle.mte_c.specs.declared.heap.held.Held.{Held as HeldHeap};
-ghost use Rattle.mte_c.specs.Heap.Ownership.{held_coded};
+ghost use Rattle.mte_c.specs.contracts.heap.held.Held.{the_row};
+ghost use Rattle.std.specs.Coded.{coded_option};
 
 use crate::heap::held::Held;
 use handed_text::BoxParts;
@@ -13,13 +14,14 @@ use std::marker::Model;
 #[derive(Drop)]
 pub struct Handle {
     at: *mut u8,
-    ghost held: { Option HeldHeap } by { held_coded },
+    ghost held: { Option HeldHeap } by { coded_option the_row.coded },
 }
 
 impl Model for Handle {
-    ghost use Rattle.mte_c.specs.Heap.Ownership.{handle_owns};
+    ghost use Rattle.mte_c.specs.contracts.heap.held.Held.{the_row};
+    ghost use Rattle.handed_text.specs.Ownership.{handle_owns};
 
-    ghost also_owns = { λ h. handle_owns h.at h.held };
+    ghost also_owns = { λ h. handle_owns the_row h.at h.held };
 }
 
 impl Handle {

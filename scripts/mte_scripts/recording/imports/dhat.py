@@ -1,5 +1,7 @@
 """The JSON of DHAT, valgrind's or the Rust crate's: the blocks and bytes of each stack."""
 
+import re
+
 from mte_scripts.recording.imports import found, json_text
 from mte_scripts.recording.imports.found import Buckets, Found
 from mte_scripts.recording.imports.source import Source, Wrong
@@ -8,15 +10,11 @@ NAME = "dhat"
 WHAT = "the JSON of DHAT (valgrind --tool=dhat, or Rust's crate)"
 KINDS = (found.ALL, found.LIVE)
 
-MARK = b'"dhatFileVersion"'
+BEGIN = re.compile(rb'\A\s*\{.*"dhatFileVersion"', re.DOTALL)
 VERSION = 2
 MODES = ("heap", "rust-heap")
 # the names of blocks and bytes
 MEMBERS = {found.ALL: ("tbk", "tb"), found.LIVE: ("gbk", "gb")}
-
-
-def begins(head: bytes) -> bool:
-    return head.lstrip().startswith(b"{") and MARK in head
 
 
 def read(source: Source, kind: str) -> Found:

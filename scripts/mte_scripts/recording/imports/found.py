@@ -5,6 +5,7 @@ from collections import Counter
 from typing import Optional
 
 from mte_scripts.recording import timelines
+from mte_scripts.tables.figures import numbered as number
 
 ALL, LIVE, TIMELINE, HISTORY = "all", "live", "timeline", "history"
 FREED, LARGE = timelines.FREED, timelines.LARGE
@@ -24,10 +25,6 @@ MISSED = "a size that the sample missed is not there, so a table tuned for it ma
 def counter_of(size: int) -> int:
     """A size as a key of the counts: all large ones are one."""
     return size if size < LARGE else LARGE
-
-
-def number(count: int, what: str) -> str:
-    return f"{count:,} {what}" + ("" if count == 1 else "s")
 
 
 class Buckets:

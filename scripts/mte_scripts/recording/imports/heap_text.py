@@ -14,6 +14,7 @@ NAME = "heap-text"
 WHAT = "a heap profile as text, of gperftools, of jemalloc's heap dumps, or of Go"
 KINDS = (found.ALL, found.LIVE)
 
+BEGIN = re.compile(rb"\Aheap profile:|\Aheap_v2/")
 HEADER = re.compile(rb"heap profile:\s*(\d+):\s*(\d+)\s*\[\s*(\d+):\s*(\d+)\]\s*@\s*(\S+)\s*")
 STACK = re.compile(rb"\s*(\d+):\s*(\d+)\s*\[\s*(\d+):\s*(\d+)\]\s*@[ 0-9a-fx]*")
 DUMP = re.compile(rb"heap_v2/(\d{1,19})")
@@ -21,10 +22,6 @@ THREADS = re.compile(rb"\s*t(\*|\d+):\s*(\d+):\s*(\d+)\s*\[\s*(\d+):\s*(\d+)\]\s
 SAMPLING = re.compile(r"(heap|heap_v2|heapz_v2)/(\d{1,19})")
 END = b"MAPPED_LIBRARIES:"
 MOST_DIGITS = 19  # of a number of blocks or bytes
-
-
-def begins(head: bytes) -> bool:
-    return head.startswith((b"heap profile:", b"heap_v2/"))
 
 
 class Profile:
@@ -46,7 +43,8 @@ def read(source: Source, kind: str) -> Found:
         period, form = sampling(match[5].decode(errors="replace"))
         profile.header = numbers(match, 1)
         read_stacks(profile, lines)
-        refuse_cut(profile, source)
+        if profile.sums != profile.header and not profile.has_end:
+            raise Wrong("its stacks have other sums than its first line: it was cut off")
     elif match := DUMP.fullmatch(first):
         period, form = int(match[1]), "jemalloc"
         read_dump(profile, lines)
@@ -113,11 +111,6 @@ def read_dump(profile: Profile, lines: Iterator[bytes]) -> None:
 def take(profile: Profile, counts: list) -> None:
     profile.sums = [one + other for one, other in zip(profile.sums, counts)]
     profile.stacks.append(counts)
-
-
-def refuse_cut(profile: Profile, source: Source) -> None:
-    if profile.sums != profile.header and not profile.has_end:
-        raise Wrong("its stacks have other sums than its first line: it was cut off")
 
 
 def counted(profile: Profile, period: int, form: str) -> Found:

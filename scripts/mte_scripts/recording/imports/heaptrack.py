@@ -1,5 +1,6 @@
 """The records of heaptrack: each request with its exact size, and each free, in their order."""
 
+import re
 from array import array
 from collections import Counter
 
@@ -12,13 +13,9 @@ NAME = "heaptrack"
 WHAT = "a record of heaptrack, packed or not, raw or not"
 KINDS = (found.ALL, found.LIVE, found.TIMELINE, found.HISTORY)
 
+BEGIN = re.compile(rb"\Av( [0-9a-f]+){1,2}(\n|\Z)")
 MOST_EVENTS = 1 << 27
 MOST_SIZE = 1 << 60
-
-
-def begins(head: bytes) -> bool:
-    words = head.split(b"\n", 1)[0].split(b" ")
-    return words[0] == b"v" and len(words) in (2, 3) and all(word and not word.strip(b"0123456789abcdef") for word in words[1:])
 
 
 class Run:

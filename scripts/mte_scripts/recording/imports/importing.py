@@ -1,9 +1,10 @@
 """Makes a profile, a history or a timeline of a file of another tool: finds its format, reads it, and says what it tells of sizes.
 
-A format is a module in FORMATS: its NAME, WHAT it is, the KINDS that it has, whether a file BEGINS so, and what it READS of it."""
+A format is a module in FORMATS: its NAME, WHAT it is, the KINDS that it has, how a file of it has to BEGIN, and what it READS of it."""
 
 from array import array
 from collections import Counter
+from types import ModuleType
 from typing import Iterable, NamedTuple, Optional
 
 from mte_scripts import texts
@@ -51,7 +52,7 @@ def imported(path: str, name: Optional[str], wanted: str, snapshots: int) -> Imp
     return made(result, wanted, snapshots)
 
 
-def form_of(source: Source):
+def form_of(source: Source) -> ModuleType:
     """The format of a file, by how it begins."""
     head = source.begin(HEAD)
     if not head:
@@ -60,7 +61,7 @@ def form_of(source: Source):
         if head.startswith(mark):
             raise Wrong(says)
     for form in FORMATS:
-        if form.begins(head):
+        if form.BEGIN.search(head):
             return form
     if texts.counted(head.split(b"\n", 1)[0]):
         raise Wrong("it is a profile of mte_tool already")

@@ -15,10 +15,6 @@ BEGIN = re.compile(rb'\{\s*"jemalloc"\s*:')
 HOW = "MALLOC_CONF=stats_print:true,stats_print_opts:J writes them"
 
 
-def begins(head: bytes) -> bool:
-    return bool(BEGIN.search(head))
-
-
 def read(source: Source, kind: str) -> Found:
     stats = json_text.member(json_text.parsed(source.whole(), BEGIN), "jemalloc", dict)
     try:

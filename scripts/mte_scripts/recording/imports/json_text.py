@@ -2,7 +2,7 @@
 
 import json
 import re
-from typing import NoReturn
+from typing import Any, NoReturn
 
 from mte_scripts.recording.imports.source import Wrong
 
@@ -19,7 +19,7 @@ def whole_number(word: str) -> int:
     return int(word) if len(word) <= MOST_DIGITS else refuse(word)
 
 
-def parsed(data: bytes, begin: re.Pattern = re.compile(rb"\{")):
+def parsed(data: bytes, begin: re.Pattern = re.compile(rb"\{")) -> Any:
     """The value that begins so. What stands before, such as a program's own output, and after it is left out."""
     if sum(map(data.count, (b",", b"[", b"{"))) > MOST_VALUES:
         raise Wrong(f"it has more than {MOST_VALUES:,} values")
@@ -34,7 +34,7 @@ def parsed(data: bytes, begin: re.Pattern = re.compile(rb"\{")):
         raise Wrong(f"it is no whole JSON, perhaps cut off: {error}") from None
 
 
-def member(value, name: str, kind: type):
+def member(value: object, name: str, kind: type) -> Any:
     """A part of an object, of this kind."""
     found = value.get(name) if isinstance(value, dict) else None
     if not isinstance(found, kind):
@@ -42,7 +42,7 @@ def member(value, name: str, kind: type):
     return found
 
 
-def natural(value) -> int:
+def natural(value: object) -> int:
     if not isinstance(value, int) or isinstance(value, bool) or value < 0:
         raise Wrong(f"it has {str(value)[:40]} where a number of blocks or bytes is")
     return value

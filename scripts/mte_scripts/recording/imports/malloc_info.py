@@ -17,10 +17,6 @@ BLOCKS = re.compile(rb'<alloc size="(\d{1,19})" count="(\d{1,19})"/>')
 FREE = re.compile(rb'<(?:size|unsorted) from="\d{1,19}" to="\d{1,19}" total="\d{1,19}" count="(\d{1,19})"/>')
 
 
-def begins(head: bytes) -> bool:
-    return bool(BEGIN.search(head))
-
-
 def read(source: Source, kind: str) -> Found:
     counts: Counter = Counter()
     version, is_whole, free = b"", False, 0

@@ -1,5 +1,6 @@
 """Heap profiles in the form of pprof: a message of Protocol Buffers, as Go writes it, and many other programs."""
 
+import re
 from typing import Iterator, NamedTuple
 
 from mte_scripts.recording.imports import found
@@ -10,6 +11,7 @@ NAME = "pprof"
 WHAT = "a heap profile of pprof, such as Go's"
 KINDS = (found.ALL, found.LIVE)
 
+BEGIN = re.compile(rb"(?!)")  # a message has no mark: it is taken where nothing else is found
 NUMBER, EIGHT, TEXT, FOUR = 0, 1, 2, 5  # kinds of fields
 # the numbers of fields
 SAMPLE_TYPE, SAMPLE, STRING, PERIOD_TYPE, PERIOD = 1, 2, 6, 11, 12
@@ -42,10 +44,6 @@ class Types(NamedTuple):
     period: int
     period_type: str
     labels: dict  # the labels that are used, by the numbers of their names
-
-
-def begins(head: bytes) -> bool:
-    return False  # a message has no mark: it is taken where nothing else is found
 
 
 def read(source: Source, kind: str) -> Found:

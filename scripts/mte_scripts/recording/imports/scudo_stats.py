@@ -17,10 +17,6 @@ CLASS = re.compile(rb"[EF\s]*(\d{2,3}) \(\s*(\d{1,10})\): mapped: .*?\binuse:\s*
 LARGE_ONES = re.compile(rb"Stats: MapAllocator: .*\bremains (\d{1,19}) .*")
 
 
-def begins(head: bytes) -> bool:
-    return bool(BEGIN.search(head))
-
-
 def read(source: Source, kind: str) -> Found:
     counts: Counter = Counter()
     has_begun = is_whole = False

@@ -5,7 +5,7 @@ import shutil
 import subprocess
 import threading
 import zlib
-from typing import Generator, Iterator
+from typing import BinaryIO, Generator, Iterator
 
 from mte_scripts import texts
 from mte_scripts.running import Refused
@@ -35,7 +35,7 @@ class Source:
     def __enter__(self) -> "Source":
         return self
 
-    def __exit__(self, *error) -> None:
+    def __exit__(self, *_: object) -> None:
         self.pieces.close()
         self.file.close()
 
@@ -94,7 +94,7 @@ class Source:
         if process.returncode:
             raise Wrong("its zstd data is cut off or damaged")
 
-    def feed(self, to, piece: bytes) -> None:
+    def feed(self, to: BinaryIO, piece: bytes) -> None:
         with contextlib.suppress(OSError, ValueError, Refused), to:  # a reader that has gone is no fault
             while piece:
                 to.write(piece)

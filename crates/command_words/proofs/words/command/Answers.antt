@@ -6,7 +6,7 @@ pub loop-name-preserved : goal.loop-name-preserved
 loop-name-preserved c =
     let words = c.in-Ok.ensures in
     let added = c.in_ok-command-in-Ok.ensures in
-    added.shape words.1 ∙ command_more _ _ _ _ _ _ c.loop-name-test.true c.loop-name.invariant (words.0 ∙ c.words.ensures)
+    added.shape words.1 ∙ command_more _ _ _ _ _ _ c.loop-name-test.true c.loop-name.invariant words.0
 
 pub returns : goal.returns
 returns c =

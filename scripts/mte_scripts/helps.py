@@ -1,7 +1,8 @@
-"""Reads the help of a command into its parts, so that its manual page and its completions have no words of their own."""
+"""Reads the help of a command into its parts, so that its parser, its manual page and its completions have no words of their own."""
 
 import re
 from collections import namedtuple
+from collections.abc import Iterator
 
 # an option: its names, the word for its value or None, what the help says of it, whether the value follows a `=`
 Option = namedtuple("Option", "names value text joined")
@@ -14,7 +15,7 @@ TITLES = {"Options": "OPTIONS", "Commands": "COMMANDS", "Exit status": "EXIT STA
 FILES = re.compile(r"FILE|FOLDER|TABLE|LIST|DIR|COUNTS")
 
 
-def sessions(text):
+def sessions(text: str) -> "dict[str, str]":
     """The texts of scripts/tests/help.txt by the words of `mte_tool` that print them."""
     return dict(re.findall(r"(?m)^\$ mte_tool (.*)\n((?:(?!\$ ).*\n)*)", text))
 
@@ -22,24 +23,24 @@ def sessions(text):
 class Help:
     """What a help says: `intro`, the words before the usage; `usage`, its lines; and `sections` of blocks."""
 
-    def __init__(self, text):
+    def __init__(self, text: str) -> None:
         before, usage, after = re.fullmatch(r"(.*?)^Usage: (.*?\n)(?:\n(.*))?", text, re.S | re.M).groups()
         self.intro = " ".join(before.split())
         self.usage = [line.strip() for line in usage.splitlines()]
         self.sections = list(sections(after or ""))
 
-    def blocks(self, title):
+    def blocks(self, title: str) -> "list[Block]":
         return [block for section in self.sections if section.title == title for block in section.blocks]
 
-    def what(self):
+    def what(self) -> str:
         """The first clause of the intro, as the line NAME of a manual page has it."""
         first = re.split(r"[.:;](?: |$)", self.intro)[0]
         return first[0].lower() + first[1:]
 
-    def terms(self, title):
+    def terms(self, title: str) -> "list[tuple[str, str]]":
         return [pair for block in self.blocks(title) if block.kind == "terms" for pair in block.content]
 
-    def options(self):
+    def options(self) -> "list[Option]":
         """The options that are listed, then those that the usage alone has, then --help."""
         found = [option_of(term, text) for term, text in self.terms("OPTIONS")]
         for line in self.usage:
@@ -50,19 +51,19 @@ class Help:
             found.append(Option(["-h", "--help"], None, "Print help", False))
         return found
 
-    def runs_program(self):
+    def runs_program(self) -> bool:
         """Whether its words are another program and that one's words."""
         return any("PROGRAM" in line for line in self.usage)
 
 
-def option_of(term, text):
+def option_of(term: str, text: str) -> Option:
     """`--limit <K>`, `--limit K`, `-h, --help`, `--history[=T]` and the like."""
     names = re.findall(r"(?<![\w-])--?[A-Za-z][\w-]*", term)
-    value = re.search(r"[ =](<?)([A-Za-z|]+)>?\]?$", term)
+    value = re.search(r"[ =](<?)([A-Za-z|.]+)>?\]?$", term)
     return Option(names, value[2] if value else None, text, "=" in term)
 
 
-def choices(option):
+def choices(option: Option) -> "list[str]":
     """The values of an option where they are few: `a|b`, or `1, 2, 4 or 8` in its text."""
     if option.value and "|" in option.value:
         return option.value.split("|")
@@ -70,17 +71,17 @@ def choices(option):
     return re.findall(r"\d+", few[1]) if option.value and few else []
 
 
-def takes_file(option):
+def takes_file(option: Option) -> bool:
     return bool(option.value and FILES.fullmatch(option.value))
 
 
-def indent(line):
+def indent(line: str) -> int:
     return len(line) - len(line.lstrip(" "))
 
 
-def groups(text):
+def groups(text: str) -> "Iterator[list[str]]":
     """The lines of the help in groups: those that follow one another, and are indented or not."""
-    group = []
+    group: "list[str]" = []
     for line in [*text.splitlines(), ""]:
         if group and (not line.strip() or bool(indent(line)) != bool(indent(group[0]))):
             yield group
@@ -89,7 +90,7 @@ def groups(text):
             group.append(line.rstrip())
 
 
-def sections(text):
+def sections(text: str) -> "Iterator[Section]":
     """The sections in their order; what has no heading of its own is the description."""
     found, title = [], "DESCRIPTION"
     for group in groups(text):
@@ -116,7 +117,7 @@ def sections(text):
         yield Section(name, [block for section in found if section.title == name for block in section.blocks])
 
 
-def block_of(group):
+def block_of(group: "list[str]") -> Block:
     if not indent(group[0]):
         return Block("text", " ".join(group))
     if group[0].lstrip().startswith("- "):
@@ -126,7 +127,7 @@ def block_of(group):
     return Block("terms", terms) if terms else Block("lines", [line[base:] for line in group])
 
 
-def terms_of(group):
+def terms_of(group: "list[str]") -> "list[tuple[str, str]] | None":
     """The lines `TERM  text`, the text on further lines that are indented more; None where a line is no such line."""
     names = [line for line in group if re.match(r" {2,8}\S", line)]
     base = 8 if names and all(re.match(r" +-", line) for line in names) else min(map(indent, group))

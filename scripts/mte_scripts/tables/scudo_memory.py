@@ -1,0 +1,55 @@
+"""What LLVM 19's Scudo takes of memory for a class table while it gives nothing back: a model, read off its source. Nothing of it is proved.
+
+The blocks of a class lie side by side from the start of a page on. They are cut in sets, whose blocks are given out in any order, and a set
+is cut only once all blocks before it are live. A list has the free blocks, in batches that are blocks of a class of their own; each group
+of 2 MiB that has a free block begins a batch, and has one more that describes the group."""
+
+import math
+
+PAGE = 4096  # of the machine
+# in primary64.h: MaxNumBatches of the batches that a thread keeps make a set
+SETS = 8
+# in allocator_config.h: MapSizeIncrement and GroupSizeLog
+MAPPED, GROUP = 1 << 18, 1 << 21
+# in size_class_map.h, DefaultSizeClassConfig: MaxNumCachedHint and MaxBytesCachedLog
+MOST_CACHED, BYTES_CACHED = 14, 1 << 10
+# in allocator_common.h: a TransferBatch has two words and a word for each block
+BATCH = 8 * (2 + MOST_CACHED)
+
+
+def cached(block: int) -> int:
+    """How many blocks of so many bytes a thread takes at once."""
+    return max(1, min(MOST_CACHED, BYTES_CACHED // block))
+
+
+def cut(block: int, blocks: int) -> tuple[int, int]:
+    """How many blocks are cut before the last set where so many were live at once, and how many in it. More memory is mapped where less than
+    the blocks that a thread takes at once are left of it; else a set may be smaller."""
+    before = last = mapped = 0
+    while before + last < blocks:
+        before += last
+        needed = (before + cached(block)) * block
+        if needed > mapped:
+            mapped += -(-(needed - mapped) // MAPPED) * MAPPED
+        last = min(SETS * cached(block), mapped // block - before)
+    return before, last
+
+
+def pages(block: int, blocks: int) -> float:
+    """How many pages have had a block in use: all up to the last set, and in it as many as are to be expected of blocks drawn at random."""
+    before, last = cut(block, blocks)
+    drawn = blocks - before
+    found = float(-(-before * block // PAGE))
+    for page in range(int(found), -(-(before + last) * block // PAGE)):
+        first, end = max(page * PAGE // block, before), min(-(-(page + 1) * PAGE // block), before + last)
+        found += 1 - math.comb(last - (end - first), drawn) / math.comb(last, drawn)
+    return found
+
+
+def taken(classes: list[int], most: list[int], freed: int) -> int:
+    """The bytes for a table, of granules of 16 bytes, whose classes had so many live blocks at most, and of all of which together so many
+    blocks were freed and not yet given out again at most."""
+    of = [(16 * granules, blocks) for granules, blocks in zip(classes, most) if blocks]
+    groups = sum(-(-sum(cut(*each)) * each[0] // GROUP) for each in of)
+    batches = -(-freed // MOST_CACHED) + 2 * groups
+    return round(PAGE * sum(pages(*each) for each in [*of, (BATCH, batches)]))

@@ -1,0 +1,389 @@
+"""What scripts/tests/formats writes of the table of the formats: the parts of other files, each found by a pattern."""
+
+import os
+import re
+import textwrap
+
+from mte_scripts import formats
+from mte_scripts.formats import CODES, COMMANDS, ENDS, OPTIONS
+from mte_scripts.places import ROOT
+
+WRITTEN = "Written by scripts/tests/formats from scripts/mte_scripts/formats.py."
+
+
+# ---- words
+
+def capital(words):
+    return words[:1].upper() + words[1:]
+
+
+def grouped(words):
+    """Words with commas in their large numbers."""
+    return re.sub(r"\d{5,}", lambda match: f"{int(match[0]):,}", words)
+
+
+def hyphenated(name):
+    return name.replace("_", "-")
+
+
+def quoted(names):
+    return ", ".join(f'"{name}"' for name in names)
+
+
+def listed(names):
+    """Words in a row: a, b and c."""
+    *before, last = names
+    return f"{', '.join(before)} and {last}" if before else last
+
+
+# ---- C
+
+def comment(words, width, indent):
+    """A comment of C in lines of at most so many columns, the first of which begins where it stands."""
+    lines, line = [], "/*"
+    for word in [*words.split(), "*/"]:
+        if len(indent) + len(line) + 1 + len(word) > width:
+            lines.append(line)
+            line = f"  {word}"
+        else:
+            line += f" {word}"
+    return f"\n{indent} ".join([*lines, line])
+
+
+def enumerators(values):
+    """The lines of an enumeration of C: (name, number, words)."""
+    heads = [f"    {name} = {number}{',' if at < len(values) else ''}" for at, (name, number, _) in enumerate(values, 1)]
+    column = max(map(len, heads)) + 1
+    return "".join(f"{head:{column}}{comment(words, 140, ' ' * column)}\n" for head, (_, _, words) in zip(heads, values))
+
+
+def ends_of_c():
+    values = [(f"MTE_TOOL_{name}", n, f"{it.sentence}; {it.leaves}") for n, (name, it) in enumerate(ENDS.items())]
+    return f"enum {{\n{enumerators(values)}}};"
+
+
+OUTCOMES = {  # the names in C, and the calls
+    "UNMAPPED": (50, "a load or a store"),
+    "TAG_FAULT": (52, "a load or a store"),
+    "LARGE": (60, "malloc, calloc and realloc"),
+    "NO_CLASS": (61, "malloc, calloc and realloc"),
+    "EXHAUSTED": (62, "malloc, calloc and realloc"),
+    "MISPLACED": (63, "free and realloc"),
+    "NOT_LIVE": (64, "free and realloc"),
+    "WRONG_TAG": (65, "free and realloc"),
+}
+
+
+def outcomes_of_c():
+    values = [(f"MTE_TOOL_{name}", code, f"of {calls}: {CODES[code].words}") for name, (code, calls) in OUTCOMES.items()]
+    return f"enum {{\n{enumerators(values)}}};"
+
+
+LIMITS = {  # of those in C
+    "MOST_INPUT": "the bytes of an input",
+    "MOST_CLASSES": "the classes of a table",
+    "LARGEST_CLASS": "in granules of 16 bytes",
+    "LARGEST_SIZE": "in bytes: the largest request that a class serves",
+    "MOST_COUNT": "how often a profile may count a size",
+}
+
+
+def limits_of_c():
+    heads = [f"#define MTE_TOOL_{name} {formats.NUMBERS[name]}" for name in LIMITS]
+    column = max(map(len, heads)) + 1
+    return "".join(f"{head:{column}}/* {words} */\n" for head, words in zip(heads, LIMITS.values()))
+
+
+def readers_in_c():
+    """Which call reads which options."""
+    calls = {}
+    for name, command in COMMANDS.items():
+        if command.options:
+            calls.setdefault(command.options, []).append(name)
+    calls[formats.HEAP].append("mte_tool_heap_new")
+    said = "; ".join(f"{listed(names)} {'reads' if len(names) == 1 else 'read'} {listed(options)}" for options, names in calls.items())
+    return f"Each call reads its own options, and the others may have any value: {said}. */"
+
+
+def options_of_c():
+    members = [("size_t size;", "sizeof (mte_tool_options)")]
+    for name, option in OPTIONS.items():
+        members.append((f"uint64_t {name};", option.described() + ("; it has no default" if option.default is None else "")))
+    column = max(len(member) for member, _ in members) + 1
+    lines = "".join(f"    {member:{column}}/* {words} */\n" for member, words in members)
+    defaults = [("(limit)" if option.default is None else str(option.default)) for option in OPTIONS.values()]
+    return (
+        f"{textwrap.fill(readers_in_c(), 140, initial_indent='   ', subsequent_indent='   ')}\n"
+        f"typedef struct mte_tool_options {{\n{lines}}} mte_tool_options;\n\n"
+        "/* The program's own defaults, with this limit; for a call that reads no limit, any number. In C++ a `limit` that is no constant\n"
+        "   has to be unsigned. */\n"
+        f"#define MTE_TOOL_OPTIONS(limit) {{sizeof(mte_tool_options), {', '.join(defaults)}}}"
+    )
+
+
+def commands_of_c():
+    takes = "const mte_tool_options *options, const void *input, size_t length, mte_tool_text *output, mte_tool_result *result"
+    return "".join(f"int mte_tool_{name}({takes});\n" for name in COMMANDS)
+
+
+def options_of_proved():
+    """The structure of the proved functions, and how the caller's becomes that."""
+    members = "".join(f"    uint{it.bits}_t {name};\n" for name, it in OPTIONS.items())
+    lines = []
+    for name, it in OPTIONS.items():
+        most = f"UINT{it.bits}_MAX"
+        lines.append(f"    narrow.{name} = wide->{name} > {most} ? {0 if it.least else most} : (uint{it.bits}_t)wide->{name};\n")
+    return (
+        f"/* The options for the proved functions. {WRITTEN} */\n"
+        f"typedef struct narrow_options {{\n{members}}} narrow_options;\n\n"
+        "/* A number that is too large for its place becomes one that is out of the option's range too. */\n"
+        "static inline narrow_options narrowed(const mte_tool_options *wide) {\n    narrow_options narrow;\n"
+        f"{''.join(lines)}    return narrow;\n}}\n"
+    )
+
+
+def version_of_c():
+    first, second, third = map(int, formats.VERSION.split("."))
+    return f'#define MTE_TOOL_VERSION "{formats.VERSION}"\n#define MTE_TOOL_VERSION_NUMBER {10000 * first + 100 * second + third}\n'
+
+
+def sentences_of_c():
+    numbers = [*range(len(ENDS)), *(code for code in CODES if code >= len(ENDS))]
+    lines = [f'    {{{number}, "{formats.sentence(number)}"}},\n' for number in sorted(numbers)]
+    return "\n".join([f"/* What mte_tool_strerror says. {WRITTEN} */",
+                      "static const struct {\n    int code;\n    const char *words;\n} sentences[] = {\n" + "".join(lines) + "};\n"])
+
+
+def commands_of_cpp():
+    """The functions of mte_tool.hpp over texts."""
+    made = []
+    for name, command in COMMANDS.items():
+        takes = [f"std::string_view {text}" for text in command.inputs]
+        given = f"detail::joined({', '.join(command.inputs)}).view()" if len(command.inputs) > 1 else command.inputs[0]
+        if command.options:
+            has_default = all(OPTIONS[option].default is not None for option in command.options)
+            takes.append("const Options &options" + (" = Options()" if has_default else ""))
+        words = f"{command.words}{by_options(command, before='options.')}.".replace("`", '"')
+        called = f"detail::Called(mte_tool_{name}, {given}, {'&options' if command.options else 'nullptr'})"
+        made.append(
+            f"{comment(words, 140, ' ')}\ninline {capital(command.gives)} {name}({', '.join(takes)}) {{\n    return {called}.{command.gives}();\n}}\n"
+        )
+    return "\n".join(made)
+
+
+def by_options(command, before="", mark=""):
+    """The words for the options by which a call answers."""
+    return f", by {listed([f'{mark}{before}{option}{mark}' for option in command.options])}" if command.options else ""
+
+
+# ---- Python
+
+POSITIONAL = formats.TUNER  # the options that need no name
+
+
+def options_of_python():
+    lines = "".join(f'    "{name}": {option.default or 0:_},\n' for name, option in OPTIONS.items())
+    commands = "".join(f'    "{name}",\n' for name in COMMANDS)
+    return (
+        f'"""The options in the order of the header\'s structure, each with its default, and the commands.\n\n{WRITTEN}\n"""\n\n'
+        f"OPTIONS = {{\n{lines}}}\n\nCOMMANDS = (\n{commands})\n"
+    )
+
+
+def commands_of_python():
+    made = []
+    for name, command in COMMANDS.items():
+        takes, marked = [f"{text}: Bytes" for text in command.inputs], False
+        for option in command.options:
+            if option not in POSITIONAL and not marked:
+                takes.append("*")
+                marked = True
+            default = OPTIONS[option].default
+            takes.append(f"{option}: int" + (f" = {default:_}" if default is not None else ""))
+        result = "bytes" if command.gives == "text" else capital(command.gives)
+        given = ", ".join([f'"{name}"', *command.inputs, *(f"{option}={option}" for option in command.options)])
+        options = "".join(f"    {option}: {OPTIONS[option].described()}\n" for option in command.options)
+        words = f"{command.words}." + (f"\n\n{options}    " if options else "")
+        made.append(
+            f"def {name}({', '.join(takes)}) -> {result}:\n"
+            f'    """{words}"""\n'
+            f"    return called({given}).{command.gives}{'' if command.gives == 'text' else '()'}\n"
+        )
+    return "\n\n".join([
+        f'"""The commands over texts. A text is bytes, or a str of ASCII; the input of a call has at most {formats.MOST_INPUT:,} bytes.\n\n'
+        f'{WRITTEN}\n"""\n\nfrom mte_tool._calls import Cost, Fit, Verdict\nfrom mte_tool._texts import Bytes, called\n',
+        *made,
+    ])
+
+
+# ---- Rust
+
+def rust_number(number):
+    return f"{number:_}" if number > 9999 else str(number)
+
+
+def options_of_rust():
+    fields = "".join(f"    /// {grouped(capital(option.described()))}.\n    pub {name}: u64,\n" for name, option in OPTIONS.items())
+    defaults = ", ".join(name if it.default is None else f"{name}: {rust_number(it.default)}" for name, it in OPTIONS.items())
+    given = "".join(f"            {name}: self.{name},\n" for name in OPTIONS)
+    return (
+        f"//! The options of all calls. {WRITTEN}\n"
+        "use mte_tool_sys as c;\n\n"
+        "/// The options. Each call reads its own; a number out of its range is an error with the end\n"
+        "/// [`End::BadOption`](crate::End::BadOption).\n"
+        f"#[derive(Debug, Clone, PartialEq, Eq)]\npub struct Options {{\n{fields}}}\n\n"
+        "impl Options {\n"
+        "    /// The program's defaults, with this limit.\n"
+        f"    pub fn new(limit: u64) -> Options {{\n        Options {{ {defaults} }}\n    }}\n\n"
+        "    pub(crate) fn to_c(&self) -> c::mte_tool_options {\n"
+        "        c::mte_tool_options {\n            size: std::mem::size_of::<c::mte_tool_options>(),\n"
+        f"{given}        }}\n    }}\n}}\n"
+    )
+
+
+def members_of_rust():
+    return "pub struct mte_tool_options {\n    pub size: usize,\n" + "".join(f"    pub {name}: u64,\n" for name in OPTIONS) + "}"
+
+
+def externs_of_rust():
+    takes = (
+        "options: *const mte_tool_options", "input: *const c_void", "length: usize", "output: *mut mte_tool_text",
+        "result: *mut mte_tool_result",
+    )
+    lines = "".join(f"        {argument},\n" for argument in takes)
+    return "".join(f"    pub fn mte_tool_{name}(\n{lines}    ) -> c_int;\n" for name in COMMANDS)
+
+
+def commands_of_rust():
+    made = []
+    for name, command in COMMANDS.items():
+        takes = [f"{text}: &[u8]" for text in command.inputs] + (["options: &Options"] if command.options else [])
+        given = f"c::mte_tool_{name}, &[{', '.join(command.inputs)}], {'options' if command.options else '&Options::new(0)'}"
+        answer = ".text" if command.gives == "text" else f".{command.gives}()"
+        made.append(
+            f"/// {command.words}{by_options(command, mark='`')}.\n"
+            f"pub fn {name}({', '.join(takes)}) -> Result<{capital(command.gives)}, Error> {{\n"
+            f"    Ok(call({given})?{answer})\n}}\n"
+        )
+    return "\n".join([
+        f"//! The commands over texts, each of at most {formats.MOST_INPUT:,} bytes. An [`Error`] has the first fault's code and line.\n"
+        f"//! {WRITTEN}\n"
+        "use crate::calls::{Cost, Error, Verdict};\nuse crate::options::Options;\nuse crate::texts::{call, Fit, Text};\n"
+        "use mte_tool_sys as c;\n",
+        *made,
+    ])
+
+
+# ---- the commands in plain Rust
+
+def options_of_plain():
+    numbers = "".join(
+        f'    Number {{\n        name: "--{name}",\n        least: {rust_number(it.least)},\n        most: {rust_number(it.most)},\n'
+        f"        default: {'None' if it.default is None else f'Some({rust_number(it.default)})'},\n    }},\n"
+        for name, it in OPTIONS.items()
+    )
+    arms = {}
+    for name, command in COMMANDS.items():
+        arms.setdefault(command.options, []).append(f'"{hyphenated(name)}"')
+    names = "".join(f"        {' | '.join(said)} => &[{quoted(f'--{option}' for option in options)}],\n" for options, said in arms.items())
+    return (
+        f"//! The options of the commands. {WRITTEN}\n\n"
+        "/// An option: its name, its range, and its number where it is left out.\n"
+        "pub struct Number {\n    pub name: &'static str,\n    pub least: u64,\n    pub most: u64,\n    pub default: Option<u64>,\n}\n\n"
+        f"pub const NUMBERS: [Number; {len(OPTIONS)}] = [\n{numbers}];\n\n"
+        "/// The names of the options of a command.\n"
+        f"pub fn options_of(command: &str) -> &'static [&'static str] {{\n    match command {{\n{names}        _ => &[],\n    }}\n}}\n"
+    )
+
+
+# ---- the recorders and the page
+
+def header_of_recorders():
+    names = "LARGEST_SIZE MOST_CLASSES MOST_INPUT LARGEST_REQUEST MOST_EVENTS LAST_VARIABLE FARTHEST_ACCESS FARTHEST_MOVE".split()
+    lines = "".join(f"  {name} = {getattr(formats, name)},\n" for name in names)
+    return f"// {WRITTEN}\nenum {{\n{lines}}};\n"
+
+
+LIMIT = 8  # with which the page's heap begins; its tables begin with as many as there can be, as Scudo's default has
+
+
+def inputs_of_page():
+    """The ranges of the page's inputs, each of which has the name of its option, and perhaps `heap-` before it."""
+    made = []
+    with open(os.path.join(ROOT, "web/page.html"), encoding="utf-8") as page:
+        names = re.findall(r'id="([\w-]+)" min="', page.read())
+    for name in names:
+        it = OPTIONS.get(name.removeprefix("heap-"))
+        if it is None:
+            continue  # of the page's own
+        value = it.default or (LIMIT if name.startswith("heap-") else it.most)
+        made.append((rf'id="{name}" min="\d+" max="\d+" value="\d+"', f'id="{name}" min="{it.least}" max="{it.most}" value="{value}"'))
+    return made
+
+
+def script_of_page():
+    numbers = {"GRANULE": formats.GRANULE_BYTES, "LARGEST_CLASS": formats.LARGEST_CLASS, "LARGEST_SIZE": formats.LARGEST_SIZE,
+               "MOST_CLASSES": formats.MOST_CLASSES, "MOST_INPUT": formats.MOST_INPUT}
+    options = {name: option.default or LIMIT for name, option in OPTIONS.items()}
+    ended = quoted(name.lower().replace("_", " ") for name in ENDS)
+    words = {code: on_page(it.words) for code, it in CODES.items() if it.status == 2}
+    causes = {kebab(it.name): on_page(it.words) for code, it in CODES.items() if code in range(60, 66)}
+    return "\n".join([
+        f"// The numbers of the formats, the words of their codes, and the options and commands.\n// {WRITTEN}",
+        '"use strict";',
+        "",
+        *(f"const {name} = {value};" for name, value in numbers.items()),
+        f"const REGION = 1n << {formats.REGION_START.bit_length() - 1}n;",
+        f"const DEFAULTS = {{ {', '.join(f'{name}: {value}' for name, value in options.items())} }};",
+        f"const OPTION_BITS = {{ {', '.join(f'{name}: {it.bits}' for name, it in OPTIONS.items())} }};",
+        f"const HEAP_OPTIONS = [{quoted(formats.HEAP)}];",
+        f"const COMMANDS = [{quoted(map(hyphenated, COMMANDS))}];",
+        f"const ENDED = [{ended}];",
+        "const INPUT_CODES = {",
+        *(f'  {code}: "{text}",' for code, text in words.items()),
+        "};",
+        "const CAUSES = {",
+        *(f'  {name if name.isalpha() else chr(34) + name + chr(34)}: "{text}",' for name, text in causes.items()),
+        "};",
+        "",
+        'if (typeof module !== "undefined") module.exports = { GRANULE, REGION, LARGEST_SIZE, DEFAULTS, ENDED };',
+        "",
+    ])
+
+
+def on_page(words):
+    return grouped(words.replace("`", "'"))
+
+
+def kebab(name):
+    return re.sub("(?<=[a-z])(?=[A-Z])", "-", name).lower()
+
+
+# Each file with the parts that the table writes: a pattern that finds the part, and the part.
+PARTS = {
+    "include/mte_tool.h": [
+        (r"(?s)enum \{\n    MTE_TOOL_DONE .*?\n\};", ends_of_c()),
+        (r"(?s)enum \{\n    MTE_TOOL_UNMAPPED .*?\n\};", outcomes_of_c()),
+        (r"#define MTE_TOOL_VERSION .*\n#define MTE_TOOL_VERSION_NUMBER .*\n", version_of_c()),
+        (r"(#define MTE_TOOL_(?!VERSION)\w+ \d+.*\n)+", limits_of_c()),
+        (r"(?s)   Each call reads its own options.*?#define MTE_TOOL_OPTIONS\(limit\)[^\n]*", options_of_c()),
+        (r"(int mte_tool_\w+\(const mte_tool_options \*options, const void \*input.*\n)+", commands_of_c()),
+    ],
+    "include/mte_tool.hpp": [(r"(?s)(?<=   line\. \*/\n\n).*?(?=\n/\* ---- the same over arrays)", commands_of_cpp())],
+    "library/options.h": [(r"(?s).*", options_of_proved())],
+    "library/layer.h": [(r"enum \{ SCORE,.*\};", f"enum {{ {', '.join(name.upper() for name in COMMANDS)} }};")],
+    "library/pointers.c": [(r"(CALL\(\w+, \w+\)\n)+", "".join(f"CALL({name.upper()}, {name})\n" for name in COMMANDS))],
+    "python/mte_tool/_formats.py": [(r"(?s).*", options_of_python())],
+    "python/mte_tool/_commands.py": [(r"(?s).*", commands_of_python())],
+    "rust/mte-tool-sys/src/lib.rs": [
+        (r"(?s)pub struct mte_tool_options \{.*?\n\}", members_of_rust()),
+        (r"(?s)    pub fn mte_tool_score\(.*?(?=    pub fn mte_tool_append\()", externs_of_rust()),
+    ],
+    "rust/mte-tool/src/options.rs": [(r"(?s).*", options_of_rust())],
+    "rust/mte-tool/src/commands.rs": [(r"(?s).*", commands_of_rust())],
+    "bench/plain/formats.rs": [(r"(?s).*", options_of_plain())],
+    "library/sentences.h": [(r"(?s).*", sentences_of_c())],
+    "web/formats.js": [(r"(?s).*", script_of_page())],
+    "web/page.html": inputs_of_page(),
+    "scripts/shims/formats.h": [(r"(?s).*", header_of_recorders())],
+}
