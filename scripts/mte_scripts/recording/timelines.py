@@ -301,7 +301,8 @@ def most_and_freed(text: bytes, classes: list) -> tuple[list[int], int]:
             if place < 0:
                 now[-place] -= 1
                 freed += 1
-                longest = max(longest, freed)
+                if freed > longest:
+                    longest = freed
             elif place:
                 now[place] += 1
                 if now[place] > most[place]:

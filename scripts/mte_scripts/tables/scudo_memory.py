@@ -15,6 +15,7 @@ MAPPED, GROUP = 1 << 18, 1 << 21
 MOST_CACHED, BYTES_CACHED = 14, 1 << 10
 # in allocator_common.h: a TransferBatch has two words and a word for each block
 BATCH = 8 * (2 + MOST_CACHED)
+FOLLOWED = 1 << 20  # blocks of a class whose sets are followed one by one
 
 
 def cached(block: int) -> int:
@@ -24,15 +25,18 @@ def cached(block: int) -> int:
 
 def cut(block: int, blocks: int) -> tuple[int, int]:
     """How many blocks are cut before the last set where so many were live at once, and how many in it. More memory is mapped where less than
-    the blocks that a thread takes at once are left of it; else a set may be smaller."""
+    the blocks that a thread takes at once are left of it; else a set may be smaller. Of very many, those that fill whole pieces of what is
+    mapped are left out of this, so that the sets may be others."""
+    filling = MAPPED // math.gcd(MAPPED, block)
+    begin = max(0, blocks - FOLLOWED) // filling * filling
     before = last = mapped = 0
-    while before + last < blocks:
+    while begin + before + last < blocks:
         before += last
         needed = (before + cached(block)) * block
         if needed > mapped:
             mapped += -(-(needed - mapped) // MAPPED) * MAPPED
         last = min(SETS * cached(block), mapped // block - before)
-    return before, last
+    return begin + before, last
 
 
 def pages(block: int, blocks: int) -> float:
