@@ -126,7 +126,7 @@ def warnings(classes: list[int]) -> list[str]:
 
 
 def in_map(classes: list[int]) -> list[int]:
-    """The classes that serve requests up to 16,368 bytes in the map of a table: its own below 1024, and Scudo's first."""
+    """The classes that serve requests up to LARGEST_SIZE bytes in the map of a table: its own below 1024, and Scudo's first."""
     return [c for c in classes if c < LARGEST_CLASS] + [LARGEST_CLASS + 1]
 
 
