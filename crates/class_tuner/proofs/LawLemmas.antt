@@ -1,2 +1,2 @@
--- What the proofs of the crates above cite: there is one tuned sheet, and what makes two sheets one.
-pub use Rattle.class_tuner.proofs.OneSheet.{one_sheet, same_sheet}
+-- What the proofs of the crates above cite: there is one tuned sheet, and one fit.
+pub use Rattle.class_tuner.proofs.OneSheet.{one_fit, one_sheet}

@@ -1,50 +1,69 @@
--- What least rows over the spans of a profile make.
-use Rattle.std.proofs.Common.{◌≡◌, ℕ, ◌≤◌, List, refl, sym, ◌∙◌, arith}
+-- What least rows over the places of a profile make, by any measure.
+use Rattle.std.proofs.Common.{◌≡◌, ℕ, ◌≤◌, List, refl, sym, arith}
+use Rattle.class_table.specs.Steps.{IsStep}
 use Rattle.class_table.specs.Tables.{IsLegalTable}
 use Rattle.class_table.specs.declared.table.TheConstants.{MOST_CLASSES}
-use Rattle.class_tuner.specs.Tuned.{IsTuned}
-use Rattle.potential_check.specs.Certificates.Spanned.{IsSpanned, Spanned}
-use Rattle.tuner_theory.specs.Best.{IsCanonical}
-use Rattle.tuner_theory.specs.Intervals.{IsSumOfIntervals}
-use Rattle.tuner_theory.specs.Rows.{IsFilled, number_at}
-use Rattle.tuner_theory.specs.Spans.{places, span_waste, waste_between}
-use Rattle.tuner_theory.specs.Tuned.{AreTunedRows, tuned_table}
-use Rattle.tuner_theory.specs.Waste.{waste_of}
-use Rattle.tuner_theory.proofs.LawLemmas.{least_rows_are_valid, rows-canonical, rows-optimal_by, step-positive, tuned_rows_are_rests, waste-sum}
+use Rattle.class_tuner.specs.Fits.Fitted.{IsFitOf}
+use Rattle.class_tuner.specs.Tuned.{IsMadeFor, IsTuned, sheet_of_rows}
+use Rattle.tuner_theory.specs.Best.{IsCanonicalBy}
+use Rattle.tuner_theory.specs.Histories.{AreSnapshots}
+use Rattle.tuner_theory.specs.Intervals.{span_cost}
+use Rattle.tuner_theory.specs.Measures.{AreSums, Measure, footprint_on, waste_on}
+use Rattle.tuner_theory.specs.Profiles.{AreCounts}
+use Rattle.tuner_theory.specs.Rows.{AreLaterEnds, IsFilled, number_at}
+use Rattle.tuner_theory.specs.Sheets.{Sheet}
+use Rattle.tuner_theory.specs.Spans.{places, span_waste}
+use Rattle.tuner_theory.specs.Tuned.{AreRowsBy, tuned_table}
+use Rattle.tuner_theory.proofs.FootprintRests.{fitted_rows_are_rests}
+use Rattle.tuner_theory.proofs.LawLemmas.{ends_are_later, least_rows_are_valid, rows-canonical, rows-optimal_by, step-positive, tuned_rows_are_rests}
 
 -- a table that is legal for any step is legal for step 1
 legal-for_one : (step : ℕ) (classes : List ℕ) → IsLegalTable step classes → IsLegalTable 1 classes
 legal-for_one step classes legal = grind arith
 
-module _ (s : Spanned) (limit : ℕ) (rows ends : List (List ℕ)) (spanned : IsSpanned s) (some : 1 ≤ limit) (few : limit ≤ MOST_CLASSES)
-    (filled : IsFilled (span_waste s.counts s.step) (places s.counts s.step) limit rows ends) where
-  tuned-rows : AreTunedRows s.counts s.step limit (number_at rows) (number_at ends)
-  tuned-rows = record { is_step = spanned.is_step; are_counts = spanned.are_counts; some = some; few = few; least = filled.least }
+module _ (m : Measure) (sums : AreSums m) (step limit : ℕ) (rows ends : List (List ℕ)) (is_step : IsStep step) (are_counts : AreCounts m.counts)
+    (some : 1 ≤ limit) (few : limit ≤ MOST_CLASSES)
+    (filled : IsFilled (span_cost (m.between step) m.counts step) (places m.counts step) limit rows ends) where
+  least-rows : AreRowsBy (m.between step) m.counts step limit (number_at rows) (number_at ends)
+  least-rows = record { is_step = is_step; are_counts = are_counts; some = some; few = few; least = filled.least }
 
-  sums : IsSumOfIntervals (waste_of s.counts) (waste_between s.counts s.step) s.counts s.step
-  sums = waste-sum s.counts s.step (step-positive s.step spanned.is_step)
+  made : IsCanonicalBy m.cost m.counts step limit (tuned_table m.counts step limit (number_at ends))
+      × (m.cost (tuned_table m.counts step limit (number_at ends)) ≡ number_at rows limit 0)
+  made = rows-canonical _ _ m.counts step limit (number_at rows) (number_at ends) (sums step (step-positive step is_step)) least-rows
 
-  made : IsCanonical s.counts s.step limit (tuned_table s.counts s.step limit (number_at ends))
-      × (waste_of s.counts (tuned_table s.counts s.step limit (number_at ends)) ≡ number_at rows limit 0)
-  made = rows-canonical _ _ s.counts s.step limit (number_at rows) (number_at ends) sums tuned-rows
+  pub read-later : AreLaterEnds (places m.counts step) limit (number_at ends)
+  read-later = ends_are_later _ _ limit _ _ filled.least
 
-  pub tuned-legal : IsLegalTable 1 (tuned_table s.counts s.step limit (number_at ends))
-  tuned-legal = legal-for_one s.step (tuned_table s.counts s.step limit (number_at ends)) made.0.best.candidate.legal
+  pub read-legal : IsLegalTable 1 (tuned_table m.counts step limit (number_at ends))
+  read-legal = legal-for_one step (tuned_table m.counts step limit (number_at ends)) made.0.best.candidate.legal
 
-  pub tuned-sheet : (table : List ℕ) (waste : ℕ) → table ≡ tuned_table s.counts s.step limit (number_at ends)
-      → waste ≡ number_at rows limit 0
-      → IsTuned s.counts s.step limit (record { table = table; limit = limit; step = s.step; waste = waste; rows = rows })
-  tuned-sheet table waste table_is waste_is =
-      let all : waste ≡ waste_of s.counts (tuned_table s.counts s.step limit (number_at ends)) =
-      waste_is ∙ sym made.1 in
-      rw (table_is, all) (record {
+  pub read-made : IsMadeFor m step limit (sheet_of_rows m.counts step limit rows ends)
+  read-made =
+      rw (sym made.1) (record {
         canonical = made.0;
         for_limit = refl;
         for_step = refl;
-        wasted = refl;
+        costs = refl;
         shape = filled.rows_shape;
-        rests = λ k i one le lt. tuned_rows_are_rests s.counts s.step limit (number_at rows) (number_at ends) tuned-rows k i one le lt;
-        valid = least_rows_are_valid (span_waste s.counts s.step) (places s.counts s.step) limit (number_at rows) (number_at ends)
-            filled.least;
-        optimal = rows-optimal_by _ (waste_between s.counts) s.counts s.step limit rows (number_at ends) sums tuned-rows filled.rows_shape;
+        ends = number_at ends;
+        least = least-rows;
+        optimal = rows-optimal_by m step limit rows (number_at ends) (sums step (step-positive step is_step)) least-rows
+            filled.rows_shape;
       })
+
+-- Where the measure is the waste, the rows are the least rests;
+pub made-tuned : (counts : List ℕ) (step limit : ℕ) (sheet : Sheet) → IsMadeFor (waste_on counts) step limit sheet
+    → IsTuned counts step limit sheet
+made-tuned counts step limit sheet made = record {
+  made = made;
+  rests = λ k i one le lt. tuned_rows_are_rests counts step limit (number_at sheet.rows) made.ends made.least k i one le lt;
+  valid = least_rows_are_valid (span_waste counts step) (places counts step) limit (number_at sheet.rows) made.ends made.least.least;
+}
+
+-- and so where it is the footprint.
+pub made-fit : (snapshots : List (List ℕ)) (step limit : ℕ) (fit : Sheet) → AreSnapshots snapshots
+    → IsMadeFor (footprint_on snapshots) step limit fit → IsFitOf snapshots step limit fit
+made-fit snapshots step limit fit are made = record {
+  made = made;
+  rests = fitted_rows_are_rests snapshots step limit (number_at fit.rows) made.ends are made.least;
+}

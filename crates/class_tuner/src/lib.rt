@@ -9,6 +9,7 @@ mod filling;
 mod fits;
 mod halving;
 pub mod laws;
+mod made;
 mod read_off;
 mod tuning;
 
@@ -16,5 +17,5 @@ pub use cost_source::CostSource;
 pub use costs::Costs;
 pub use filling::{Filled, fill_rows};
 pub use fits::{Fitted, Found, MOST_ROUNDS, fill_places, fit, fit_over};
-pub use read_off::tuned_table;
+pub use made::Made;
 pub use tuning::{Tuned, tune};

@@ -2,20 +2,21 @@
 use Rattle.std.proofs.Common.{◌≡◌, ℕ, Bool, true, false, List, length, Result, Ok, Err, refl}
 use Rattle.line_text.specs.Lines.{lines}
 use Rattle.history_count.specs.HistoryText.{history_of_lines}
-use Rattle.potential_check.specs.FitText.{fit_of_lines}
+use Rattle.potential_check.specs.SheetText.{fit_of_lines}
+use Rattle.potential_check.specs.declared.cost.Cost.TheVariants.{Footprint}
 use Rattle.potential_check.specs.Leading.{leading_lines, lines_after}
-use Rattle.tuner_theory.specs.Fits.{Fit}
+use Rattle.tuner_theory.specs.Sheets.{Sheet}
 use Rattle.mte_engine.specs.CheckFit.{IsFitChecked}
 use Rattle.mte_engine.specs.CheckFitOver.{CheckFitEitherAnswers, IsCheckedOver, begins_moments, moments_and_timeline}
 use Rattle.mte_engine.specs.Outcome.{GivesAnswer, GivesFault}
-use Rattle.mte_engine.specs.Parts.{AnswersPart, GivesPart, fit_part, history_part}
+use Rattle.mte_engine.specs.Parts.{AnswersPart, GivesPart, history_part, sheet_part}
 use Rattle.mte_engine.specs.declared.engine.Status.{Status}
 use Rattle.mte_engine.specs.declared.fault.AnswerError.{AnswerError}
 use Rattle.mte_engine.specs.declared.fault.AnswerError.TheVariants.{OutOfMemory, Input}
 
 -- the fit is refused, whatever follows it
 pub fit_refused : (text : List ℕ) (fault : AnswerError)
-    → GivesPart {A = Fit} (Err fault) (fit_part (fit_of_lines (leading_lines (lines text)))) → GivesFault (CheckFitEitherAnswers text) fault
+    → GivesPart {A = Sheet} (Err fault) (sheet_part Footprint (fit_of_lines (leading_lines (lines text)))) → GivesFault (CheckFitEitherAnswers text) fault
 fit_refused text OutOfMemory gives = tt
 fit_refused text (Input fault) gives = go (begins_moments (lines_after (lines text))) refl
   where
@@ -23,7 +24,7 @@ fit_refused text (Input fault) gives = go (begins_moments (lines_after (lines te
     go true is = rw (is, gives) refl
     go false is = rw (is, gives) refl
 
-module _ {O : Type 0} (left : O → List ℕ) (text : List ℕ) (fit : Fit) (read : fit_part (fit_of_lines (leading_lines (lines text))) ≡ Ok fit)
+module _ {O : Type 0} (left : O → List ℕ) (text : List ℕ) (fit : Sheet) (read : sheet_part Footprint (fit_of_lines (leading_lines (lines text))) ≡ Ok fit)
     (count : ℕ) (ls : List (List ℕ)) (size : count ≡ length (leading_lines (lines text))) (rest : ls ≡ lines_after (lines text)) where
   pub over_answers : (result : Result (O × Status) AnswerError) → begins_moments ls ≡ true
       → GivesAnswer left (AnswersPart (moments_and_timeline count ls) (λ parts answer. IsCheckedOver fit parts.0 parts.1 answer)) result

@@ -25,10 +25,10 @@ unfolding report
 headline limit step config events sheet tuned =
     let counts = (profile_of_events events).counts in
     let sizes = requested_sizes events in
-    let best = tuned.canonical.best in
+    let best = tuned.made.canonical.best in
     let each : ServesEach sheet.table events = (serves_each_request sizes sheet.table).0 best.candidate.serving in
-    let waste : sheet.waste ≡ rounding_loss sheet.table (counted_sizes events) =
-    tuned.wasted ∙ waste_is_the_sum_of_losses sizes sheet.table in
+    let waste : sheet.cost ≡ rounding_loss sheet.table (counted_sizes events) =
+    tuned.made.costs ∙ waste_is_the_sum_of_losses sizes sheet.table in
     let lost = LosesAtMostItsWaste-run (layout_for config sheet.table) config.seed config.quarantine events each in
     record {
       sheet = sheet;
@@ -37,7 +37,7 @@ headline limit step config events sheet tuned =
       least = λ other is.
           let candidate : IsCandidate counts step limit other =
           record { legal = is.legal; few = is.few; serving = (serves_each_request sizes other).1 is.serves } in
-          rw (tuned.wasted, ← waste_is_the_sum_of_losses sizes other) (best.least other candidate);
+          rw (tuned.made.costs, ← waste_is_the_sum_of_losses sizes other) (best.least other candidate);
       tuned = tuned;
       written = refl;
       accesses = accesses_are_answered (new_replay config sheet.table) events;

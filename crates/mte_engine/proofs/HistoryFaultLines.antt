@@ -12,11 +12,10 @@ use Rattle.history_count.specs.Histories.{History as CountedHistory, nothing_cou
 use Rattle.history_count.specs.HistoryText.{IsRefusedAt, SpellsHistory, history_from, history_of, history_of_lines}
 use Rattle.history_count.specs.declared.fault.HistoryFault.{HistoryFault}
 use Rattle.history_count.proofs.LawLemmas.{first_fault_is_refused, history_is_spelled, lines_before_it_spell, refused_line_is_there, spelled_history_is_read}
-use Rattle.potential_check.specs.FitText.{SpellsFit, fit_of_lines}
-use Rattle.potential_check.specs.SheetText.{cost_in, cost_number, head_line_count, head_of_lines, is_named, limit_in, line_at, read_by, step_at, table_in}
+use Rattle.potential_check.specs.SheetText.{SpellsFit, cost_in, cost_number, fit_of_lines, head_line_count, head_of_lines, is_named, limit_in, line_at, read_by, step_at, table_in}
+use Rattle.potential_check.specs.declared.cost.Cost.TheVariants.{Footprint}
 use Rattle.potential_check.specs.Leading.{head_size, is_row_line, leading_lines, lines_after}
-use Rattle.potential_check.proofs.LawLemmas.{fit_is_spelled}
-use Rattle.tuner_theory.specs.Fits.{Fit}
+use Rattle.potential_check.proofs.LawLemmas.{read_is_spelled}
 use Rattle.tuner_theory.specs.Sheets.{Sheet}
 use Rattle.mte_engine.specs.CheckFit.{fit_and_history}
 use Rattle.mte_engine.specs.FaultLines.{SpellsFitAndHistory}
@@ -85,11 +84,11 @@ head_by cost ls s e =
     let there = step_there limit.1 step is_step (omega (arith, last)) in
     rw (one, two) there)))))
 
-head_is_there : (ls : List (List ℕ)) (fit : Fit) → fit_of_lines ls ≡ Ok fit → head_size ls ≤ length ls
-head_is_there ls fit e = went_on (read_by _ ls) _ fit e (λ s is_read _. head_by _ ls s is_read)
+head_is_there : (ls : List (List ℕ)) (fit : Sheet) → fit_of_lines ls ≡ Ok fit → head_size ls ≤ length ls
+head_is_there ls fit e = head_by Footprint ls fit e
 
 -- so they do in front of others
-whole_head : (ls : List (List ℕ)) (fit : Fit) → fit_of_lines (leading_lines ls) ≡ Ok fit → head_size ls ≤ length ls
+whole_head : (ls : List (List ℕ)) (fit : Sheet) → fit_of_lines (leading_lines ls) ≡ Ok fit → head_size ls ≤ length ls
 unfolding leading_lines
 whole_head ls fit e = elim (cases_lt (length ls) (head_size ls)) [
   | inr long ↦ long
@@ -100,7 +99,7 @@ whole_head ls fit e = elim (cases_lt (length ls) (head_size ls)) [
 ]
 
 -- The first line of a history, after a fit, is missing or faulty.
-first_after_fit : (text : List ℕ) (fit : Fit) → fit_of_lines (leading_lines (lines text)) ≡ Ok fit
+first_after_fit : (text : List ℕ) (fit : Sheet) → fit_of_lines (leading_lines (lines text)) ≡ Ok fit
     → SpellsFit (text_of (leading_lines (lines text))) fit → IsFirstFault SpellsHistory (text_of (lines_after (lines text))) 1
     → IsFirstFault SpellsFitAndHistory text (length (leading_lines (lines text)) + 1)
 unfolding lines_after
@@ -145,7 +144,7 @@ first_after_fit text fit read is_fit first =
     }
 
 -- the first fault of the lines after a fit is that of the input, so many lines later
-after_fit : (text : List ℕ) (fit : Fit) (m : ℕ) → fit_of_lines (leading_lines (lines text)) ≡ Ok fit
+after_fit : (text : List ℕ) (fit : Sheet) (m : ℕ) → fit_of_lines (leading_lines (lines text)) ≡ Ok fit
     → IsRefusedAt m (text_of (lines_after (lines text)))
     → IsFirstFault SpellsFitAndHistory text (length (leading_lines (lines text)) + m)
 unfolding lines_after
@@ -157,7 +156,7 @@ after_fit text fit m read refused =
     let rest_lines : lines (text_of rest) ≡ rest = written_lines_are_read rest (All-drop IsLine (length front) ls all) in
     let front_lines : lines (text_of front) ≡ front = written_lines_are_read front (leading_lines-lines ls all) in
     let first = (first_fault_is_refused (text_of rest) m).0 refused in
-    let is_fit : SpellsFit (text_of front) fit = fit_is_spelled (text_of front) fit (ap fit_of_lines front_lines ∙ read) in
+    let is_fit : SpellsFit (text_of front) fit = read_is_spelled Footprint (text_of front) fit (ap fit_of_lines front_lines ∙ read) in
     elim (cases_lt 1 m) [
       | inl later ↦
           let there : m ≤ length rest =
@@ -176,7 +175,7 @@ pub check_fit_history_at_first : (text : List ℕ) (n : ℕ) (fault : HistoryFau
 unfolding lines_after
 check_fit_history_at_first text n fault e = go (fit_of_lines (leading_lines (lines text))) refl
   where
-    with_fit : (fit : Fit) (read : Result CountedHistory (ℕ × HistoryFault)) → fit_of_lines (leading_lines (lines text)) ≡ Ok fit
+    with_fit : (fit : Sheet) (read : Result CountedHistory (ℕ × HistoryFault)) → fit_of_lines (leading_lines (lines text)) ≡ Ok fit
         → history_of_lines (lines_after (lines text)) ≡ read → IsFirstFault SpellsFitAndHistory text n
     with_fit fit (Ok history) is_fit is_history = let none = rw (is_fit, is_history) at e in absurd cc
     with_fit fit (Err refused) is_fit is_history =
@@ -188,6 +187,6 @@ check_fit_history_at_first text n fault e = go (fit_of_lines (leading_lines (lin
         let refused_text : history_of (text_of rest) ≡ Err (refused.0, refused.1) = ap history_of_lines rest_lines ∙ is_history in
         rw (← is_n) (after_fit text fit refused.0 is_fit (refused.1, refused_text))
 
-    go : (read : Result Fit ℕ) → fit_of_lines (leading_lines (lines text)) ≡ read → IsFirstFault SpellsFitAndHistory text n
+    go : (read : Result Sheet ℕ) → fit_of_lines (leading_lines (lines text)) ≡ read → IsFirstFault SpellsFitAndHistory text n
     go (Ok fit) is = with_fit fit (history_of_lines (lines_after (lines text))) is refl
     go (Err number) is = let none = rw is at e in absurd cc

@@ -9,7 +9,7 @@ pub mod KnownInput
 pub mod LawLemmas
 pub mod LeadingAnd
 pub mod LineAndTrace
-pub mod OneFitAnswer
+pub mod OneAnswer
 pub mod Outcomes
 pub mod Reporting
 pub mod RowLines

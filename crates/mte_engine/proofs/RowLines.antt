@@ -1,9 +1,12 @@
 -- The lines of the rows of a sheet or a fit, one after the other.
-use Rattle.std.proofs.Common.{◌≡◌, ℕ, ◌+◌, ◌≤◌, List, ◌++◌, codes, drop, length, Some, append_assoc, arith, slice_get}
+use Rattle.std.proofs.Common.{◌≡◌, ℕ, ◌+◌, ◌≤◌, List, [], ◌++◌, codes, drop, length, Some, append_assoc, arith, slice_get}
 use Rattle.std.proofs.lemmas.List.Elements.{All-weaker}
 use Rattle.class_table.specs.NamedLines.{named_line}
 use Rattle.class_table.specs.declared.sizes.TheConstants.{MOST_NEEDS}
 use Rattle.line_text.specs.Lines.{ended}
+use Rattle.potential_check.specs.declared.cost.Cost.{Cost}
+use Rattle.std.proofs.lemmas.Grind.{common_steps}
+use Rattle.potential_check.specs.SheetText.{text_by}
 use Rattle.tuner_theory.specs.Rows.{HasShape}
 use Rattle.mte_engine.specs.RowLines.{AreShort, row_lines}
 use Rattle.mte_engine.proofs.InFront.{in_front}
@@ -19,3 +22,9 @@ line_written before after rows i row is written =
 pub short_rows : (rows : List (List ℕ)) (limit d : ℕ) → HasShape rows limit d → d ≤ MOST_NEEDS → AreShort rows
 short_rows rows limit d shape few =
     All-weaker (λ row. length row ≡ d) (λ row. length row ≤ MOST_NEEDS) (λ row is. omega (arith, is)) rows shape.row_lengths
+
+-- the lines of the rows come after the others
+pub rows_after : (cost : Cost) (table : List ℕ) (limit step stated : ℕ) (rows : List (List ℕ))
+    → text_by cost (record { table = table; limit = limit; step = step; cost = stated; rows = [] }) ++ row_lines rows
+    ≡ text_by cost (record { table = table; limit = limit; step = step; cost = stated; rows = rows })
+rows_after cost table limit step stated rows = grind (arith, common_steps)

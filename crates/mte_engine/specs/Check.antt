@@ -1,6 +1,7 @@
 -- The answers of `check`: the verdict on the sheet at the start of its input, for the profile after it.
 use Rattle.std.specs.Prelude.{◌≡◌, ℕ, List, ◌++◌, codes, length, Result, Ok, Err}
 use Rattle.line_text.specs.Lines.{lines, ended}
+use Rattle.potential_check.specs.declared.cost.Cost.TheVariants.{Waste}
 use Rattle.potential_check.specs.Leading.{leading_lines, lines_after}
 use Rattle.potential_check.specs.SheetText.{sheet_of_lines}
 use Rattle.profile_count.specs.ProfileText.{profile_of_lines}
@@ -28,7 +29,7 @@ verdict_text verdict = verdict_text_by shown_refusal verdict
 -- The sheet at the start of these lines, and the profile after it.
 abbrev pub sheet_and_profile : List (List ℕ) → Result (Sheet × Counted) InputFault
 sheet_and_profile ls =
-    both_parts (sheet_part (sheet_of_lines (leading_lines ls)))
+    both_parts (sheet_part Waste (sheet_of_lines (leading_lines ls)))
     (profile_part (length (leading_lines ls)) (profile_of_lines (lines_after ls)))
 
 -- The verdict on a sheet for a profile. `optimal` is written only where the sheet's table is a best one.

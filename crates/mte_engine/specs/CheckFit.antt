@@ -3,26 +3,27 @@ use Rattle.std.specs.Prelude.{◌≡◌, ℕ, List, length, Result, Ok, Err}
 use Rattle.history_count.specs.Histories.{History}
 use Rattle.history_count.specs.HistoryText.{history_of_lines}
 use Rattle.line_text.specs.Lines.{lines}
-use Rattle.potential_check.specs.FitText.{fit_of_lines}
+use Rattle.potential_check.specs.SheetText.{fit_of_lines}
+use Rattle.potential_check.specs.declared.cost.Cost.TheVariants.{Footprint}
 use Rattle.potential_check.specs.Leading.{leading_lines, lines_after}
-use Rattle.tuner_theory.specs.Fits.{Fit, IsFitVerdict}
+use Rattle.tuner_theory.specs.Sheets.{IsFitVerdict, Sheet}
 use Rattle.tuner_theory.specs.Footprint.{IsLeastFootprint}
 use Rattle.tuner_theory.specs.RefusalText.{shown_fit_refusal}
 use Rattle.tuner_theory.specs.declared.verdict.Verdict.{Verdict}
 use Rattle.tuner_theory.specs.declared.verdict.Verdict.TheVariants.{Optimal}
 use Rattle.mte_engine.specs.Check.{verdict_text_by}
 use Rattle.mte_engine.specs.Outcome.{Answer}
-use Rattle.mte_engine.specs.Parts.{both_parts, fit_part, history_part}
+use Rattle.mte_engine.specs.Parts.{both_parts, history_part, sheet_part}
 use Rattle.mte_engine.specs.declared.fault.InputFault.{InputFault}
 
 -- The fit at the start of these lines, and the history after it.
-abbrev pub fit_and_history : List (List ℕ) → Result (Fit × History) InputFault
+abbrev pub fit_and_history : List (List ℕ) → Result (Sheet × History) InputFault
 fit_and_history ls =
-    both_parts (fit_part (fit_of_lines (leading_lines ls)))
+    both_parts (sheet_part Footprint (fit_of_lines (leading_lines ls)))
     (history_part (length (leading_lines ls)) (history_of_lines (lines_after ls)))
 
 -- The verdict on a fit for a history. `optimal` is written only where no table in question takes less.
-pub record IsFitChecked (fit : Fit) (history : History) (answer : Answer) : Type 0 where
+pub record IsFitChecked (fit : Sheet) (history : History) (answer : Answer) : Type 0 where
   pub verdict : Verdict
   pub is_verdict : IsFitVerdict history.snapshots fit verdict
   pub least : verdict ≡ Optimal → IsLeastFootprint history.snapshots fit.step fit.limit fit.table
@@ -31,5 +32,5 @@ pub record IsFitChecked (fit : Fit) (history : History) (answer : Answer) : Type
 -- A fit and then a history. The answer is the verdict, or the first fault of the two.
 abbrev pub CheckFitAnswers : List ℕ → Result Answer InputFault → Type 0
 CheckFitAnswers text (Ok answer) =
-    (parts : Fit × History) × (fit_and_history (lines text) ≡ Ok parts) × IsFitChecked parts.0 parts.1 answer
+    (parts : Sheet × History) × (fit_and_history (lines text) ≡ Ok parts) × IsFitChecked parts.0 parts.1 answer
 CheckFitAnswers text (Err fault) = fit_and_history (lines text) ≡ Err fault

@@ -2,7 +2,8 @@
 -- for the timeline after it.
 use Rattle.std.specs.Prelude.{◌≡◌, ℕ, ◌+◌, Bool, false, List, [], ◌∷◌, ◌++◌, codes, length, MatchBool, Option, Some, None, Result, Ok, Err}
 use Rattle.line_text.specs.Lines.{ended, lines}
-use Rattle.potential_check.specs.FitText.{fit_of_lines}
+use Rattle.potential_check.specs.SheetText.{fit_of_lines}
+use Rattle.potential_check.specs.declared.cost.Cost.TheVariants.{Footprint}
 use Rattle.potential_check.specs.Leading.{leading_lines, lines_after}
 use Rattle.potential_check.specs.Footprints.Timelines.MomentsLine.{moments_of, names_moments}
 use Rattle.potential_check.specs.Footprints.Timelines.RefusalText.{shown_over_refusal}
@@ -10,12 +11,12 @@ use Rattle.potential_check.specs.Footprints.Timelines.Verdicts.{IsOverVerdict}
 use Rattle.potential_check.specs.declared.footprints.timelines.verdict.OverVerdict.{OverVerdict}
 use Rattle.potential_check.specs.declared.footprints.timelines.verdict.OverVerdict.TheVariants.{Optimal, Refused}
 use Rattle.history_count.specs.Timelines.TimelineText.{timeline_of_lines}
-use Rattle.tuner_theory.specs.Fits.{Fit}
+use Rattle.tuner_theory.specs.Sheets.{Sheet}
 use Rattle.tuner_theory.specs.Timelines.{IsLeastOver}
 use Rattle.tuner_theory.specs.declared.size_event.SizeEvent.{SizeEvent}
 use Rattle.mte_engine.specs.CheckFit.{CheckFitAnswers}
 use Rattle.mte_engine.specs.Outcome.{Answer}
-use Rattle.mte_engine.specs.Parts.{both_parts, fit_part, timeline_part}
+use Rattle.mte_engine.specs.Parts.{both_parts, sheet_part, timeline_part}
 use Rattle.mte_engine.specs.declared.engine.Status.TheVariants.{Done, No}
 use Rattle.mte_engine.specs.declared.fault.InputFault.{InputFault}
 use Rattle.mte_engine.specs.declared.fault.InputFault.TheVariants.{BadFit}
@@ -41,12 +42,12 @@ moments_and_timeline count (line ∷ ls) =
     both_parts (moments_part (count + 1) (moments_of line)) (timeline_part (count + 1) (timeline_of_lines ls))
 
 -- The fit at the start of these lines, and what follows it.
-abbrev pub fit_and_timeline : List (List ℕ) → Result (Fit × (List ℕ × List SizeEvent)) InputFault
+abbrev pub fit_and_timeline : List (List ℕ) → Result (Sheet × (List ℕ × List SizeEvent)) InputFault
 fit_and_timeline ls =
-    both_parts (fit_part (fit_of_lines (leading_lines ls))) (moments_and_timeline (length (leading_lines ls)) (lines_after ls))
+    both_parts (sheet_part Footprint (fit_of_lines (leading_lines ls))) (moments_and_timeline (length (leading_lines ls)) (lines_after ls))
 
 -- The verdict on a fit over a timeline. `optimal` is written only where no table in question takes less over every moment.
-pub record IsCheckedOver (fit : Fit) (numbers : List ℕ) (events : List SizeEvent) (answer : Answer) : Type 0 where
+pub record IsCheckedOver (fit : Sheet) (numbers : List ℕ) (events : List SizeEvent) (answer : Answer) : Type 0 where
   pub verdict : OverVerdict
   pub is_verdict : IsOverVerdict events numbers fit verdict
   pub least : verdict ≡ Optimal → IsLeastOver events fit.step fit.limit fit.table
@@ -55,7 +56,7 @@ pub record IsCheckedOver (fit : Fit) (numbers : List ℕ) (events : List SizeEve
 -- The answer is the verdict, or the first fault of the three.
 abbrev pub CheckFitOverAnswers : List ℕ → Result Answer InputFault → Type 0
 CheckFitOverAnswers text (Ok answer) =
-    (parts : Fit × (List ℕ × List SizeEvent)) × (fit_and_timeline (lines text) ≡ Ok parts)
+    (parts : Sheet × (List ℕ × List SizeEvent)) × (fit_and_timeline (lines text) ≡ Ok parts)
     × IsCheckedOver parts.0 parts.1.0 parts.1.1 answer
 CheckFitOverAnswers text (Err fault) = fit_and_timeline (lines text) ≡ Err fault
 

@@ -5,12 +5,10 @@ use Rattle.line_text.specs.Lines.{lines, text_of}
 use Rattle.class_table.specs.ClassLine.{BeginsWithTable}
 use Rattle.history_count.specs.Histories.{History as CountedHistory}
 use Rattle.history_count.specs.HistoryText.{SpellsHistory}
-use Rattle.potential_check.specs.FitText.{SpellsFit}
 use Rattle.potential_check.specs.Leading.{leading_lines, lines_after}
-use Rattle.potential_check.specs.SheetText.{SpellsSheet}
+use Rattle.potential_check.specs.SheetText.{SpellsFit, SpellsSheet}
 use Rattle.profile_count.specs.ProfileText.{SpellsProfile}
 use Rattle.history_count.specs.Timelines.TimelineText.{SpellsTimeline}
-use Rattle.tuner_theory.specs.Fits.{Fit}
 use Rattle.tuner_theory.specs.Sheets.{Sheet}
 use Rattle.tuner_theory.specs.Profiles.{Profile as Counted}
 use Rattle.tuner_theory.specs.declared.size_event.SizeEvent.{SizeEvent}
@@ -55,5 +53,5 @@ pub record SpellsLeadingAnd {A B : Type 0} (First : List ℕ → A → Type 0) (
 abbrev pub SpellsSheetAndProfile : List ℕ → Sheet × Counted → Type 0
 SpellsSheetAndProfile text parts = SpellsLeadingAnd SpellsSheet SpellsProfile text parts
 
-abbrev pub SpellsFitAndHistory : List ℕ → Fit × CountedHistory → Type 0
+abbrev pub SpellsFitAndHistory : List ℕ → Sheet × CountedHistory → Type 0
 SpellsFitAndHistory text parts = SpellsLeadingAnd SpellsFit SpellsHistory text parts

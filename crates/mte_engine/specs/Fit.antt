@@ -3,8 +3,8 @@ use Rattle.std.specs.Prelude.{◌≡◌, ℕ, List, Result, Ok, Err}
 use Rattle.class_tuner.specs.Fits.Fitted.{IsFitOf}
 use Rattle.history_count.specs.Histories.{History}
 use Rattle.history_count.specs.HistoryText.{history_of}
-use Rattle.potential_check.specs.FitText.{fit_text}
-use Rattle.tuner_theory.specs.Fits.{Fit}
+use Rattle.potential_check.specs.SheetText.{fit_text}
+use Rattle.tuner_theory.specs.Sheets.{Sheet}
 use Rattle.mte_engine.specs.Outcome.{Answer}
 use Rattle.mte_engine.specs.Parts.{history_part}
 use Rattle.mte_engine.specs.declared.engine.Status.TheVariants.{Done}
@@ -12,7 +12,7 @@ use Rattle.mte_engine.specs.declared.fault.InputFault.{InputFault}
 
 -- The text of the fit of a history, a limit and a step.
 pub record IsFitText (limit step : ℕ) (history : History) (answer : Answer) : Type 0 where
-  pub fit : Fit
+  pub fit : Sheet
   pub fitted : IsFitOf history.snapshots step limit fit
   pub written : answer ≡ record { text = fit_text fit; status = Done }
 

@@ -3,11 +3,11 @@ use Rattle.std.specs.Prelude.{◌≡◌, ◌⊎◌, ℕ, List, [], ◌∷◌, �
 use Rattle.class_table.specs.ClassLine.{class_line}
 use Rattle.class_table.specs.NamedLines.{named_line}
 use Rattle.line_text.specs.Lines.{ended, lines, text_of}
-use Rattle.potential_check.specs.FitText.{fit_text}
+use Rattle.potential_check.specs.SheetText.{fit_text}
 use Rattle.potential_check.specs.Footprints.Timelines.MomentsLine.{moments_line}
 use Rattle.history_count.specs.Timelines.TimelineText.{timeline_of}
 use Rattle.class_tuner.specs.Fits.Timelines.Found.{IsBetween, IsLeastFit}
-use Rattle.tuner_theory.specs.Fits.{Fit}
+use Rattle.tuner_theory.specs.Sheets.{Sheet}
 use Rattle.tuner_theory.specs.declared.size_event.SizeEvent.{SizeEvent}
 use Rattle.mte_engine.specs.Fit.{FitAnswers}
 use Rattle.mte_engine.specs.Outcome.{Answer}
@@ -17,7 +17,7 @@ use Rattle.mte_engine.specs.declared.engine.Status.TheVariants.{Done, No}
 use Rattle.mte_engine.specs.declared.fault.InputFault.{InputFault}
 
 -- The text of a fit, and the line of its moments.
-abbrev pub least_text : Fit → List ℕ → List ℕ
+abbrev pub least_text : Sheet → List ℕ → List ℕ
 least_text fit numbers = fit_text fit ++ ended (moments_line numbers)
 
 -- A table, what it takes, and that it is not shown to take least, with what no table takes less than.
@@ -29,7 +29,7 @@ between_lines table takes least =
 -- No table takes less over every moment.
 pub record IsLeastText (limit step : ℕ) (events : List SizeEvent) (answer : Answer) : Type 0 where
   pub numbers : List ℕ
-  pub fit : Fit
+  pub fit : Sheet
   pub least : IsLeastFit events step limit numbers fit
   pub written : answer ≡ record { text = least_text fit numbers; status = Done }
 

@@ -4,11 +4,12 @@ use Rattle.line_text.specs.FirstFault.{◌>>=◌}
 use Rattle.class_table.specs.ClassLine.{table_of_line}
 use Rattle.class_table.specs.declared.fault.TableError.{TableError}
 use Rattle.class_table.specs.declared.fault.TableError.TheVariants.{BadLine}
+use Rattle.potential_check.specs.declared.cost.Cost.{Cost}
+use Rattle.potential_check.specs.declared.cost.Cost.TheVariants.{Waste, Footprint}
 use Rattle.history_count.specs.Histories.{History as CountedHistory}
 use Rattle.history_count.specs.declared.fault.HistoryFault.{HistoryFault}
 use Rattle.profile_count.specs.declared.fault.ProfileFault.{ProfileFault}
 use Rattle.history_count.specs.declared.timelines.fault.TimelineFault.{TimelineFault}
-use Rattle.tuner_theory.specs.Fits.{Fit}
 use Rattle.tuner_theory.specs.Sheets.{Sheet}
 use Rattle.tuner_theory.specs.Profiles.{Profile as Counted}
 use Rattle.tuner_theory.specs.declared.size_event.SizeEvent.{SizeEvent}
@@ -27,15 +28,15 @@ abbrev pub table_part : Result (List ℕ) TableError → Result (List ℕ) Input
 table_part (Ok table) = Ok table
 table_part (Err fault) = Err (Table fault)
 
--- A sheet, which begins with the first line of its input.
-abbrev pub sheet_part : Result Sheet ℕ → Result Sheet InputFault
-sheet_part (Ok s) = Ok s
-sheet_part (Err number) = Err (BadSheet number)
+-- The fault of a line of a certificate.
+abbrev pub bad_line : Cost → ℕ → InputFault
+bad_line Waste number = BadSheet number
+bad_line Footprint number = BadFit number
 
--- A fit, which begins with the first line of its input.
-abbrev pub fit_part : Result Fit ℕ → Result Fit InputFault
-fit_part (Ok f) = Ok f
-fit_part (Err number) = Err (BadFit number)
+-- A certificate of a cost, which begins with the first line of its input.
+abbrev pub sheet_part : Cost → Result Sheet ℕ → Result Sheet InputFault
+sheet_part cost (Ok s) = Ok s
+sheet_part cost (Err number) = Err (bad_line cost number)
 
 -- A profile that follows this many lines of its input.
 abbrev pub profile_part : ℕ → Result Counted (ℕ × ProfileFault) → Result Counted InputFault

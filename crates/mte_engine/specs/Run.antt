@@ -50,9 +50,9 @@ pub record IsTunedRun (limit step : ℕ) (config : Config) (events : List Event)
   -- The sheet's table is legal, within the limit, and serves every counted request.
   pub in_question : IsTableFor step limit events sheet.table
   -- Its waste is the sum, over all counted requests, of the bytes lost by rounding.
-  pub waste : sheet.waste ≡ rounding_loss sheet.table (counted_sizes events)
+  pub waste : sheet.cost ≡ rounding_loss sheet.table (counted_sizes events)
   -- No table in question wastes less.
-  pub least : (other : List ℕ) → IsTableFor step limit events other → sheet.waste ≤ rounding_loss other (counted_sizes events)
+  pub least : (other : List ℕ) → IsTableFor step limit events other → sheet.cost ≤ rounding_loss other (counted_sizes events)
   -- It is the canonical sheet for the profile of the events, so one function of profile, limit and step.
   pub tuned : IsTuned (profile_of_events events).counts step limit sheet
   -- What is written is the sheet, then a line for each event of the replay on that very table that has one, and the totals.
@@ -67,10 +67,10 @@ pub record IsTunedRun (limit step : ℕ) (config : Config) (events : List Event)
   pub no_class : (totals_on config sheet.table events).null_no_class ≡ 0
   -- The bytes lost in the replay are at most the waste, and exactly the waste where no request was exhausted and no realloc was refused
   -- for its pointer.
-  pub loss : (totals_on config sheet.table events).loss ≤ sheet.waste
+  pub loss : (totals_on config sheet.table events).loss ≤ sheet.cost
   pub all_loss : (totals_on config sheet.table events).null_exhausted ≡ 0 →
       refused_reallocs (zip events (answers_on config sheet.table events)) ≡ 0
-      → (totals_on config sheet.table events).loss ≡ sheet.waste
+      → (totals_on config sheet.table events).loss ≡ sheet.cost
 
 -- The whole text is a trace. The answer is the headline for its events, or the trace's first fault.
 abbrev pub RunAnswers : ℕ → ℕ → Config → List ℕ → Result Answer InputFault → Type 0

@@ -1,7 +1,7 @@
 //! `check-fit`: the verdict on a fit, whoever wrote it, over a history or over every moment of a timeline.
 ghost use Rattle.std.specs.Prelude.{◌≡◌, IfOk};
 ghost use Rattle.byte_streams.specs.TextLeft.{text_left};
-ghost use Rattle.potential_check.specs.Certificates.FitView.{fit_of};
+ghost use Rattle.potential_check.specs.Certificates.SheetView.{sheet_of};
 ghost use Rattle.history_count.specs.HistoryText.{history_of};
 ghost use Rattle.mte_engine.specs.Check.{verdict_text_by};
 ghost use Rattle.mte_engine.specs.CheckFit.{IsFitChecked};
@@ -13,7 +13,7 @@ ghost use Rattle.tuner_theory.specs.RefusalText.{shown_fit_refusal};
 use crate::engine::{Engine, Status, run_engine};
 use crate::fault::{AnswerError, ToolFault};
 use crate::fit_checking_over::{begins_moments, check_timeline};
-use crate::input_parts::{read_fit_first, read_history};
+use crate::input_parts::{read_history, read_leading};
 use byte_streams::{ByteSink, ByteSource, Text, WholeText};
 use potential_check::{Fit, Verdict, check_fit as verdict_on};
 use std::alloc::{AllocError, Global};
@@ -58,11 +58,11 @@ impl Engine for CheckFitEngine {
 fn check_fit_text(alloc: Global, text: &[u8]) -> Result<(Text, Status), AnswerError>
     ensures { GivesAnswer text_left (CheckFitEitherAnswers text.now) result }
 {
-    let leading = read_fit_first(alloc, text)?;
+    let leading = read_leading(alloc, text)?;
     if begins_moments(leading.rest) {
-        return check_timeline(alloc, &leading.fit, leading.rest, leading.lines);
+        return check_timeline(alloc, &leading.sheet, leading.rest, leading.lines);
     }
-    check_history(alloc, &leading.fit, leading.rest, leading.lines)
+    check_history(alloc, &leading.sheet, leading.rest, leading.lines)
 }
 
 // the answer to a fit and the history's text that follows this many lines
@@ -74,7 +74,7 @@ fn check_history(
 ) -> Result<(Text, Status), AnswerError>
     requires { AreFewLines lines }
     ensures { GivesAnswer text_left (AnswersPart (history_part lines (history_of text.now))
-        (λ history answer. IsFitChecked (fit_of fit.now) history answer)) result }
+        (λ history answer. IsFitChecked (sheet_of fit.now) history answer)) result }
 {
     let history = read_history(alloc, text, lines)?;
     let verdict = verdict_on(alloc, &history, fit)?;

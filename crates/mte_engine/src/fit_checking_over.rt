@@ -1,7 +1,7 @@
 //! `check-fit` over a timeline: the verdict on a fit with the moments that it names.
 ghost use Rattle.std.specs.Prelude.{◌≡◌, ◌+◌, Ok, Err, IfOk, MatchResult, ℕ, List};
 ghost use Rattle.byte_streams.specs.TextLeft.{text_left};
-ghost use Rattle.potential_check.specs.Certificates.FitView.{fit_of};
+ghost use Rattle.potential_check.specs.Certificates.SheetView.{sheet_of};
 ghost use Rattle.line_text.specs.Lines.{lines};
 ghost use Rattle.mte_engine.specs.CheckFitOver.{IsCheckedOver, begins_moments, moments_and_timeline, moments_part, over_verdict_text};
 ghost use Rattle.mte_engine.specs.Outcome.{GivesAnswer};
@@ -35,7 +35,7 @@ pub(crate) fn check_timeline(
 ) -> Result<(Text, Status), AnswerError>
     requires { AreFewLines (before + 1) }
     ensures { GivesAnswer text_left (AnswersPart (moments_and_timeline before (lines text.now))
-        (λ parts answer. IsCheckedOver (fit_of fit.now) parts.0 parts.1 answer)) result }
+        (λ parts answer. IsCheckedOver (sheet_of fit.now) parts.0 parts.1 answer)) result }
 {
     let number = before + 1;
     let mut rest = lines_in(text);

@@ -89,6 +89,6 @@ fn fit_text(
 {
     let history = read_history(alloc, text, 0)?;
     let fitted = class_tuner::fit(alloc, &history, limit, step)?;
-    let output = SheetText::of_fit(alloc, fitted.into_fit())?;
+    let output = SheetText::of_sheet(alloc, fitted.into_sheet())?;
     Ok((output, Status::Done))
 }

@@ -1,6 +1,6 @@
 //! `fit` over a timeline: the class table of least footprint over every moment of it.
 ghost use Rattle.std.specs.Prelude.{◌≡◌, ◌++◌, IfOk};
-ghost use Rattle.potential_check.specs.Certificates.FitView.{fit_of};
+ghost use Rattle.potential_check.specs.Certificates.SheetView.{sheet_of};
 ghost use Rattle.line_text.specs.Lines.{text_of};
 ghost use Rattle.mte_engine.specs.FitOver.{FitOverAnswers, between_lines, least_text};
 ghost use Rattle.mte_engine.specs.Outcome.{GivesAnswer};
@@ -13,7 +13,7 @@ use crate::input_parts::read_timeline;
 use crate::sheet_writing::SheetText;
 use class_table::ClassTable;
 use class_tuner::{Found, MOST_ROUNDS, fit_over};
-use potential_check::{Fit, MOMENTS, append_line, append_table, write_fit};
+use potential_check::{Fit, MOMENTS, append_line, append_table, write_sheet};
 use std::alloc::{AllocError, Global};
 
 /// The answer to a timeline's text.
@@ -45,10 +45,10 @@ pub(crate) fn fit_over_text(
 
 // a fit, and the line of its moments
 fn text_of_least(alloc: Global, fit: &Fit, numbers: &[usize]) -> Result<Vec<u8>, AllocError>
-    ensures { IfOk result (λ text. text.items ≡ least_text (fit_of fit.now) numbers.now) }
+    ensures { IfOk result (λ text. text.items ≡ least_text (sheet_of fit.now) numbers.now) }
 {
     let mut text = Vec::new(alloc);
-    write_fit(fit, &mut text)?;
+    write_sheet(fit, &mut text)?;
     append_line(&mut text, MOMENTS, &wide(alloc, numbers)?)?;
     Ok(text)
 }

@@ -4,24 +4,19 @@ ghost use Rattle.line_text.specs.Lines.{lines};
 ghost use Rattle.class_table.specs.ClassLine.{table_of_line};
 ghost use Rattle.history_count.specs.HistoryText.{history_of};
 ghost use Rattle.profile_count.specs.ProfileText.{profile_of};
-ghost use Rattle.potential_check.specs.FitText.{fit_of_lines};
-ghost use Rattle.potential_check.specs.Certificates.FitView.{fit_of};
-ghost use Rattle.potential_check.specs.Leading.{leading_lines, lines_after};
 ghost use Rattle.potential_check.specs.Certificates.SheetView.{sheet_of};
-ghost use Rattle.potential_check.specs.SheetText.{sheet_of_lines};
-ghost use Rattle.tuner_theory.specs.Fits.{Fit};
+ghost use Rattle.potential_check.specs.Leading.{leading_lines, lines_after};
+ghost use Rattle.potential_check.specs.SheetText.{read_by};
 ghost use Rattle.tuner_theory.specs.Sheets.{Sheet};
 ghost use Rattle.history_count.specs.Timelines.TimelineText.{timeline_of};
-ghost use Rattle.mte_engine.specs.Parts.{AreFewLines, GivesPart, fit_part, history_part, table_part, sheet_part, profile_part, timeline_part};
+ghost use Rattle.mte_engine.specs.Parts.{AreFewLines, GivesPart, history_part, table_part, sheet_part, profile_part, timeline_part};
 ghost use Rattle.mte_engine.specs.Timelines.{begins_timeline};
 
 use crate::fault::{AnswerError, InputFault};
 use class_table::ClassTable;
 use history_count::{History, HistoryError, TIMELINE, Timeline, TimelineError};
 use line_text::lines_in;
-use potential_check::{
-    FitError, LeadingFit, LeadingSheet, SheetError, read_leading_fit, read_leading_sheet,
-};
+use potential_check::{CostKind, LeadingSheet, SheetError, read_leading_sheet};
 use profile_count::{Profile, ProfileError};
 use std::alloc::Global;
 
@@ -35,36 +30,24 @@ pub fn read_table(line: &[u8]) -> Result<ClassTable, AnswerError>
     }
 }
 
-/// The sheet at the start of an input, and the text after it.
-pub fn read_leading(alloc: Global, text: &[u8]) -> Result<LeadingSheet<'_>, AnswerError>
+/// The certificate at the start of an input, and the text after it.
+pub fn read_leading<C: CostKind>(
+    alloc: Global,
+    text: &[u8],
+) -> Result<LeadingSheet<'_, C>, AnswerError>
     ensures sheet { MatchResult result
-        (λ leading. sheet_part (sheet_of_lines (leading_lines (lines text.now))) ≡ Ok (sheet_of leading.sheet))
-        (λ fault. GivesPart {A = Sheet} (Err fault) (sheet_part (sheet_of_lines (leading_lines (lines text.now))))) }
-    ensures lines { IfOk result
-        (λ leading. (leading.lines ≡ length (leading_lines (lines text.now))) × AreFewLines leading.lines) }
-    ensures rest { IfOk result (λ leading. lines leading.rest.now ≡ lines_after (lines text.now)) }
-{
-    match read_leading_sheet(alloc, text) {
-        Ok(leading) => Ok(leading),
-        Err(SheetError::OutOfMemory) => Err(AnswerError::OutOfMemory),
-        Err(SheetError::Line(number)) => Err(AnswerError::Input(InputFault::BadSheet(number))),
-    }
-}
-
-/// The fit at the start of an input, and the text after it.
-pub fn read_fit_first(alloc: Global, text: &[u8]) -> Result<LeadingFit<'_>, AnswerError>
-    ensures fit { MatchResult result
-        (λ leading. fit_part (fit_of_lines (leading_lines (lines text.now))) ≡ Ok (fit_of leading.fit))
-        (λ fault. GivesPart {A = Fit} (Err fault) (fit_part (fit_of_lines (leading_lines (lines text.now))))) }
+        (λ leading. sheet_part C.kind (read_by C.kind (leading_lines (lines text.now))) ≡ Ok (sheet_of leading.sheet))
+        (λ fault. GivesPart {A = Sheet} (Err fault) (sheet_part C.kind (read_by C.kind (leading_lines (lines text.now))))) }
     ensures lines { IfOk result
         (λ leading. (leading.lines ≡ length (leading_lines (lines text.now))) × AreFewLines leading.lines) }
     ensures few { IfOk result (λ leading. AreFewLines (leading.lines + 1)) }
     ensures rest { IfOk result (λ leading. lines leading.rest.now ≡ lines_after (lines text.now)) }
 {
-    match read_leading_fit(alloc, text) {
+    match read_leading_sheet(alloc, text) {
         Ok(leading) => Ok(leading),
-        Err(FitError::OutOfMemory) => Err(AnswerError::OutOfMemory),
-        Err(FitError::Line(number)) => Err(AnswerError::Input(InputFault::BadFit(number))),
+        Err(SheetError::OutOfMemory) => Err(AnswerError::OutOfMemory),
+        Err(SheetError::BadSheet(number)) => Err(AnswerError::Input(InputFault::BadSheet(number))),
+        Err(SheetError::BadFit(number)) => Err(AnswerError::Input(InputFault::BadFit(number))),
     }
 }
 

@@ -52,7 +52,6 @@ pub fn law_headline()
 {}
 
 /// What `tune`, `fit` and `run` write is one function of their input and options.
-#[tactic(auto, using(class_tuner::proofs::LawLemmas::one_sheet, crate::proofs::OneFitAnswer::one_answer))]
 pub fn law_one_answer()
     ensures tune { (limit step : ℕ) (text : List ℕ) (a b : Result Answer InputFault)
         → TuneAnswers limit step text a → TuneAnswers limit step text b → a ≡ b }

@@ -1,14 +1,12 @@
 //! The text of a sheet or a fit, as an engine writes it: in pieces, so that few pages of memory are touched.
 ghost use Rattle.std.specs.Prelude.{◌≡◌, ◌≤◌, ◌++◌, drop, length, vec_capacity, vec_len, IfOk};
-ghost use Rattle.potential_check.specs.FitText.{fit_text};
-ghost use Rattle.potential_check.specs.Certificates.FitView.{fit_of};
-ghost use Rattle.potential_check.specs.SheetText.{sheet_text};
+ghost use Rattle.potential_check.specs.SheetText.{text_by};
 ghost use Rattle.potential_check.specs.Certificates.SheetView.{sheet_of};
 ghost use Rattle.mte_engine.specs.RowLines.{AreShort, row_lines};
 ghost use Rattle.mte_engine.specs.declared.sheet_writing.TheConstants.{PIECE};
 
 use byte_streams::Output;
-use potential_check::{Fit, ROW_BYTES, Rows, Sheet, write_fit, write_row, write_sheet};
+use potential_check::{Certificate, CostKind, ROW_BYTES, Rows, write_row, write_sheet};
 use std::alloc::{AllocError, Global};
 use std::mem;
 
@@ -32,24 +30,16 @@ impl SheetText {
     ghost use Rattle.mte_engine.specs.SheetLeft.{sheet_left};
 
     /// The text of a sheet. The call takes all memory that the writing will need; the only error is that the allocator refuses it.
-    pub fn of_sheet(alloc: Global, mut sheet: Sheet) -> Result<SheetText, AllocError>
+    pub fn of_sheet<C: CostKind>(
+        alloc: Global,
+        mut sheet: Certificate<C>,
+    ) -> Result<SheetText, AllocError>
         requires { AreShort sheet.rows }
-        ensures { IfOk result (λ output. sheet_left output ≡ sheet_text (sheet_of sheet)) }
+        ensures { IfOk result (λ output. sheet_left output ≡ text_by C.kind (sheet_of sheet)) }
     {
         let rows = mem::replace(&mut sheet.rows, Rows::new(Vec::new(alloc)));
         let mut head = Vec::with_capacity(alloc, PIECE)?;
         write_sheet(&sheet, &mut head)?;
-        SheetText::new(head, rows)
-    }
-
-    /// The text of a fit, as that of a sheet.
-    pub fn of_fit(alloc: Global, mut fit: Fit) -> Result<SheetText, AllocError>
-        requires { AreShort fit.rows }
-        ensures { IfOk result (λ output. sheet_left output ≡ fit_text (fit_of fit)) }
-    {
-        let rows = mem::replace(&mut fit.rows, Rows::new(Vec::new(alloc)));
-        let mut head = Vec::with_capacity(alloc, PIECE)?;
-        write_fit(&fit, &mut head)?;
         SheetText::new(head, rows)
     }
 

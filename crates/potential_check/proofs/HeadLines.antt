@@ -4,8 +4,8 @@ use Rattle.std.specs.Iterator.{YieldsFirstBy}
 use Rattle.std.specs.Option.{ok_or}
 use Rattle.potential_check.specs.SheetText.{Gives, cost_in, cost_number, head_of_lines, limit_in, line_at, step_at, table_in}
 use Rattle.potential_check.specs.declared.cost.Cost.{Cost}
-use Rattle.potential_check.specs.declared.fault.SheetError.{SheetError}
-use Rattle.potential_check.specs.declared.fault.SheetError.TheVariants.{Line}
+use Rattle.potential_check.specs.declared.fault.Fault.{Fault}
+use Rattle.potential_check.specs.declared.fault.Fault.TheVariants.{Line}
 
 -- ---- the next line
 
@@ -30,7 +30,7 @@ line_at-none number reading old new line read is also too = grind arith
 -- ---- a fault
 
 -- where nothing was read off a line, its number is the error
-pub fault_given : {A B X : Type 0} (view : X → B) (result : Result X SheetError) (y e : SheetError) (read : Option A) (number : ℕ)
+pub fault_given : {A B X : Type 0} (view : X → B) (result : Result X Fault) (y e : Fault) (read : Option A) (number : ℕ)
     (whole : Result B ℕ) → result ≡ Err y → y ≡ e
     → Err e ≡ ok_or read (Line number) → read ≡ None → whole ≡ Err number → Gives view result whole
 fault_given view result y e read number whole is same given none fault = grind arith

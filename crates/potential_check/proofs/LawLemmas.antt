@@ -1,3 +1,2 @@
 -- What the proofs of the crates above cite of the texts of sheets and fits.
-pub use Rattle.potential_check.proofs.FitLaws.{fit_is_spelled}
 pub use Rattle.potential_check.proofs.ReadIsSpelled.{read_is_spelled}

@@ -4,15 +4,15 @@ use Rattle.std.specs.List.{take_while}
 use Rattle.std.proofs.lemmas.List.Sums.{take_while-cons}
 use Rattle.line_text.specs.FirstFault.{◌>>=◌}
 use Rattle.line_text.specs.Lines.{lines}
-use Rattle.potential_check.specs.Leading.{GivesLeadingBy, IsLeadingOf, is_row_line, leading_lines, lines_after}
+use Rattle.potential_check.specs.Leading.{GivesLeading, IsLeadingOf, is_row_line, leading_lines, lines_after}
 use Rattle.class_table.specs.declared.table.TheConstants.{MOST_CLASSES}
 use Rattle.potential_check.specs.SheetText.{Gives, cost_number, head_line_count, head_of_lines, read_by, row_in, rows_from, step_in, with_rows}
 use Rattle.potential_check.specs.declared.cost.Cost.{Cost}
-use Rattle.potential_check.specs.declared.fault.SheetError.{SheetError}
-use Rattle.potential_check.specs.declared.fault.SheetError.TheVariants.{OutOfMemory, Line}
+use Rattle.potential_check.specs.declared.fault.Fault.{Fault}
+use Rattle.potential_check.specs.declared.fault.Fault.TheVariants.{OutOfMemory, Line}
 use Rattle.potential_check.specs.declared.leading_sheet.LeadingSheet.{LeadingSheet}
 use Rattle.potential_check.specs.declared.reading.Head.{Head}
-use Rattle.potential_check.specs.declared.certificates.sheet.Sheet.{Sheet as Held}
+use Rattle.potential_check.specs.declared.certificates.certificate.Certificate.{Certificate as Held}
 use Rattle.potential_check.specs.Certificates.SheetView.{sheet_of}
 use Rattle.potential_check.proofs.ReadIsSpelled.{head_and}
 use Rattle.tuner_theory.specs.Sheets.{Sheet}
@@ -104,16 +104,16 @@ module _ (cost : Cost) (ls : List (List ℕ)) (head : Head) (after : List (List 
 
 -- ---- faults
 
-pub head_fault_given : {A : Type 0} (cost : Cost) (view : A → Head × List (List ℕ)) (ls : List (List ℕ)) (result : Result LeadingSheet SheetError)
-    (y e : SheetError) → result ≡ Err y → y ≡ e
-    → Gives view (Err e) (head_of_lines cost ls) → GivesLeadingBy cost ls result
+pub head_fault_given : {A C : Type 0} (cost : Cost) (view : A → Head × List (List ℕ)) (ls : List (List ℕ)) (result : Result (LeadingSheet C) Fault)
+    (y e : Fault) → result ≡ Err y → y ≡ e
+    → Gives view (Err e) (head_of_lines cost ls) → GivesLeading cost ls result
 head_fault_given cost view ls result y e is also too = grind (arith, leading-faulty)
 
-pub row_fault_given : (cost : Cost) (ls : List (List ℕ)) (head : Head) (after : List (List ℕ)) (result : Result LeadingSheet SheetError)
-    (y e : SheetError) → HeadIsFound cost ls head after
+pub row_fault_given : {C : Type 0} (cost : Cost) (ls : List (List ℕ)) (head : Head) (after : List (List ℕ)) (result : Result (LeadingSheet C) Fault)
+    (y e : Fault) → HeadIsFound cost ls head after
     → result ≡ Err y → y ≡ e
     → Gives (λ (rows : List (List ℕ)). rows) (Err e) (rows_from (cost_number head.step + 1) MOST_CLASSES (rows_of after)) →
-    GivesLeadingBy cost ls result
+    GivesLeading cost ls result
 row_fault_given cost ls head after result y OutOfMemory found is same given = rw (is, same) tt
 row_fault_given cost ls head after result y (Line number) found is same given =
     rw (is, same) (leading-row_fault cost ls head after found number given)
@@ -132,8 +132,8 @@ pub all_by_leading : (cost : Cost) (ls : List (List ℕ)) →
 unfolding read_by
 all_by_leading cost ls = grind (arith, leading-faulty, head-is_found, rows_from-all, rows_from-length)
 
-pub all_fault_given : (cost : Cost) (ls : List (List ℕ)) (result : Result Held SheetError) (y e : SheetError) → result ≡ Err y → y ≡ e →
-    GivesLeadingBy cost ls (Err e) → Gives sheet_of result (read_by cost ls)
+pub all_fault_given : {C : Type 0} (cost : Cost) (ls : List (List ℕ)) (result : Result (Held C) Fault) (y e : Fault) → result ≡ Err y → y ≡ e →
+    GivesLeading {C = C} cost ls (Err e) → Gives sheet_of result (read_by cost ls)
 all_fault_given cost ls result y e is also too = grind (arith, all_by_leading)
 
 module _ (cost : Cost) (ls : List (List ℕ)) (s : Sheet) (count : ℕ) (after : List ℕ) (is : IsLeadingOf (read_by cost) ls s count after) where

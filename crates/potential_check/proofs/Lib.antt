@@ -1,7 +1,7 @@
 pub mod Appended
+pub mod Conditions
 pub mod EdgeHalves
 pub mod EdgeSides
-pub mod FitLaws
 pub mod HeadLines
 pub mod LawLemmas
 pub mod LeadingLines

@@ -61,7 +61,7 @@ same_sheet s t e = cc
 whole_read : (cost : Cost) (ls after_table after_limit after_step after_cost : List (List ℕ)) (s : Sheet) →
     line_at 1 table_in ls ≡ Ok (s.table, after_table)
     → line_at 2 limit_in after_table ≡ Ok (s.limit, after_limit) → step_at after_limit ≡ Some (s.step, after_step)
-    → line_at (cost_number s.step) (cost_in cost) after_step ≡ Ok (s.waste, after_cost) →
+    → line_at (cost_number s.step) (cost_in cost) after_step ≡ Ok (s.cost, after_cost) →
     rows_from (suc (cost_number s.step)) MOST_CLASSES after_cost ≡ Ok s.rows
     → (ls ≡ lines_by cost s) × IsWithinLimits s
 whole_read cost ls after_table after_limit after_step after_cost s is_table is_limit is_step is_cost is_rows =
@@ -70,11 +70,11 @@ whole_read cost ls after_table after_limit after_step after_cost s is_table is_l
     let second = was_read 2 limit_in after_table after_limit s.limit is_limit in
     let limit = line-limit_in second.line s.limit second.read in
     let step = step_read after_limit after_step s.step is_step in
-    let next = was_read (cost_number s.step) (cost_in cost) after_step after_cost s.waste is_cost in
-    let stated = line-cost_in cost next.line s.waste next.read in
+    let next = was_read (cost_number s.step) (cost_in cost) after_step after_cost s.cost is_cost in
+    let stated = line-cost_in cost next.line s.cost next.read in
     let rows = rows_read after_cost (suc (cost_number s.step)) MOST_CLASSES s.rows is_rows in (
       rw (first.first, table.0, second.first, limit.0, step.0, next.first, stated.0, rows.0) refl,
-      record { table = table.1; limit = (limit.1, limit.2); step = step.1; waste = stated.1; few = rows.1; rows = rows.2 },
+      record { table = table.1; limit = (limit.1, limit.2); step = step.1; cost = stated.1; few = rows.1; rows = rows.2 },
     )
 
 step_was_read : (o : Option (ℕ × List (List ℕ))) (x : ℕ × List (List ℕ)) → ok_or {E = ℕ} o 3 ≡ Ok x → o ≡ Some x

@@ -1,5 +1,5 @@
 -- What is looked at row by row is what a sheet has to meet, and what it meets is the verdict.
-use Rattle.std.proofs.Common.{◌≡◌, ℕ, zero, suc, ◌+◌, ◌-◌, ◌<◌, ◌≤◌, ◌^◌, List, length, slice_index, Some, arith, ap, inl, inr, rules, sym, ◌∙◌, ◌↔◌, All, slice_get, slice_index_or}
+use Rattle.std.proofs.Common.{◌≡◌, ℕ, zero, suc, ◌+◌, ◌-◌, ◌<◌, ◌≤◌, ◌^◌, List, length, slice_index, Some, arith, ap, inl, inr, sym, ◌∙◌, ◌↔◌, All, slice_get, slice_index_or}
 use Rattle.std.specs.List.{AllAdjacentBelow}
 use Rattle.std.proofs.lemmas.Bool.{cases_lt}
 use Rattle.std.proofs.lemmas.List.{get_or_default, get_or_past}
@@ -9,10 +9,9 @@ use Rattle.potential_check.specs.RowConditions.{EdgesHold, IsBoundedRow, StageDr
 use Rattle.potential_check.specs.Certificates.Spanned.{IsSpanned, Spanned}
 use Rattle.tuner_theory.proofs.LawLemmas.{spans_fit}
 use Rattle.tuner_theory.specs.Rows.{number_at}
-use Rattle.tuner_theory.specs.Sheets.{IsVerdict, Meets, MeetsBefore, Sheet}
+use Rattle.tuner_theory.specs.Sheets.{Meets, Sheet}
 use Rattle.tuner_theory.specs.Spans.{places, span_waste}
-use Rattle.tuner_theory.specs.declared.verdict.Refusal.TheVariants.{Shape, LastClass, StageDrop, Edge, NotTight}
-use Rattle.tuner_theory.specs.declared.verdict.Verdict.TheVariants.{Optimal, Refused}
+use Rattle.tuner_theory.specs.declared.verdict.Refusal.TheVariants.{Shape, LastClass, StageDrop, Edge}
 
 -- row k, counted from 1, is the one at m, counted from 0
 number-is : (rows : List (List ℕ)) (k m i : ℕ) (d : List ℕ) → k ≡ m + 1 → m < length rows →
@@ -83,13 +82,3 @@ module _ (s : Sheet) (spans : Spanned) (same : spans.step ≡ s.step) (shape : M
           | inr past ↦ omega (arith, get_or_past (slice_index_or s.rows m d) i 0 past)
         ];
       }
-
--- ---- the last test
-
-module _ (counts : List ℕ) (s : Sheet) (table : MeetsBefore counts s Shape) (shape : Meets counts s Shape) (last : Meets counts s LastClass)
-    (drop : Meets counts s StageDrop) (edge : Meets counts s Edge) where
-  pub refused-last : (Meets counts s NotTight → ⊥) → IsVerdict counts s (Refused NotTight)
-  refused-last = search rules
-
-  pub optimal : Meets counts s NotTight → IsVerdict counts s Optimal
-  optimal = search rules

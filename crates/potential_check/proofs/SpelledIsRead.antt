@@ -37,10 +37,10 @@ lines-full : (cost : Cost) (s : Sheet) → IsWithinLimits s → All IsFullLine (
 lines-full cost s within =
     let table = class_line_is_full s.table within.table in
     let limit = named_line_is_full (codes "limit") (s.limit ∷ []) names.limit (one_small s.limit (omega (arith, within.limit.1))) in
-    let stated = named_line_is_full (word_of cost) (s.waste ∷ []) (names.cost cost) (one_small s.waste within.waste) in
+    let stated = named_line_is_full (word_of cost) (s.cost ∷ []) (names.cost cost) (one_small s.cost within.cost) in
     let rows = map (named_line (codes "row")) s.rows in
-    let after = named_line (word_of cost) (s.waste ∷ []) ∷ rows in
-    let from_cost = All-cons IsFullLine (named_line (word_of cost) (s.waste ∷ [])) rows stated (rows-full s.rows within.rows) in
+    let after = named_line (word_of cost) (s.cost ∷ []) ∷ rows in
+    let from_cost = All-cons IsFullLine (named_line (word_of cost) (s.cost ∷ [])) rows stated (rows-full s.rows within.rows) in
     let from_step = All-append IsFullLine (step_lines s.step) after (step_lines-full s.step within.step) from_cost in
     let from_limit = All-cons IsFullLine (named_line (codes "limit") (s.limit ∷ [])) (step_lines s.step ++ after) limit from_step in
     All-cons IsFullLine (class_line s.table) (named_line (codes "limit") (s.limit ∷ []) ∷ step_lines s.step ++ after) table from_limit
@@ -64,4 +64,4 @@ unfolding read_by head_of_lines
 spelled_is_read cost text s spells =
     let within = spells.limits in
     rw (laws.full_lines (lines_by cost s) text (lines-full cost s within) spells.spelled)
-    (rw (table_in-line s.table within.table, limit_in-line s.limit within.limit, step_at-lines cost s.step s.waste (map (named_line (codes "row")) s.rows) within.step within.waste, cost_in-line cost s.waste within.waste, rows_from-lines s.rows (suc (cost_number s.step)) MOST_CLASSES within.few within.rows) refl)
+    (rw (table_in-line s.table within.table, limit_in-line s.limit within.limit, step_at-lines cost s.step s.cost (map (named_line (codes "row")) s.rows) within.step within.cost, cost_in-line cost s.cost within.cost, rows_from-lines s.rows (suc (cost_number s.step)) MOST_CLASSES within.few within.rows) refl)

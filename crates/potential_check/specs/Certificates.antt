@@ -1,3 +1,2 @@
-pub mod FitView
 pub mod SheetView
 pub mod Spanned

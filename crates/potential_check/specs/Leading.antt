@@ -1,19 +1,16 @@
--- A sheet before other lines, as the checker's input has it before the profile; or a fit, which has the same lines but for a word.
+-- A certificate before other lines, as a checker's input has it before the profile or the history.
 use Rattle.std.specs.Prelude.{◌≡◌, ◌≤◌, ℕ, ◌+◌, Bool, true, List, [], ◌++◌, length, take, drop, codes, slice_index_or, Result, Ok, Err}
 use Rattle.std.specs.List.{take_while}
 use Rattle.line_text.specs.Lines.{lines}
-use Rattle.potential_check.specs.FitText.{fit_of_lines}
-use Rattle.potential_check.specs.Certificates.FitView.{fit_of}
 use Rattle.potential_check.specs.Certificates.SheetView.{sheet_of}
 use Rattle.potential_check.specs.SheetText.{head_line_count, is_named, read_by}
 use Rattle.potential_check.specs.declared.cost.Cost.{Cost}
-use Rattle.potential_check.specs.declared.cost.Cost.TheVariants.{Waste}
-use Rattle.potential_check.specs.declared.fault.FitError.{FitError}
-use Rattle.potential_check.specs.declared.fault.FitError.TheVariants.{OutOfMemory as NoMemory, Line as FitLine}
+use Rattle.potential_check.specs.declared.cost.Cost.TheVariants.{Waste, Footprint}
+use Rattle.potential_check.specs.declared.fault.Fault.{Fault}
+use Rattle.potential_check.specs.declared.fault.Fault.TheVariants.{OutOfMemory, Line}
 use Rattle.potential_check.specs.declared.fault.SheetError.{SheetError}
-use Rattle.potential_check.specs.declared.fault.SheetError.TheVariants.{OutOfMemory, Line}
+use Rattle.potential_check.specs.declared.fault.SheetError.TheVariants.{OutOfMemory as NoMemory, BadSheet, BadFit}
 use Rattle.potential_check.specs.declared.leading_sheet.LeadingSheet.{LeadingSheet}
-use Rattle.potential_check.specs.declared.leading_sheet.LeadingFit.{LeadingFit}
 use Rattle.class_table.specs.declared.table.TheConstants.{MOST_CLASSES}
 
 -- Whether a line's first word is `row`.
@@ -40,18 +37,15 @@ pub record IsLeadingOf {A : Type 0} (reading : List (List ℕ) → Result A ℕ)
   pub few : count ≤ head_line_count true + MOST_CLASSES
   pub after : lines rest ≡ lines_after ls
 
--- What was read of these lines by a cost, in the places of a sheet, unless memory ran out.
-abbrev pub GivesLeadingBy : Cost → List (List ℕ) → Result LeadingSheet SheetError → Type 0
+-- What was read of these lines by a cost, unless memory ran out: with the faults of lines,
+abbrev pub GivesLeading : {C : Type 0} → Cost → List (List ℕ) → Result (LeadingSheet C) Fault → Type 0
+GivesLeading cost ls (Ok leading) = IsLeadingOf (read_by cost) ls (sheet_of leading.sheet) leading.lines leading.rest.now
+GivesLeading cost ls (Err OutOfMemory) = Unit {0}
+GivesLeading cost ls (Err (Line number)) = read_by cost (leading_lines ls) ≡ Err number
+
+-- and with the errors of the cost.
+abbrev pub GivesLeadingBy : {C : Type 0} → Cost → List (List ℕ) → Result (LeadingSheet C) SheetError → Type 0
 GivesLeadingBy cost ls (Ok leading) = IsLeadingOf (read_by cost) ls (sheet_of leading.sheet) leading.lines leading.rest.now
-GivesLeadingBy cost ls (Err OutOfMemory) = Unit {0}
-GivesLeadingBy cost ls (Err (Line number)) = read_by cost (leading_lines ls) ≡ Err number
-
--- The sheet that was read,
-abbrev pub GivesLeading : List (List ℕ) → Result LeadingSheet SheetError → Type 0
-GivesLeading ls result = GivesLeadingBy Waste ls result
-
--- or the fit.
-abbrev pub GivesLeadingFit : List (List ℕ) → Result LeadingFit FitError → Type 0
-GivesLeadingFit ls (Ok leading) = IsLeadingOf fit_of_lines ls (fit_of leading.fit) leading.lines leading.rest.now
-GivesLeadingFit ls (Err NoMemory) = Unit {0}
-GivesLeadingFit ls (Err (FitLine number)) = fit_of_lines (leading_lines ls) ≡ Err number
+GivesLeadingBy cost ls (Err NoMemory) = Unit {0}
+GivesLeadingBy cost ls (Err (BadSheet number)) = (cost ≡ Waste) × (read_by cost (leading_lines ls) ≡ Err number)
+GivesLeadingBy cost ls (Err (BadFit number)) = (cost ≡ Footprint) × (read_by cost (leading_lines ls) ≡ Err number)

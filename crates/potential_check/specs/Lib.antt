@@ -1,7 +1,6 @@
-pub mod FitText
 pub mod RowConditions
 pub mod Leading
-pub mod PartsText
+pub mod Measured
 pub mod SheetOnCounts
 pub mod SheetText
 pub mod Spaced

@@ -1,5 +1,5 @@
 -- A sheet's text: a class line, `limit K`, `step S` where the step is not 1, `waste W`, and a line `row ..` for each row.
--- All but the word `waste` is a fit's text too, so what is below names the cost, and a sheet is the instance of the waste.
+-- A fit has `footprint F` in place of `waste W`. What is below names the cost.
 use Rattle.std.specs.Prelude.{◌≡◌, ℕ, zero, suc, ◌<◌, ◌≤◌, ◌^◌, Bool, ◌||◌, ◌&&◌, not, List, [], ◌∷◌, ◌++◌, length, map, All, codes, Option, Some, None, is_some, option_and_then, Result, Ok, Err, nat_lt, nat_le, ◌==◌, if◌then◌else◌}
 use Rattle.std.specs.List.{list_all}
 use Rattle.std.specs.Option.{ok_or, option_map}
@@ -12,8 +12,10 @@ use Rattle.class_table.specs.Tables.{IsLegalTable}
 use Rattle.line_text.specs.Lines.{IsTextOf, lines, words, text_of}
 use Rattle.potential_check.specs.declared.cost.Cost.{Cost}
 use Rattle.potential_check.specs.declared.cost.Cost.TheVariants.{Waste, Footprint}
+use Rattle.potential_check.specs.declared.fault.Fault.{Fault}
+use Rattle.potential_check.specs.declared.fault.Fault.TheVariants.{OutOfMemory, Line}
 use Rattle.potential_check.specs.declared.fault.SheetError.{SheetError}
-use Rattle.potential_check.specs.declared.fault.SheetError.TheVariants.{OutOfMemory, Line}
+use Rattle.potential_check.specs.declared.fault.SheetError.TheVariants.{OutOfMemory as NoMemory, BadSheet, BadFit}
 use Rattle.potential_check.specs.declared.reading.Head.{Head}
 use Rattle.tuner_theory.specs.Sheets.{Sheet}
 use Rattle.class_table.specs.declared.sizes.TheConstants.{MOST_NEEDS}
@@ -30,17 +32,26 @@ word_of Footprint = codes "footprint"
 abbrev pub step_lines : ℕ → List (List ℕ)
 step_lines step = if step == 1 then [] else named_line (codes "step") (step ∷ []) ∷ []
 
--- The lines of a table with its certificate by a cost, which the sheet's waste stands for.
+-- The lines before the rows.
+abbrev pub head_lines : Cost → Sheet → List (List ℕ)
+head_lines cost s =
+    class_line s.table ∷ named_line (codes "limit") (s.limit ∷ []) ∷ step_lines s.step ++ named_line (word_of cost) (s.cost ∷ []) ∷ []
+
+-- The lines of a table with its certificate by a cost, the waste or the footprint.
 abbrev pub lines_by : Cost → Sheet → List (List ℕ)
 lines_by cost s =
     class_line s.table ∷ named_line (codes "limit") (s.limit ∷ []) ∷ step_lines s.step
-    ++ named_line (word_of cost) (s.waste ∷ []) ∷ map (named_line (codes "row")) s.rows
+    ++ named_line (word_of cost) (s.cost ∷ []) ∷ map (named_line (codes "row")) s.rows
 
 abbrev pub text_by : Cost → Sheet → List ℕ
 text_by cost s = text_of (lines_by cost s)
 
+-- The text of a sheet, and of a fit.
 abbrev pub sheet_text : Sheet → List ℕ
 sheet_text s = text_by Waste s
+
+abbrev pub fit_text : Sheet → List ℕ
+fit_text f = text_by Footprint f
 
 -- ---- the limits of the format
 
@@ -52,7 +63,7 @@ pub record IsWithinLimits (s : Sheet) : Type 0 where
   pub table : IsLegalTable 1 s.table
   pub limit : (1 ≤ s.limit) × (s.limit ≤ MOST_CLASSES)
   pub step : IsStep s.step
-  pub waste : s.waste < 2 ^ 64
+  pub cost : s.cost < 2 ^ 64
   pub few : length s.rows ≤ MOST_CLASSES
   pub rows : All IsRow s.rows
 
@@ -63,6 +74,9 @@ pub record SpellsBy (cost : Cost) (text : List ℕ) (s : Sheet) : Type 0 where
 
 abbrev pub SpellsSheet : List ℕ → Sheet → Type 0
 SpellsSheet text s = SpellsBy Waste text s
+
+abbrev pub SpellsFit : List ℕ → Sheet → Type 0
+SpellsFit text f = SpellsBy Footprint text f
 
 -- ---- reading a line
 
@@ -169,7 +183,7 @@ head_of_lines cost ls = do
   Ok (record { table = table; limit = limit; step = step; cost = stated }, ls)
 
 abbrev pub with_rows : Head → List (List ℕ) → Sheet
-with_rows head rows = record { table = head.table; limit = head.limit; step = head.step; waste = head.cost; rows = rows }
+with_rows head rows = record { table = head.table; limit = head.limit; step = head.step; cost = head.cost; rows = rows }
 
 unfoldable pub read_by : Cost → List (List ℕ) → Result Sheet ℕ
 read_by cost ls = do
@@ -180,12 +194,28 @@ read_by cost ls = do
 abbrev pub sheet_of_lines : List (List ℕ) → Result Sheet ℕ
 sheet_of_lines ls = read_by Waste ls
 
--- The sheet that a text spells, or the number of its first faulty line.
-abbrev pub sheet_in : List ℕ → Result Sheet ℕ
-sheet_in text = sheet_of_lines (lines text)
+abbrev pub fit_of_lines : List (List ℕ) → Result Sheet ℕ
+fit_of_lines ls = read_by Footprint ls
+
+-- What is read of a text, or the number of its first faulty line.
+abbrev pub read_in : Cost → List ℕ → Result Sheet ℕ
+read_in cost text = read_by cost (lines text)
 
 -- What a reader returned is what the definition says, unless memory ran out.
-abbrev pub Gives : {A B : Type 0} → (A → B) → Result A SheetError → Result B ℕ → Type 0
+abbrev pub Gives : {A B : Type 0} → (A → B) → Result A Fault → Result B ℕ → Type 0
 Gives view (Ok x) read = read ≡ Ok (view x)
 Gives view (Err OutOfMemory) read = Unit {0}
 Gives view (Err (Line number)) read = read ≡ Err number
+
+-- A fault as the error for a certificate of a cost.
+abbrev pub error_by : Cost → Fault → SheetError
+error_by cost OutOfMemory = NoMemory
+error_by Waste (Line number) = BadSheet number
+error_by Footprint (Line number) = BadFit number
+
+-- What a reader of a cost returned is what the definition says, unless memory ran out.
+abbrev pub GivesBy : {A B : Type 0} → Cost → (A → B) → Result A SheetError → Result B ℕ → Type 0
+GivesBy cost view (Ok x) read = read ≡ Ok (view x)
+GivesBy cost view (Err NoMemory) read = Unit {0}
+GivesBy cost view (Err (BadSheet number)) read = (cost ≡ Waste) × (read ≡ Err number)
+GivesBy cost view (Err (BadFit number)) read = (cost ≡ Footprint) × (read ≡ Err number)

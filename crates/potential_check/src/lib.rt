@@ -10,21 +10,24 @@ mod fault;
 mod footprints;
 pub mod laws;
 mod leading_sheet;
+mod measured;
+mod on_profile;
 mod reading;
 mod row_conditions;
 mod sheet_line;
 mod sheet_on_spans;
 mod writing;
 
-pub use certificates::{Fit, Rows, Sheet, Spans, number_in_row};
-pub use checker::check;
-pub use fault::{FitError, SheetError};
+pub use certificates::{Certificate, Fit, Rows, Sheet, Spans, number_in_row};
+pub use cost::{Cost, CostKind, OfFootprint, OfWaste};
+pub use fault::SheetError;
 pub use footprints::{
-    BLOCK, HistorySpans, MOMENTS, OverRefusal, OverVerdict, RowTests, SpanCosts, WHOLE_SLACK,
-    check_fit, check_over, history_over, lower_slack, moments_in, names_moments, no_bounds,
-    test_rows,
+    BLOCK, HistorySpans, MOMENTS, OverRefusal, OverVerdict, SpanCosts, WHOLE_SLACK, check_fit,
+    check_over, history_over, lower_slack, moments_in, names_moments, no_bounds, test_rows,
 };
-pub use leading_sheet::{LeadingFit, LeadingSheet};
-pub use reading::{read_fit, read_leading_fit, read_leading_sheet, read_sheet};
+pub use leading_sheet::LeadingSheet;
+pub use measured::RowTests;
+pub use on_profile::check;
+pub use reading::{read_leading_sheet, read_sheet};
 pub use tuner_theory::{Refusal, Verdict};
-pub use writing::{ROW_BYTES, append_line, append_table, write_fit, write_row, write_sheet};
+pub use writing::{ROW_BYTES, append_line, append_table, write_row, write_sheet};

@@ -1,4 +1,4 @@
-//! What each line of a sheet or a fit spells.
+//! What each line of a certificate spells.
 ghost use Rattle.std.specs.Prelude.{◌≡◌, IfOk};
 ghost use Rattle.std.specs.Option.{option_map};
 ghost use Rattle.line_text.specs.Lines.{words};

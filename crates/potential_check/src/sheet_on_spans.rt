@@ -1,17 +1,17 @@
-//! A sheet with the spans of its profile, and the order in which its rows are tested.
-ghost use Rattle.std.specs.Prelude.{◌≡◌, ◌↔◌, All, length, IfNone, IfSome, IsTrue};
+//! A sheet with the spans of its profile, and the tests of its rows.
+ghost use Rattle.std.specs.Prelude.{◌≡◌, ◌↔◌, All, length, IsTrue};
 ghost use Rattle.std.specs.List.{AllAdjacentBelow};
 ghost use Rattle.potential_check.specs.RowConditions.{EdgesHold, IsBoundedRow, StageDropHolds};
 ghost use Rattle.potential_check.specs.Certificates.SheetView.{sheet_of};
-ghost use Rattle.tuner_theory.specs.Sheets.{IsVerdict, Meets, MeetsBefore};
-ghost use Rattle.tuner_theory.specs.Spans.{places};
-ghost use Rattle.tuner_theory.specs.declared.verdict.Refusal.TheVariants.{Edge, LastClass, NotTight, Shape, StageDrop};
-ghost use Rattle.tuner_theory.specs.declared.verdict.Verdict.TheVariants.{Optimal, Refused};
+ghost use Rattle.potential_check.specs.Measured.{AreTestsOf};
+ghost use Rattle.tuner_theory.specs.Measures.{waste_on};
+ghost use Rattle.tuner_theory.specs.Sheets.{Meets};
+ghost use Rattle.tuner_theory.specs.declared.verdict.Refusal.TheVariants.{Edge, LastClass, Shape, StageDrop};
 
 use crate::certificates::{Rows, Sheet, Spans};
+use crate::measured::RowTests;
 use crate::row_conditions::{edges_hold, last_class_holds, stage_drop_holds};
 use std::marker::Model;
-use tuner_theory::Refusal;
 
 /// A sheet with the spans of its profile, at the sheet's step.
 #[derive(Drop)]
@@ -41,36 +41,19 @@ impl<'a> SheetOnSpans<'a> {
         SheetOnSpans { spans, sheet }
     }
 
-    /// The first refusal for the rows. There must be none for the table.
-    pub(crate) fn refusal(&self) -> Option<Refusal>
-        requires { MeetsBefore self.now.counts self.now.sheet Shape }
-        ensures refused { IfSome result (λ refusal. IsVerdict self.now.counts self.now.sheet (Refused refusal)) }
-        ensures none { IfNone result (IsVerdict self.now.counts self.now.sheet Optimal) }
+    /// The tests of the rows, which must have their shape. The edges are looked at only where the other tests pass.
+    pub(crate) fn tests(&self) -> RowTests
+        requires { Meets self.now.counts self.now.sheet Shape }
+        ensures { AreTestsOf (waste_on self.now.counts) self.now.sheet result }
     {
-        if !self.has_shape() {
-            return Some(Refusal::Shape);
+        let last_class = self.meets_last_class();
+        let stage_drop = self.meets_stage_drop();
+        let edge = last_class && stage_drop && self.meets_edge();
+        RowTests {
+            last_class,
+            stage_drop,
+            edge,
         }
-        if !self.meets_last_class() {
-            return Some(Refusal::LastClass);
-        }
-        if !self.meets_stage_drop() {
-            return Some(Refusal::StageDrop);
-        }
-        if !self.meets_edge() {
-            return Some(Refusal::Edge);
-        }
-        if !self.bound_is_waste() {
-            return Some(Refusal::NotTight);
-        }
-        None
-    }
-
-    // whether there is a row for each number of classes up to the limit, with a number for each place
-    fn has_shape(&self) -> bool
-        ensures { IsTrue result ↔ Meets self.now.counts self.now.sheet Shape }
-    {
-        let rows = &self.sheet.rows;
-        rows.len() == usize::from(self.sheet.limit) && have_length(rows, self.spans.places())
     }
 
     // whether no number of row 1 is above the waste of one class
@@ -99,32 +82,6 @@ impl<'a> SheetOnSpans<'a> {
     {
         all_edges_hold(self.spans, &self.sheet.rows)
     }
-
-    // whether the bound that the rows give, the first number of the last row, is the sheet's waste
-    fn bound_is_waste(&self) -> bool
-        requires { Meets self.now.counts self.now.sheet Shape }
-        ensures { IsTrue result ↔ Meets self.now.counts self.now.sheet NotTight }
-    {
-        let rows = &self.sheet.rows;
-        let bound = if rows.is_empty() {
-            0
-        } else {
-            rows.number(rows.len(), 0)
-        };
-        bound == self.sheet.waste
-    }
-}
-
-// whether each row has this many numbers
-fn have_length(rows: &Rows, len: usize) -> bool
-    ensures { IsTrue result ↔ All (λ row. length row ≡ len) rows.now }
-{
-    for index in 0..rows.len() {
-        if rows.row(index).len() != len {
-            return false;
-        }
-    }
-    true
 }
 
 // whether no number of a later row is more than the one at its place in the row before

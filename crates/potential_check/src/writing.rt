@@ -1,18 +1,15 @@
-//! The texts of sheets and fits.
+//! The texts of certificates.
 ghost use Rattle.std.specs.Prelude.{◌≡◌, ◌+◌, ◌*◌, ◌<◌, ◌≤◌, [], ◌∷◌, ◌++◌, codes, length, map, vec_capacity, vec_len, IsOk, OnOk, OnErr};
 ghost use Rattle.line_text.specs.Lines.{ended, text_of};
 ghost use Rattle.class_table.specs.ClassLine.{class_line};
 ghost use Rattle.line_text.specs.Prefixes.{IsPrefix};
-ghost use Rattle.potential_check.specs.FitText.{fit_text};
-ghost use Rattle.potential_check.specs.Certificates.FitView.{fit_of};
-ghost use Rattle.potential_check.specs.PartsText.{head_lines, text_of_parts};
 ghost use Rattle.potential_check.specs.Certificates.SheetView.{sheet_of};
 ghost use Rattle.class_table.specs.NamedLines.{named_line};
-ghost use Rattle.potential_check.specs.SheetText.{sheet_text, step_lines};
+ghost use Rattle.potential_check.specs.SheetText.{head_lines, step_lines, text_by};
 ghost use Rattle.potential_check.specs.Spaced.{spaced};
 
-use crate::certificates::{Fit, Rows, Sheet};
-use crate::cost::Cost;
+use crate::certificates::{Certificate, Rows};
+use crate::cost::{Cost, CostKind};
 use crate::sheet_line::{LIMIT, ROW, STEP};
 use arrayvec::ArrayVec;
 use class_table::{ClassTable, LINE_BYTES, MOST_NEEDS};
@@ -30,41 +27,21 @@ const TOGETHER_BYTES: usize = TOGETHER * NUMBER_BYTES;
 /// The most bytes that the line of a row has: its name, a number for each need that there may be, and the newline.
 pub const ROW_BYTES: usize = 4 + MOST_NEEDS * NUMBER_BYTES;
 
-/// Appends the text of a sheet: its class line, `limit K`, `step S` unless the step is 1, `waste W`, and a line `row ..` for each row.
-/// Each line has its newline. If memory runs out, `text` is unchanged.
-pub fn write_sheet(sheet: &Sheet, text: &mut Vec<u8>) -> Result<(), AllocError>
-    ensures written { OnOk result (text.new.items ≡ text.old.items ++ sheet_text (sheet_of sheet.now)) }
+/// Appends the text of a certificate: its class line, `limit K`, `step S` unless the step is 1, `waste W` or `footprint F` by its cost, and a
+/// line `row ..` for each row. Each line has its newline. If memory runs out, `text` is unchanged.
+pub fn write_sheet<C: CostKind>(
+    sheet: &Certificate<C>,
+    text: &mut Vec<u8>,
+) -> Result<(), AllocError>
+    ensures written { OnOk result (text.new.items ≡ text.old.items ++ text_by C.kind (sheet_of sheet.now)) }
     ensures refused { OnErr result (text.new.items ≡ text.old.items) }
 {
-    write_parts(
-        text,
-        &Parts {
-            cost: Cost::Waste,
-            table: &sheet.table,
-            limit: sheet.limit,
-            step: sheet.step,
-            stated: sheet.waste,
-            rows: &sheet.rows,
-        },
-    )
-}
-
-/// Appends the text of a fit: that of a sheet with the line `footprint F` in place of `waste W`. If memory runs out, `text` is unchanged.
-pub fn write_fit(fit: &Fit, text: &mut Vec<u8>) -> Result<(), AllocError>
-    ensures written { OnOk result (text.new.items ≡ text.old.items ++ fit_text (fit_of fit.now)) }
-    ensures refused { OnErr result (text.new.items ≡ text.old.items) }
-{
-    write_parts(
-        text,
-        &Parts {
-            cost: Cost::Footprint,
-            table: &fit.table,
-            limit: fit.limit,
-            step: fit.step,
-            stated: fit.footprint,
-            rows: &fit.rows,
-        },
-    )
+    let before = text.len();
+    let written = append_sheet(text, sheet);
+    if written.is_err() {
+        text.truncate(before);
+    }
+    written
 }
 
 /// Appends the line of a row, with its newline, to a text that has room for it. So it takes no memory.
@@ -77,46 +54,22 @@ pub fn write_row(row: &[u64], text: &mut Vec<u8>)
     let _appended = append_line(text, ROW, row);
 }
 
-// what is written, a sheet or a fit by its cost
-#[derive(Drop)]
-struct Parts<'a> {
-    cost: Cost,
-    table: &'a ClassTable,
-    limit: u8,
-    step: u8,
-    stated: u64,
-    rows: &'a Rows,
-}
-
-// all of it or nothing
-fn write_parts(text: &mut Vec<u8>, parts: &Parts<'_>) -> Result<(), AllocError>
-    ensures written { OnOk result (text.new.items ≡ text.old.items ++ text_of_parts parts.now) }
-    ensures refused { OnErr result (text.new.items ≡ text.old.items) }
-{
-    let before = text.len();
-    let written = append_parts(text, parts);
-    if written.is_err() {
-        text.truncate(before);
-    }
-    written
-}
-
-fn append_parts(text: &mut Vec<u8>, parts: &Parts<'_>) -> Result<(), AllocError>
-    ensures written { OnOk result (text.new.items ≡ text.old.items ++ text_of_parts parts.now) }
+fn append_sheet<C: CostKind>(text: &mut Vec<u8>, sheet: &Certificate<C>) -> Result<(), AllocError>
+    ensures written { OnOk result (text.new.items ≡ text.old.items ++ text_by C.kind (sheet_of sheet.now)) }
     ensures kept { IsPrefix text.old.items text.new.items }
 {
-    append_head(text, parts)?;
-    append_rows(text, parts.rows)
+    append_head(C::kind(), text, sheet)?;
+    append_rows(text, &sheet.rows)
 }
 
 // the lines before the rows
-fn append_head(text: &mut Vec<u8>, parts: &Parts<'_>) -> Result<(), AllocError>
-    ensures written { OnOk result (text.new.items ≡ text.old.items ++ text_of (head_lines parts.now)) }
+fn append_head<C>(cost: Cost, text: &mut Vec<u8>, sheet: &Certificate<C>) -> Result<(), AllocError>
+    ensures written { OnOk result (text.new.items ≡ text.old.items ++ text_of (head_lines cost (sheet_of sheet.now))) }
     ensures kept { IsPrefix text.old.items text.new.items }
 {
-    append_table(text, parts.table)?;
-    append_limits(text, parts.limit, parts.step)?;
-    append_line(text, parts.cost.word(), &[parts.stated])
+    append_table(text, &sheet.table)?;
+    append_limits(text, sheet.limit, sheet.step)?;
+    append_line(text, cost.word(), &[sheet.cost])
 }
 
 // the line of the limit, and that of the step unless it is 1

@@ -12,11 +12,12 @@ use Rattle.class_table.specs.Tables.{IsLegalTable}
 use Rattle.class_table.specs.declared.sizes.TheConstants.{LARGEST_CLASS}
 use Rattle.class_table.proofs.LawLemmas.{AreClassesAbove, classes_of_legal_table}
 use Rattle.tuner_theory.specs.Best.{IsCandidate, IsCanonical, IsCanonicalBy}
-use Rattle.tuner_theory.specs.Fits.{Fit, IsFitVerdict, sheet_of_fit}
 use Rattle.tuner_theory.specs.Footprint.{IsFitted, IsLeastFootprint, blocks, blocks_between, footprint_between, footprint_of, span_footprint}
 use Rattle.tuner_theory.specs.Histories.{AreSnapshots, most, peaks}
 use Rattle.tuner_theory.specs.Intervals.{cost_above}
+use Rattle.tuner_theory.specs.Measures.{footprint_on}
 use Rattle.tuner_theory.specs.Profiles.{AreCounts, greatest_count}
+use Rattle.tuner_theory.specs.Sheets.{IsFitVerdict, Sheet}
 use Rattle.tuner_theory.specs.Spans.{need_at, places, rounded_need, waste_between}
 use Rattle.tuner_theory.specs.Waste.{Serves, sum_below, waste_of}
 use Rattle.tuner_theory.specs.declared.verdict.Verdict.TheVariants.{Optimal}
@@ -29,11 +30,10 @@ use Rattle.tuner_theory.proofs.Sums.{sum_at_most, sum_balance, sum_bounded, sum_
 use Rattle.tuner_theory.proofs.Tables.{ServesAbove, ServesAbove-later, waste-sum}
 
 -- A fit that meets all conditions, and whose table is legal, has a table of least footprint, whoever wrote it.
-pub optimal_fit_is_least : (snapshots : List (List ℕ)) (fit : Fit) → AreSnapshots snapshots → IsLegalTable 1 fit.table
+pub optimal_fit_is_least : (snapshots : List (List ℕ)) (fit : Sheet) → AreSnapshots snapshots → IsLegalTable 1 fit.table
     → IsFitVerdict snapshots fit Optimal → IsLeastFootprint snapshots fit.step fit.limit fit.table
 optimal_fit_is_least snapshots fit are legal meets =
-    optimal-best_by _ (footprint_between snapshots) (peaks snapshots) (sheet_of_fit fit) (λ step pos. footprint_is_sum snapshots step pos are)
-    legal meets
+    optimal-best_by (footprint_on snapshots) fit (λ step pos. footprint_is_sum snapshots step pos are) legal meets
 
 -- ---- how large numbers are
 

@@ -69,8 +69,3 @@ tuned_rows_are_rests counts step limit rows ends tuned k i =
     rows_are_rests (waste_between counts step) counts step limit (waste-cost counts step) rows ends tuned
     (waste_of (counts_above counts step i)) (counts_above counts step i) i
     (waste-rest counts step (step-positive step tuned.is_step) i) k
-
--- and a least rest is one number
-pub one_rest : (cost : List ℕ → ℕ) (counts : List ℕ) (step k v w : ℕ) → IsRestBy cost counts step k v → IsRestBy cost counts step k w → v ≡ w
-one_rest cost counts step k v w a b =
-    omega (arith, a.costs, b.costs, a.best.least b.table b.best.candidate, b.best.least a.table a.best.candidate)

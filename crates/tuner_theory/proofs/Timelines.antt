@@ -8,10 +8,10 @@ use Rattle.std.proofs.Math.Nat.{mul-le-mul_left}
 use Rattle.class_table.specs.Sizes.{largest_counted}
 use Rattle.class_table.specs.Tables.{IsLegalTable}
 use Rattle.tuner_theory.specs.Best.{IsCandidate}
-use Rattle.tuner_theory.specs.Fits.{Fit, IsFitVerdict}
 use Rattle.tuner_theory.specs.Footprint.{blocks, footprint_of}
 use Rattle.tuner_theory.specs.Histories.{AreSnapshots, most, peaks}
 use Rattle.tuner_theory.specs.Profiles.{AreCounts, IsCounted}
+use Rattle.tuner_theory.specs.Sheets.{IsFitVerdict, Sheet}
 use Rattle.tuner_theory.specs.Timelines.{AreMoments, IsLeastOver, IsTimeline, footprint_over, freed, history_at, is_request, moments, requested, snapshot_at}
 use Rattle.tuner_theory.specs.Waste.{Serves}
 use Rattle.tuner_theory.specs.declared.size_event.SizeEvent.{SizeEvent}
@@ -113,12 +113,12 @@ candidate-before events numbers step limit classes are candidate = record {
 
 -- ---- fits
 
-pub fit_bounds_timeline : (events : List SizeEvent) (numbers : List ℕ) (fit : Fit) (other : List ℕ) → IsTimeline events
+pub fit_bounds_timeline : (events : List SizeEvent) (numbers : List ℕ) (fit : Sheet) (other : List ℕ) → IsTimeline events
     → AreMoments events numbers → IsLegalTable 1 fit.table → IsFitVerdict (history_at events numbers) fit Optimal
-    → IsCandidate (peaks (moments events)) fit.step fit.limit other → fit.footprint ≤ footprint_over events other
+    → IsCandidate (peaks (moments events)) fit.step fit.limit other → fit.cost ≤ footprint_over events other
 fit_bounds_timeline events numbers fit other timeline are legal meets candidate =
     let best = optimal_fit_is_least (history_at events numbers) fit (moments_are_snapshots events numbers timeline are) legal meets in
-    let says : fit.footprint ≡ footprint_of (history_at events numbers) fit.table = meets WasteWrong in
+    let says : fit.cost ≡ footprint_of (history_at events numbers) fit.table = meets WasteWrong in
     omega (
       arith,
       says,
@@ -126,9 +126,9 @@ fit_bounds_timeline events numbers fit other timeline are legal meets candidate 
       some_moments_take_less events numbers other are,
     )
 
-pub least_over_timeline : (events : List SizeEvent) (numbers : List ℕ) (fit : Fit) → IsTimeline events → AreMoments events numbers
+pub least_over_timeline : (events : List SizeEvent) (numbers : List ℕ) (fit : Sheet) → IsTimeline events → AreMoments events numbers
     → IsLegalTable 1 fit.table → IsFitVerdict (history_at events numbers) fit Optimal → Serves (peaks (moments events)) fit.table
-    → footprint_over events fit.table ≡ fit.footprint → IsLeastOver events fit.step fit.limit fit.table
+    → footprint_over events fit.table ≡ fit.cost → IsLeastOver events fit.step fit.limit fit.table
 least_over_timeline events numbers fit timeline are legal meets serving same =
     let best = optimal_fit_is_least (history_at events numbers) fit (moments_are_snapshots events numbers timeline are) legal meets in
     record {

@@ -1,10 +1,10 @@
 pub mod Best
-pub mod Fits
 pub mod Footprint
 pub mod Growing
 pub mod Histories
 pub mod Intervals
 pub mod Lists
+pub mod Measures
 pub mod Potentials
 pub mod Profiles
 pub mod Rests

@@ -2,41 +2,42 @@
 use Rattle.std.specs.Prelude.{◌≡◌, ℕ, ◌<◌, ◌≤◌, List, length}
 use Rattle.class_table.specs.Tables.{FitsStep}
 use Rattle.tuner_theory.specs.Intervals.{span_cost}
+use Rattle.tuner_theory.specs.Measures.{Measure, footprint_on, waste_on}
 use Rattle.tuner_theory.specs.Potentials.{KeepsEdges, KeepsLastClass, KeepsStageDrops}
 use Rattle.tuner_theory.specs.Rows.{HasShape, number_at}
-use Rattle.tuner_theory.specs.Spans.{places, waste_between}
+use Rattle.tuner_theory.specs.Spans.{places}
 use Rattle.class_table.specs.Steps.{IsStep}
-use Rattle.tuner_theory.specs.Waste.{Serves, waste_of}
+use Rattle.tuner_theory.specs.Waste.{Serves}
 use Rattle.tuner_theory.specs.declared.verdict.Refusal.{Refusal}
 use Rattle.tuner_theory.specs.declared.verdict.Refusal.TheVariants.{OffStep, OverLimit, NotServing, WasteWrong, Shape, LastClass, StageDrop, Edge, NotTight}
 use Rattle.tuner_theory.specs.declared.verdict.Verdict.{Verdict}
 use Rattle.tuner_theory.specs.declared.verdict.Verdict.TheVariants.{Optimal, Refused}
 
--- A class table with its certificate.
+-- A class table with the certificate of its cost: its waste on a profile, or its footprint over a history.
 pub record Sheet : Type 0 where
   pub table : List ℕ
   pub limit : ℕ
   pub step : ℕ
-  pub waste : ℕ
+  pub cost : ℕ
   pub rows : List (List ℕ)
 
--- What a sheet has to meet for a cost of tables, by the refusal that it gets otherwise. `between step low high` is what the class `high`
--- costs for the needs above `low` up to its own. The sheet's `waste` is what it says of the cost of its table.
-abbrev pub MeetsBy : (List ℕ → ℕ) → (ℕ → ℕ → ℕ → ℕ) → List ℕ → Sheet → Refusal → Type 0
-MeetsBy cost between counts s OffStep = IsStep s.step × FitsStep s.step s.table
-MeetsBy cost between counts s OverLimit = length s.table ≤ s.limit
-MeetsBy cost between counts s NotServing = Serves counts s.table
-MeetsBy cost between counts s WasteWrong = s.waste ≡ cost s.table
-MeetsBy cost between counts s Shape = HasShape s.rows s.limit (places counts s.step)
-MeetsBy cost between counts s LastClass =
-    KeepsLastClass (span_cost (between s.step) counts s.step) (places counts s.step) (number_at s.rows)
-MeetsBy cost between counts s StageDrop = KeepsStageDrops (places counts s.step) s.limit (number_at s.rows)
-MeetsBy cost between counts s Edge = KeepsEdges (span_cost (between s.step) counts s.step) (places counts s.step) s.limit (number_at s.rows)
-MeetsBy cost between counts s NotTight = number_at s.rows s.limit 0 ≡ s.waste
+-- What a sheet has to meet by a measure, by the refusal that it gets otherwise. Its `cost` is what it says of the cost of its table.
+abbrev pub MeetsOn : Measure → Sheet → Refusal → Type 0
+MeetsOn m s OffStep = IsStep s.step × FitsStep s.step s.table
+MeetsOn m s OverLimit = length s.table ≤ s.limit
+MeetsOn m s NotServing = Serves m.counts s.table
+MeetsOn m s WasteWrong = s.cost ≡ m.cost s.table
+MeetsOn m s Shape = HasShape s.rows s.limit (places m.counts s.step)
+MeetsOn m s LastClass =
+    KeepsLastClass (span_cost (m.between s.step) m.counts s.step) (places m.counts s.step) (number_at s.rows)
+MeetsOn m s StageDrop = KeepsStageDrops (places m.counts s.step) s.limit (number_at s.rows)
+MeetsOn m s Edge =
+    KeepsEdges (span_cost (m.between s.step) m.counts s.step) (places m.counts s.step) s.limit (number_at s.rows)
+MeetsOn m s NotTight = number_at s.rows s.limit 0 ≡ s.cost
 
 -- What a sheet has to meet for the counts of a profile: the cost is the waste.
 abbrev pub Meets : List ℕ → Sheet → Refusal → Type 0
-Meets counts s refusal = MeetsBy (waste_of counts) (waste_between counts) counts s refusal
+Meets counts s refusal = MeetsOn (waste_on counts) s refusal
 
 -- The code of a refusal. What has the lesser code is looked at first. The text of a refusal begins with it (`code-shown`).
 abbrev pub code_of : Refusal → ℕ
@@ -54,15 +55,19 @@ code_of NotTight = 47
 abbrev pub AreMetBefore : (Refusal → Type 0) → Refusal → Type 0
 AreMetBefore meets refusal = (earlier : Refusal) → code_of earlier < code_of refusal → meets earlier
 
--- The sheet meets all conditions before this one.
-abbrev pub MeetsBefore : List ℕ → Sheet → Refusal → Type 0
-MeetsBefore counts s refusal = AreMetBefore (Meets counts s) refusal
-
 -- The verdict by some conditions: what meets them all is optimal; another is refused by the least code of what it does not meet.
 abbrev pub IsVerdictBy : (Refusal → Type 0) → Verdict → Type 0
 IsVerdictBy meets Optimal = (refusal : Refusal) → meets refusal
 IsVerdictBy meets (Refused refusal) = AreMetBefore meets refusal × (meets refusal → ⊥)
 
--- The verdict on a sheet.
+-- The verdict on a sheet by a measure;
+abbrev pub IsVerdictOn : Measure → Sheet → Verdict → Type 0
+IsVerdictOn m s verdict = IsVerdictBy (MeetsOn m s) verdict
+
+-- for the counts of a profile;
 abbrev pub IsVerdict : List ℕ → Sheet → Verdict → Type 0
-IsVerdict counts s verdict = IsVerdictBy (Meets counts s) verdict
+IsVerdict counts s verdict = IsVerdictOn (waste_on counts) s verdict
+
+-- and on a fit, which is a sheet of the footprint, for the snapshots of a history.
+abbrev pub IsFitVerdict : List (List ℕ) → Sheet → Verdict → Type 0
+IsFitVerdict snapshots fit verdict = IsVerdictOn (footprint_on snapshots) fit verdict

@@ -5,16 +5,16 @@ ghost use Rattle.class_table.specs.Sizes.{granule_bytes};
 ghost use Rattle.class_table.specs.Steps.{IsStep};
 ghost use Rattle.class_table.specs.Tables.{IsLegalTable};
 ghost use Rattle.tuner_theory.specs.Best.{IsCanonical};
-ghost use Rattle.tuner_theory.specs.Fits.{Fit, IsFitVerdict};
 ghost use Rattle.tuner_theory.specs.Footprint.{IsFitted, IsLeastFootprint, footprint_of};
 ghost use Rattle.tuner_theory.specs.Histories.{AreSnapshots};
 ghost use Rattle.tuner_theory.specs.Profiles.{AreCounts};
+ghost use Rattle.tuner_theory.specs.Sheets.{IsFitVerdict, Sheet};
 ghost use Rattle.tuner_theory.specs.Waste.{Serves, sum_below, waste_of};
 ghost use Rattle.tuner_theory.specs.declared.verdict.Verdict.TheVariants.{Optimal};
 
 /// A fit that meets all conditions, and whose table is legal, has a table of least footprint, whoever wrote it.
 pub fn law_optimal_fit_is_least()
-    ensures { (snapshots : List (List ℕ)) (fit : Fit) → AreSnapshots snapshots → IsLegalTable 1 fit.table
+    ensures { (snapshots : List (List ℕ)) (fit : Sheet) → AreSnapshots snapshots → IsLegalTable 1 fit.table
         → IsFitVerdict snapshots fit Optimal → IsLeastFootprint snapshots fit.step fit.limit fit.table }
 {}
 

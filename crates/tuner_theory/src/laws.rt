@@ -3,10 +3,9 @@ ghost use Rattle.std.specs.Prelude.{◌≡◌, ℕ, ◌+◌, ◌≤◌, List};
 ghost use Rattle.class_table.specs.Steps.{IsStep};
 ghost use Rattle.class_table.specs.Tables.{IsLegalTable};
 ghost use Rattle.tuner_theory.specs.Best.{IsBest, IsCandidate};
-ghost use Rattle.tuner_theory.specs.Fits.{Fit, IsFitVerdict};
 ghost use Rattle.tuner_theory.specs.Potentials.{AreValidPotentials};
 ghost use Rattle.tuner_theory.specs.Rests.{counts_above};
-ghost use Rattle.tuner_theory.specs.Sheets.{IsVerdict, Sheet};
+ghost use Rattle.tuner_theory.specs.Sheets.{IsFitVerdict, IsVerdict, Sheet};
 ghost use Rattle.tuner_theory.specs.Spans.{places, span_waste, waste_between};
 ghost use Rattle.tuner_theory.specs.Waste.{waste_of};
 ghost use Rattle.tuner_theory.specs.declared.verdict.Verdict.{Verdict};
@@ -46,6 +45,6 @@ pub fn law_optimal_is_best()
 pub fn law_one_verdict()
     ensures sheet { (counts : List ℕ) (sheet : Sheet) (v w : Verdict)
         → IsVerdict counts sheet v → IsVerdict counts sheet w → v ≡ w }
-    ensures fit { (snapshots : List (List ℕ)) (fit : Fit) (v w : Verdict)
+    ensures fit { (snapshots : List (List ℕ)) (fit : Sheet) (v w : Verdict)
         → IsFitVerdict snapshots fit v → IsFitVerdict snapshots fit w → v ≡ w }
 {}

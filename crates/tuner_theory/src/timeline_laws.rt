@@ -3,9 +3,9 @@ ghost use Rattle.std.specs.Prelude.{◌≡◌, ◌↔◌, ℕ, ◌≤◌, ◌<�
 ghost use Rattle.class_table.specs.Sizes.{largest_counted};
 ghost use Rattle.class_table.specs.Tables.{IsLegalTable, class_for};
 ghost use Rattle.tuner_theory.specs.Best.{IsCandidate};
-ghost use Rattle.tuner_theory.specs.Fits.{Fit, IsFitVerdict};
 ghost use Rattle.tuner_theory.specs.Footprint.{IsFitted, footprint_of};
 ghost use Rattle.tuner_theory.specs.Histories.{AreSnapshots, peaks};
+ghost use Rattle.tuner_theory.specs.Sheets.{IsFitVerdict, Sheet};
 ghost use Rattle.tuner_theory.specs.Timelines.{AreMoments, IsLeastOver, IsTimeline, footprint_over, history_at, moments, requested, snapshot_at};
 ghost use Rattle.tuner_theory.specs.Waste.{Serves};
 ghost use Rattle.tuner_theory.specs.declared.size_event.SizeEvent.{SizeEvent};
@@ -22,17 +22,17 @@ pub fn law_some_moments()
 /// A fit that is optimal over some moments bounds from below what any table takes over the whole timeline, if it serves each size that is live
 /// at a moment.
 pub fn law_fit_bounds_timeline()
-    ensures { (events : List SizeEvent) (numbers : List ℕ) (fit : Fit) (other : List ℕ) → IsTimeline events
+    ensures { (events : List SizeEvent) (numbers : List ℕ) (fit : Sheet) (other : List ℕ) → IsTimeline events
         → AreMoments events numbers → IsLegalTable 1 fit.table → IsFitVerdict (history_at events numbers) fit Optimal
-        → IsCandidate (peaks (moments events)) fit.step fit.limit other → fit.footprint ≤ footprint_over events other }
+        → IsCandidate (peaks (moments events)) fit.step fit.limit other → fit.cost ≤ footprint_over events other }
 {}
 
 /// If a fit is optimal over some moments, and its table serves each size that is live at a moment and takes no more over the whole timeline,
 /// then no table takes less over the whole timeline.
 pub fn law_least_over_timeline()
-    ensures { (events : List SizeEvent) (numbers : List ℕ) (fit : Fit) → IsTimeline events → AreMoments events numbers
+    ensures { (events : List SizeEvent) (numbers : List ℕ) (fit : Sheet) → IsTimeline events → AreMoments events numbers
         → IsLegalTable 1 fit.table → IsFitVerdict (history_at events numbers) fit Optimal
-        → Serves (peaks (moments events)) fit.table → footprint_over events fit.table ≡ fit.footprint
+        → Serves (peaks (moments events)) fit.table → footprint_over events fit.table ≡ fit.cost
         → IsLeastOver events fit.step fit.limit fit.table }
 {}
 

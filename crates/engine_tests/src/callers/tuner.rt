@@ -43,5 +43,5 @@ pub fn least_waste(alloc: Global, sizes: &[u32], limit: u8) -> Result<u64, NoTab
         profile.add(*n)?;
     }
     let tuned = tune(alloc, &profile, limit, 1)?;
-    Ok(tuned.sheet().waste)
+    Ok(tuned.sheet().cost)
 }

@@ -2,7 +2,7 @@
 use super::support::same;
 use class_table::TableError;
 use history_count::{HistoryError, HistoryFault};
-use potential_check::{FitError, SheetError};
+use potential_check::SheetError;
 use profile_count::{CountFull, ProfileError, ProfileFault};
 use std::fmt::Display;
 use std::process::Abort;
@@ -95,12 +95,12 @@ const HISTORIES: &[(HistoryError, &str)] = &[
 
 const SHEETS: &[(SheetError, &str)] = &[
     (SheetError::OutOfMemory, "1 OutOfMemory"),
-    (SheetError::Line(4), "48 BadSheet line 4"),
+    (SheetError::BadSheet(4), "48 BadSheet line 4"),
 ];
 
-const FITS: &[(FitError, &str)] = &[
-    (FitError::OutOfMemory, "1 OutOfMemory"),
-    (FitError::Line(3), "36 BadFit line 3"),
+const FITS: &[(SheetError, &str)] = &[
+    (SheetError::OutOfMemory, "1 OutOfMemory"),
+    (SheetError::BadFit(3), "36 BadFit line 3"),
 ];
 
 const TRACES: &[(TraceError, &str)] = &[

@@ -51,7 +51,7 @@ pub record IsTunedInto (limit step : ℕ) (sizes counts classes rows classes' ro
   pub sheet : Sheet
   pub is_tuned : IsTuned profile.counts step limit sheet
   pub class_count : tuned.classes ≡ length sheet.table
-  pub waste : tuned.waste ≡ sheet.waste
+  pub waste : tuned.waste ≡ sheet.cost
   pub row_length : tuned.places ≡ places profile.counts step
   pub table : classes' ≡ sheet.table ++ drop (length sheet.table) classes
   pub rows_fit : limit * tuned.places ≤ length rows → AreRows limit tuned.places rows' sheet.rows
@@ -78,7 +78,7 @@ pub record IsCheckedAs (limit step waste : ℕ) (classes numbers sizes counts : 
   pub spelled : profile_of_arrays sizes counts ≡ Ok profile
   pub rows : List (List ℕ)
   pub are_rows : AreRows limit (length numbers / limit) numbers rows
-  pub is_verdict : IsVerdict profile.counts (record { table = table; limit = limit; step = step; waste = waste; rows = rows }) verdict
+  pub is_verdict : IsVerdict profile.counts (record { table = table; limit = limit; step = step; cost = waste; rows = rows }) verdict
   pub best : verdict ≡ Optimal → IsBest profile.counts step limit table
 
 -- That, or the first error.

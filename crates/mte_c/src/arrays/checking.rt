@@ -7,6 +7,7 @@ use crate::arrays::rows::rows_of;
 use crate::arrays::scoring::table_of;
 use potential_check::{Sheet, Verdict, check as verdict_on};
 use std::alloc::Global;
+use std::marker::PhantomData;
 use tool_call::Limits;
 
 /// The verdict on a sheet for the profile of these sizes with these counts: optimal, or the first refusal. The sheet is a table of these
@@ -41,8 +42,9 @@ pub fn check(
         table,
         limit,
         step,
-        waste,
+        cost: waste,
         rows,
+        of: PhantomData,
     };
     Ok(verdict_on(alloc, &profile, &sheet)?)
 }

@@ -59,7 +59,7 @@ pub fn tune(
     put_rows(&sheet.rows, usize::from(limit), places, rows);
     Ok(TunedNumbers {
         classes: sheet.table.len() as u32,
-        waste: sheet.waste,
+        waste: sheet.cost,
         places: places as u32,
     })
 }

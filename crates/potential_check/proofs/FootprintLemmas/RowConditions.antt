@@ -2,7 +2,7 @@
 use Rattle.std.proofs.Common.{◌≡◌, ℕ, suc, ◌+◌, ◌-◌, ◌<◌, ◌≤◌, List, [], length, slice_index, slice_index_or, arith, ap, sym, ◌∙◌, ◌↔◌, IsTrue, inl, inr}
 use Rattle.std.proofs.lemmas.Bool.{cases_lt}
 use Rattle.potential_check.specs.Footprints.RowConditions.{AreRowTests, DropsHoldAt, DropsHoldFrom, EdgeHoldsAt, EdgesHoldAt, EdgesHoldFrom, LastHoldsFrom}
-use Rattle.potential_check.specs.declared.footprints.row_tests.RowTests.{RowTests}
+use Rattle.potential_check.specs.declared.measured.RowTests.{RowTests}
 use Rattle.tuner_theory.specs.Rows.{number_at}
 
 -- ---- one row more

@@ -1,6 +1,6 @@
--- A sheet of the code as a sheet of the theory.
-use Rattle.potential_check.specs.declared.certificates.sheet.Sheet.{Sheet as Written}
+-- A certificate of the code as a sheet of the theory, whatever cost it is of.
+use Rattle.potential_check.specs.declared.certificates.certificate.Certificate.{Certificate}
 use Rattle.tuner_theory.specs.Sheets.{Sheet}
 
-abbrev pub sheet_of : Written → Sheet
-sheet_of s = record { table = s.table; limit = s.limit; step = s.step; waste = s.waste; rows = s.rows }
+abbrev pub sheet_of : {C : Type 0} → Certificate C → Sheet
+sheet_of s = record { table = s.table; limit = s.limit; step = s.step; cost = s.cost; rows = s.rows }

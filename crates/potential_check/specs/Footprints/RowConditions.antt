@@ -1,6 +1,6 @@
 -- The conditions on the rows of a certificate, and what is tested of them place by place.
 use Rattle.std.specs.Prelude.{◌↔◌, ℕ, suc, ◌+◌, ◌<◌, ◌≤◌, List, length, slice_index, IsTrue}
-use Rattle.potential_check.specs.declared.footprints.row_tests.RowTests.{RowTests}
+use Rattle.potential_check.specs.declared.measured.RowTests.{RowTests}
 use Rattle.tuner_theory.specs.Potentials.{KeepsEdges, KeepsLastClass, KeepsStageDrops}
 use Rattle.tuner_theory.specs.Rows.{number_at}
 

@@ -4,7 +4,7 @@ ghost use Rattle.tuner_theory.specs.Rows.{number_at};
 
 use std::marker::Model;
 
-/// The rows of a certificate: lists of numbers, in bytes of waste.
+/// The rows of a certificate: lists of numbers, in bytes.
 #[derive(Debug, Drop)]
 pub struct Rows {
     rows: Vec<Vec<u64>>,

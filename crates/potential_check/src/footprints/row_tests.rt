@@ -10,20 +10,10 @@ ghost use Rattle.tuner_theory.specs.Rows.{HasShape, number_at};
 use crate::certificates::Rows;
 use crate::footprints::slack::{BLOCK, WHOLE_SLACK, lower_slack, no_bounds};
 use crate::footprints::span_costs::SpanCosts;
+use crate::measured::RowTests;
 use class_table::MOST_NEEDS;
 use std::alloc::{AllocError, Global};
 use std::mem::swap;
-
-/// Which conditions the numbers of rows meet.
-#[derive(Debug, Clone, Copy)]
-pub struct RowTests {
-    /// No number of row 1 is more than the cost of one class for all places above.
-    pub last_class: bool,
-    /// No number is more than the number at its place in the row before.
-    pub stage_drop: bool,
-    /// No number is more than the cost of a class up to a later place plus the number of the row before at that place.
-    pub edge: bool,
-}
 
 /// Tests the numbers of rows against a source of at most 1,023 places and fewer than 2^62 calls. Each row, of at most 65,536, must have a
 /// number for each place. The function asks for the cost of each span once: D(D + 1)/2 costs over D places. The only error is that the

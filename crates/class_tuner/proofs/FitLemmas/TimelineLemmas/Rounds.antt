@@ -8,7 +8,7 @@ use Rattle.class_table.specs.Tables.{IsLegalTable}
 use Rattle.history_count.specs.Timelines.LiveBlocks.{AreFirsts}
 use Rattle.history_count.specs.Timelines.Requests.{Decides}
 use Rattle.tuner_theory.specs.Best.{IsCandidate}
-use Rattle.tuner_theory.specs.Fits.{Fit}
+use Rattle.tuner_theory.specs.Sheets.{Sheet}
 use Rattle.tuner_theory.specs.Histories.{peaks}
 use Rattle.tuner_theory.specs.Timelines.{AreMoments, IsTimeline, footprint_over, history_at, moments}
 use Rattle.tuner_theory.specs.Waste.{Serves}
@@ -51,51 +51,51 @@ more-moments events numbers moment few within kept = record {
 }
 
 -- What a round over such moments has.
-pub record IsRound (events : List SizeEvent) (numbers : List ℕ) (moment step limit : ℕ) (fit : Fit) (takes : ℕ) : Type 0 where
+pub record IsRound (events : List SizeEvent) (numbers : List ℕ) (moment step limit : ℕ) (fit : Sheet) (takes : ℕ) : Type 0 where
   pub over : AreDeciding events numbers moment
   pub fitted : IsFitOf (history_at events numbers) step limit fit
   pub legal : IsLegalTable 1 fit.table
   pub taken : takes ≡ footprint_over events fit.table
 
 module _ (events : List SizeEvent) (moment step limit : ℕ) (timeline : IsTimeline events) (decides : Decides events moment) where
-  pub round-serves : (numbers : List ℕ) (fit : Fit) (takes : ℕ) → IsRound events numbers moment step limit fit takes
+  pub round-serves : (numbers : List ℕ) (fit : Sheet) (takes : ℕ) → IsRound events numbers moment step limit fit takes
       → Serves (peaks (moments events)) fit.table
   round-serves numbers fit takes round =
       let kept = round.over.kept in
       decides numbers fit.table kept.0 kept.1 (get_or_default numbers kept.0 0 moment kept.1 ∙ kept.2)
-      round.fitted.fitted.best.candidate.serving
+      round.fitted.made.canonical.best.candidate.serving
 
-  pub round-candidate : (numbers : List ℕ) (fit : Fit) (takes : ℕ) → IsRound events numbers moment step limit fit takes
+  pub round-candidate : (numbers : List ℕ) (fit : Sheet) (takes : ℕ) → IsRound events numbers moment step limit fit takes
       → IsCandidate (peaks (moments events)) step limit fit.table
   round-candidate numbers fit takes round = record {
-    legal = round.fitted.fitted.best.candidate.legal;
-    few = round.fitted.fitted.best.candidate.few;
+    legal = round.fitted.made.canonical.best.candidate.legal;
+    few = round.fitted.made.canonical.best.candidate.few;
     serving = round-serves numbers fit takes round;
   }
 
-  pub round-bounds : (numbers : List ℕ) (fit : Fit) (takes : ℕ) → IsRound events numbers moment step limit fit takes → (other : List ℕ)
-      → IsCandidate (peaks (moments events)) step limit other → fit.footprint ≤ footprint_over events other
+  pub round-bounds : (numbers : List ℕ) (fit : Sheet) (takes : ℕ) → IsRound events numbers moment step limit fit takes → (other : List ℕ)
+      → IsCandidate (peaks (moments events)) step limit other → fit.cost ≤ footprint_over events other
   round-bounds numbers fit takes round other candidate =
-      let of_step = subst (λ (s : ℕ). IsCandidate (peaks (moments events)) s limit other) (sym round.fitted.for_step) candidate in
-      let of_limit = subst (λ (l : ℕ). IsCandidate (peaks (moments events)) fit.step l other) (sym round.fitted.for_limit) of_step in
-      fit_bounds_timeline events numbers fit other timeline round.over.are round.legal round.fitted.optimal of_limit
+      let of_step = subst (λ (s : ℕ). IsCandidate (peaks (moments events)) s limit other) (sym round.fitted.made.for_step) candidate in
+      let of_limit = subst (λ (l : ℕ). IsCandidate (peaks (moments events)) fit.step l other) (sym round.fitted.made.for_limit) of_step in
+      fit_bounds_timeline events numbers fit other timeline round.over.are round.legal round.fitted.made.optimal of_limit
 
   -- a round whose table takes no more over the whole timeline
-  pub round-least : (numbers : List ℕ) (fit : Fit) (takes : ℕ) → IsRound events numbers moment step limit fit takes
-      → takes ≡ fit.footprint → IsLeastFit events step limit numbers fit
+  pub round-least : (numbers : List ℕ) (fit : Sheet) (takes : ℕ) → IsRound events numbers moment step limit fit takes
+      → takes ≡ fit.cost → IsLeastFit events step limit numbers fit
   round-least numbers fit takes round tight =
-      let over : footprint_over events fit.table ≡ fit.footprint = sym round.taken ∙ tight in
+      let over : footprint_over events fit.table ≡ fit.cost = sym round.taken ∙ tight in
       record {
         are = round.over.are;
         over_moments = round.fitted;
         takes = over;
-        fitted = canonical_over events numbers step limit fit.table round.over.are round.fitted.fitted
-            (round-serves numbers fit takes round) (over ∙ round.fitted.takes);
+        fitted = canonical_over events numbers step limit fit.table round.over.are round.fitted.made.canonical
+            (round-serves numbers fit takes round) (over ∙ round.fitted.made.costs);
       }
 
   -- the first round
-  pub between-first : (numbers : List ℕ) (fit : Fit) (takes : ℕ) → IsRound events numbers moment step limit fit takes
-      → IsBetween events step limit fit.table takes fit.footprint
+  pub between-first : (numbers : List ℕ) (fit : Sheet) (takes : ℕ) → IsRound events numbers moment step limit fit takes
+      → IsBetween events step limit fit.table takes fit.cost
   between-first numbers fit takes round = record {
     candidate = round-candidate numbers fit takes round;
     taken = round.taken;
@@ -103,13 +103,13 @@ module _ (events : List SizeEvent) (moment step limit : ℕ) (timeline : IsTimel
   }
 
   -- one round more: its table or the one before it, and the greater bound
-  pub between-more : (numbers : List ℕ) (fit : Fit) (takes : ℕ) (table : List ℕ) (best least : ℕ)
+  pub between-more : (numbers : List ℕ) (fit : Sheet) (takes : ℕ) (table : List ℕ) (best least : ℕ)
       → IsRound events numbers moment step limit fit takes → IsBetween events step limit table best least
-      → IsBetween events step limit table best (max least fit.footprint)
-      × IsBetween events step limit fit.table takes (max least fit.footprint)
+      → IsBetween events step limit table best (max least fit.cost)
+      × IsBetween events step limit fit.table takes (max least fit.cost)
   between-more numbers fit takes table best least round before =
       let bound : (other : List ℕ) → IsCandidate (peaks (moments events)) step limit other
-      → max least fit.footprint ≤ footprint_over events other =
+      → max least fit.cost ≤ footprint_over events other =
       λ other candidate. omega (arith, before.bound other candidate, round-bounds numbers fit takes round other candidate) in (
         record { candidate = before.candidate; taken = before.taken; bound = bound },
         record { candidate = round-candidate numbers fit takes round; taken = round.taken; bound = bound },

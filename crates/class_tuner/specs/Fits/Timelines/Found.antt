@@ -2,17 +2,17 @@
 use Rattle.std.specs.Prelude.{◌≡◌, ℕ, ◌≤◌, List}
 use Rattle.class_tuner.specs.Fits.Fitted.{IsFitOf}
 use Rattle.tuner_theory.specs.Best.{IsCandidate}
-use Rattle.tuner_theory.specs.Fits.{Fit}
+use Rattle.tuner_theory.specs.Sheets.{Sheet}
 use Rattle.tuner_theory.specs.Footprint.{IsFitted}
 use Rattle.tuner_theory.specs.Histories.{peaks}
 use Rattle.tuner_theory.specs.Timelines.{AreMoments, footprint_over, history_at, moments}
 use Rattle.tuner_theory.specs.declared.size_event.SizeEvent.{SizeEvent}
 
 -- The fit of some moments, whose table takes no more over the whole timeline: the table that is fitted over every moment.
-pub record IsLeastFit (events : List SizeEvent) (step limit : ℕ) (numbers : List ℕ) (fit : Fit) : Type 0 where
+pub record IsLeastFit (events : List SizeEvent) (step limit : ℕ) (numbers : List ℕ) (fit : Sheet) : Type 0 where
   pub are : AreMoments events numbers
   pub over_moments : IsFitOf (history_at events numbers) step limit fit
-  pub takes : footprint_over events fit.table ≡ fit.footprint
+  pub takes : footprint_over events fit.table ≡ fit.cost
   pub fitted : IsFitted (moments events) step limit fit.table
 
 -- A table in question with what it takes over the timeline, and what no table in question takes less than.

@@ -7,7 +7,7 @@ use crate::fits::timelines::moments::{one_moment, with_moments};
 use crate::fits::timelines::round::{Round, better, round_over};
 use class_table::{ClassTable, MOST_CLASSES};
 use history_count::{Timeline, largest_moment};
-use potential_check::Fit;
+use potential_check::{Certificate, Fit};
 use std::alloc::{AllocError, Global};
 
 /// The most rounds that the program makes.
@@ -57,14 +57,14 @@ pub fn fit_over(
         return Ok(least_of(best, numbers));
     }
     numbers = with_moments(alloc, numbers, decisive, &best.firsts, events.len())?;
-    let mut least = best.fit.footprint;
+    let mut least = best.fit.cost;
     for _round in 1..rounds {
         let next = round_over(alloc, events, &numbers, limit, step)?;
         if next.is_tight() {
             return Ok(least_of(next, numbers));
         }
         numbers = with_moments(alloc, numbers, decisive, &next.firsts, events.len())?;
-        least = least.max(next.fit.footprint);
+        least = least.max(next.fit.cost);
         best = better(best, next);
     }
     Ok(between_of(best, least))
@@ -91,12 +91,13 @@ fn between_of(round: Round, least: u64) -> Found
         takes,
         firsts: _firsts,
     } = round;
-    let Fit {
+    let Certificate {
         table,
         limit: _limit,
         step: _step,
-        footprint: _footprint,
+        cost: _cost,
         rows: _rows,
+        of: _of,
     } = fit;
     Found::Between {
         table,

@@ -1,6 +1,6 @@
 //! One round: a fit over some moments, and what its table takes over the whole timeline.
 ghost use Rattle.std.specs.Prelude.{◌≡◌, ◌≤◌, ◌⊎◌, IfOk, IsTrue, ◌↔◌, length, All};
-ghost use Rattle.potential_check.specs.Certificates.FitView.{fit_of};
+ghost use Rattle.potential_check.specs.Certificates.SheetView.{sheet_of};
 ghost use Rattle.class_tuner.specs.Fits.Fitted.{IsFitOf};
 ghost use Rattle.class_table.specs.Steps.{IsStep};
 ghost use Rattle.class_table.specs.Tables.{IsLegalTable};
@@ -28,9 +28,9 @@ pub(crate) struct Round {
 impl Round {
     /// Whether its table takes no more over the whole timeline than over its moments.
     pub(crate) fn is_tight(&self) -> bool
-        ensures { IsTrue result ↔ (self.now.takes ≡ self.now.fit.footprint) }
+        ensures { IsTrue result ↔ (self.now.takes ≡ self.now.fit.cost) }
     {
-        self.takes == self.fit.footprint
+        self.takes == self.fit.cost
     }
 }
 
@@ -47,13 +47,13 @@ pub(crate) fn round_over(
     requires step { IsStep step }
     requires timeline { IsTimeline events.now }
     requires moments { AreMoments events.now numbers.now }
-    ensures fitted { IfOk result (λ round. IsFitOf (history_at events.now numbers.now) step limit (fit_of round.fit)) }
+    ensures fitted { IfOk result (λ round. IsFitOf (history_at events.now numbers.now) step limit (sheet_of round.fit)) }
     ensures takes { IfOk result (λ round. round.takes ≡ footprint_over events.now round.fit.table) }
     ensures firsts { IfOk result (λ round. AreFirsts events.now round.fit.table round.firsts.items) }
     ensures legal { IfOk result (λ round. IsLegalTable 1 round.fit.table) }
 {
     let history = history_over(alloc, events, numbers)?;
-    let fit = fit(alloc, &history, limit, step)?.into_fit();
+    let fit = fit(alloc, &history, limit, step)?.into_sheet();
     let _classes = fit.table.len();
     let taken = footprint_over(alloc, events, &fit.table)?;
     Ok(Round {

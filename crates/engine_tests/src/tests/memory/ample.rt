@@ -6,7 +6,7 @@ use class_table::{ClassTable, LARGEST_COUNTED, is_step};
 use class_tuner::tune;
 use granule_memory::Memory;
 use mte_engine::{Call, Limits};
-use potential_check::{Sheet, SheetError, Verdict, check, read_sheet, write_sheet};
+use potential_check::{OfWaste, Sheet, SheetError, Verdict, check, read_sheet, write_sheet};
 use profile_count::Profile;
 use raw_region::RawRegion;
 use replay_core::{Config, Replay};
@@ -42,8 +42,8 @@ fn is_tuned(
 fn is_read(rt: &(impl Abort + AllocGlobal), sheet: &Sheet) -> Result<(), Fail> {
     let mut text = Vec::new(rt.alloc());
     write_sheet(sheet, &mut text)?;
-    let read = read_sheet(rt.alloc(), &text)?;
-    same(rt, &read.waste, &sheet.waste, &(sheet.limit, sheet.step));
+    let read: Sheet = read_sheet(rt.alloc(), &text)?;
+    same(rt, &read.cost, &sheet.cost, &(sheet.limit, sheet.step));
     Ok(())
 }
 
@@ -92,12 +92,12 @@ fn replay_has_size(rt: &(impl Abort + AllocGlobal), granules: u32) -> Result<(),
 fn sheets_of_each_number_of_rows(rt: HostRuntime) -> Result<(), Fail> {
     let mut text = Vec::from_slice(rt.alloc(), b"classes 2 4\nlimit 32\nwaste 8\n")?;
     for rows in 0..=32 {
-        let read = read_sheet(rt.alloc(), &text)?;
+        let read: Sheet = read_sheet(rt.alloc(), &text)?;
         same(&rt, &read.rows.len(), &rows, &"rows");
         text.extend_from_slice(b"row 104 8\n")?;
     }
-    let read = read_sheet(rt.alloc(), &text);
-    assert!(rt; matches!(read, Err(SheetError::Line(36))));
+    let read = read_sheet::<OfWaste>(rt.alloc(), &text);
+    assert!(rt; matches!(read, Err(SheetError::BadSheet(36))));
     Ok(())
 }
 

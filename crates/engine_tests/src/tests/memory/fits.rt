@@ -1,6 +1,6 @@
 //! Fits that are read and written.
 use crate::tests::support::same;
-use potential_check::{Fit, FitError, read_fit, write_fit};
+use potential_check::{Fit, OfFootprint, SheetError, read_sheet, write_sheet};
 use std::process::Abort;
 use std::test::Fail;
 
@@ -17,13 +17,13 @@ fn a_fit_that_is_read(rt: HostRuntime) {
 
 // whether the fit is read
 fn is_read(rt: &(impl Abort + AllocGlobal)) -> bool {
-    match read_fit(rt.alloc(), FIT.as_bytes()) {
+    match read_sheet::<OfFootprint>(rt.alloc(), FIT.as_bytes()) {
         Ok(fit) => {
-            same(rt, &fit.footprint, &192, &"the footprint");
+            same(rt, &fit.cost, &192, &"the footprint");
             true
         }
         Err(error) => {
-            assert!(rt; error == FitError::OutOfMemory);
+            assert!(rt; error == SheetError::OutOfMemory);
             false
         }
     }
@@ -31,7 +31,7 @@ fn is_read(rt: &(impl Abort + AllocGlobal)) -> bool {
 
 #[test]
 fn a_fit_that_is_written(rt: HostRuntime) -> Result<(), Fail> {
-    let fit = read_fit(rt.alloc(), FIT.as_bytes())?;
+    let fit: Fit = read_sheet(rt.alloc(), FIT.as_bytes())?;
     let mut text = Vec::from_slice(rt.alloc(), b"x")?;
     assert!(rt;
         is_written(&rt, &fit, &mut text) || is_written(&rt, &fit, &mut text),
@@ -41,7 +41,7 @@ fn a_fit_that_is_written(rt: HostRuntime) -> Result<(), Fail> {
 }
 
 fn is_written(rt: &impl Abort, fit: &Fit, text: &mut Vec<u8>) -> bool {
-    let is_written = write_fit(fit, text).is_ok();
+    let is_written = write_sheet(fit, text).is_ok();
     let wanted = if is_written { WRITTEN } else { "x" };
     same(rt, &text.as_slice(), &wanted.as_bytes(), &"the text");
     is_written

@@ -108,14 +108,14 @@ fn is_tuned(rt: &(impl Abort + AllocGlobal), profile: &Profile) -> bool {
     let Ok(tuned) = tune(rt.alloc(), profile, 2, 1) else {
         return false;
     };
-    same(rt, &tuned.sheet().waste, &8, &"the waste");
+    same(rt, &tuned.sheet().cost, &8, &"the waste");
     true
 }
 
 #[test]
 fn a_checked_sheet(rt: HostRuntime) -> Result<(), Fail> {
     let profile = profile(&rt)?;
-    let sheet = read_sheet(rt.alloc(), SHEET.as_bytes())?;
+    let sheet: Sheet = read_sheet(rt.alloc(), SHEET.as_bytes())?;
     assert!(rt;
         is_checked(&rt, &profile, &sheet) || is_checked(&rt, &profile, &sheet),
         "refused twice"

@@ -1,7 +1,7 @@
 //! Sheets that are read and written.
 use super::support::SHEET;
 use crate::tests::support::same;
-use potential_check::{Sheet, SheetError, read_sheet, write_sheet};
+use potential_check::{OfWaste, Sheet, SheetError, read_sheet, write_sheet};
 use std::process::Abort;
 use std::test::Fail;
 
@@ -12,9 +12,9 @@ fn a_sheet_that_is_read(rt: HostRuntime) {
 
 // whether the sheet is read
 fn is_read(rt: &(impl Abort + AllocGlobal)) -> bool {
-    match read_sheet(rt.alloc(), SHEET.as_bytes()) {
+    match read_sheet::<OfWaste>(rt.alloc(), SHEET.as_bytes()) {
         Ok(sheet) => {
-            same(rt, &sheet.waste, &8, &"the waste");
+            same(rt, &sheet.cost, &8, &"the waste");
             true
         }
         Err(error) => {
@@ -29,7 +29,7 @@ const WRITTEN: &str = "xclasses 2 4\nlimit 2\nwaste 8\nrow 104 8\nrow 8 8\n";
 
 #[test]
 fn a_sheet_that_is_written(rt: HostRuntime) -> Result<(), Fail> {
-    let sheet = read_sheet(rt.alloc(), SHEET.as_bytes())?;
+    let sheet: Sheet = read_sheet(rt.alloc(), SHEET.as_bytes())?;
     let mut text = Vec::from_slice(rt.alloc(), b"x")?;
     assert!(rt;
         is_written(&rt, &sheet, &mut text) || is_written(&rt, &sheet, &mut text),

@@ -4,6 +4,7 @@ use class_table::ClassTable;
 use potential_check::{Refusal, Rows, Sheet, Verdict, check};
 use profile_count::Profile;
 use std::alloc::Global;
+use std::marker::PhantomData;
 use std::process::Abort;
 use std::test::Fail;
 
@@ -113,8 +114,9 @@ fn verdict_on(alloc: Global, profile: &Profile, case: &Case) -> Result<Verdict, 
         table: ClassTable::from_classes(classes)?,
         limit,
         step,
-        waste,
+        cost: waste,
         rows: Rows::new(rows),
+        of: PhantomData,
     };
     Ok(check(alloc, profile, &sheet)?)
 }

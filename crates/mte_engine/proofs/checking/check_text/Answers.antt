@@ -3,6 +3,7 @@ use Rattle.std.proofs.lemmas.Result.{err_from_is_err_and}
 use Rattle.line_text.specs.Lines.{lines}
 use Rattle.profile_count.specs.ProfileText.{profile_of_lines}
 use Rattle.potential_check.specs.SheetText.{sheet_of_lines}
+use Rattle.potential_check.specs.declared.cost.Cost.TheVariants.{Waste}
 use Rattle.potential_check.specs.Certificates.SheetView.{sheet_of}
 use Rattle.potential_check.specs.Leading.{leading_lines, lines_after}
 use Rattle.mte_engine.specs.Check.{CheckAnswers}
@@ -14,7 +15,7 @@ pub returns-in_err-leading : goal.returns-in_err-leading
 returns-in_err-leading c =
     let error = err_from_is_err_and c.from_residual.result c.from_residual.ensures.1 in
     rw (error.1, error.2)
-    (first_refused (sheet_part (sheet_of_lines (leading_lines (lines c.args.text.now)))) profile_of_lines profile_part
+    (first_refused (sheet_part Waste (sheet_of_lines (leading_lines (lines c.args.text.now)))) profile_of_lines profile_part
     (length (leading_lines (lines c.args.text.now))) (lines_after (lines c.args.text.now))
     (CheckAnswers c.args.text.now) (λ fault e. e) c.in_err-leading.field-0.0 c.in_err-leading.ensures.sheet)
 
@@ -23,7 +24,7 @@ returns-in_err-profile c =
     let error = err_from_is_err_and c.from_residual-in_err-profile.result c.from_residual-in_err-profile.ensures.1 in
     let leading = c.in_ok-leading.ensures in
     rw (error.1, error.2)
-    (rest_refused (sheet_part (sheet_of_lines (leading_lines (lines c.args.text.now)))) profile_of_lines profile_part
+    (rest_refused (sheet_part Waste (sheet_of_lines (leading_lines (lines c.args.text.now)))) profile_of_lines profile_part
     (length (leading_lines (lines c.args.text.now))) (lines_after (lines c.args.text.now))
     (CheckAnswers c.args.text.now) (λ fault e. e) (sheet_of c.in_ok-leading.leading.sheet) leading.sheet c.in_ok-leading.leading.lines
     (lines c.in_ok-leading.leading.rest.now) leading.lines.0 leading.rest c.in_err-profile.field-0.0 c.in_err-profile.ensures)
@@ -34,7 +35,7 @@ returns c =
     let sheet = sheet_of c.in_ok-leading.leading.sheet in
     let profile = c.in_ok-profile.profile in (
       (sheet, profile),
-      both_read (sheet_part (sheet_of_lines (leading_lines (lines c.args.text.now)))) profile_of_lines profile_part
+      both_read (sheet_part Waste (sheet_of_lines (leading_lines (lines c.args.text.now)))) profile_of_lines profile_part
           (length (leading_lines (lines c.args.text.now))) (lines_after (lines c.args.text.now)) sheet profile leading.sheet
           c.in_ok-leading.leading.lines (lines c.in_ok-leading.leading.rest.now) leading.lines.0 leading.rest c.in_ok-profile.ensures,
       record {

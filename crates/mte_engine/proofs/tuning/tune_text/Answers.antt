@@ -1,7 +1,8 @@
 use Rattle.std.proofs.Common.{◌∙◌, ap, List, ℕ}
 use Rattle.potential_check.specs.Certificates.SheetView.{sheet_of}
 use Rattle.potential_check.specs.SheetText.{sheet_text}
-use Rattle.potential_check.specs.declared.certificates.sheet.Sheet.{Sheet}
+use Rattle.potential_check.specs.declared.cost.OfWaste.{OfWaste}
+use Rattle.potential_check.specs.declared.certificates.certificate.Certificate.{Certificate}
 use Rattle.tuner_theory.proofs.LawLemmas.{few_places}
 use Rattle.mte_engine.specs.declared.engine.Status.TheVariants.{Done}
 use Rattle.mte_engine.proofs.RowLines.{short_rows}
@@ -12,11 +13,11 @@ of_sheet-requires c =
     let profile = c.in_ok-profile.profile in
     let is_profile = rw c.profile.view_is at c.profile.invariant in
     let few = few_places profile.counts c.args.step c.requires.options.is_step is_profile.counts in
-    rw c.into_sheet.ensures (short_rows _ c.args.limit _ c.in_ok-tuned.ensures.tuned.shape few)
+    rw c.into_sheet.ensures (short_rows _ c.args.limit _ c.in_ok-tuned.ensures.tuned.made.shape few)
 
 pub returns : goal.returns
 returns c =
-    let text = c.in_ok-output.ensures ∙ ap (λ (s : Sheet). sheet_text (sheet_of s)) c.into_sheet.ensures in (
+    let text = c.in_ok-output.ensures ∙ ap (λ (s : Certificate OfWaste). sheet_text (sheet_of s)) c.into_sheet.ensures in (
       c.in_ok-profile.profile,
       c.in_ok-profile.ensures,
       record {

@@ -5,18 +5,18 @@ use Rattle.potential_check.proofs.ReadIsSpelled.{read_is_spelled}
 use Rattle.potential_check.proofs.reading.read_by.Goals as goal
 
 pub returns-in_err-leading-clause-exact : goal.returns-in_err-leading-clause-exact
-returns-in_err-leading-clause-exact c =
+returns-in_err-leading-clause-exact g c =
     let error = err_from_is_err_and c.from_residual.result c.from_residual.ensures.1 in
     all_fault_given _ _ _ _ _ error.1 error.2 c.in_err-leading.ensures
 
 pub overflow_add-result : goal.overflow_add-result
-overflow_add-result c = omega (arith, c.in_ok-leading.ensures.few)
+overflow_add-result g c = omega (arith, c.in_ok-leading.ensures.few)
 
 pub returns-in-None-clause-exact : goal.returns-in-None-clause-exact
-returns-in-None-clause-exact c = all_read _ _ _ _ _ c.in_ok-leading.ensures (sym c.lines_in.ensures ∙ c.in-None.ensures.steps.0)
+returns-in-None-clause-exact g c = all_read _ _ _ _ _ c.in_ok-leading.ensures (sym c.lines_in.ensures ∙ c.in-None.ensures.steps.0)
 
 pub returns-in-None-clause-within : goal.returns-in-None-clause-within
-returns-in-None-clause-within c = (read_is_spelled _ c.args.text.now _ (returns-in-None-clause-exact c)).limits
+returns-in-None-clause-within g c = (read_is_spelled _ c.args.text.now _ (returns-in-None-clause-exact g c)).limits
 
 pub returns-in-Some-clause-exact : goal.returns-in-Some-clause-exact
-returns-in-Some-clause-exact c = line_after _ _ _ _ _ c.in_ok-leading.ensures _ _ (sym c.lines_in.ensures ∙ c.in-Some.ensures.steps)
+returns-in-Some-clause-exact g c = line_after _ _ _ _ _ c.in_ok-leading.ensures _ _ (sym c.lines_in.ensures ∙ c.in-Some.ensures.steps)

@@ -5,19 +5,19 @@ use Rattle.potential_check.proofs.LeadingLines.{head-is_found, head_fault_given,
 use Rattle.potential_check.proofs.reading.read_leading.Goals as goal
 
 pub returns-in_err-head : goal.returns-in_err-head
-returns-in_err-head c =
+returns-in_err-head g c =
     let error = err_from_is_err_and c.from_residual.result c.from_residual.ensures.1 in
     head_fault_given _ (λ (head : Head). (head, c.head_in.new.lines)) _ _ _ _ error.1 error.2
     (rw c.lines_in-lines.ensures at c.in_err-head.ensures)
 
 pub returns-in_err-rows : goal.returns-in_err-rows
-returns-in_err-rows c =
+returns-in_err-rows g c =
     let error = err_from_is_err_and c.from_residual-in_err-rows.result c.from_residual-in_err-rows.ensures.1 in
     let found = head-is_found _ _ _ _ (rw c.lines_in-lines.ensures at c.in_ok-head.ensures) in
     row_fault_given _ _ _ _ _ _ _ found error.1 error.2 (rw c.cost_number-size.ensures.number at c.in_err-rows.ensures.rows)
 
 pub returns : goal.returns
-returns c =
+returns g c =
     let found = head-is_found _ _ _ _ (rw c.lines_in-lines.ensures at c.in_ok-head.ensures) in
     let rows = c.in_ok-rows.ensures in
     record {

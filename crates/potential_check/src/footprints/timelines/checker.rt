@@ -1,6 +1,6 @@
 //! The checker. It trusts nobody: it takes the snapshots at the moments that a fit names out of the timeline itself.
 ghost use Rattle.std.specs.Prelude.{◌≡◌, IfOk};
-ghost use Rattle.potential_check.specs.Certificates.FitView.{fit_of};
+ghost use Rattle.potential_check.specs.Certificates.SheetView.{sheet_of};
 ghost use Rattle.potential_check.specs.Footprints.Timelines.Verdicts.{IsOverVerdict};
 ghost use Rattle.potential_check.specs.declared.footprints.timelines.verdict.OverVerdict.TheVariants.{Optimal};
 ghost use Rattle.tuner_theory.specs.Timelines.{IsLeastOver};
@@ -22,7 +22,7 @@ pub fn check_over(
     numbers: &[usize],
     fit: &Fit,
 ) -> Result<OverVerdict, AllocError>
-    ensures verdict { IfOk result (λ verdict. IsOverVerdict timeline.now numbers.now (fit_of fit.now) verdict) }
+    ensures verdict { IfOk result (λ verdict. IsOverVerdict timeline.now numbers.now (sheet_of fit.now) verdict) }
     ensures least { IfOk result
         (λ verdict. verdict ≡ Optimal → IsLeastOver timeline.now fit.now.step fit.now.limit fit.now.table) }
 {
@@ -39,7 +39,7 @@ pub fn check_over(
     }
     let _classes = fit.table.len();
     let taken = footprint_over(alloc, events, &fit.table)?;
-    if taken.bytes != fit.footprint {
+    if taken.bytes != fit.cost {
         return Ok(OverVerdict::Refused(OverRefusal::OfFit(Refusal::WasteWrong)));
     }
     Ok(OverVerdict::Optimal)

@@ -1,11 +1,13 @@
-use Rattle.class_tuner.proofs.FitLemmas.Fits.{fit-legal, fit-made}
+use Rattle.class_tuner.proofs.Tunings.{made-fit, read-later, read-legal, read-made}
 use Rattle.tuner_theory.specs.Lists.{lists_of}
 use Rattle.tuner_theory.specs.Footprint.{span_footprint}
 use Rattle.tuner_theory.specs.Histories.{peaks}
+use Rattle.tuner_theory.specs.Measures.{footprint_on}
 use Rattle.tuner_theory.specs.Rows.{IsFilled}
 use Rattle.tuner_theory.specs.Spans.{places}
+use Rattle.tuner_theory.proofs.Footprint.{footprint_is_sum}
 use Rattle.tuner_theory.proofs.FootprintLawLemmas.{peaks_are_counts}
-use Rattle.tuner_theory.proofs.LawLemmas.{ends_are_later, few_places}
+use Rattle.tuner_theory.proofs.LawLemmas.{few_places}
 use Rattle.class_tuner.proofs.fits.fitting.fit.Goals as goal
 
 pub fill_places-requires-clause-places : goal.fill_places-requires-clause-places
@@ -14,8 +16,8 @@ fill_places-requires-clause-places c =
     (few_places (peaks c.args.history.now.snapshots) c.args.step c.requires.step
     (peaks_are_counts c.args.history.now.snapshots c.peaks.ensures.history.snapshots))
 
-pub tuned_table-table-requires-clause-later : goal.tuned_table-table-requires-clause-later
-tuned_table-table-requires-clause-later c =
+pub certificate_of_rows-sheet-requires-clause-later : goal.certificate_of_rows-sheet-requires-clause-later
+certificate_of_rows-sheet-requires-clause-later c =
     let snapshots = c.args.history.now.snapshots in
     let filled : IsFilled (span_footprint snapshots c.args.step) (places (peaks snapshots) c.args.step) c.args.limit
     (lists_of c.in_ok-filled.filled.rows.items) (lists_of c.in_ok-filled.filled.ends.items) =
@@ -25,10 +27,14 @@ tuned_table-table-requires-clause-later c =
       c.in_ok-spans.ensures.spans,
       c.peaks.ensures.profile,
     ) at c.in_ok-filled.ensures.filled in
-    rw (c.deref.ensures.value, c.in_ok-spans.ensures.spans, c.peaks.ensures.profile) (ends_are_later _ _ c.args.limit _ _ filled.least)
+    let are = c.peaks.ensures.history.snapshots in
+    let counts = peaks_are_counts snapshots are in
+    rw (c.in_ok-spans.ensures.spans, c.peaks.ensures.profile)
+    (read-later (footprint_on snapshots) (λ step pos. footprint_is_sum snapshots step pos are) c.args.step c.args.limit _ _
+    c.requires.step counts c.requires.some c.requires.few filled)
 
-pub tuned_table-table-requires-clause-legal : goal.tuned_table-table-requires-clause-legal
-tuned_table-table-requires-clause-legal c =
+pub certificate_of_rows-sheet-requires-clause-legal : goal.certificate_of_rows-sheet-requires-clause-legal
+certificate_of_rows-sheet-requires-clause-legal c =
     let snapshots = c.args.history.now.snapshots in
     let filled : IsFilled (span_footprint snapshots c.args.step) (places (peaks snapshots) c.args.step) c.args.limit
     (lists_of c.in_ok-filled.filled.rows.items) (lists_of c.in_ok-filled.filled.ends.items) =
@@ -38,9 +44,11 @@ tuned_table-table-requires-clause-legal c =
       c.in_ok-spans.ensures.spans,
       c.peaks.ensures.profile,
     ) at c.in_ok-filled.ensures.filled in
-    rw (c.deref.ensures.value, c.in_ok-spans.ensures.spans, c.peaks.ensures.profile)
-    (fit-legal c.args.history.now.snapshots c.peaks.ensures.history.snapshots c.args.step c.requires.step c.args.limit c.requires.some
-    c.requires.few (lists_of c.in_ok-filled.filled.rows.items) (lists_of c.in_ok-filled.filled.ends.items) filled)
+    let are = c.peaks.ensures.history.snapshots in
+    let counts = peaks_are_counts snapshots are in
+    rw (c.in_ok-spans.ensures.spans, c.peaks.ensures.profile)
+    (read-legal (footprint_on snapshots) (λ step pos. footprint_is_sum snapshots step pos are) c.args.step c.args.limit _ _
+    c.requires.step counts c.requires.some c.requires.few filled)
 
 pub returns-clause-fitted : goal.returns-clause-fitted
 returns-clause-fitted c =
@@ -53,9 +61,9 @@ returns-clause-fitted c =
       c.in_ok-spans.ensures.spans,
       c.peaks.ensures.profile,
     ) at c.in_ok-filled.ensures.filled in
-    rw c.new-rows.ensures
-    (fit-made c.args.history.now.snapshots c.peaks.ensures.history.snapshots c.args.step c.requires.step c.args.limit c.requires.some
-    c.requires.few (lists_of c.in_ok-filled.filled.rows.items) (lists_of c.in_ok-filled.filled.ends.items) filled
-    c.tuned_table-table.result c.number-footprint.result
-    (rw (c.deref.ensures.value, c.in_ok-spans.ensures.spans, c.peaks.ensures.profile) at c.tuned_table-table.ensures)
-    (rw (c.new-rows.ensures, c.from.ensures) at c.number-footprint.ensures))
+    let are = c.peaks.ensures.history.snapshots in
+    let counts = peaks_are_counts snapshots are in
+    rw (c.new-3.ensures, rw (c.in_ok-spans.ensures.spans, c.peaks.ensures.profile) at c.certificate_of_rows-sheet.ensures.read)
+    (made-fit snapshots c.args.step c.args.limit _ are
+    (read-made (footprint_on snapshots) (λ step pos. footprint_is_sum snapshots step pos are) c.args.step c.args.limit _ _
+    c.requires.step counts c.requires.some c.requires.few filled))

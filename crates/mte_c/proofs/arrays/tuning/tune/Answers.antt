@@ -4,7 +4,7 @@ use Rattle.mte_c.proofs.arrays.tuning.tune.Goals as goal
 
 pub put_rows-requires-clause-shape : goal.put_rows-requires-clause-shape
 put_rows-requires-clause-shape c =
-    rw (c.from-2.ensures, c.row_length-places.ensures.length, c.sheet-sheet.ensures) c.in_ok-tuned.ensures.tuned.shape
+    rw (c.from-2.ensures, c.row_length-places.ensures.length, c.sheet-sheet.ensures) c.in_ok-tuned.ensures.tuned.made.shape
 
 pub returns-clause-tuned : goal.returns-clause-tuned
 returns-clause-tuned c = (

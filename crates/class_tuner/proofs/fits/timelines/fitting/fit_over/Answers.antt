@@ -1,5 +1,5 @@
 use Rattle.std.proofs.Common.{inl, inr}
-use Rattle.potential_check.specs.Certificates.FitView.{fit_of}
+use Rattle.potential_check.specs.Certificates.SheetView.{sheet_of}
 use Rattle.tuner_theory.specs.Timelines.{IsTimeline}
 use Rattle.class_tuner.proofs.FitLemmas.TimelineLemmas.Rounds.{IsRound, between-first, between-more, firsts-within, more-moments, one-moment, round-least}
 use Rattle.class_tuner.proofs.fits.timelines.fitting.fit_over.Goals as goal
@@ -10,7 +10,7 @@ returns-then-is_tight c =
     let moment = c.largest_moment-decisive.result in
     let timeline : IsTimeline events = rw c.events-events.ensures.events c.events-events.ensures.timeline in
     let numbers = c.in_ok-numbers.numbers.items in
-    let fit = fit_of c.in_ok-best.best.fit in
+    let fit = sheet_of c.in_ok-best.best.fit in
     let round : IsRound events numbers moment c.args.step c.args.limit fit c.in_ok-best.best.takes =
     record {
       over = one-moment events numbers moment c.largest_moment-decisive.ensures.within c.in_ok-numbers.ensures;
@@ -33,7 +33,7 @@ loop-round-init c =
     let moment = c.largest_moment-decisive.result in
     let timeline : IsTimeline events = rw c.events-events.ensures.events c.events-events.ensures.timeline in
     let numbers = c.in_ok-numbers.numbers.items in
-    let fit = fit_of c.in_ok-best.best.fit in
+    let fit = sheet_of c.in_ok-best.best.fit in
     let round : IsRound events numbers moment c.args.step c.args.limit fit c.in_ok-best.best.takes =
     record {
       over = one-moment events numbers moment c.largest_moment-decisive.ensures.within c.in_ok-numbers.ensures;
@@ -57,7 +57,7 @@ returns-then-is_tight-2 c =
     let moment = c.largest_moment-decisive.result in
     let timeline : IsTimeline events = rw c.events-events.ensures.events c.events-events.ensures.timeline in
     let numbers = c.loop-round.numbers.items in
-    let fit = fit_of c.in_ok-next.next.fit in
+    let fit = sheet_of c.in_ok-next.next.fit in
     let round : IsRound events numbers moment c.args.step c.args.limit fit c.in_ok-next.next.takes =
     record {
       over = c.loop-round.invariant.over;
@@ -86,7 +86,7 @@ loop-round-preserved c =
     let moment = c.largest_moment-decisive.result in
     let timeline : IsTimeline events = rw c.events-events.ensures.events c.events-events.ensures.timeline in
     let numbers = c.loop-round.numbers.items in
-    let fit = fit_of c.in_ok-next.next.fit in
+    let fit = sheet_of c.in_ok-next.next.fit in
     let round : IsRound events numbers moment c.args.step c.args.limit fit c.in_ok-next.next.takes =
     record {
       over = c.loop-round.invariant.over;

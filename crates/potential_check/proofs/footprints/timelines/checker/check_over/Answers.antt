@@ -1,11 +1,11 @@
 use Rattle.std.proofs.Common.{◌≡◌, ◌<◌, ◌≤◌, ℕ, List, inr, sym, ap, subst, ◌∙◌, IsSome}
 use Rattle.std.proofs.lemmas.Bool.{false≢true}
-use Rattle.potential_check.specs.Certificates.FitView.{fit_of}
+use Rattle.potential_check.specs.Certificates.SheetView.{sheet_of}
 use Rattle.class_table.specs.Sizes.{largest_counted}
 use Rattle.class_table.specs.Tables.{class_for}
 use Rattle.history_count.specs.Timelines.Requests.{IsLeastUnserved}
-use Rattle.tuner_theory.specs.Fits.{Fit, IsFitVerdict}
 use Rattle.tuner_theory.specs.Histories.{peaks}
+use Rattle.tuner_theory.specs.Sheets.{IsFitVerdict, Sheet}
 use Rattle.tuner_theory.specs.Timelines.{AreMoments, IsTimeline, footprint_over, history_at, moments, requested}
 use Rattle.tuner_theory.specs.Waste.{Serves}
 use Rattle.tuner_theory.specs.declared.size_event.SizeEvent.{SizeEvent}
@@ -16,7 +16,7 @@ use Rattle.tuner_theory.proofs.Timelines.{least_over_timeline}
 use Rattle.potential_check.proofs.footprints.timelines.checker.check_over.Goals as goal
 
 -- a verdict over a history, at what both are
-moved : (snapshots others : List (List ℕ)) (fit : Fit) (verdict : Verdict) → snapshots ≡ others → verdict ≡ Optimal
+moved : (snapshots others : List (List ℕ)) (fit : Sheet) (verdict : Verdict) → snapshots ≡ others → verdict ≡ Optimal
     → IsFitVerdict snapshots fit verdict → IsFitVerdict others fit Optimal
 moved snapshots others fit verdict same is meets =
     subst (λ (s : List (List ℕ)). IsFitVerdict s fit Optimal) same (subst (λ (v : Verdict). IsFitVerdict snapshots fit v) is meets)
@@ -34,7 +34,7 @@ not_serving events classes size timeline unserved serving =
 
 pub returns-in-Some-clause-verdict : goal.returns-in-Some-clause-verdict
 returns-in-Some-clause-verdict c =
-    let fit = fit_of c.args.fit.now in
+    let fit = sheet_of c.args.fit.now in
     let same = c.events-events.ensures.events in
     record {
       are = rw same at (c.are_moments.ensures.0 c.if-not-are_moments.false);
@@ -48,7 +48,7 @@ returns-in-Some-clause-verdict c =
 
 pub returns-then-taken-fit-clause-verdict : goal.returns-then-taken-fit-clause-verdict
 returns-then-taken-fit-clause-verdict c =
-    let fit = fit_of c.args.fit.now in
+    let fit = sheet_of c.args.fit.now in
     let same = c.events-events.ensures.events in
     record {
       are = rw same at (c.are_moments.ensures.0 c.if-not-are_moments.false);
@@ -66,7 +66,7 @@ returns-then-taken-fit-clause-verdict c =
 
 pub returns-clause-verdict : goal.returns-clause-verdict
 returns-clause-verdict c =
-    let fit = fit_of c.args.fit.now in
+    let fit = sheet_of c.args.fit.now in
     let same = c.events-events.ensures.events in
     record {
       are = rw same at (c.are_moments.ensures.0 c.if-not-are_moments.false);
@@ -80,7 +80,7 @@ returns-clause-verdict c =
 
 pub returns-clause-least : goal.returns-clause-least
 returns-clause-least c _ =
-    let fit = fit_of c.args.fit.now in
+    let fit = sheet_of c.args.fit.now in
     let same = c.events-events.ensures.events in
     let are : AreMoments c.args.timeline.now c.args.numbers.now = rw same at (c.are_moments.ensures.0 c.if-not-are_moments.false) in
     let meets = moved c.in_ok-history.history.snapshots (history_at c.args.timeline.now c.args.numbers.now) fit c.in_ok-refusal.field-0

@@ -1,0 +1,78 @@
+-- One answer of `tune`, `fit` and `run` to an input, since there is one certificate for what it spells, a step and a limit.
+use Rattle.std.proofs.Common.{◌≡◌, ℕ, List, ◌++◌, Result, Ok, Err, ap, sym, subst, ◌∙◌}
+use Rattle.class_tuner.proofs.LawLemmas.{one_fit, one_sheet}
+use Rattle.heap_theory.specs.declared.config.Config.{Config}
+use Rattle.history_count.specs.Histories.{History}
+use Rattle.history_count.specs.HistoryText.{history_of}
+use Rattle.potential_check.specs.SheetText.{fit_text, sheet_text}
+use Rattle.profile_count.specs.ProfileText.{profile_of}
+use Rattle.replay_theory.specs.Report.{report}
+use Rattle.trace_event.specs.declared.event.Event.{Event}
+use Rattle.trace_reader.specs.TraceText.{trace_of}
+use Rattle.tuner_theory.specs.Profiles.{Profile as Counted}
+use Rattle.tuner_theory.specs.Sheets.{Sheet}
+use Rattle.mte_engine.specs.Fit.{FitAnswers, IsFitText}
+use Rattle.mte_engine.specs.Parts.{AnswersPart, history_part, profile_part}
+use Rattle.mte_engine.specs.Replay.{report_on}
+use Rattle.mte_engine.specs.Run.{IsTunedRun, RunAnswers}
+use Rattle.mte_engine.specs.Traces.{profile_of_events, trace_part}
+use Rattle.mte_engine.specs.Tune.{IsTunedText, TuneAnswers}
+use Rattle.mte_engine.specs.declared.fault.InputFault.{InputFault}
+use Rattle.mte_engine.specs.Outcome.{Answer}
+use Rattle.mte_engine.specs.declared.engine.Status.TheVariants.{Done}
+
+-- what is read is one, and what is said of it is one
+one_answer : {A : Type 0} (part : Result A InputFault) (says : A → Answer → Type 0) → ((x : A) (a b : Answer) → says x a → says x b → a ≡ b)
+    → (a b : Result Answer InputFault) → AnswersPart part says a → AnswersPart part says b → a ≡ b
+one_answer part says one (Ok a) (Ok b) first second =
+    let same : first.0 ≡ second.0 = (let read = sym first.1 ∙ second.1 in cc) in
+    ap Ok (one second.0 a b (subst (λ x. says x a) same first.2) second.2)
+one_answer part says one (Ok a) (Err fault) first second = let read = sym first.1 ∙ second in cc
+one_answer part says one (Err fault) (Ok b) first second = let read = sym first ∙ second.1 in cc
+one_answer part says one (Err fault) (Err other) first second = let read = sym first ∙ second in cc
+
+module _ (limit step : ℕ) (text : List ℕ) where
+  tune_written : (p : Counted) (a b : Answer) → IsTunedText limit step p a → IsTunedText limit step p b → a ≡ b
+  tune_written p a b first second =
+      let same = one_sheet p.counts step limit first.sheet second.sheet first.tuned second.tuned in
+      first.written ∙ ap (λ (s : Sheet). record { text = sheet_text s; status = Done }) same ∙ sym second.written
+
+  tuned : (a : Result Answer InputFault) → TuneAnswers limit step text a
+      → AnswersPart (profile_part 0 (profile_of text)) (IsTunedText limit step) a
+  tuned (Ok a) answers = answers
+  tuned (Err fault) answers = answers
+
+  pub one_tune : (a b : Result Answer InputFault) → TuneAnswers limit step text a → TuneAnswers limit step text b → a ≡ b
+  one_tune a b first second =
+      one_answer (profile_part 0 (profile_of text)) (IsTunedText limit step) tune_written a b (tuned a first) (tuned b second)
+
+  fit_written : (h : History) (a b : Answer) → IsFitText limit step h a → IsFitText limit step h b → a ≡ b
+  fit_written h a b first second =
+      let same = one_fit h.snapshots step limit first.fit second.fit first.fitted second.fitted in
+      first.written ∙ ap (λ (s : Sheet). record { text = fit_text s; status = Done }) same ∙ sym second.written
+
+  fitted : (a : Result Answer InputFault) → FitAnswers limit step text a
+      → AnswersPart (history_part 0 (history_of text)) (IsFitText limit step) a
+  fitted (Ok a) answers = answers
+  fitted (Err fault) answers = answers
+
+  pub one_fitted : (a b : Result Answer InputFault) → FitAnswers limit step text a → FitAnswers limit step text b → a ≡ b
+  one_fitted a b first second =
+      one_answer (history_part 0 (history_of text)) (IsFitText limit step) fit_written a b (fitted a first) (fitted b second)
+
+module _ (limit step : ℕ) (config : Config) (text : List ℕ) where
+  run_written : (events : List Event) (a b : Answer) → IsTunedRun limit step config events a → IsTunedRun limit step config events b → a ≡ b
+  unfolding report
+  run_written events a b first second =
+      let same = one_sheet (profile_of_events events).counts step limit first.sheet second.sheet first.tuned second.tuned in
+      first.written ∙ ap (λ (s : Sheet). record { text = sheet_text s ++ report_on config s.table events; status = Done }) same
+      ∙ sym second.written
+
+  ran : (a : Result Answer InputFault) → RunAnswers limit step config text a
+      → AnswersPart (trace_part 0 (trace_of text)) (IsTunedRun limit step config) a
+  ran (Ok a) answers = answers
+  ran (Err fault) answers = answers
+
+  pub one_run : (a b : Result Answer InputFault) → RunAnswers limit step config text a → RunAnswers limit step config text b → a ≡ b
+  one_run a b first second =
+      one_answer (trace_part 0 (trace_of text)) (IsTunedRun limit step config) run_written a b (ran a first) (ran b second)

@@ -1,0 +1,25 @@
+-- What tables are measured by, and so what certificates are checked against: the waste on a profile, or the footprint over a history.
+use Rattle.std.specs.Prelude.{ℕ, ◌<◌, List}
+use Rattle.tuner_theory.specs.Footprint.{footprint_between, footprint_of}
+use Rattle.tuner_theory.specs.Histories.{peaks}
+use Rattle.tuner_theory.specs.Intervals.{IsSumOfIntervals}
+use Rattle.tuner_theory.specs.Spans.{waste_between}
+use Rattle.tuner_theory.specs.Waste.{waste_of}
+
+-- The counts whose sizes a table has to serve; what a table costs; and `between step low high`, what the class `high` costs for the needs
+-- above `low` up to its own.
+pub record Measure : Type 0 where
+  pub counts : List ℕ
+  pub cost : List ℕ → ℕ
+  pub between : ℕ → ℕ → ℕ → ℕ
+
+abbrev pub waste_on : List ℕ → Measure
+waste_on counts = record { counts = counts; cost = waste_of counts; between = waste_between counts }
+
+abbrev pub footprint_on : List (List ℕ) → Measure
+footprint_on snapshots =
+    record { counts = peaks snapshots; cost = footprint_of snapshots; between = footprint_between snapshots }
+
+-- What a table costs is the sum of what its classes cost.
+abbrev pub AreSums : Measure → Type 0
+AreSums m = (step : ℕ) → 0 < step → IsSumOfIntervals m.cost (m.between step) m.counts step
