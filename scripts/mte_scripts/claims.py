@@ -155,8 +155,12 @@ TEMPLATES = {
 }
 
 
+def numbered(count: int, noun: str) -> str:
+    return f"{count:,} {noun}{'' if count == 1 else 's'}"
+
+
 def byte_text(count: int) -> str:
-    return f"{count:,} byte{'' if count == 1 else 's'}"
+    return numbered(count, "byte")
 
 
 def class_text(count: int) -> str:

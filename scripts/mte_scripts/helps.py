@@ -1,5 +1,6 @@
 """Reads the help of a command into its parts, so that its parser, its manual page and its completions have no words of their own."""
 
+import itertools
 import re
 from collections import namedtuple
 from collections.abc import Iterator
@@ -81,13 +82,9 @@ def indent(line: str) -> int:
 
 def groups(text: str) -> "Iterator[list[str]]":
     """The lines of the help in groups: those that follow one another, and are indented or not."""
-    group: "list[str]" = []
-    for line in [*text.splitlines(), ""]:
-        if group and (not line.strip() or bool(indent(line)) != bool(indent(group[0]))):
-            yield group
-            group = []
-        if line.strip():
-            group.append(line.rstrip())
+    for (is_text, _), group in itertools.groupby(text.splitlines(), lambda line: (bool(line.strip()), bool(indent(line)))):
+        if is_text:
+            yield [line.rstrip() for line in group]
 
 
 def sections(text: str) -> "Iterator[Section]":

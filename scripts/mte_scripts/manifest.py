@@ -54,25 +54,14 @@ def hash_of(path: "str | bytes") -> str:
         return hashlib.sha256(file.read()).hexdigest()
 
 
-def files_below(folder: bytes) -> list[bytes]:
-    """The paths of all files below a folder, where there is one."""
-    found = []
-    try:
-        with os.scandir(folder) as entries:
-            for entry in entries:
-                found += files_below(entry.path) if entry.is_dir(follow_symlinks=False) else [entry.path]
-    except (FileNotFoundError, NotADirectoryError):
-        pass
-    return found
-
-
 def sources_of(root: str) -> str:
     """The hash of the sources of the repository in this folder."""
     top = os.path.join(os.fsencode(root), b"")
     files = [top + b"crates.txt"]
     for crate in os.listdir(top + b"crates"):
         for part in (b"src", b"specs", b"proofs"):
-            files += files_below(os.path.join(top, b"crates", crate, part))
+            for folder, _, names in os.walk(os.path.join(top, b"crates", crate, part)):
+                files += [os.path.join(folder, name) for name in names]
     listed = hashlib.sha256()
     for path in sorted(files):
         listed.update(f"{hash_of(path)}  ".encode() + path[len(top) :] + b"\n")

@@ -126,13 +126,13 @@ def columns(rows: "Iterable[Sequence[str]]") -> "list[str]":
 
 
 def opened(path: str) -> BinaryIO:
-    """A file that is open for reading as bytes, not buffered; standard input for `-`."""
+    """A file that is open for reading as bytes; standard input for `-`."""
     try:
         if path != "-":
-            return open(path, "rb", buffering=0)
+            return open(path, "rb")
         if sys.stdin is None:
             raise Refused(2, "standard input is closed")
-        return open(0, "rb", buffering=0, closefd=False)
+        return open(0, "rb", closefd=False)
     except OSError as error:
         raise Refused(2, f"{named(path)} can't be read: {error.strerror}") from None
 
@@ -144,13 +144,7 @@ def named(path: str) -> str:
 def read(path: str, most: "int | None" = None) -> bytes:
     """The bytes of a file, or of `-`, or the first so many of them."""
     with opened(path) as file:
-        data = bytearray()
-        while most is None or len(data) < most:
-            piece = next_piece(file, path)
-            if not piece:
-                break
-            data += piece
-    return bytes(data[:most])
+        return next_piece(file, path, most)
 
 
 def read_some(path: str, most: int = MOST_INPUT, whose: str = "mte_tool reads") -> bytes:
@@ -163,9 +157,10 @@ def read_some(path: str, most: int = MOST_INPUT, whose: str = "mte_tool reads") 
     return data
 
 
-def next_piece(file: "BinaryIO | Begun", path: str) -> bytes:
+def next_piece(file: BinaryIO, path: str, most: "int | None" = PIECE) -> bytes:
+    """So many bytes of a file, or all that are left; fewer where it ends."""
     try:
-        return file.read(PIECE)
+        return file.read(most)
     except OSError as error:
         raise Refused(2, f"{named(path)} can't be read: {error.strerror}") from None
 
@@ -184,12 +179,14 @@ def parse_profile(data: bytes, name: str) -> dict:
     return counts_of(io.BytesIO(data), name)
 
 
-def counts_of(file: "BinaryIO | Begun", path: str) -> dict:
+def counts_of(file: BinaryIO, path: str, begin: bytes = b"") -> dict:
+    """The same of an open file; what was read of it already is BEGIN."""
     counts: "defaultdict[Any, int]" = defaultdict(int)
     line = 1
-    for piece in whole_lines(file, path):
+    for piece in whole_lines(file, path, begin):
         if not add_lines(counts, piece):
-            refuse_line(piece, line, path)
+            at, text = next((at, text) for at, text in enumerate(lines_of(piece), line) if not counted(text))
+            raise fault(text, at, path)
         line += piece.count(b"\n")
     return with_large(counts)
 
@@ -253,30 +250,13 @@ def parse_history(data: bytes, name: str = "the history") -> History:
     return History(snapshots, {size: numbers for size, numbers in counts.items() if any(numbers)})
 
 
-class Begun:
-    """A file of which some bytes were read."""
-
-    def __init__(self, begin: bytes, file: BinaryIO) -> None:
-        self.begin = begin
-        self.file = file
-
-    def read(self, most: int) -> bytes:
-        begin, self.begin = self.begin, b""
-        return begin or self.file.read(most)
-
-
 def read_either(path: str) -> "dict | History":
     """A profile as read_profile has it, or a History: the first line says which."""
     with opened(path) as file:
-        begin = b""
-        while len(begin) < len(b"snapshots ") and (piece := next_piece(file, path)):
-            begin += piece
+        begin = next_piece(file, path, len(b"snapshots "))
         if not is_history(begin):
-            return counts_of(Begun(begin, file), path)
-        pieces = [begin]
-        while piece := next_piece(file, path):
-            pieces.append(piece)
-        return parse_history(b"".join(pieces), named(path))
+            return counts_of(file, path, begin)
+        return parse_history(begin + next_piece(file, path, None), named(path))
 
 
 def history_text(history: History) -> str:
@@ -299,9 +279,8 @@ def rows_text(rows: dict) -> str:
     return "".join(lines)
 
 
-def whole_lines(file: "BinaryIO | Begun", path: str) -> "Iterator[bytes]":
-    """The bytes of a file in pieces of whole lines. The last line is given the newline that it may lack."""
-    rest = b""
+def whole_lines(file: BinaryIO, path: str, rest: bytes) -> "Iterator[bytes]":
+    """These bytes and those of a file in pieces of whole lines. The last line is given the newline that it may lack."""
     while True:
         piece = next_piece(file, path)
         if not piece:
@@ -315,7 +294,7 @@ def whole_lines(file: "BinaryIO | Begun", path: str) -> "Iterator[bytes]":
             if len(rest) > PIECE:
                 raise fault(rest, None, path)
     if rest:
-        yield rest + b"\n"
+        yield rest if rest.endswith(b"\n") else rest + b"\n"
 
 
 def add_lines(counts: defaultdict, piece: bytes) -> bool:
@@ -349,15 +328,6 @@ def lines_of(text: bytes) -> list[bytes]:
     """The lines of a text; the last may lack its newline."""
     lines = text.split(b"\n")
     return lines if lines[-1] else lines[:-1]
-
-
-def refuse_line(piece: bytes, line: int, path: str) -> None:
-    """Refuses the first faulty line of a piece that begins at this line."""
-    for text in lines_of(piece):
-        if not counted(text):
-            raise fault(text, line, path)
-        line += 1
-    raise AssertionError("no line is faulty")
 
 
 def fault(text: bytes, line: "int | None", path: str, form: str = "SIZE COUNT") -> Refused:

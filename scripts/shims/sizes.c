@@ -232,28 +232,22 @@ static int follows_aligned(size_t alignment, size_t all) {
   return live && is_aligned_own && is_small(all) && !(alignment & (alignment - 1));
 }
 
-void *memalign(size_t alignment, size_t size) {
-  if (!is_own()) return next.memalign(alignment, size);
+// by memalign where the block is followed: some allocators want a multiple of the alignment for aligned_alloc
+static void *aligned_block(void *(*call)(size_t, size_t), size_t alignment, size_t size) {
   size_t all = aligned(alignment, size);
   inside++;
   request(all);
-  int follows = follows_aligned(alignment, all);
-  void *block = next.memalign(alignment, follows ? size + 8 : size);
-  if (follows) come(block, all);
+  void *block = follows_aligned(alignment, all) ? come(next.memalign(alignment, size + 8), all) : call(alignment, size);
   inside--;
   return block;
 }
 
+void *memalign(size_t alignment, size_t size) {
+  return is_own() ? aligned_block(next.memalign, alignment, size) : next.memalign(alignment, size);
+}
+
 void *aligned_alloc(size_t alignment, size_t size) {
-  if (!is_own()) return next.aligned_alloc(alignment, size);
-  size_t all = aligned(alignment, size);
-  inside++;
-  request(all);
-  // some allocators want a multiple of the alignment here
-  int follows = follows_aligned(alignment, all);
-  void *block = follows ? come(next.memalign(alignment, size + 8), all) : next.aligned_alloc(alignment, size);
-  inside--;
-  return block;
+  return is_own() ? aligned_block(next.aligned_alloc, alignment, size) : next.aligned_alloc(alignment, size);
 }
 
 void *valloc(size_t size) { return is_own() ? memalign(getpagesize(), size) : next.valloc(size); }

@@ -300,9 +300,6 @@ class Log:
             self._numbers[number] = len(self.stacks) - 1
         return self._numbers[number]
 
-    def record(self, at: int) -> "tuple[str, int, int, int]":
-        return chr(self.letters[at]), self.first[at], self.second[at], self.third[at]
-
     def take_place(self, profile: str, places: "list[str]", missing: "list[str]") -> None:
         """Is the log in place of a large one, with its profile, the place of each error, and what is missing of it."""
         self._profile, self.quarantine, self.missing = profile, 0, missing

@@ -64,24 +64,18 @@ class Places:
         if not asked:
             return
         words, given = ["addr2line", "-a", "-f", "-C", "-i", "-e", path], "\n".join(map(hex, asked.values())).encode()
-        lines = subprocess.run(words, input=given, stdout=subprocess.PIPE, stderr=subprocess.DEVNULL).stdout.decode(errors="replace").split("\n")
-        lines.pop()
+        said = subprocess.run(words, input=given, stdout=subprocess.PIPE, stderr=subprocess.DEVNULL).stdout.decode(errors="replace")
         # an address alone, and then a function and a source for each inlined frame
-        addresses, frames = iter(asked), None
-        at = 0
-        while at < len(lines):
-            if lines[at].startswith("0x"):
-                frames = self._frames[next(addresses)]
-                unknown = frames.pop()
-                at += 1
-                continue
-            function, (source, _, line) = short(lines[at]), lines[at + 1].split(" (")[0].rpartition(":")
-            if not source.startswith("??"):
-                frames.append(Frame(function, source, int(line) if line.isdigit() else 0, path))
-            at += 2
-            if not frames and (at == len(lines) or lines[at].startswith("0x")):
-                is_named = not function.startswith("??")
-                frames.append(unknown._replace(function=f"{function} of {os.path.basename(path)}") if is_named else unknown)
+        for address, text in zip(asked, re.split(r"(?m)^0x.*\n", said)[1:]):
+            lines, frames, function = text.split("\n"), [], "??"
+            for name, place in zip(lines[::2], lines[1::2]):
+                function, (source, _, line) = short(name), place.split(" (")[0].rpartition(":")
+                if not source.startswith("??"):
+                    frames.append(Frame(function, source, int(line) if line.isdigit() else 0, path))
+            if frames:
+                self._frames[address] = frames
+            elif not function.startswith("??"):
+                self._frames[address] = [self._frames[address][0]._replace(function=f"{function} of {os.path.basename(path)}")]
 
     def at(self, address: int) -> list[Frame]:
         """The frames of an address that was learned, the innermost inlined first."""

@@ -62,10 +62,9 @@ MOST_WORK = 60_000  # of classes that are moved, times the machines that are loo
 
 
 class Table(NamedTuple):
-    """A table in common: its cost on each load; the worst ratio to a bound, and what bounds that of every table; and what shows that."""
+    """A table in common; the worst ratio to a bound, and what bounds that of every table; and what shows that."""
 
     classes: list
-    costs: list
     worst: Fraction
     low: Fraction
     certified: bounds.Certified
@@ -169,8 +168,7 @@ class Search:
             raise Refused(3, "no candidate serves all sizes of all loads: take more classes")
         low, found, numbers, divisor = self.low
         classes = self.first[1]
-        costs = [load.cost(classes) for load in self.given]
-        return Table(classes, costs, self.first[0][0], low, bounds.checked(found), numbers, divisor)
+        return Table(classes, self.first[0][0], low, bounds.checked(found), numbers, divisor)
 
 
 def of(given: Sequence[loads.Load], own: Sequence[bounds.Bound], among: bounds.Among) -> Table:

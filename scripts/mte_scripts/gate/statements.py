@@ -4,6 +4,7 @@ The definitions are those of crates/*/specs. A name that a module `declared` giv
 is printed. Names of std and of clap are the kit's: they are listed, and not printed. A name that is none of these is an error."""
 
 import functools
+import itertools
 import os
 import re
 from collections.abc import Iterable
@@ -224,12 +225,9 @@ def signature_end(text: str, start: int, indent: str) -> int:
 
 def commented(text: str, start: int) -> str:
     """The comment above an item; attributes are left out."""
-    above = []
-    for line in reversed(text[:start].split("\n")[:-1]):
-        if not line.strip().startswith(("//", "#[")) or line.strip().startswith("//!"):
-            break
-        above.append(line.strip())
-    return "\n".join(line for line in reversed(above) if line.startswith("//"))
+    lines = [line.strip() for line in text[:start].split("\n")[:-1]]
+    above = itertools.takewhile(lambda line: line.startswith(("//", "#[")) and not line.startswith("//!"), reversed(lines))
+    return "\n".join([line for line in above if line.startswith("//")][::-1])
 
 
 def dedented(text: str, indent: str) -> str:
@@ -357,39 +355,21 @@ def is_variable(word: str) -> bool:
 
 def bound_in(tokens: list, is_clause: bool, known: dict) -> set:
     """The variables that a text binds: in parentheses before a colon, after λ and let, and in patterns."""
-    bound, words = set(), [token[0] for token in tokens]
-    for at, word in enumerate(words):
-        if word in ("(", "{"):
-            end = at + 1
-            while end < len(words) and words[end] not in "(){}[],;:.":
-                end += 1
-            if end < len(words) and words[end] == ":":
-                bound.update(words[at + 1 : end])
-        elif word == "λ":
-            end = at + 1
-            while end < len(words) and words[end] not in "(.":
-                bound.add(words[end])
-                end += 1
-        elif word == "let" and at + 1 < len(words):
-            bound.add(words[at + 1])
-        elif word == "←":
-            begin = at - 1
-            while words[at - 1] == ")" and words[begin] != "(":
-                begin -= 1
-            bound.update(words[begin:at])
-        elif word == "↦":
-            begin = at
-            while begin and words[begin] not in ("[", "|"):
-                begin -= 1
-            bound.update(filter(is_variable, words[begin + 1 : at]))
-    if is_clause:
-        depth = 0
-        for word in words:
-            depth += (word in "([{") - (word in ")]}")
-            if word == "=" and depth == 0:
-                break
-            if word not in "(){}[],;:.=" and (is_variable(word) or word not in known and word.isalpha()):
-                bound.add(word)
+    words = [token[0] for token in tokens]
+    text = f" {' '.join(words)} "
+    names = [*re.findall(r" [({] ([^][(){},;:.]*)(?=: )", text), *re.findall(r" λ ([^(.]*)", text), *re.findall(r" let (\S+)", text)]
+    names += re.findall(r" (\([^(]*\)|\S+) ← ", text)
+    bound = {each for some in names for each in some.split()}
+    for at in [at for at, word in enumerate(words) if word == "↦"]:
+        begin = max((before for before in range(at) if words[before] in ("[", "|")), default=0)
+        bound.update(filter(is_variable, words[begin + 1 : at]))
+    depth = 0
+    for word in words if is_clause else ():
+        depth += (word in "([{") - (word in ")]}")
+        if word == "=" and depth == 0:
+            break
+        if word not in "(){}[],;:.=" and (is_variable(word) or word not in known and word.isalpha()):
+            bound.add(word)
     return bound - set("(){}[],;:.")
 
 
@@ -613,7 +593,6 @@ def laws(crate: str) -> list:
 
 @dataclass
 class Statement:
-    topic: str
     title: str
     contracts: list
     definitions: list  # of specs/ and of the source, each after what cites it first; a text has those of the source at its end
@@ -650,7 +629,7 @@ def statement(topic: str) -> Statement:
 
     for contract in contracts:
         reach(contract)
-    return Statement(topic, title, contracts, list(order.values()), sorted(foreign, key=lambda it: (it.crate, it.name)))
+    return Statement(title, contracts, list(order.values()), sorted(foreign, key=lambda it: (it.crate, it.name)))
 
 
 def short(key: Key) -> str:

@@ -48,20 +48,11 @@ class Record(NamedTuple):
     mark: Mark
     peak: dict  # the profile of the blocks live at the peak
     events: array
-    requested: Counter  # by the events that are no longer there
     history: Optional[texts.History]
     class_bytes: int  # the classes of whose peaks the history has the moments are so wide; 0 where they are those of a table
 
     def text(self) -> Iterator[bytes]:
         return text_of(self.events)
-
-    def requests(self) -> dict:
-        """The profile of all requests."""
-        found = Counter(self.requested)
-        for code, times in Counter(self.events).items():
-            if not code & FREED:
-                found[code] += times
-        return named(found)
 
 
 def lines() -> list[bytes]:
@@ -120,7 +111,7 @@ def read(path: str) -> Optional[Record]:
         events = array("H", file.read(2 * mark.events))
         if len(events) != mark.events or weighed(by_size(events)) != mark.sum:
             return None
-        return Record(mark, peak_of(words), events, Counter(), None, 0)
+        return Record(mark, peak_of(words), events, None, 0)
 
 
 def peak_of(words: array) -> dict:
@@ -140,10 +131,9 @@ def reduced(file: BinaryIO, mark: Mark, words: array) -> Optional[Record]:
     moments: dict = dict(filter(None, found))
     moments.update(peaks(piece, before, live, groups, list(moments.values())))
     moments[words[counts.TAKEN]] = peak_of(words)
-    known = {size: times for size, times in enumerate(requested) if times}
     width = groups.count(groups[CLASSES - 2])
     is_even = all(groups[each] == each // width for each in range(2, CLASSES))
-    return Record(mark, peak_of(words), piece, Counter(known), history_of(moments), 16 * width if is_even else 0)
+    return Record(mark, peak_of(words), piece, history_of(moments), 16 * width if is_even else 0)
 
 
 def moment_of(words: tuple) -> Optional[tuple]:

@@ -6,7 +6,8 @@ import bisect
 import functools
 import os
 import re
-from typing import NamedTuple
+from collections.abc import Callable, Iterator
+from typing import NamedTuple, Optional
 
 from mte_scripts import claims, texts
 from mte_scripts.recording import timelines
@@ -109,9 +110,10 @@ class Table:
         number = int(answer.split()[-1])
         self.waste, self.unserved = (number, None) if status == 0 else (None, number)
         # where there is a history or a timeline: its footprint, or the least size there that it does not serve
-        self.footprint = self.unserved_over_time = None
+        self.footprint: Optional[int] = None
+        self.unserved_over_time: Optional[int] = None
 
-    def over(self, text):
+    def over(self, text: bytes) -> None:
         status, answer = run(["footprint"], class_text(self.classes).encode() + b"\n" + text)
         number = int(answer.split()[-1])
         self.footprint, self.unserved_over_time = (number, None) if status == 0 else (None, number)
@@ -134,7 +136,8 @@ class Figures:
     too, and each table's footprint. The objective is waste or footprint: `first` is the table that is the first by it, and what is said of
     savings, of the curve and of the classes is of this one. GIVEN and TIME_GIVEN are what the profile and the record are called."""
 
-    def __init__(self, profile, sheet, others, timed=None, objective="waste", given="the profile", time_given="the history"):
+    def __init__(self, profile: dict, sheet: str, others: list[tuple[str, list[int]]], timed: Optional[OverTime] = None, objective: str = "waste",
+                 given: str = "the profile", time_given: str = "the history") -> None:
         self.counts = {size: profile[size] for size in sorted(profile.keys() - {"large"}) if profile[size]}
         self.large = profile.get("large", 0)
         self.requests = sum(self.counts.values())
@@ -151,7 +154,9 @@ class Figures:
             "profile", self.verdict, self.sheet.limit, self.sheet.step, self.sheet.classes, given, self.best.waste, self.forced
         )
         self.others = [Table(name, classes, profile) for name, classes in others]
-        self.timed, self.fitted, self.fit_judged = timed, None, None
+        self.timed = timed
+        self.fitted: Optional[Table] = None
+        self.fit_judged: Optional[claims.Judged] = None
         if timed is not None:
             self.take_fit(timed, profile, time_given)
         self.objective = objective
@@ -225,7 +230,7 @@ class Figures:
         """By how many bytes the first table takes less than this one over time; None where one of the two does not serve all sizes."""
         return None if None in (table.footprint, self.first.footprint) else table.footprint - self.first.footprint
 
-    def most(self, amount):
+    def most(self, amount: Callable[[int], int]) -> int:
         """The most of all live blocks together at a moment, each with an amount of its size."""
         if self.timed.kind == "timeline":
             return timelines.most_of(self.timed.text, amount)[0]
@@ -292,7 +297,7 @@ class Figures:
         requests = {size: min(times, texts.MOST_COUNT) for size, times in self.requested().items()}
         return Table(table.name, table.classes, requests).waste
 
-    def classes(self):
+    def classes(self) -> Iterator[tuple[int, int, int, int, int]]:
         """For each class of the first table: its block in bytes, the least and the greatest size it serves, and by the objective its requests
         and the bytes lost, or the most of its blocks live at once and their bytes."""
         below = -1
@@ -326,7 +331,7 @@ def other_tables(paths: list[str]) -> list[tuple[str, list[int]]]:
     return [(name, texts.class_line(path)) for name, path in named]
 
 
-def without_ending(path, *endings):
+def without_ending(path: str, *endings: str) -> str:
     """The name of a file, without its folder and such an ending."""
     name = os.path.basename(path)
     return next((name[: -len(ending)] for ending in endings if name.endswith(ending) and name != ending), name)

@@ -4,6 +4,7 @@ import argparse
 import os
 import subprocess
 import textwrap
+from collections.abc import Callable, Iterator
 
 from mte_scripts import private_folder, texts
 from mte_scripts.builds import web_page
@@ -86,6 +87,8 @@ FILES = [
 
 
 class Options(argparse.Namespace):
+    objective: str
+
     def __init__(self, words: list[str]) -> None:
         parser = ProgramWords(HELP)
         parser.add_argument("--limit", type=between(1, texts.MOST_CLASSES), default=32)
@@ -114,7 +117,7 @@ class Options(argparse.Namespace):
         if self.read is None:
             self.agree_on(None if self.all else self.words)
 
-    def agree_on(self, history):
+    def agree_on(self, history: object) -> None:
         """Without a history there is but one table. It may also be one that is yet to be recorded."""
         if history is None and self.objective == "footprint":
             wanted = "a history or a timeline: a program that is run without --all, or one of --read"
@@ -147,7 +150,7 @@ class Folder:
     def has(self, name: str) -> bool:
         return os.path.isfile(self.file(name))
 
-    def write(self, name, data):
+    def write(self, name: str, data: "str | bytes") -> None:
         path = self.file(name)
         try:
             with open(path, "wb") as file:
@@ -182,7 +185,7 @@ def script(name: str, words: list[str], given: "bytes | None" = None) -> bytes:
     return done.stdout
 
 
-def count(options, folder, given):
+def count(options: Options, folder: Folder, given: "str | None") -> tuple[int, list[str], dict[str, int]]:
     """Runs the program and writes its profile. Returns the status of the run, 0 or 1, what profile_program said of it, and what it measured."""
     said, measured, profile = (folder.file(name) for name in ("said", "measured", "program.profile"))
     printed = profile if options.all else folder.file("program.timeline")
@@ -233,7 +236,7 @@ def read_given(options: Options) -> "dict[str, str | bytes]":
     return {"program.profile": figures.profile_text(figures.at_peak(history)), "program.history": text}
 
 
-def warnings(options, found, notes):
+def warnings(options: Options, found: figures.Figures, notes: list[str]) -> Iterator[str]:
     """Where the result means little: a line for each reason."""
     default = found.others[0]
     saving = found.saving(default)
@@ -259,7 +262,7 @@ def warnings(options, found, notes):
         yield note
 
 
-def wasteful(found, default):
+def wasteful(found: figures.Figures, default: figures.Table) -> Iterator[str]:
     """Whether all requests lose more than by default, though their peak does not."""
     ours, theirs = (found.waste_over_time(table) for table in (found.first, default))
     if None not in (ours, theirs) and ours > theirs:
@@ -288,7 +291,7 @@ def headline(options: Options, found: figures.Figures) -> str:
     return f"{options.name()}: {found.first.name}, {kibibytes(abs(saving))} ({share}) {'less' if saving >= 0 else 'more'} than {default.name}"
 
 
-def summary(options, found, folder, noted, measured):
+def summary(options: Options, found: figures.Figures, folder: Folder, noted: list[str], measured: dict[str, int]) -> str:
     """The summary: it fits a terminal of 80 columns and 24 lines, unless there are many tables, warnings or a record over time."""
     lines = [*wrapped(headline(options, found), "  "), ""]
     if found.timed:
@@ -343,7 +346,7 @@ def over_time(found: figures.Figures, measured: dict[str, int]) -> list[str]:
     for table in (found.first, *found.rest):
         if table.footprint is None:
             most = 16 * table.classes[-1] - 16 if table.classes else -1
-            above = figures.byte_text(found.most(lambda size, most=most: size if size > most else 0))
+            above = figures.byte_text(found.most(lambda size: size if size > most else 0))
             lines += wrapped(f"  {table.name} serves no size above {number(most)} bytes, of which at most {above} were live.", "  ")
     return lines + wrapped(predicted(found)) + wrapped(larger_blocks(found))
 
@@ -382,9 +385,9 @@ def printable(line: str) -> str:
     return "".join(c if c.isprintable() else c.encode("unicode_escape", "surrogatepass").decode() for c in line)
 
 
-def comparison(found):
+def comparison(found: figures.Figures) -> list[str]:
     """The tables: classes, waste and saving, in columns."""
-    rows = [("Table", "classes", "waste, bytes", "share", "saving", "share")]
+    rows: list[tuple] = [("Table", "classes", "waste, bytes", "share", "saving", "share")]
     for table in (found.first, *found.rest):
         if table.waste is None:
             rows.append((table.name, number(len(table.classes)), f"does not serve {number(table.unserved)} bytes"))
@@ -415,9 +418,12 @@ def tune(words: list[str]) -> int:
         return tuned_in(options, folder, others, given, scudo, work)
 
 
-def tuned_in(options, folder, others, given, scudo, work):
+def tuned_in(options: Options, folder: Folder, others: list, given: "dict | None", scudo: "verification.Place | None",
+             work: private_folder.Folder) -> int:
     """All steps in a new folder, with one for what is needed meanwhile."""
-    status, notes, measured, kept = 0, [], {}, None
+    status, kept = 0, None
+    notes: list[str] = []
+    measured: dict[str, int] = {}
     try:
         if given is None:
             kept = work.file("input") if scudo and verification.keep_input(work.file("input")) else None
@@ -439,7 +445,7 @@ def tuned_in(options, folder, others, given, scudo, work):
     return status
 
 
-def made(options, folder, others, notes, measured):
+def made(options: Options, folder: Folder, others: list, notes: list[str], measured: dict[str, int]) -> figures.Figures:
     """All that follows from program.profile."""
     profile = texts.read_profile(folder.file("program.profile")) if folder.has("program.profile") else {}
     if not any(size for size in profile if size != "large"):
@@ -453,7 +459,8 @@ def made(options, folder, others, notes, measured):
     found = figures.Figures(profile, sheet, others, timed, options.objective, "program.profile", given)
     failed = []
     # none of these is needed for what follows
-    for name, make in (("tuned_map.inc", scudo_map), ("waste.svg", picture), *[("page.html", tables)] * has_tables()):
+    makes: list[tuple[str, Callable]] = [("tuned_map.inc", scudo_map), ("waste.svg", picture), *[("page.html", tables)] * has_tables()]
+    for name, make in makes:
         try:
             folder.write(name, make(options, folder))
         except texts.Refused as refused:
@@ -476,7 +483,8 @@ def made(options, folder, others, notes, measured):
     return found
 
 
-def verify(options, folder, found, scudo, work, kept):
+def verify(options: Options, folder: Folder, found: figures.Figures, scudo: verification.Place, work: str,
+           kept: "str | None") -> None:
     """Runs the program in the real Scudo, and adds to the summary what was measured."""
     default, path = found.others[0].name, recording.find_program(options.words[0])
     libraries = {"glibc": None, default: os.path.join(work, "default.so"), found.first.name: os.path.join(work, "tuned.so")}
@@ -518,7 +526,7 @@ def tuned_sheet(options: Options, text: str) -> str:
     return answer + "\n"
 
 
-def check_command(folder, command, *names):
+def check_command(folder: Folder, command: str, *names: str) -> str:
     return f"cat {' '.join(texts.quoted(folder.file(name)) for name in names)} | {texts.as_called('scripts/mte_tool')} {command}"
 
 
@@ -541,7 +549,7 @@ def has_tables() -> bool:
     return bool(web_page.at_hand())
 
 
-def tables(options, folder):
+def tables(options: Options, folder: Folder) -> str:
     """That page, of the record over time where the map is of its table, of a timeline the moments of the fit; else of the profile."""
     name = "program.profile"
     if options.objective == "footprint":

@@ -105,13 +105,12 @@ static NOT_INLINE void see_stored(const char *format, va_list given, int stored,
   va_end(values);
 }
 
-#define PRINTS(name, parameters, real_name, words, before, after) \
+#define PRINTS(name, parameters, real_name, words, after) \
   SHOWN int name parameters { \
     REAL(real_name); \
     va_list values; \
     va_start(values, format); \
     see_texts(format, values, CALLER); \
-    before; \
     int n = real words; \
     va_end(values); \
     after; \
@@ -125,12 +124,12 @@ static NOT_INLINE void see_stored(const char *format, va_list given, int stored,
     after; \
     return n; \
   }
-PRINTS(printf, (const char *format, ...), vprintf, (format, values), , )
-PRINTS(fprintf, (FILE *file, const char *format, ...), vfprintf, (file, format, values), , )
-PRINTS(dprintf, (int file, const char *format, ...), vdprintf, (file, format, values), , )
-PRINTS(asprintf, (char **to, const char *format, ...), vasprintf, (to, format, values), , STORES(to, sizeof *to))
-PRINTS(sprintf, (char *to, const char *format, ...), vsprintf, (to, format, values), , if (n >= 0) STORES(to, (size_t)n + 1))
-PRINTS(snprintf, (char *to, size_t most, const char *format, ...), vsnprintf, (to, most, format, values), ,
+PRINTS(printf, (const char *format, ...), vprintf, (format, values), )
+PRINTS(fprintf, (FILE *file, const char *format, ...), vfprintf, (file, format, values), )
+PRINTS(dprintf, (int file, const char *format, ...), vdprintf, (file, format, values), )
+PRINTS(asprintf, (char **to, const char *format, ...), vasprintf, (to, format, values), STORES(to, sizeof *to))
+PRINTS(sprintf, (char *to, const char *format, ...), vsprintf, (to, format, values), if (n >= 0) STORES(to, (size_t)n + 1))
+PRINTS(snprintf, (char *to, size_t most, const char *format, ...), vsnprintf, (to, most, format, values),
        if (n >= 0 && most) STORES(to, with_end(n, most)))
 PRINTS_LIST(vprintf, (const char *format, va_list values), (format, values), )
 PRINTS_LIST(vfprintf, (FILE *file, const char *format, va_list values), (file, format, values), )

@@ -4,8 +4,8 @@ from array import array
 from collections import Counter
 from typing import Optional
 
+from mte_scripts.claims import numbered as number
 from mte_scripts.recording import timelines
-from mte_scripts.tables.figures import numbered as number
 
 ALL, LIVE, TIMELINE, HISTORY = "all", "live", "timeline", "history"
 FREED, LARGE = timelines.FREED, timelines.LARGE
