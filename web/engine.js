@@ -78,13 +78,13 @@ class Module {
 class Steps {
   constructor(module, line, trace, options) {
     const o = { ...DEFAULTS, ...options };
-    const [places, texts] = [[module.take(8)], [module.put(line), module.put(trace)]];
-    [this.module, this.handle, this.granules, this.done] = [module, places[0], o.granules, 0];
+    const texts = [module.put(line), module.put(trace)];
+    [this.module, this.handle, this.facts, this.granules, this.done] = [module, module.take(8), module.take(24), o.granules, 0];
     module.bytes(this.handle, 8).fill(0);
     const status = module.run("mte_step_new", ...packed(HEAP_OPTIONS, o), ...texts[0], ...texts[1], this.handle);
     module.give(texts[0][0], texts[1][0]);
     if (status) {
-      module.give(this.handle);
+      module.give(this.handle, this.facts);
       throw new Error(`no replay: ${ENDED[status]}`);
     }
   }
@@ -106,9 +106,22 @@ class Steps {
     return picture;
   }
 
+  /** The address in a variable; 0 is null. */
+  variable(v) {
+    return BigInt.asUintN(64, this.module.run("mte_step_variable", this.handle, v));
+  }
+
+  /** The slot over a granule, as `mte_step_slot` has it: the size and the tag are those of its last user. Null for slack and outside of the region. */
+  slot(granule) {
+    if (!(granule >= 0 && granule < this.granules)) return null;
+    if (!this.module.run("mte_step_slot", this.handle, granule, this.facts)) return null;
+    const [number, start, granules, state, size, tag] = new Uint32Array(this.module.exports.memory.buffer, Number(this.facts), 6);
+    return { number, start, granules, state, size, tag };
+  }
+
   free() {
     this.module.run("mte_step_free", this.handle);
-    this.module.give(this.handle);
+    this.module.give(this.handle, this.facts);
   }
 }
 

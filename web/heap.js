@@ -190,7 +190,6 @@ function showHeap() {
   $("law").hidden = !s.law && !s.why;
   $("law").className = s.law ? "" : "pass";
   $("law").textContent = s.law ? `${s.law.name}: ${s.law.words}` : s.why ? `An error that the heap lets pass. ${s.why}` : "";
-  if (s.differs >= 0) $("event-words").textContent += ` (The page's own model has granule ${s.differs} wrong, an error of ours.)`;
   $("queue-told").textContent = `${bytesText(s.held)} of ${bytesText(s.limit)} are held back. The oldest is first.`;
   $("queue").innerHTML = s.queue.map((q) => `<li>slot ${q.number}: ${bytesText(q.bytes)}, freed by event ${q.freed}</li>`).join("");
   for (const button of $("faults").querySelectorAll("button")) {

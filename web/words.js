@@ -52,55 +52,53 @@ function eventWords(event) {
   }
 }
 
-/** What the heap did about it, as far as the report has no line. */
-function doneWords(event, outcome, model) {
-  const slot = outcome.slot === undefined ? null : model.slots.get(outcome.slot);
-  if (event.name === "free") return slot ? `Slot ${slot.number} is dead now, under tag ${slot.chunkTag}.` : "A free of null does nothing.";
-  if (slot && outcome.inPlace) return `Slot ${slot.number} is resized in place; its tag ${slot.tag} stays.`;
-  const mover = outcome.from === undefined ? "It" : `The block moves from slot ${outcome.from}, and`;
-  if (slot) return `${mover} gets slot ${slot.number} of ${bytesText(model.bytesOf(slot))}, under tag ${slot.tag}.`;
+/** What the heap did about it, where the report has no line. */
+function doneWords(event, { slot, from, inPlace }, address, tags) {
+  if (event.name === "free") return slot ? `Slot ${slot.number} is dead now, under tag ${tags[slot.start + 1]}.` : "A free of null does nothing.";
+  if (inPlace) return `Slot ${slot.number} is resized in place; its tag ${slot.tag} stays.`;
+  const mover = from ? `The block moves from slot ${from.number}, and` : "It";
+  if (slot) return `${mover} gets slot ${slot.number} of ${bytesText(GRANULE * slot.granules)}, under tag ${slot.tag}.`;
   if (event.name === "load" || event.name === "store") return "The tags agree, and the bytes move.";
-  return `The pointer's tag is ${tagOf(model.variable(event.v).address)}.`;
+  return `The pointer's tag is ${tagOf(address)}.`;
+}
+
+/** A fault or a refusal in the report; a tag fault with its granule, both tags and the kind. */
+function faultOf(report) {
+  if (!report || report.startsWith("data")) return null;
+  const [, granule, memory, pointer, kind] = /^fault tag granule (\d+) memory (\d+) pointer (\d+) in (\w+)/.exec(report) ?? [];
+  return granule ? { report, granule: Number(granule), memory: Number(memory), pointer: Number(pointer), kind } : { report };
 }
 
 /** The law that a fault or a refusal is an instance of, with its sentence. */
-function lawOf(event, outcome, model) {
-  if (outcome.report.startsWith("null")) return null;
-  if (outcome.report.startsWith("refused")) return named("law_own_pointer");
-  if (outcome.report === "fault unmapped") return named("law_accesses");
-  const name = lawOfTags(event, outcome, model);
+function lawOf(fault, users, pointer) {
+  if (fault.report.startsWith("null")) return null;
+  if (fault.report.startsWith("refused")) return named("law_own_pointer");
+  if (fault.granule === undefined) return named("law_accesses");
+  const name = lawOfTags(fault, users.slotAt(fault.granule), pointer);
   return name ? named(name) : { name: "law_accesses", words: BY_ITS_TAG };
 }
 
 const named = (name) => ({ name, words: LAWS[name] });
 
 /** The law that promised that the tags differ, or null. */
-function lawOfTags(event, outcome, model) {
-  const pointer = model.variable(event.v);
-  const at = model.layout.slotAt(outcome.granule);
-  if (model.kindAt(outcome.granule) < 3) return "law_bookkeeping";
-  if (pointer.slot === null) return null;
-  if ((at.number - pointer.slot) % 2) return "law_neighbours";
-  if (at.number !== pointer.slot) return null;
-  const slot = model.slots.get(at.number);
-  const early = slot.generation === pointer.generation ? !slot.isLive : slot.generation === pointer.generation + 1 && slot.isLive;
+function lawOfTags({ kind }, slot, pointer) {
+  if (kind !== "dead" && kind !== "other") return "law_bookkeeping";
+  if (!pointer) return null;
+  if ((slot.number - pointer.slot) % 2) return "law_neighbours";
+  if (slot.number !== pointer.slot) return null;
+  const isLive = slot.state === LIVE;
+  const early = slot.generation === pointer.generation ? !isLive : slot.generation === pointer.generation + 1 && isLive;
   return early ? "law_freed" : null;
 }
 
 /** Why an access that a program should not make is let pass, or null where the access is right. */
-function passReason(event, outcome, model) {
-  if (outcome.report || outcome.first === undefined) return null;
-  const pointer = model.variable(event.v);
-  const at = model.layout.slotAt(outcome.first);
-  const slot = model.slots.get(at.number);
-  if (pointer.slot === null) {
-    const begin = GRANULE * (slot.start + 1);
-    return slot.isLive && outcome.at >= begin && outcome.to <= begin + slot.size ? null : "made";
-  }
-  if (at.number !== pointer.slot) return "parity";
-  if (slot.generation !== pointer.generation || !slot.isLive) return "reused";
-  const end = GRANULE * (slot.start + 1) + slot.size;
-  return outcome.to > end ? "last" : null;
+function passReason({ at, to, slot }, pointer) {
+  const begin = GRANULE * (slot.start + 1);
+  const isLive = slot.state === LIVE;
+  if (!pointer) return isLive && at >= begin && to <= begin + slot.size ? null : "made";
+  if (slot.number !== pointer.slot) return "parity";
+  if (slot.generation !== pointer.generation || !isLive) return "reused";
+  return to > begin + slot.size ? "last" : null;
 }
 
 const KIND_WORDS = { slack: "slack", header: "a header", tail: "a tail", dead: "of a dead chunk", other: "of a live chunk" };

@@ -85,7 +85,7 @@ function reportOf(line, options, { bytes, length }) {
   return Report.read(answer.bytes, length);
 }
 
-/** A replay with its trace and the model that names what the picture shows. */
+/** A replay with its trace, and who uses its slots. */
 class Replay {
   constructor({ line, options }) {
     Object.assign(this, { line, options, trace: taken, kept: new Map() });
@@ -94,9 +94,6 @@ class Replay {
     const [first] = this.parts;
     this.begin(first);
     this.report = reportOf(line, options, first);
-    this.model = new HeapModel(line.split(" ").slice(1).map(Number), options);
-    this.starts = [this.model.copy()];
-    this.every = Math.max(1024, Math.ceil(lines.length / 64));
   }
 
   /** Begins anew with so much of the trace. */
@@ -104,98 +101,85 @@ class Replay {
     this.steps?.free();
     this.steps = null;
     this.steps = engines.begin(this.line, bytes, this.options);
+    this.users = new Users(this.steps);
     this.reach = length;
   }
 
-  /** The model before event k + 1, from the last start before it. */
-  modelAfter(k) {
-    const from = Math.min(Math.floor(k / this.every), this.starts.length - 1);
-    let model = this.model.events <= k && this.model.events >= from * this.every ? this.model : this.starts[from].copy();
-    for (let i = model.events; i < k; i++) {
-      this.outcome = model.step(eventOf(this.trace.lines.at(i)));
-      if (model.events === this.starts.length * this.every) this.starts.push(model.copy());
-    }
-    this.model = model;
-    return model;
+  go() {
+    this.about = this.users.go(eventOf(this.trace.lines.at(this.steps.done)));
   }
 
-  picture(k) {
-    if (this.kept.has(k)) return this.kept.get(k);
-    const window = Math.min(KEPT_PICTURES, Math.max(1, Math.floor(MOST_KEPT_BYTES / (2 * this.options.granules))));
-    const first = k < this.steps.done ? Math.max(0, k - window + 1) : k;
-    if (k < this.steps.done || k > this.reach) this.begin(this.parts.find(({ length }) => k <= length));
-    while (this.steps.done < first) this.steps.go();
-    this.keep(this.steps.done, window);
-    while (this.steps.done < k) {
-      this.steps.go();
-      this.keep(this.steps.done, window);
-    }
-    return this.kept.get(k);
-  }
-
-  keep(k, window) {
-    this.kept.delete(k);
-    this.kept.set(k, this.steps.draw());
-    while (this.kept.size > 2 * window) this.kept.delete(this.kept.keys().next().value);
+  /** Goes to event k, on the way to the last one, by way of a new beginning where it lies behind. */
+  goTo(k, last = k) {
+    if (k < this.steps.done || last > this.reach) this.begin(this.parts.find(({ length }) => last <= length));
+    while (this.steps.done < k) this.go();
   }
 
   /** Everything that the page shows after k events. */
   show(k) {
-    const { tags, kinds } = this.picture(k);
-    const told = k > 0 ? this.tell(k) : { words: [] };
-    const model = this.modelAfter(k);
-    const differs = model.differsFrom({ tags, kinds });
-    const queue = { queue: this.queue(), held: model.held, limit: model.limit };
-    return { k, tags, kinds, line: k ? this.trace.lines.at(k - 1) : "", ...told, ...queue, differs };
+    if (this.kept.has(k)) return this.kept.get(k);
+    const window = Math.min(KEPT_PICTURES, Math.max(1, Math.floor(MOST_KEPT_BYTES / (2 * this.options.granules))));
+    this.goTo(k < this.steps.done ? Math.max(0, k - window + 1) : k, k);
+    this.keep(window);
+    while (this.steps.done < k) {
+      this.go();
+      this.keep(window);
+    }
+    return this.kept.get(k);
   }
 
-  /** The k-th event in words: the law that its fault is an instance of, or why its error is let pass. */
-  tell(k) {
+  keep(window) {
+    const k = this.steps.done;
+    const { queue } = this.users;
+    const held = queue.reduce((sum, { bytes }) => sum + bytes, 0);
+    const picture = this.steps.draw();
+    const told = k ? { line: this.trace.lines.at(k - 1), ...this.tell(k, picture) } : { line: "", words: [] };
+    this.kept.delete(k);
+    this.kept.set(k, { k, ...picture, ...told, queue: queue.slice(0, MOST_TOLD), held, limit: this.options.quarantine });
+    while (this.kept.size > 2 * window) this.kept.delete(this.kept.keys().next().value);
+  }
+
+  /** The last event in words: the law that its fault is an instance of, or why its error is let pass; and the granules that it touched. */
+  tell(k, { tags }) {
     const event = eventOf(this.trace.lines.at(k - 1));
-    const before = this.modelAfter(k - 1).copy();
-    const model = this.modelAfter(k);
-    const outcome = this.outcome;
-    const words = [eventWords(event), ...this.reported(k, event, outcome, model)];
-    const law = outcome.report ? lawOf(event, outcome, before) : null;
-    const why = REASONS[passReason(event, outcome, before)];
-    return { words, law, why, marks: this.marks(outcome, model) };
+    const pointer = this.users.variables.get(event.v);
+    const report = k > this.report.events ? null : this.report.get(k);
+    if (report === null) return { words: [eventWords(event), "Its line of the report is not there yet."] };
+    const fault = faultOf(report);
+    const done = report ? reportWords(report) : doneWords(event, this.about, this.steps.variable(event.v), tags);
+    const law = fault ? lawOf(fault, this.users, pointer) : null;
+    const why = fault || event.len === undefined ? undefined : REASONS[passReason(this.touched(event), pointer)];
+    return { words: [eventWords(event), done], law, why, marks: this.marks(event, fault) };
   }
 
-  /** What the report says of the k-th event, as far as it is there. */
-  reported(k, event, outcome, model) {
-    if (k > this.report.events) return ["Its line of the report is not there yet."];
-    const report = this.report.get(k);
-    const words = [report ? reportWords(report) : doneWords(event, outcome, model)];
-    const ours = report?.startsWith("data") ? undefined : report;
-    return outcome.report === ours ? words : [...words, "(The page's own model says otherwise, an error of ours.)"];
+  /** The bytes of the region that an access touches, and the slot of the first one. */
+  touched({ v, off, len }) {
+    const at = placeOf(this.steps.variable(v) + BigInt(off));
+    return { at, to: at + len, slot: this.users.slotAt(Math.floor(at / GRANULE)) };
   }
 
   /** The granules that an event touched, and at a tag fault both tags. */
-  marks(outcome, model) {
-    if (outcome.granule !== undefined) return { granule: outcome.granule, memory: outcome.memory, pointer: outcome.pointer, fault: true };
-    if (outcome.first !== undefined) return { granule: outcome.first, last: outcome.last };
-    const slot = outcome.slot === undefined ? null : model.slots.get(outcome.slot);
-    return slot ? { granule: slot.start + 1, last: slot.start + chunkGranules(slot.size), fault: Boolean(outcome.report) } : null;
-  }
-
-  queue() {
-    return this.model.queue.slice(0, 200).map((number) => {
-      const slot = this.model.slots.get(number);
-      return { number, bytes: this.model.bytesOf(slot), freed: slot.freed, granule: slot.start };
-    });
+  marks(event, fault) {
+    if (fault?.granule !== undefined) return { ...fault, fault: true };
+    if (fault?.report === "fault unmapped" || fault?.report === "refused misplaced") return null;
+    if (event.len !== undefined) {
+      const { at, to } = this.touched(event);
+      return { granule: Math.floor(at / GRANULE), last: Math.floor((to - 1) / GRANULE) };
+    }
+    const { slot } = this.about;
+    return slot ? { granule: slot.start + 1, last: slot.start + chunkGranules(slot.size), fault: Boolean(fault) } : null;
   }
 
   /** What is known of a granule after k events. */
   granule(k, g) {
-    const model = this.modelAfter(k);
-    const at = model.layout.slotAt(g);
-    const facts = { granule: g, kind: KINDS[model.kindAt(g)], tag: model.tagAt(g), slot: at?.number };
-    if (!at) return facts;
-    const slot = model.slots.get(at.number);
-    Object.assign(facts, { start: at.start, before: at.before, block: GRANULE * model.layout.classes[at.classNumber] });
+    const { tags, kinds } = this.show(k);
+    this.goTo(k);
+    const facts = { granule: g, kind: KINDS[kinds[g]], tag: tags[g] };
+    const slot = this.users.slotAt(g);
     if (!slot) return facts;
-    const { user, size, made, generation } = slot;
-    return { ...facts, user, size, made, generation, freed: slot.isLive ? 0 : slot.freed };
+    const { number, start, granules, generation, user, size, made, freed } = slot;
+    Object.assign(facts, { slot: number, start, block: GRANULE * granules });
+    return generation ? { ...facts, user, size, made, generation, freed } : facts;
   }
 }
 
@@ -239,6 +223,7 @@ const ANSWERS = {
   /** Takes the report of the whole trace. */
   reported({ report }) {
     replay.report = new Report(report);
+    replay.kept.clear();
     return true;
   },
   show({ k }) {

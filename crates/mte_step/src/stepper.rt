@@ -1,6 +1,7 @@
 //! A replay that goes on event by event.
 ghost use Rattle.std.specs.Prelude.{◌≡◌, ◌<◌, ◌≤◌, ◌+◌, ◌^◌, length, drop, slice_get, IfOk, IsTrue, false, true};
-ghost use Rattle.replay_theory.specs.Replay.{Replay as Replayed, first_replay, replay_of};
+ghost use Rattle.replay_theory.specs.Replay.{Replay as Replayed, first_replay, replay_of, variable};
+ghost use Rattle.trace_event.specs.declared.event.TheConstants.Event.{LAST_VARIABLE};
 ghost use Rattle.heap_theory.specs.Config.{IsConfig, layout_for};
 ghost use Rattle.mte_step.specs.Picture.{AreFewEvents, IsDrawn};
 ghost use Rattle.trace_reader.specs.TraceLine.{most_events};
@@ -10,6 +11,7 @@ use arrayvec::ArrayVec;
 use class_table::ClassTable;
 use replay_core::{Config, LINE_ROOM, Replay};
 use std::alloc::{AllocError, Global};
+use tagged_heap::Heap;
 use trace_reader::TraceReader;
 
 /// A replay of the events in a reader.
@@ -52,6 +54,21 @@ impl Stepper {
         let mut line = ArrayVec::new();
         self.replay.step(&event, &mut line);
         true
+    }
+
+    /// The heap.
+    pub fn heap(&self) -> &Heap
+        ensures { result.now.state ≡ self.now.replay.replay.heap }
+    {
+        self.replay.heap()
+    }
+
+    /// The value of a variable, 0 to 1,023: an address, or 0, which is null.
+    pub fn variable(&self, v: u16) -> u64
+        requires { v ≤ LAST_VARIABLE }
+        ensures { result ≡ variable self.now.replay.replay v }
+    {
+        self.replay.variable(v)
     }
 
     /// The granules of the heap.

@@ -1,7 +1,8 @@
 ghost use Rattle.replay_theory.specs.Run.{Run, run_after};
 ghost use Rattle.trace_event.specs.Ranges.{IsInRange};
 ghost use Rattle.replay_theory.specs.Report.{report_line};
-ghost use Rattle.replay_theory.specs.Replay.{answer_of};
+ghost use Rattle.replay_theory.specs.Replay.{answer_of, variable};
+ghost use Rattle.trace_event.specs.declared.event.TheConstants.Event.{LAST_VARIABLE};
 ghost use Rattle.replay_core.specs.ReplayState.{first_stored, stored_after};
 ghost use Rattle.heap_theory.specs.Config.{IsConfig, layout_for};
 ghost use Rattle.std.specs.Prelude.{◌≡◌, ◌++◌, ◌+◌, ◌^◌, ◌<◌, ◌≤◌, IfOk, length, take};
@@ -77,6 +78,14 @@ impl Replay {
         ensures { result.now.state ≡ self.now.replay.heap }
     {
         &self.heap
+    }
+
+    /// The value of a variable, 0 to 1,023: an address, or 0, which is null.
+    pub fn variable(&self, v: u16) -> u64
+        requires { v ≤ LAST_VARIABLE }
+        ensures { result ≡ variable self.now.replay v }
+    {
+        self.variables[usize::from(v)]
     }
 
     /// Performs the event and counts it in the totals. Replaces what `line` holds by the event's report line with its newline, or by

@@ -11,6 +11,7 @@ pub mod Giving
 pub mod InPlace
 pub mod ReleasingOldest
 pub mod TakingBack
+pub mod ToldSlots
 pub mod NewHeap
 pub mod PayloadWritten
 pub mod GranuleKinds

@@ -4,3 +4,4 @@ pub mod Frees
 pub mod HeapAtRest
 pub mod HeapFields
 pub mod Representation
+pub mod Slots

@@ -16,7 +16,9 @@ mod pointers;
 mod read_header;
 mod resizing;
 mod slot_changes;
+mod slots;
 mod tags;
 
 pub use heap::Heap;
 pub use heap_theory::{Config, FreeError, NullCause, PlaceKind, ReallocError};
+pub use slots::SlotFacts;

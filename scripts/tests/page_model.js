@@ -1,16 +1,10 @@
-// The heap of docs/HEAP.md once more, by hand: it names the slot of a granule, the slot's user, and why an access faults or passes.
-// The picture itself comes from the proved engine; the page compares the two at each event that it shows.
+// The heap of docs/HEAP.md once more, by hand: a second opinion on what the page's proved replay says of granules, slots and variables, and on
+// the report's faults. page_engines.js reads it after formats.js and users.js of the page.
 "use strict";
 
 const WORD = 1n << 64n;
-const KINDS = ["slack", "header", "tail", "dead", "live"];
-
-const chunkGranules = (size) => Math.max(1, Math.ceil(size / GRANULE));
-const tagOf = (address) => Number((address >> 56n) & 15n);
-const placeOf = (address) => address & ((1n << 56n) - 1n);
+const inSpace = (address) => address & ((1n << 56n) - 1n);
 const withTag = (address, tag) => (address & ~(15n << 56n)) | (BigInt(tag) << 56n);
-const grouped = (number) => number.toLocaleString("en");
-const counted = (number, word) => `${grouped(number)} ${word}${number === 1 ? "" : "s"}`;
 
 /** The entry of the tags that the mask lets through, in cyclic order after the start. */
 function chooseTag(start, offset, mask) {
@@ -19,22 +13,6 @@ function chooseTag(start, offset, mask) {
   if (!allowed.length) return 0;
   if (offset === 0) return (mask >> start) & 1 ? allowed[0] : start;
   return allowed[(offset - 1) % allowed.length];
-}
-
-/** The event that a line of a trace spells. The engines have read the trace before, so the line is right. */
-function eventOf(line) {
-  const [name, ...words] = line.split(" ");
-  const numbers = words.map(Number);
-  switch (name) {
-    case "load":
-    case "store":
-      return { name, v: numbers[0], off: numbers[1], len: numbers[2], byte: words[3] };
-    case "addg":
-    case "subg":
-      return { name, v: numbers[0], w: numbers[1], up: numbers[2], steps: numbers[3] };
-    default:
-      return { name, v: numbers[0], size: numbers[1] };
-  }
 }
 
 /** Where the slots of a table are in a region. */
@@ -73,18 +51,6 @@ class HeapModel {
     this.released = classes.map(() => []);
     this.queue = [];
     this.variables = new Map();
-  }
-
-  /** A copy that goes its own way. */
-  copy() {
-    const other = Object.create(HeapModel.prototype);
-    Object.assign(other, this);
-    other.slots = new Map([...this.slots].map(([number, slot]) => [number, { ...slot }]));
-    other.fresh = [...this.fresh];
-    other.released = this.released.map((list) => [...list]);
-    other.queue = [...this.queue];
-    other.variables = new Map(this.variables);
-    return other;
   }
 
   draw(slot) {
@@ -149,7 +115,7 @@ class HeapModel {
 
   /** The slot whose own pointer this is, or the word of the refusal. */
   ownSlot(address) {
-    const place = placeOf(address) - REGION;
+    const place = inSpace(address) - REGION;
     const granule = Number(place) / GRANULE;
     const at = address >> 60n || place < 0n || granule >= this.layout.granules ? null : this.layout.slotAt(Math.floor(granule));
     if (!at || at.before !== 1 || !Number.isInteger(granule)) return { refusal: "misplaced" };
@@ -202,7 +168,7 @@ class HeapModel {
   access({ v, off, len }) {
     const { address } = this.variable(v);
     const begin = (((address + BigInt(off)) % WORD) + WORD) % WORD;
-    const place = placeOf(begin) - REGION;
+    const place = inSpace(begin) - REGION;
     if (begin >> 60n || place < 0n || place + BigInt(len) > BigInt(GRANULE * this.layout.granules)) return { report: "fault unmapped" };
     const [first, last] = [Math.floor(Number(place) / GRANULE), Math.floor((Number(place) + len - 1) / GRANULE)];
     const [at, to] = [Number(place), Number(place) + len];
