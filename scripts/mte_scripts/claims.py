@@ -38,6 +38,14 @@ Pools = namedtuple("Pools", "verdict limit unit overhead given cost is_sampled")
 # Whether the program that judged is a proved one; if not, why nothing is proved.
 Trust = namedtuple("Trust", "is_proved why")
 
+# What a call of the library gives by these commands.
+GIVEN = {
+    "tune": "The sheet of the table of least waste on a profile",
+    "check": "Whether a sheet shows that no table within its limit and step wastes less on a profile",
+    "fit": "The fit of the table of least footprint over a history or a timeline",
+    "check_fit": "Whether a fit shows that no table within its limit and step takes less over a history or a timeline",
+}
+
 TEMPLATES = {
     "limit.one": "at most 1 class, a multiple of {block} bytes",
     "limit.many": "at most {count} classes, all multiples of {block} bytes",

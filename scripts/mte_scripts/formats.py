@@ -7,6 +7,8 @@ that have numbers, sentences, options or a call for each command.
 
 from typing import NamedTuple, Optional
 
+from mte_scripts import claims
+
 # The version of all that this repository makes: the program, the library, its header and its packages.
 VERSION = "1.0.0"
 # that of the library's interface alone: of the name libmte_tool.so.N, and of the node MTE_TOOL_N of its symbols
@@ -96,16 +98,11 @@ HEAP = ("granules", "quarantine", "seed")
 # in the order of their numbers in C
 COMMANDS = {
     "score": Command(("classes", "profile"), (), "cost", "What the table of a class line, such as `classes 2 8`, wastes on a profile"),
-    "tune": Command(("profile",), TUNER, "text", "The sheet of the table of least waste on a profile"),
-    "check": Command(
-        ("sheet", "profile"), (), "verdict", "Whether a sheet shows that no table within its limit and step wastes less on a profile"
-    ),
+    "tune": Command(("profile",), TUNER, "text", claims.GIVEN["tune"]),
+    "check": Command(("sheet", "profile"), (), "verdict", claims.GIVEN["check"]),
     "footprint": Command(("classes", "history"), (), "cost", "What the table of a class line takes of memory over a history or a timeline"),
-    "fit": Command(("history",), TUNER, "fit", "The fit of the table of least footprint over a history or a timeline"),
-    "check_fit": Command(
-        ("fit", "history"), (), "verdict",
-        "Whether a fit shows that no table within its limit and step takes less over a history or a timeline",
-    ),
+    "fit": Command(("history",), TUNER, "fit", claims.GIVEN["fit"]),
+    "check_fit": Command(("fit", "history"), (), "verdict", claims.GIVEN["check_fit"]),
     "profile": Command(("trace",), (), "text", "The profile of a trace"),
     "replay": Command(("classes", "trace"), HEAP, "text", "The report of the tagged heap over the table of a class line on a trace"),
     "run": Command(("trace",), (*TUNER, *HEAP), "text", "The sheet of a trace's profile, and then the report with its table"),
