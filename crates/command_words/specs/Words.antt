@@ -20,6 +20,12 @@ AreRefused words OutOfMemory = ⊤
 AreRefused words (Words error) = IsAmong (kind_of error) (fault_of program words)
 AreRefused words (Options fault) = (fault_of program words ≡ []) × IsNoCall (subcommand_of program words)
 
+-- The refusal of words of which one is no text.
+abbrev pub IsNoText : Refusal → Type 0
+IsNoText OutOfMemory = ⊤
+IsNoText (Words error) = kind_of error ≡ kind.InvalidValue
+IsNoText (Options fault) = ⊥
+
 -- A refusal for an error of clap.
 abbrev pub IsFromClap : Error → Refusal → Type 0
 IsFromClap error OutOfMemory = kind_of error ≡ kind.OutOfMemory

@@ -9,4 +9,4 @@ mod refusal;
 mod words;
 
 pub use refusal::{OptionFault, Refusal};
-pub use words::{command, read_call};
+pub use words::{no_text, read_call};

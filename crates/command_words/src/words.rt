@@ -1,13 +1,15 @@
 //! The words of the command line, and the call that they mean.
 ghost use Rattle.std.specs.Prelude.{◌≡◌, IfOk, MatchResult, map, string_bytes};
-ghost use Rattle.clap.specs.Words.{app_of};
+ghost use Rattle.clap.specs.Words.{app_of, kind_of};
+ghost use Rattle.clap.specs.declared.error.kind.ErrorKind.TheVariants.{InvalidValue};
 ghost use Rattle.command_words.specs.AcceptedWords.{program, top};
-ghost use Rattle.command_words.specs.Words.{AreRefused, Mean};
+ghost use Rattle.command_words.specs.Words.{AreRefused, IsNoText, Mean};
 
 use crate::call::call_of;
 use crate::commands::clap_words;
 use crate::refusal::Refusal;
 use clap::Command;
+use clap::error::ErrorKind;
 use std::alloc::{AllocError, Global};
 use tool_call::{COMMANDS, Call};
 
@@ -30,8 +32,10 @@ Exit status:
 
 docs/FORMATS.md in the repository has the formats and all codes.";
 
-/// The program's words, with its commands.
-pub fn command<'a>(alloc: Global) -> Result<Command<'a>, AllocError>
+const NOT_TEXT: &str = "a word of the command line is not UTF-8";
+
+// the program's words, with its commands
+fn command<'a>(alloc: Global) -> Result<Command<'a>, AllocError>
     ensures { IfOk result (λ command. app_of command ≡ program) }
 {
     let mut command = top_words(alloc);
@@ -62,4 +66,21 @@ pub fn read_call(alloc: Global, words: &[String]) -> Result<Call, Refusal>
 {
     let matches = command(alloc)?.try_get_matches_from(words)?;
     Ok(call_of(&matches)?)
+}
+
+/// The refusal of a command line that has a word that is not UTF-8.
+pub fn no_text(alloc: Global) -> Refusal
+    ensures { IsNoText result }
+{
+    match no_text_error(alloc) {
+        Ok(error) => error.into(),
+        Err(error) => error.into(),
+    }
+}
+
+fn no_text_error(alloc: Global) -> Result<clap::Error, AllocError>
+    ensures { IfOk result (λ error. kind_of error ≡ InvalidValue) }
+{
+    let mut command = command(alloc)?;
+    command.error(ErrorKind::InvalidValue, NOT_TEXT)
 }

@@ -8,12 +8,10 @@ ghost use Rattle.mte_tool.specs.declared.end.End.TheVariants.{Ended};
 use crate::end::End;
 use crate::running::{CallEnd, run_call_of};
 use clap::error::ErrorKind;
-use command_words::{Refusal, command, read_call};
+use command_words::{Refusal, no_text, read_call};
 use mte_engine::{ByteSink, ByteSource, Status, ToolFault};
 use std::io;
 use std::rt::Env;
-
-const NOT_TEXT: &str = "a word of the command line is not UTF-8";
 
 const WAITS: &str =
     "mte_tool: reading standard input; Ctrl-D ends it, and `--help` after the command says what it takes";
@@ -65,10 +63,7 @@ fn words<R: Env + AllocGlobal>(rt: &R) -> Result<Vec<String>, Refusal> {
     match std::env::args(rt) {
         Ok(words) => Ok(words.collect(rt.alloc())?),
         Err(error) if error.kind() == io::ErrorKind::OutOfMemory => Err(Refusal::OutOfMemory),
-        Err(_) => {
-            let mut command = command(rt.alloc())?;
-            Err(command.error(ErrorKind::InvalidValue, NOT_TEXT)?.into())
-        }
+        Err(_) => Err(no_text(rt.alloc())),
     }
 }
 
