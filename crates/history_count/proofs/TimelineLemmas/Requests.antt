@@ -2,7 +2,8 @@
 use Rattle.std.proofs.Common.{◌≡◌, ◌≢◌, ℕ, suc, ◌+◌, ◌-◌, ◌<◌, ◌≤◌, ◌⊎◌, List, length, take, slice_index, get_or, arith, refl, ap, ◌∙◌, inl, inr, add-one, None, IsSome}
 use Rattle.std.proofs.lemmas.Bool.{cases_lt}
 use Rattle.std.proofs.lemmas.Bool.Decides.{eqb_tells, nat_tests}
-use Rattle.std.proofs.lemmas.List.{take_all}
+use Rattle.std.proofs.lemmas.List.{take_all, take-take}
+use Rattle.std.proofs.lemmas.List.Sums.{sum_by-take-le}
 use Rattle.class_table.specs.Sizes.{largest_counted}
 use Rattle.class_table.specs.Tables.{class_for}
 use Rattle.tuner_theory.specs.Timelines.{IsTimeline, requested, snapshot_at}
@@ -10,7 +11,7 @@ use Rattle.tuner_theory.specs.declared.size_event.SizeEvent.{SizeEvent}
 use Rattle.tuner_theory.specs.declared.size_event.SizeEvent.TheVariants.{Request, Free}
 use Rattle.tuner_theory.proofs.Timelines.{live-at}
 use Rattle.tuner_theory.proofs.TimelineSteps.{frees_at, freed-more, largest_is_live, requested-more, requested_sizes, requests_at}
-use Rattle.history_count.specs.Timelines.Requests.{Decides, IsLargestSoFar, IsLeastSoFar, IsLeastUnserved}
+use Rattle.history_count.specs.Timelines.Requests.{Decides, IsFirstLive, IsLargest, IsLargestSoFar, IsLeastSoFar, IsLeastUnserved}
 
 -- how many requests of a size there are after one event more
 requested-next : (events : List SizeEvent) (k n : ℕ) (event : SizeEvent) → k < length events → get_or events k (Request 0) ≡ event
@@ -40,8 +41,22 @@ largest_none events = record {
   within = omega arith;
   counted = omega arith;
   below = λ n le some. absurd (omega (arith, some));
-  live = λ some. absurd (omega arith);
+  some = λ some. absurd (omega arith);
+  first = λ some. absurd (omega arith);
+  none = λ _. refl;
 }
+
+-- a size that was not requested up to a moment was not live before
+unrequested-before : (events : List SizeEvent) (k earlier n : ℕ) → earlier ≤ k → n ≤ largest_counted → requested (take k events) n ≡ 0
+    → slice_index (snapshot_at events earlier) n ≡ 0
+unrequested-before events k earlier n le counted none =
+    omega (
+      arith,
+      live-at events earlier n 0 counted,
+      ap (λ es. requested es n) (take-take earlier k events le),
+      sum_by-take-le (requests_at n) (take k events) earlier,
+      none,
+    )
 
 pub largest_request : (events : List SizeEvent) (k above moment n : ℕ) → IsTimeline events → k < length events
     → IsLargestSoFar events k above moment → get_or events k (Request 0) ≡ Request n → above ≤ n → n ≤ largest_counted
@@ -53,21 +68,34 @@ largest_request events k above moment n timeline lt found is larger counted = re
     | inl same ↦ omega (arith, same.1)
     | inr differs ↦ omega (arith, found.below m le (omega (arith, some, requested-still events k m n lt is differs.1)))
   ];
-  live = λ _.
-      let here : n + 1 - 1 ≡ n = omega arith in
-      rw here (omega (
-        arith,
-        ap (λ j. slice_index (snapshot_at events j) n) (add-one k),
-        live-at events (suc k) n 0 counted,
-        requested-more events k n (Request 0) lt,
-        freed-more events k n (Request 0) lt,
-        timeline.live k n counted,
-        own-request n,
-        ap (requests_at n) is,
-        no-free n (get_or events k (Request 0)) is,
-      ));
+  some = λ _. rw here (omega (arith, requested-next events k n (Request n) lt is, own-request n));
+  first = λ _. rw here (record {
+    live = omega (
+      arith,
+      ap (λ j. slice_index (snapshot_at events j) n) (add-one k),
+      live-at events (suc k) n 0 counted,
+      requested-more events k n (Request 0) lt,
+      freed-more events k n (Request 0) lt,
+      timeline.live k n counted,
+      own-request n,
+      ap (requests_at n) is,
+      no-free n (get_or events k (Request 0)) is,
+    );
+    before = λ earlier less. unrequested-before events k earlier n (omega arith) counted unrequested;
+  });
+  none = λ e. absurd (omega (arith, e));
 }
   where
+    here : n + 1 - 1 ≡ n
+    here = omega arith
+
+    unrequested : requested (take k events) n ≡ 0
+    unrequested =
+        elim (cases_lt 0 (requested (take k events) n)) [
+          | inl some ↦ absurd (omega (arith, found.below n counted some))
+          | inr none ↦ omega (arith, none)
+        ]
+
     no-free : (m : ℕ) (event : SizeEvent) → event ≡ Request n → frees_at m event ≡ 0
     no-free m event e = rw e refl
 
@@ -83,7 +111,9 @@ largest_other events k above moment n lt found is which = record {
     ]
     | inr differs ↦ found.below m le (omega (arith, some, requested-still events k m n lt is differs.1))
   ];
-  live = found.live;
+  some = λ some. omega (arith, found.some some, requested-next events k (above - 1) (Request n) lt is);
+  first = found.first;
+  none = found.none;
 }
 
 pub largest_free : (events : List SizeEvent) (k above moment n : ℕ) → k < length events → IsLargestSoFar events k above moment
@@ -92,7 +122,9 @@ largest_free events k above moment n lt found is = record {
   within = omega (arith, found.within);
   counted = found.counted;
   below = λ m le some. found.below m le (omega (arith, some, requested-free events k m n lt is));
-  live = found.live;
+  some = λ some. omega (arith, found.some some, requested-free events k (above - 1) n lt is);
+  first = found.first;
+  none = found.none;
 }
 
 pub largest_decides : (events : List SizeEvent) (k above moment : ℕ) → IsTimeline events → k ≡ length events
@@ -100,12 +132,42 @@ pub largest_decides : (events : List SizeEvent) (k above moment : ℕ) → IsTim
 largest_decides events k above moment timeline all found numbers classes j lt is serving =
     elim (cases_lt 0 above) [
       | inl some ↦ largest_is_live events numbers classes j (above - 1) timeline lt (omega (arith, found.counted))
-          (rw is (found.live some)) (λ n le requests. omega (arith, below n le requests)) serving
+          (rw is (found.first some).live) (λ n le requests. omega (arith, below n le requests)) serving
       | inr none ↦ (requested_sizes events classes timeline).1 (λ n le requests. absurd (omega (arith, below n le requests)))
     ]
   where
     below : (n : ℕ) → n ≤ largest_counted → 0 < requested events n → n < above
     below n le requests = found.below n le (rw (take_all k events (omega arith)) requests)
+
+pub largest_is_first : (events : List SizeEvent) (k above moment n : ℕ) → k ≡ length events → IsLargestSoFar events k above moment
+    → IsLargest events n → IsFirstLive events n moment
+largest_is_first events k above moment n all found is =
+    rw own (found.first some)
+  where
+    whole : take k events ≡ events
+    whole = take_all k events (omega (arith, all))
+
+    some : 0 < above
+    some = omega (arith, found.below n is.counted (rw whole is.some))
+
+    own : n ≡ above - 1
+    own = omega (
+      arith,
+      found.below n is.counted (rw whole is.some),
+      is.greatest (above - 1) (omega (arith, found.counted)) (rw whole at (found.some some)),
+    )
+
+pub no_largest : (events : List SizeEvent) (k above moment : ℕ) → k ≡ length events → IsLargestSoFar events k above moment
+    → ((n : ℕ) → n ≤ largest_counted → requested events n ≡ 0) → moment ≡ 0
+no_largest events k above moment all found unrequested =
+    found.none (elim (cases_lt 0 above) [
+      | inl some ↦ absurd (omega (
+        arith,
+        rw (take_all k events (omega (arith, all))) at (found.some some),
+        unrequested (above - 1) (omega (arith, found.counted)),
+      ))
+      | inr none ↦ omega (arith, none)
+    ])
 
 -- ---- the least one without a class
 

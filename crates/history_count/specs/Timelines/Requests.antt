@@ -13,12 +13,25 @@ Decides events moment =
     (numbers classes : List ℕ) (k : ℕ) → k < length numbers → slice_index numbers k ≡ moment
     → Serves (peaks (history_at events numbers)) classes → Serves (peaks (moments events)) classes
 
--- Of the first k events: each counted size that was requested is below `above`, and the size before that is live at a moment.
+-- The largest requested size that is counted.
+pub record IsLargest (events : List SizeEvent) (size : ℕ) : Type 0 where
+  pub counted : size ≤ largest_counted
+  pub some : 0 < requested events size
+  pub greatest : (n : ℕ) → n ≤ largest_counted → 0 < requested events n → n ≤ size
+
+-- The first moment at which a block of this size is live.
+pub record IsFirstLive (events : List SizeEvent) (size moment : ℕ) : Type 0 where
+  pub live : 0 < slice_index (snapshot_at events moment) size
+  pub before : (earlier : ℕ) → earlier < moment → slice_index (snapshot_at events earlier) size ≡ 0
+
+-- Of the first k events: each counted size that was requested is below `above`, and the size before that was, and is first live at a moment.
 pub record IsLargestSoFar (events : List SizeEvent) (k above moment : ℕ) : Type 0 where
   pub within : moment ≤ k
   pub counted : above ≤ largest_counted + 1
   pub below : (n : ℕ) → n ≤ largest_counted → 0 < requested (take k events) n → n < above
-  pub live : 0 < above → 0 < slice_index (snapshot_at events moment) (above - 1)
+  pub some : 0 < above → 0 < requested (take k events) (above - 1)
+  pub first : 0 < above → IsFirstLive events (above - 1) moment
+  pub none : above ≡ 0 → moment ≡ 0
 
 -- The least requested size that is counted and has no class.
 pub record IsLeastUnserved (events : List SizeEvent) (classes : List ℕ) (size : ℕ) : Type 0 where

@@ -1,8 +1,8 @@
 //! Which request of a timeline a table does not serve, and the moment that decides whether there is one.
-ghost use Rattle.std.specs.Prelude.{◌+◌, ◌<◌, ◌≤◌, ℕ, IfNone, IfSome, IsSome, length};
+ghost use Rattle.std.specs.Prelude.{◌≡◌, ◌+◌, ◌<◌, ◌≤◌, ℕ, IfNone, IfSome, IsSome, length};
 ghost use Rattle.class_table.specs.Sizes.{largest_counted};
 ghost use Rattle.class_table.specs.Tables.{class_for};
-ghost use Rattle.history_count.specs.Timelines.Requests.{Decides, IsLargestSoFar, IsLeastSoFar, IsLeastUnserved};
+ghost use Rattle.history_count.specs.Timelines.Requests.{Decides, IsFirstLive, IsLargest, IsLargestSoFar, IsLeastSoFar, IsLeastUnserved};
 ghost use Rattle.tuner_theory.specs.Timelines.{IsTimeline, requested};
 
 use class_table::{ClassTable, FEWEST_GRANULES, LARGEST_COUNTED, Layout};
@@ -49,11 +49,13 @@ fn least_unserved(events: &[SizeEvent], k: usize, layout: &Layout, least: u32) -
 }
 
 /// A moment of a timeline that decides whether a table serves it: a table that serves a history with this moment serves the timeline. It is
-/// the first at which a block of the largest requested size is live, of those that are counted.
+/// the first at which a block of the largest requested size is live, of those that are counted; 0 if none is requested.
 pub fn largest_moment(events: &[SizeEvent]) -> usize
     requires { IsTimeline events.now }
     ensures within { result ≤ length events.now }
     ensures decides { Decides events.now result }
+    ensures first { (n : ℕ) → IsLargest events.now n → IsFirstLive events.now n result }
+    ensures none { ((n : ℕ) → n ≤ largest_counted → requested events.now n ≡ 0) → result ≡ 0 }
 {
     let mut found = Largest {
         above: 0,
