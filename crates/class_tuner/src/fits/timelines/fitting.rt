@@ -29,7 +29,7 @@ pub enum Found {
         table: ClassTable,
         /// What it takes over the timeline, in bytes.
         takes: u64,
-        /// No table takes less than these bytes.
+        /// What a fit of some moments takes over them, in bytes: no table takes less over the timeline.
         least: u64,
     },
 }

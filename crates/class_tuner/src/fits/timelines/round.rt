@@ -65,7 +65,8 @@ pub(crate) fn round_over(
 
 /// The one of two rounds whose table takes less.
 pub(crate) fn better(one: Round, other: Round) -> Round
-    ensures { (result ≡ one) ⊎ (result ≡ other) }
+    ensures given { (result ≡ one) ⊎ (result ≡ other) }
+    ensures least { (result.takes ≤ one.takes) × (result.takes ≤ other.takes) }
 {
     if other.takes < one.takes { other } else { one }
 }

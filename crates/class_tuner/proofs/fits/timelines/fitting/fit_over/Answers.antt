@@ -99,9 +99,9 @@ loop-round-preserved c =
     record {
       over = more-moments events c.in_ok-numbers-3.numbers.items moment c.in_ok-numbers-3.ensures.few c.in_ok-numbers-3.ensures.within
           c.in_ok-numbers-3.ensures.kept;
-      between = elim c.better-best.ensures [
-        | inl is ↦ rw (is, c.max-least.ensures) both.0
-        | inr is ↦ rw (is, c.max-least.ensures) both.1
+      between = elim c.better-best.ensures.given [
+        | inl is ↦ rw (is, c.max-least.ensures) (both.0 (rw is at c.better-best.ensures.least.1))
+        | inr is ↦ rw (is, c.max-least.ensures) (both.1 (rw is at c.better-best.ensures.least.0))
       ];
     }
 
