@@ -222,8 +222,12 @@ def rust_number(number):
     return f"{number:_}" if number > 9999 else str(number)
 
 
+def options_of_proved_rust(wide=None):
+    """The members of the options, each of its own bits, or of this many."""
+    return "".join(f"    /// {grouped(capital(it.described()))}.\n    pub {name}: u{wide or it.bits},\n" for name, it in OPTIONS.items())
+
+
 def options_of_rust():
-    fields = "".join(f"    /// {grouped(capital(option.described()))}.\n    pub {name}: u64,\n" for name, option in OPTIONS.items())
     defaults = ", ".join(name if it.default is None else f"{name}: {rust_number(it.default)}" for name, it in OPTIONS.items())
     given = "".join(f"            {name}: self.{name},\n" for name in OPTIONS)
     return (
@@ -231,7 +235,7 @@ def options_of_rust():
         "use mte_tool_sys as c;\n\n"
         "/// The options. Each call reads its own; a number out of its range is an error with the end\n"
         "/// [`End::BadOption`](crate::End::BadOption).\n"
-        f"#[derive(Debug, Clone, PartialEq, Eq)]\npub struct Options {{\n{fields}}}\n\n"
+        f"#[derive(Debug, Clone, PartialEq, Eq)]\npub struct Options {{\n{options_of_proved_rust(wide=64)}}}\n\n"
         "impl Options {\n"
         "    /// The program's defaults, with this limit.\n"
         f"    pub fn new(limit: u64) -> Options {{\n        Options {{ {defaults} }}\n    }}\n\n"
@@ -373,6 +377,7 @@ PARTS = {
     "library/options.h": [(r"(?s).*", options_of_proved())],
     "library/layer.h": [(r"enum \{ SCORE,.*\};", f"enum {{ {', '.join(name.upper() for name in COMMANDS)} }};")],
     "library/pointers.c": [(r"(CALL\(\w+, \w+\)\n)+", "".join(f"CALL({name.upper()}, {name})\n" for name in COMMANDS))],
+    "crates/tool_call/src/options.rt": [(r"(?s)(?<=    // written by scripts/tests/formats\n).*?(?=\})", options_of_proved_rust())],
     "python/mte_tool/_formats.py": [(r"(?s).*", options_of_python())],
     "python/mte_tool/_commands.py": [(r"(?s).*", commands_of_python())],
     "rust/mte-tool-sys/src/lib.rs": [

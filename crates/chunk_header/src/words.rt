@@ -93,7 +93,8 @@ pub(crate) fn freed_with_next(first: u64, next: u32) -> u64
 
 /// The first word with the state `Quarantined` and the link 0.
 pub(crate) fn quarantined(first: u64) -> u64
-    ensures { (second : ℕ) → result ≡ first_word (record (header_of first second) { standing = Quarantined; next = 0 }) }
+    ensures { (second : ℕ)
+        → result ≡ first_word (record (header_of first second) { standing = Quarantined; next = 0 }) }
 {
     ((first & BELOW_NEXT_MASK) >> SIZE_SHIFT << SIZE_SHIFT) + code_of(State::Quarantined)
 }

@@ -32,7 +32,8 @@ pub fn fit<R: ByteSource, W: ByteSink>(
     sink: &mut W,
 ) -> Result<Status, ToolFault>
     requires options { AreTuneOptions limit step }
-    ensures { Runs (FitEitherAnswers limit step) (R.state source.old) (R.state source.new) W.state sink.old sink.new result }
+    ensures { Runs (FitEitherAnswers limit step) (R.state source.old) (R.state source.new)
+        W.state sink.old sink.new result }
 {
     run_engine(alloc, &FitEngine { limit, step }, source, sink)
 }

@@ -8,6 +8,9 @@ ghost use Rattle.class_table.specs.declared.layout.TheConstants.{FEWEST_GRANULES
 ghost use Rattle.class_table.specs.declared.sizes.TheConstants.{GRANULE_BYTES, LARGEST_CLASS, MOST_NEEDS, SMALLEST_CLASS};
 ghost use Rattle.class_table.specs.declared.table.TheConstants.{MOST_CLASSES};
 ghost use Rattle.class_tuner.specs.Tuned.{IsTuned};
+ghost use Rattle.tool_call.specs.Options.{call_of};
+ghost use Rattle.tool_call.specs.declared.call.CommandName.TheVariants.{Check, Score};
+ghost use Rattle.tool_call.specs.declared.options.Options.{Options};
 ghost use Rattle.trace_event.specs.declared.event.Event.{Event};
 ghost use Rattle.trace_event.specs.declared.event.TheConstants.Event.{FARTHEST_ACCESS, FARTHEST_MOVE, LARGEST_REQUEST};
 ghost use Rattle.trace_event.specs.declared.event.TheConstants.Event.{LARGEST_TAG_STEP, LAST_VARIABLE, LONGEST_ACCESS};
@@ -23,7 +26,7 @@ ghost use Rattle.trace_reader.specs.TraceLine.{longest_line, most_events};
 ghost use Rattle.tuner_theory.specs.Profiles.{greatest_count};
 ghost use Rattle.tuner_theory.specs.Sheets.{Sheet};
 ghost use Rattle.tuner_theory.specs.declared.most_snapshots.TheConstants.{MOST_SNAPSHOTS};
-ghost use Rattle.mte_engine.specs.Check.{CheckAnswers};
+ghost use Rattle.mte_engine.specs.Calls.{answers_of};
 ghost use Rattle.mte_engine.specs.CheckFit.{CheckFitAnswers};
 ghost use Rattle.mte_engine.specs.FaultLines.{IsAtFirstFault, SpellsFitAndHistory, SpellsSheetAndProfile};
 ghost use Rattle.mte_engine.specs.FaultLines.{SpellsTableAndHistory, SpellsTableAndProfile, SpellsTableAndTimeline, line_of_fault};
@@ -36,7 +39,6 @@ ghost use Rattle.history_count.specs.Timelines.TimelineText.{SpellsTimeline};
 ghost use Rattle.mte_engine.specs.Outcome.{Answer};
 ghost use Rattle.mte_engine.specs.Replay.{ReplayAnswers, report_on};
 ghost use Rattle.mte_engine.specs.Run.{IsTunedRun, RunAnswers};
-ghost use Rattle.mte_engine.specs.Score.{ScoreAnswers};
 ghost use Rattle.mte_engine.specs.Traces.{profile_of_events};
 ghost use Rattle.mte_engine.specs.Tune.{TuneAnswers};
 ghost use Rattle.mte_engine.specs.declared.engine.Status.TheVariants.{Done};
@@ -62,17 +64,17 @@ pub fn law_one_answer()
 {}
 
 /// A fault in a class line, in a profile, in a history or in a timeline is shown with the line of the input's first fault. The profile, the
-/// history or the timeline is the whole input, or follows a class line, or a sheet or a fit. Some input without a fault begins with the lines before that line. None
-/// begins with these lines and that line; if that line is missing, none has just these lines.
+/// history or the timeline is the whole input, or follows a class line, or a sheet or a fit. Some input without a fault begins with the
+/// lines before that line. None begins with these lines and that line; if that line is missing, none has just these lines.
 pub fn law_fault_lines()
     ensures shown { (fault : InputFault) (n : ℕ) → line_of_fault fault ≡ Some n
         → (name : List ℕ) × (shown_input_fault fault ≡ in_line name n) }
-    ensures score { (text : List ℕ) (fault : InputFault) → ScoreAnswers text (Err fault)
-        → IsAtFirstFault SpellsTableAndProfile text fault }
+    ensures score { (options : Options) (text : List ℕ) (fault : InputFault)
+        → answers_of (call_of Score options) text (Err fault) → IsAtFirstFault SpellsTableAndProfile text fault }
     ensures tune { (limit step : ℕ) (text : List ℕ) (fault : InputFault) → TuneAnswers limit step text (Err fault)
         → IsAtFirstFault SpellsProfile text fault }
-    ensures check { (text : List ℕ) (n : ℕ) (fault : ProfileFault) → CheckAnswers text (Err (Profile n fault))
-        → IsFirstFault SpellsSheetAndProfile text n }
+    ensures check { (options : Options) (text : List ℕ) (n : ℕ) (fault : ProfileFault)
+        → answers_of (call_of Check options) text (Err (Profile n fault)) → IsFirstFault SpellsSheetAndProfile text n }
     ensures replay { (config : Config) (text : List ℕ) (fault : TableError)
         → ReplayAnswers config text (Err (Table fault)) → IsAtFirstFault BeginsWithTable text (Table fault) }
     ensures footprint { (text : List ℕ) (fault : InputFault) → FootprintAnswers text (Err fault)
@@ -81,8 +83,8 @@ pub fn law_fault_lines()
         → IsAtFirstFault SpellsHistory text fault }
     ensures footprint_over { (text : List ℕ) (fault : InputFault) → FootprintOverAnswers text (Err fault)
         → IsAtFirstFault SpellsTableAndTimeline text fault }
-    ensures fit_over { (limit step : ℕ) (text : List ℕ) (fault : InputFault) → FitOverAnswers limit step text (Err fault)
-        → IsAtFirstFault SpellsTimeline text fault }
+    ensures fit_over { (limit step : ℕ) (text : List ℕ) (fault : InputFault)
+        → FitOverAnswers limit step text (Err fault) → IsAtFirstFault SpellsTimeline text fault }
     ensures check_fit { (text : List ℕ) (n : ℕ) (fault : HistoryFault) → CheckFitAnswers text (Err (History n fault))
         → IsFirstFault SpellsFitAndHistory text n }
 {}

@@ -35,7 +35,8 @@ pub(crate) fn fill_run(bytes: &mut [u8], from: usize, to: usize, value: u8)
 #[inline(always)]
 pub(crate) fn fill_then_clear(bytes: &mut [u8], from: usize, middle: usize, to: usize, value: u8)
     requires { (from ≤ middle) × (middle ≤ to) × (to ≤ length bytes.old) }
-    ensures { bytes.new ≡ take from bytes.old ++ replicate (middle - from) value ++ replicate (to - middle) 0 ++ drop to bytes.old }
+    ensures { bytes.new
+        ≡ take from bytes.old ++ replicate (middle - from) value ++ replicate (to - middle) 0 ++ drop to bytes.old }
 {
     if middle - from <= WINDOW && to - middle <= WINDOW && bytes.len() - from >= 3 * WINDOW {
         if to - from <= HALF {

@@ -69,7 +69,8 @@ impl Heap {
     #[tactic(auto, unfolding(heap_theory::specs::Calls::malloc_step))]
     #[inline(never)]
     pub fn malloc_with_loss(&mut self, n: u32) -> Result<(u64, u32), NullCause>
-        ensures answer { result_map_both (λ given. given.0) (λ cause. cause) result ≡ (malloc_step self.old.state n).answer }
+        ensures answer { result_map_both (λ given. given.0) (λ cause. cause) result
+            ≡ (malloc_step self.old.state n).answer }
         ensures loss { IfOk result (λ given. given.1 ≡ loss_of_size self.old.state.layout.classes n) }
         ensures state { self.new.state ≡ (malloc_step self.old.state n).heap }
         ensures frees { self.new.frees ≡ self.old.frees }
@@ -93,7 +94,8 @@ impl Heap {
     /// As `calloc`, and returns the bytes that the chunk leaves unused in its block (`loss`), too.
     #[tactic(auto, unfolding(heap_theory::specs::Calls::calloc_step, heap_theory::specs::Calls::given_out))]
     pub fn calloc_with_loss(&mut self, n: u32) -> Result<(u64, u32), NullCause>
-        ensures answer { result_map_both (λ given. given.0) (λ cause. cause) result ≡ (calloc_step self.old.state n).answer }
+        ensures answer { result_map_both (λ given. given.0) (λ cause. cause) result
+            ≡ (calloc_step self.old.state n).answer }
         ensures loss { IfOk result (λ given. given.1 ≡ loss_of_size self.old.state.layout.classes n) }
         ensures state { self.new.state ≡ (calloc_step self.old.state n).heap }
         ensures frees { self.new.frees ≡ self.old.frees }

@@ -8,11 +8,12 @@ use heap_theory::Config;
 #[repr(C)]
 #[derive(Clone, Copy, Debug)]
 pub struct Options {
+    // written by scripts/tests/formats
     /// The granules of the heap, 64 to 262,144.
     pub granules: u32,
-    /// The limit of its quarantine in bytes, 0 to 4,194,304.
+    /// The bytes of freed blocks that the heap holds back, 0 to 4,194,304.
     pub quarantine: u32,
-    /// The seed of the random tags, not 0.
+    /// The seed of the random tags, 1 to 65,535.
     pub seed: u16,
     /// The most classes of the table, 1 to 32.
     pub limit: u8,

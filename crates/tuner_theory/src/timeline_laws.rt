@@ -45,7 +45,8 @@ pub fn law_requested_sizes()
 /// If the largest requested size (up to the largest that is counted) is live at one of some moments, then a table that serves their history
 /// serves each size that is live at any moment. So of a fit over them nothing is left to show but that its footprint is the same.
 pub fn law_largest_size()
-    ensures { (events : List SizeEvent) (numbers classes : List ℕ) (k largest : ℕ) → IsTimeline events → k < length numbers
+    ensures { (events : List SizeEvent) (numbers classes : List ℕ) (k largest : ℕ)
+        → IsTimeline events → k < length numbers
         → largest ≤ largest_counted → 0 < slice_index (snapshot_at events (slice_index numbers k)) largest
         → ((n : ℕ) → n ≤ largest_counted → 0 < requested events n → n ≤ largest)
         → Serves (peaks (history_at events numbers)) classes → Serves (peaks (moments events)) classes }
@@ -54,7 +55,8 @@ pub fn law_largest_size()
 /// The table that is fitted over some moments, if it serves each size that is live at a moment and takes no more over the whole timeline, is
 /// the one that would be fitted over all moments. So which moments were looked at is not seen in the table.
 pub fn law_one_table()
-    ensures { (events : List SizeEvent) (numbers : List ℕ) (step limit : ℕ) (classes : List ℕ) → AreMoments events numbers
+    ensures { (events : List SizeEvent) (numbers : List ℕ) (step limit : ℕ) (classes : List ℕ)
+        → AreMoments events numbers
         → IsFitted (history_at events numbers) step limit classes → Serves (peaks (moments events)) classes
         → footprint_over events classes ≡ footprint_of (history_at events numbers) classes
         → IsFitted (moments events) step limit classes }

@@ -6,7 +6,7 @@ mod pieces;
 mod profile_texts;
 mod replay_texts;
 mod run_texts;
-mod score_texts;
+pub mod score_texts;
 mod streams_failing;
 mod support;
 mod trace_faults;

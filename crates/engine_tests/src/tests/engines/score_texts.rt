@@ -3,6 +3,9 @@ use crate::tests::calls::{Case, answer};
 use mte_engine::Call;
 use std::test::Fail;
 
+/// `score`.
+pub const SCORE: Call = Call::Score;
+
 const SCORES: &[Case] = &[
     (b"classes 4\n16 3\n40 1\n", "waste 104\n", "done"),
     (b"classes 2\n17 1\n", "not serving 17\n", "no"),
@@ -139,9 +142,9 @@ const PROFILE_FAULTS: &[Case] = &[
 ];
 
 const GROUPS: &[(Call, &[Case])] = &[
-    (Call::Score, SCORES),
-    (Call::Score, CLASS_LINE_FAULTS),
-    (Call::Score, PROFILE_FAULTS),
+    (SCORE, SCORES),
+    (SCORE, CLASS_LINE_FAULTS),
+    (SCORE, PROFILE_FAULTS),
 ];
 
 #[test]

@@ -1,9 +1,10 @@
 //! Reads and writes that fail, or move a byte at a time, or never end.
+use super::score_texts::SCORE;
 use super::support::Repeated;
 use crate::tests::calls::call_on;
 use crate::tests::streams::{sink, source};
 use crate::tests::support::{HEAP, ended, same};
-use mte_engine::{Call, History, Limits, StreamSink, StreamSource, score};
+use mte_engine::{Call, History, Limits, StreamSink, StreamSource};
 use replay_core::Config;
 use std::io::{ErrorKind, Read, Write};
 use std::process::Abort;
@@ -21,7 +22,7 @@ const FIT: &str =
     "classes 2 4\nlimit 2\nfootprint 160\nrow 192 64\nrow 160 64\nsnapshots 2\n16 3 0\n40 0 1\n";
 
 const CASES: &[Case] = &[
-    Case(Call::Score, "classes 4\n16 3\n40 1\n", "waste 104\n"),
+    Case(SCORE, "classes 4\n16 3\n40 1\n", "waste 104\n"),
     Case(
         Call::Tune(Limits { limit: 2, step: 1 }),
         "16 3\n40 1\n",
@@ -276,20 +277,15 @@ const REPLAY: Call = Call::Replay(HEAP);
 // how many letters there are, how many come at once, and how the engine ends
 const LETTERS: &[(Call, Option<usize>, usize, &str)] = &[
     (
-        Call::Score,
+        SCORE,
         Some(67_108_864),
         usize::MAX,
         "error 23 BadLine line 1",
     ),
-    (Call::Score, Some(67_108_864), 1, "error 23 BadLine line 1"),
-    (
-        Call::Score,
-        Some(67_108_865),
-        usize::MAX,
-        "error 80 InputTooLong",
-    ),
-    (Call::Score, Some(67_108_865), 1, "error 80 InputTooLong"),
-    (Call::Score, None, 1, "error 80 InputTooLong"),
+    (SCORE, Some(67_108_864), 1, "error 23 BadLine line 1"),
+    (SCORE, Some(67_108_865), usize::MAX, "error 80 InputTooLong"),
+    (SCORE, Some(67_108_865), 1, "error 80 InputTooLong"),
+    (SCORE, None, 1, "error 80 InputTooLong"),
     (
         REPLAY,
         Some(67_108_864),
@@ -348,7 +344,7 @@ impl Write for Broken {
 fn a_failing_standard_reader(rt: HostRuntime) -> Result<(), Fail> {
     let mut from = StreamSource::new(Broken);
     let mut to = sink(rt.alloc())?;
-    let end = score(rt.alloc(), &mut from, &mut to);
+    let end = call_on(&rt, SCORE, &mut from, &mut to);
     let ends = ended(rt.alloc(), end)?;
     same(&rt, &ends.as_str(), &"error 81 ReadFault", &"the end");
     Ok(())
@@ -357,7 +353,7 @@ fn a_failing_standard_reader(rt: HostRuntime) -> Result<(), Fail> {
 #[test]
 fn a_failing_standard_writer(rt: HostRuntime) -> Result<(), Fail> {
     let mut to = StreamSink::new(Broken);
-    let end = score(rt.alloc(), &mut source(INPUT), &mut to);
+    let end = call_on(&rt, SCORE, &mut source(INPUT), &mut to);
     let ends = ended(rt.alloc(), end)?;
     same(&rt, &ends.as_str(), &"error 82 WriteFault", &"the end");
     Ok(())

@@ -1,6 +1,7 @@
 //! With ample memory nothing is refused: at each limit and step, at sizes about each power of two, at each number of rows, at each line.
 use super::support::profile as worked_profile;
 use crate::tests::calls::ends;
+use crate::tests::engines::score_texts::SCORE;
 use crate::tests::support::{HEAP, same};
 use class_table::{ClassTable, LARGEST_COUNTED, is_step};
 use class_tuner::tune;
@@ -134,7 +135,7 @@ fn engines_on(rt: &(impl Abort + AllocGlobal), lines: usize) -> Result<(), Fail>
     let text = "free 0\n".as_bytes().repeat(rt.alloc(), lines)?;
     ends(rt, Call::Profile, &text, "done")?;
     ends(rt, RUN, &text, "done")?;
-    ends(rt, Call::Score, &text, "error 23 BadLine line 1")
+    ends(rt, SCORE, &text, "error 23 BadLine line 1")
 }
 
 // All sizes are counted; the profile of the first of them is written and read.

@@ -1,6 +1,7 @@
 //! The engines: where a growth is refused, the sink is as it was.
 use super::support::{PROFILE, SHEET, refused_twice};
 use crate::tests::calls::call_on;
+use crate::tests::engines::score_texts::SCORE;
 use crate::tests::streams::{sink, source};
 use crate::tests::support::{HEAP, same};
 use mte_engine::{Call, Limits, MemorySink, Status, ToolFault};
@@ -21,7 +22,7 @@ const FIT: &str = "classes 2 4\nlimit 2\nfootprint 160\nrow 192 64\nrow 160 64\n
 
 #[test]
 fn scoring(rt: HostRuntime) -> Result<(), Fail> {
-    answers(&rt, Call::Score, "classes 4\n16 3\n40 1\n", "waste 104\n")
+    answers(&rt, SCORE, "classes 4\n16 3\n40 1\n", "waste 104\n")
 }
 
 #[test]
