@@ -4,6 +4,7 @@ pub mod CallCounts
 pub mod Halves
 pub mod LeastEnds
 pub mod OneSheet
+pub mod PartCalls
 pub mod ReadOff
 pub mod Rows
 pub mod Tried

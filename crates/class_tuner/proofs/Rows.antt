@@ -4,10 +4,11 @@ use Rattle.std.proofs.Common.{◌≡◌, ℕ, zero, suc, ◌-◌, ◌<◌, ◌�
 use Rattle.std.specs.declared.alloc.Global.{Global}
 use Rattle.std.proofs.lemmas.Bool.{cases_lt}
 use Rattle.std.proofs.lemmas.List.{get_or_append_left, get_or_past}
-use Rattle.class_tuner.specs.Filling.{IsFilledWithin, IsLeastAt}
+use Rattle.class_tuner.specs.Filling.{IsFilledWithin, IsFirstRow, IsLeastAt, IsNextRow}
+use Rattle.class_tuner.specs.declared.filling.Row.{Row}
 use Rattle.tuner_theory.specs.Lists.{lists_of}
 use Rattle.tuner_theory.specs.Rows.{HasShape, IsFilled, number_at}
-use Rattle.tuner_theory.proofs.Lists.{row-read_at}
+use Rattle.tuner_theory.proofs.Lists.{lists-length, row-read_at}
 use Rattle.tuner_theory.proofs.Sheets.{rows-end}
 
 -- ---- numbers in rows
@@ -20,7 +21,7 @@ pub number_at-new : (rows : List (List ℕ)) (row : List ℕ) (k i : ℕ) → le
     → number_at (rows ++ row ∷ []) (suc k) i ≡ slice_index row i
 number_at-new rows row k i size = grind (arith, common_steps)
 
-shape-pushed : (rows : List (List ℕ)) (row : List ℕ) (k d : ℕ) → HasShape rows k d → length row ≡ d → HasShape (rows ++ row ∷ []) (suc k) d
+pub shape-pushed : (rows : List (List ℕ)) (row : List ℕ) (k d : ℕ) → HasShape rows k d → length row ≡ d → HasShape (rows ++ row ∷ []) (suc k) d
 shape-pushed rows row k d shape len = grind (arith, common_steps)
 
 -- ---- one row
@@ -29,6 +30,30 @@ least-same : (cost : ℕ → ℕ → ℕ) (d : ℕ) (before before' : ℕ → �
     → ((j : ℕ) → before' j ≡ before j) → number' ≡ number → end' ≡ end → IsLeastAt cost d before i number end →
     IsLeastAt cost d before' i number' end'
 least-same cost d before before' i number number' end end' same same_number same_end l = grind arith
+
+-- a row and its ends, by their lists
+module _ (cost : ℕ → ℕ → ℕ) (d : ℕ) where
+  pub row-first : (row : Row) (costs ends : List ℕ) → row.costs.items ≡ costs → row.ends.items ≡ ends → length costs ≡ d → length ends ≡ d
+      → ((i : ℕ) → i < d → slice_index costs i ≡ cost i d) → ((i : ℕ) → i < d → slice_index ends i ≡ d) → IsFirstRow cost d row
+  row-first row costs ends costs_are ends_are costs_size ends_size are last =
+      record {
+        costs_length = ap length costs_are ∙ costs_size;
+        ends_length = ap length ends_are ∙ ends_size;
+        costs = λ i lt. ap (λ (l : List ℕ). slice_index l i) costs_are ∙ are i lt;
+        ends = λ i lt. ap (λ (l : List ℕ). slice_index l i) ends_are ∙ last i lt;
+      }
+
+  pub row-next : (before : List ℕ) (row : Row) (costs ends : List ℕ) → row.costs.items ≡ costs → row.ends.items ≡ ends
+      → length costs ≡ d → length ends ≡ d → IsFilledWithin cost d before costs ends 0 d → IsNextRow cost d before row
+  row-next before row costs ends costs_are ends_are costs_size ends_size filled =
+      record {
+        costs_length = ap length costs_are ∙ costs_size;
+        ends_length = ap length ends_are ∙ ends_size;
+        filled = λ i from below.
+            let number = ap (λ (l : List ℕ). slice_index l i) costs_are in
+            let end = ap (λ (l : List ℕ). slice_index l i) ends_are in
+            rw (number, end) (filled i from below);
+      }
 
 -- ---- rows
 
@@ -97,6 +122,13 @@ filled-small cost d limit bound rows ends f small k j one le =
         omega (arith, row.1, row.0.least d lt (omega arith), f.least.at_end (suc k), small j lt)
 
 -- ---- rows in vectors
+
+module _ (rows : List (Vec ℕ Global)) (d limit : ℕ) (shape : HasShape (lists_of rows) limit d) where
+  pub has-row : (k : ℕ) → k < limit → k < length rows
+  has-row k lt = omega (arith, lists-length rows, shape.row_count)
+
+  pub has-place : (k place : ℕ) → k < limit → place < d → place < length (slice_index_or (lists_of rows) k [])
+  has-place k place lt inside = omega (arith, shape.row_lengths k [] (omega (arith, shape.row_count)))
 
 -- a row that was read, by its vector
 pub row-read : (cost : ℕ → ℕ → ℕ) (d limit k : ℕ) (rows : List (Vec ℕ Global)) (ends : List (List ℕ)) (v : Vec ℕ Global) (row : List ℕ) →

@@ -20,16 +20,18 @@ pub struct Filled {
     pub ends: Vec<Vec<usize>>,
 }
 
-// a row and its ends
+/// A row and its ends.
 #[derive(Drop)]
-struct Row {
-    costs: Vec<u64>,
-    ends: Vec<usize>,
+pub(crate) struct Row {
+    /// The costs.
+    pub(crate) costs: Vec<u64>,
+    /// The ends.
+    pub(crate) ends: Vec<usize>,
 }
 
 impl Filled {
-    // appends a row
-    fn push(&mut self, row: Row) -> Result<(), AllocError>
+    /// Appends a row. The only error is that the allocator refuses memory.
+    pub(crate) fn push(&mut self, row: Row) -> Result<(), AllocError>
         ensures rows { OnOk result (lists_of self.new.rows.items
             ≡ lists_of self.old.rows.items ++ row.costs.items ∷ []) }
         ensures ends { OnOk result (lists_of self.new.ends.items
@@ -89,9 +91,10 @@ fn first_row<C: CostSource>(alloc: Global, costs: &mut C) -> Result<Row, AllocEr
     Ok(row)
 }
 
-// a row with 0 as each cost and the last place as each end
-fn unfilled_row(alloc: Global, places: usize) -> Result<Row, AllocError>
+/// A row with 0 as each cost and the last place as each end. The only error is that the allocator refuses memory.
+pub(crate) fn unfilled_row(alloc: Global, places: usize) -> Result<Row, AllocError>
     ensures costs_length { IfOk result (λ row. length row.costs.items ≡ places) }
+    ensures costs { IfOk result (λ row. (i : ℕ) → slice_index row.costs.items i ≡ 0) }
     ensures ends_length { IfOk result (λ row. length row.ends.items ≡ places) }
     ensures ends { IfOk result (λ row. (i : ℕ) → i < places → slice_index row.ends.items i ≡ places) }
 {

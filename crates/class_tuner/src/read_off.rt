@@ -17,7 +17,8 @@ use std::marker::PhantomData;
 pub(crate) fn certificate_of_rows<C>(spans: &Spans<'_>, filled: Filled, limit: u8) -> Certificate<C>
     requires some { 1 ≤ limit }
     requires few { limit ≤ MOST_CLASSES }
-    requires later { AreLaterEnds (places spans.now.counts spans.now.step) limit (number_at (lists_of filled.ends.items)) }
+    requires later { AreLaterEnds (places spans.now.counts spans.now.step) limit
+        (number_at (lists_of filled.ends.items)) }
     requires legal { IsLegalTable 1
         (tuned_table spans.now.counts spans.now.step limit (number_at (lists_of filled.ends.items))) }
     ensures read { sheet_of result ≡ sheet_of_rows spans.now.counts spans.now.step limit (lists_of filled.rows.items)

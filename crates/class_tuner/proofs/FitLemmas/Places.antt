@@ -1,7 +1,14 @@
 -- One place of the rows, row by row.
-use Rattle.std.proofs.Common.{◌≡◌, ℕ, suc, ◌+◌, ◌-◌, ◌^◌, ◌<◌, ◌≤◌, List, [], slice_index, slice_index_or, slice_set, arith, ap, ◌∙◌, inl, inr}
+use Rattle.std.proofs.Common.{◌≡◌, ℕ, suc, ◌+◌, ◌-◌, ◌/◌, ◌^◌, ◌<◌, ◌≤◌, List, [], ◌∷◌, ◌++◌, length, replicate, slice_index, slice_index_or, slice_set, arith, ap, ◌∙◌, inl, inr}
 use Rattle.std.proofs.lemmas.Bool.{cases_lt}
-use Rattle.class_tuner.specs.Fits.PlaceByPlace.{AreCostsFrom, AreLeastRowsFrom, AreRowsSoFar, IsPlaceFilled, end_cost}
+use Rattle.std.proofs.lemmas.Grind.{common_steps}
+use Rattle.std.proofs.lemmas.List.{length-replicate}
+use Rattle.class_tuner.specs.Fits.PlaceByPlace.{AreCostsFrom, AreLeastRowsFrom, AreOlderCosts, AreReady, AreRowsSoFar, IsFresh, IsPlaceFilled, end_cost}
+use Rattle.class_tuner.specs.declared.fits.filling.Memory.{Memory}
+use Rattle.potential_check.specs.declared.footprints.slack.TheConstants.{BLOCK}
+use Rattle.class_tuner.proofs.Rows.{shape-pushed}
+use Rattle.tuner_theory.specs.Growing.{IsGrowing}
+use Rattle.tuner_theory.specs.Lists.{lists_of}
 use Rattle.class_tuner.proofs.FitLemmas.Numbers.{set-here, set-other_place, set-other_row, set-shape, set-small}
 use Rattle.tuner_theory.specs.Rows.{IsFilled, IsLeastEnd, number_at}
 use Rattle.tuner_theory.proofs.Sheets.{rows-end}
@@ -111,3 +118,61 @@ rows-from cost costs d limit i rows rows' ends ends' inside costs_are later fill
 pub all-filled : (cost : ℕ → ℕ → ℕ) (d limit : ℕ) (rows ends : List (List ℕ)) → AreRowsSoFar d limit rows ends
     → AreLeastRowsFrom cost d limit 0 (number_at rows) (number_at ends) → IsFilled cost d limit rows ends
 all-filled cost d limit rows ends so_far from = grind (arith, rows-end)
+
+-- ---- the costs of two places, one after the other
+
+module _ (cost : ℕ → ℕ → ℕ) (d i : ℕ) (older costs : List ℕ) (inside : i < d) (size : length costs ≡ d + 1)
+    (are : (j : ℕ) → i < j → j ≤ d → slice_index costs j ≡ cost i j) where
+  pub costs-from : ((j : ℕ) → i < j → j ≤ d → cost i j ≤ 2 ^ 60) → AreCostsFrom d i costs
+  costs-from small = record { within = inside; size = size; small = λ j after le. omega (arith, are j after le, small j after le) }
+
+  pub costs-older : IsGrowing cost d → length older ≡ d + 1 → ((j : ℕ) → i + 1 < j → j ≤ d → slice_index older j ≡ cost (i + 1) j)
+      → AreOlderCosts d i older costs
+  costs-older grows older_size were = record {
+    size = older_size;
+    grow = λ j after le.
+        omega (arith, were j after le, are j (omega arith) le, grows i (i + 1) j j (omega arith) after (omega arith) le);
+  }
+
+-- ---- before any place is filled
+
+pub no-rows : (d : ℕ) → AreRowsSoFar d 0 [] []
+no-rows d = grind (arith, common_steps)
+
+pub so_far-pushed : (d k : ℕ) (rows ends rows' ends' : List (List ℕ)) (row end : List ℕ) → AreRowsSoFar d k rows ends → length row ≡ d
+    → length end ≡ d → ((j : ℕ) → slice_index row j ≡ 0) → rows' ≡ rows ++ row ∷ [] → ends' ≡ ends ++ end ∷ []
+    → AreRowsSoFar d (suc k) rows' ends'
+so_far-pushed d k rows ends rows' ends' row end so_far row_len end_len zeros rows_are ends_are =
+    rw (rows_are, ends_are) (record {
+      rows_shape = shape-pushed rows row k d so_far.rows_shape row_len;
+      ends_shape = shape-pushed ends end k d so_far.ends_shape end_len;
+      small = small;
+    })
+  where
+    small : (m j : ℕ) → number_at (rows ++ row ∷ []) m j ≤ 2 ^ 60
+    small m j = grind (arith, common_steps, so_far.small m j, zeros j)
+
+-- a list of zeros has 0 at each place
+zero-at : (n i : ℕ) → slice_index (replicate n 0) i ≡ 0
+zero-at n i = grind (arith, common_steps)
+
+pub ready-at_end : (costs : List ℕ) (d limit : ℕ) (rows ends : List (List ℕ)) (memory : Memory) → IsFresh limit d memory
+    → AreRowsSoFar d limit rows ends → AreReady costs memory.slack.items d d limit rows ends (lists_of memory.bounds.items)
+ready-at_end costs d limit rows ends memory fresh so_far = record {
+  slack = fresh.slack;
+  rows = so_far;
+  bounds = record {
+    size = fresh.bounds.size;
+    each = λ k one lt. rw (fresh.bounds.each k lt) (record {
+      long = omega (arith, length-replicate {A = ℕ} (d / BLOCK + 1) 0);
+      below = λ j past to. absurd (omega arith);
+      none = λ b le. zero-at (d / BLOCK + 1) b;
+    });
+  };
+}
+
+pub least-at_end : (cost : ℕ → ℕ → ℕ) (d limit : ℕ) (rows ends : ℕ → ℕ → ℕ) → AreLeastRowsFrom cost d limit d rows ends
+least-at_end cost d limit rows ends = record {
+  first_row = λ i some from lt. absurd (omega arith);
+  later_row = λ k i one few from lt. absurd (omega arith);
+}

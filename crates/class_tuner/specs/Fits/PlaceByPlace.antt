@@ -1,5 +1,9 @@
 -- Rows that are filled place by place, from the last place on.
-use Rattle.std.specs.Prelude.{◌≡◌, ℕ, suc, ◌+◌, ◌^◌, ◌<◌, ◌≤◌, List, length, slice_index}
+use Rattle.std.specs.Prelude.{◌≡◌, ℕ, suc, ◌+◌, ◌^◌, ◌/◌, ◌<◌, ◌≤◌, List, length, slice_index}
+use Rattle.class_tuner.specs.declared.fits.filling.Memory.{Memory}
+use Rattle.potential_check.specs.Footprints.Bounds.{AreRowBounds, AreZeros, IsSlack}
+use Rattle.potential_check.specs.declared.footprints.slack.TheConstants.{BLOCK}
+use Rattle.tuner_theory.specs.Lists.{lists_of}
 use Rattle.tuner_theory.specs.Rows.{HasShape, IsLeastEnd, number_at}
 
 -- The first row and the later ones are least rows from place `start` on.
@@ -14,6 +18,11 @@ pub record AreCostsFrom (d place : ℕ) (costs : List ℕ) : Type 0 where
   pub within : place < d
   pub size : length costs ≡ d + 1
   pub small : (j : ℕ) → place < j → j ≤ d → slice_index costs j ≤ 2 ^ 60
+
+-- The costs of the spans from the next place: none of them is above that of the span from this place to the same end.
+pub record AreOlderCosts (d place : ℕ) (older costs : List ℕ) : Type 0 where
+  pub size : length older ≡ d + 1
+  pub grow : (j : ℕ) → place + 1 < j → j ≤ d → slice_index older j ≤ slice_index costs j
 
 -- So many rows of d numbers, each small, and their ends.
 pub record AreRowsSoFar (d limit : ℕ) (rows ends : List (List ℕ)) : Type 0 where
@@ -33,3 +42,16 @@ pub record IsPlaceFilled (costs : List ℕ) (d place stop : ℕ) (old_rows rows 
   pub later : (k : ℕ) → 1 ≤ k → k < stop
       → IsLeastEnd (end_cost costs (number_at old_rows k)) place d (number_at ends (suc k) place)
       × (number_at rows (suc k) place ≡ end_cost costs (number_at old_rows k) (number_at ends (suc k) place))
+
+-- No block of ends has a bound yet, and each has a slack. There are two lists with room for the costs from a place.
+pub record IsFresh (limit d : ℕ) (memory : Memory) : Type 0 where
+  pub bounds : AreZeros limit (d / BLOCK + 1) (lists_of memory.bounds.items)
+  pub slack : IsSlack d memory.slack.items
+  pub from : length memory.from.items ≡ d + 1
+  pub older : length memory.older.items ≡ d + 1
+
+-- What place `start` leaves for the place before it: the costs from place `start`, the slack and the bounds of its blocks, the rows so far.
+pub record AreReady (costs slacks : List ℕ) (start d limit : ℕ) (numbers ends blocks : List (List ℕ)) : Type 0 where
+  pub slack : IsSlack d slacks
+  pub rows : AreRowsSoFar d limit numbers ends
+  pub bounds : AreRowBounds costs slacks start d limit (number_at numbers) blocks

@@ -1,9 +1,10 @@
-ghost use Rattle.std.specs.Prelude.{◌≡◌, ◌^◌, ◌<◌, ◌≤◌, IfOk, OnErr, OnOk};
+ghost use Rattle.std.specs.Prelude.{◌≡◌, ◌+◌, ◌^◌, ◌<◌, ◌≤◌, IfOk, OnErr, OnOk};
+ghost use Rattle.class_tuner.specs.Fits.PlaceByPlace.{AreCostsFrom, AreOlderCosts, AreReady, AreRowsSoFar, IsFresh, IsPlaceFilled};
 ghost use Rattle.potential_check.specs.Footprints.CallCounts.{span_count};
 ghost use Rattle.tuner_theory.specs.Lists.{lists_of};
 ghost use Rattle.tuner_theory.specs.Rows.{IsFilled};
 
-use crate::Filled;
+use crate::filling::{Filled, unfilled_row};
 use crate::fits::place::fill_place;
 use class_table::{MOST_CLASSES, MOST_NEEDS};
 use potential_check::{BLOCK, SpanCosts, WHOLE_SLACK, lower_slack, no_bounds};
@@ -30,32 +31,121 @@ pub fn fill_places<C: SpanCosts>(
 {
     let places = costs.places();
     let limit = limit as usize;
-    let mut rows = Vec::new(alloc);
-    let mut ends = Vec::new(alloc);
+    let mut filled = unfilled_rows(alloc, limit, places)?;
+    let memory = fresh_memory(alloc, limit, places)?;
+    fill_all(costs, &mut filled.rows, &mut filled.ends, memory, limit);
+    Ok(filled)
+}
+
+// rows of zeros, and the last place as each end
+fn unfilled_rows(alloc: Global, limit: usize, places: usize) -> Result<Filled, AllocError>
+    ensures { IfOk result (λ f. AreRowsSoFar places limit (lists_of f.rows.items) (lists_of f.ends.items)) }
+{
+    let mut filled = Filled {
+        rows: Vec::new(alloc),
+        ends: Vec::new(alloc),
+    };
     for _ in 0..limit {
-        rows.push(vec![in alloc; 0u64; places]?)?;
-        ends.push(vec![in alloc; places; places]?)?;
+        let row = unfilled_row(alloc, places)?;
+        filled.push(row)?;
     }
+    Ok(filled)
+}
+
+// what is kept from place to place, beside the rows
+#[derive(Drop)]
+struct Memory {
+    bounds: Vec<Vec<u64>>,
+    slack: Vec<u64>,
+    // the costs from the place that was filled last
+    from: Vec<u64>,
+    // the costs from the place after it
+    older: Vec<u64>,
+}
+
+// the memory before any place is filled
+fn fresh_memory(alloc: Global, limit: usize, places: usize) -> Result<Memory, AllocError>
+    requires few { places ≤ MOST_NEEDS }
+    ensures { IfOk result (IsFresh limit places) }
+{
     let blocks = places / BLOCK + 1;
-    let mut bounds = no_bounds(alloc, limit, blocks)?;
-    let mut slack = vec![in alloc; WHOLE_SLACK; blocks]?;
-    let mut from = vec![in alloc; 0u64; places + 1]?;
-    // the costs from the next place
-    let mut older = vec![in alloc; 0u64; places + 1]?;
+    let bounds = no_bounds(alloc, limit, blocks)?;
+    let slack = vec![in alloc; WHOLE_SLACK; blocks]?;
+    let from = vec![in alloc; 0u64; places + 1]?;
+    let older = vec![in alloc; 0u64; places + 1]?;
+    Ok(Memory {
+        bounds,
+        slack,
+        from,
+        older,
+    })
+}
+
+// fills all places, from the last one on
+fn fill_all<C: SpanCosts>(
+    costs: &mut C,
+    rows: &mut [Vec<u64>],
+    ends: &mut [Vec<usize>],
+    memory: Memory,
+    limit: usize,
+)
+    requires some { 1 ≤ limit }
+    requires few { limit ≤ MOST_CLASSES }
+    requires places { C.place_count costs.old ≤ MOST_NEEDS }
+    requires room { C.call_count costs.old < 2 ^ 62 }
+    requires rows { AreRowsSoFar (C.place_count costs.old) limit (lists_of rows.old) (lists_of ends.old) }
+    requires memory { IsFresh limit (C.place_count costs.old) memory }
+    ensures filled { IsFilled (C.cost costs.old) (C.place_count costs.old) limit (lists_of rows.new)
+        (lists_of ends.new) }
+    ensures counted { costs.new ≡ C.after_calls costs.old (span_count (C.place_count costs.old)) }
+{
+    let places = costs.places();
+    let Memory {
+        mut bounds,
+        mut slack,
+        mut from,
+        mut older,
+    } = memory;
     for i in (0..places).rev() {
         swap(&mut from, &mut older);
         costs.write_from(i, &mut from);
-        lower_slack(&older, &from, &mut slack, i, places);
-        fill_place(
+        fill_next(
+            &older,
             &from,
-            &slack,
+            &mut slack,
             &mut bounds,
-            &mut rows,
-            &mut ends,
+            rows,
+            ends,
             i,
             places,
             limit,
         );
     }
-    Ok(Filled { rows, ends })
+}
+
+// fills the place before those that are filled
+fn fill_next(
+    older: &[u64],
+    costs: &[u64],
+    slack: &mut [u64],
+    bounds: &mut [Vec<u64>],
+    rows: &mut [Vec<u64>],
+    ends: &mut [Vec<usize>],
+    place: usize,
+    places: usize,
+    limit: usize,
+)
+    requires some { 1 ≤ limit }
+    requires few { limit ≤ MOST_CLASSES }
+    requires costs { AreCostsFrom places place costs.now }
+    requires older { AreOlderCosts places place older.now costs.now }
+    requires ready { AreReady older.now slack.old (place + 1) places limit (lists_of rows.old) (lists_of ends.old)
+        (lists_of bounds.old) }
+    ensures ready { AreReady costs.now slack.new place places limit (lists_of rows.new) (lists_of ends.new)
+        (lists_of bounds.new) }
+    ensures filled { IsPlaceFilled costs.now places place limit (lists_of rows.old) (lists_of rows.new)
+        (lists_of ends.old) (lists_of ends.new) }
+{
+    lower_slack(older, costs, slack, place, places);
+    fill_place(costs, slack, bounds, rows, ends, place, places, limit);
 }

@@ -4,7 +4,7 @@ use Rattle.tuner_theory.specs.Lists.{lists_of}
 use Rattle.tuner_theory.specs.Rows.{IsFilled, number_at}
 use Rattle.class_tuner.proofs.SourceChanges.{OnlyCounts-more}
 use Rattle.class_tuner.proofs.CallCounts.{calls-more, room-left}
-use Rattle.class_tuner.proofs.Rows.{filled-first, filled-pushed, filled-small, row-read}
+use Rattle.class_tuner.proofs.Rows.{filled-first, filled-pushed, filled-small, has-row, row-read}
 use Rattle.class_tuner.proofs.Tried.{calls-first, calls-pushed}
 use Rattle.class_tuner.proofs.filling.fill_rows.Goals as goal
 
@@ -105,3 +105,9 @@ returns-clause-bounded g c = let all : c.loop-k.k ≡ c.args.limit = omega arith
 
 pub returns-clause-exact : goal.returns-clause-exact
 returns-clause-exact g c = let all : c.loop-k.k ≡ c.args.limit = omega arith in rw all at c.loop-k.invariant.exact
+
+pub index-requires : goal.index-requires
+index-requires g c =
+    let d = g.C.CostSource.place_count c.args.costs.now in
+    let row = has-row c.loop-k.filled.rows.items d c.loop-k.k c.loop-k.invariant.filled.rows_shape (c.loop-k.k - 1) (omega arith) in
+    omega (arith, c.loop-k.filled.rows.ok.0)

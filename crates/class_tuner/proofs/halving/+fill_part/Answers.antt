@@ -1,9 +1,8 @@
-use Rattle.std.proofs.Common.{rules, ◌≡◌, ℕ, zero, suc, ◌+◌, ◌-◌, ◌*◌, ◌^◌, ◌/◌, ◌<◌, ◌≤◌, slice_index, slice_set, add-one, arith, refl, sym, ◌∙◌, inl, inr}
+use Rattle.std.proofs.Common.{rules, ◌≡◌, ℕ, ◌+◌, ◌-◌, ◌/◌, ◌<◌, slice_index, slice_set, add-one, arith, refl, sym, ◌∙◌, inl, inr}
 use Rattle.std.proofs.lemmas.List.{get_or-set_same}
-use Rattle.class_tuner.specs.CallCounts.{tried_within}
 use Rattle.class_tuner.specs.Filling.{AreEndsBetween}
-use Rattle.class_tuner.proofs.Halves.{between-left, between-right, count-halves, half-digits}
-use Rattle.class_tuner.proofs.Tried.{tried-none, tried-part}
+use Rattle.class_tuner.proofs.Halves.{between-left, between-right}
+use Rattle.class_tuner.proofs.PartCalls.{calls-none, calls-of_part}
 use Rattle.class_tuner.proofs.halving.+fill_part.Goals as goal
 
 pub least_end-cost-requires-clause-between : goal.least_end-cost-requires-clause-between
@@ -44,75 +43,34 @@ fill_part-requires-then-part g t c κs within =
     search (rules, between)
 
 pub returns-then-part-eq1-clause-calls : goal.returns-then-part-eq1-clause-calls
-returns-then-part-eq1-clause-calls g t c = record { bounded = bounded; exact = exact; most = omega arith }
-  where
-    bounded : (b : ℕ) → c.args.part.end - c.args.part.start < 2 ^ b
-        → g.C.CostSource.call_count c.least_end-cost.new.costs
-        ≤ g.C.CostSource.call_count c.args.costs.now + (c.args.window.high - c.args.window.low) * b + (c.args.part.end - c.args.part.start)
-    bounded zero lt = absurd (omega arith)
-    bounded (suc b) lt = omega (arith, c.least_end-cost.ensures.counted)
-
-    exact : (b : ℕ) → c.args.part.end - c.args.part.start < 2 ^ b
-        → let middle : ℕ = c.args.part.start + (c.args.part.end - c.args.part.start) / 2 in
-        g.C.CostSource.call_count c.least_end-cost.new.costs
-        ≡ g.C.CostSource.call_count c.args.costs.now
-        + tried_within (slice_index (slice_set c.args.ends.now middle c.least_end-cost.result.1)) b c.args.part.start c.args.part.end
-        c.args.window.low c.args.window.high
-    exact zero lt = absurd (omega arith)
-    exact (suc b) lt =
-        let part = c.args.part in
-        let middle : ℕ = part.start + (part.end - part.start) / 2 in
-        let end = c.least_end-cost.result.1 in
-        let ends = slice_index (slice_set c.args.ends.now middle end) in
-        let asked : ℕ = g.C.CostSource.call_count c.least_end-cost.new.costs in
-        tried-part ends ends b part.start part.end c.args.window.low c.args.window.high c.max-first.result end
-        (g.C.CostSource.call_count c.args.costs.now) asked asked asked (omega arith) (omega arith) (omega arith)
-        (get_or-set_same c.args.ends.now middle end 0 (omega arith)) (λ i from below. refl) c.least_end-cost.ensures.counted
-        (omega (arith, tried-none ends b part.start middle c.args.window.low end (omega arith)))
-        (omega (arith, tried-none ends b (middle + 1) part.end end c.args.window.high (omega arith)))
+returns-then-part-eq1-clause-calls g t c =
+    let part = c.args.part in
+    let middle : ℕ = part.start + (part.end - part.start) / 2 in
+    let end = c.least_end-cost.result.1 in
+    let ends = slice_set c.args.ends.now middle end in
+    let asked : ℕ = g.C.CostSource.call_count c.least_end-cost.new.costs in
+    calls-of_part ends ends part c.args.window middle c.max-first.result end (g.C.CostSource.call_count c.args.costs.now) asked asked asked
+    (omega arith) refl (omega arith) c.least_end-cost.ensures.inside.0 c.least_end-cost.ensures.inside.1 (omega arith)
+    c.least_end-cost.ensures.counted (get_or-set_same c.args.ends.now middle end 0 (omega arith)) (λ i from below. refl)
+    (calls-none ends (record { start = part.start; end = middle }) (record { low = c.args.window.low; high = end }) asked (omega arith))
+    (calls-none ends (record { start = middle + 1; end = part.end }) (record { low = end; high = c.args.window.high }) asked (omega arith))
 
 pub returns-else-part-eq1-clause-calls : goal.returns-else-part-eq1-clause-calls
-returns-else-part-eq1-clause-calls g t c = record { bounded = bounded; exact = exact; most = omega arith }
-  where
-    bounded : (b : ℕ) → c.args.part.end - c.args.part.start < 2 ^ b
-        → g.C.CostSource.call_count c.fill_part-then-part.new.costs
-        ≤ g.C.CostSource.call_count c.args.costs.now + (c.args.window.high - c.args.window.low) * b + (c.args.part.end - c.args.part.start)
-    bounded zero lt = absurd (omega arith)
-    bounded (suc b) lt =
-        let part = c.args.part in
-        let half = half-digits (part.end - part.start) b lt in
-        let end = c.least_end-cost.result.1 in
-        let middle : ℕ = part.start + (part.end - part.start) / 2 in
-        let window = c.least_end-cost.ensures.inside in
-        count-halves (part.end - part.start) (c.args.window.high - c.args.window.low) (end - c.args.window.low) (c.args.window.high - end)
-        (middle - part.start) (part.end - (middle + 1)) b (g.C.CostSource.call_count c.args.costs.now)
-        (c.args.window.high - c.max-first.result + 1) _ _ (omega arith) (omega arith) (omega arith)
-        (omega (arith, c.fill_part.ensures.calls.bounded b (omega arith), c.least_end-cost.ensures.counted))
-        (c.fill_part-then-part.ensures.calls.bounded b (omega arith))
-
-    exact : (b : ℕ) → c.args.part.end - c.args.part.start < 2 ^ b
-        → g.C.CostSource.call_count c.fill_part-then-part.new.costs
-        ≡ g.C.CostSource.call_count c.args.costs.now
-        + tried_within (slice_index c.fill_part-then-part.new.ends) b c.args.part.start c.args.part.end c.args.window.low c.args.window.high
-    exact zero lt = absurd (omega arith)
-    exact (suc b) lt =
-        let part = c.args.part in
-        let middle : ℕ = part.start + (part.end - part.start) / 2 in
-        let end = c.least_end-cost.result.1 in
-        let kept = c.fill_part-then-part.ensures.kept.ends_kept in
-        let is : slice_index c.fill_part-then-part.new.ends middle ≡ end =
-        kept middle (inl (omega arith))
-        ∙ (c.fill_part.ensures.kept.ends_kept middle (inr (omega arith)) ∙ get_or-set_same c.args.ends.now middle end 0 (omega arith)) in
-        tried-part (slice_index c.fill_part.new.ends) (slice_index c.fill_part-then-part.new.ends) b part.start part.end
-        c.args.window.low c.args.window.high c.max-first.result end (g.C.CostSource.call_count c.args.costs.now) _ _ _
-        (omega arith) (omega arith) (omega arith) is (λ i from below. sym (kept i (inl (omega arith)))) c.least_end-cost.ensures.counted
-        (c.fill_part.ensures.calls.exact b (omega arith)) (c.fill_part-then-part.ensures.calls.exact b (omega arith))
+returns-else-part-eq1-clause-calls g t c =
+    let part = c.args.part in
+    let middle : ℕ = part.start + (part.end - part.start) / 2 in
+    let some : part.start < part.end = omega arith in
+    let end = c.least_end-cost.result.1 in
+    let kept = c.fill_part-then-part.ensures.kept.ends_kept in
+    let is : slice_index c.fill_part-then-part.new.ends middle ≡ end =
+    kept middle (inl (omega arith))
+    ∙ (c.fill_part.ensures.kept.ends_kept middle (inr (omega arith)) ∙ get_or-set_same c.args.ends.now middle end 0 (omega arith)) in
+    calls-of_part c.fill_part.new.ends c.fill_part-then-part.new.ends part c.args.window middle c.max-first.result end
+    (g.C.CostSource.call_count c.args.costs.now) (g.C.CostSource.call_count c.least_end-cost.new.costs)
+    (g.C.CostSource.call_count c.fill_part.new.costs) (g.C.CostSource.call_count c.fill_part-then-part.new.costs)
+    some refl (omega arith) c.least_end-cost.ensures.inside.0 c.least_end-cost.ensures.inside.1 (omega arith)
+    c.least_end-cost.ensures.counted is (λ i from below. sym (kept i (inl (omega arith)))) c.fill_part.ensures.calls
+    c.fill_part-then-part.ensures.calls
 
 pub returns-else-part-clause-calls : goal.returns-else-part-clause-calls
-returns-else-part-clause-calls g t c = record {
-  bounded = λ b lt. omega arith;
-  exact = λ b lt.
-      let part = c.args.part in
-      omega (arith, tried-none (slice_index c.args.ends.now) b part.start part.end c.args.window.low c.args.window.high (omega arith));
-  most = omega arith;
-}
+returns-else-part-clause-calls g t c = calls-none c.args.ends.now c.args.part c.args.window _ (omega arith)

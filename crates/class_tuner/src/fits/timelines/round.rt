@@ -47,7 +47,8 @@ pub(crate) fn round_over(
     requires step { IsStep step }
     requires timeline { IsTimeline events.now }
     requires moments { AreMoments events.now numbers.now }
-    ensures fitted { IfOk result (λ round. IsFitOf (history_at events.now numbers.now) step limit (sheet_of round.fit)) }
+    ensures fitted { IfOk result (λ round.
+        IsFitOf (history_at events.now numbers.now) step limit (sheet_of round.fit)) }
     ensures takes { IfOk result (λ round. round.takes ≡ footprint_over events.now round.fit.table) }
     ensures firsts { IfOk result (λ round. AreFirsts events.now round.fit.table round.firsts.items) }
     ensures legal { IfOk result (λ round. IsLegalTable 1 round.fit.table) }

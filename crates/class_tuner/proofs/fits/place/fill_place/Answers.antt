@@ -1,6 +1,7 @@
 use Rattle.std.proofs.Common.{◌≡◌, ℕ, ◌-◌, ◌<◌, List, [], length, slice_index, slice_index_or, add-one, arith, ap, sym, ◌∙◌}
 use Rattle.tuner_theory.proofs.Lists.{lists-length, row-read}
-use Rattle.class_tuner.proofs.FitLemmas.Places.{place-more, so_far-set}
+use Rattle.class_tuner.proofs.FitLemmas.Places.{place-first, place-more, so_far-set}
+use Rattle.class_tuner.proofs.Rows.{has-place, has-row}
 use Rattle.potential_check.proofs.FootprintLemmas.LawLemmas.{bounds-same, row_bounds-set}
 use Rattle.tuner_theory.specs.Lists.{lists_of}
 use Rattle.tuner_theory.specs.Rows.{number_at}
@@ -73,3 +74,59 @@ loop-k-preserved c =
           (number_at (lists_of c.args.rows.now) k) (slice_index_or (lists_of found.new.bounds) k []) same bounds)
           c.loop-k.invariant.bounds;
     })
+
+pub set_number-requires : goal.set_number-requires
+set_number-requires c =
+    let shape = c.requires.rows.rows_shape in
+    record {
+      row = has-row c.args.rows.now c.args.places c.args.limit shape 0 c.requires.some;
+      place = has-place c.args.rows.now c.args.places c.args.limit shape 0 c.args.place c.requires.some c.requires.costs.within;
+    }
+
+pub set_end-requires : goal.set_end-requires
+set_end-requires c =
+    let shape = c.requires.rows.ends_shape in
+    record {
+      row = has-row c.args.ends.now c.args.places c.args.limit shape 0 c.requires.some;
+      place = has-place c.args.ends.now c.args.places c.args.limit shape 0 c.args.place c.requires.some c.requires.costs.within;
+    }
+
+pub loop-k-init : goal.loop-k-init
+loop-k-init c =
+    let last = slice_index c.args.costs.now c.args.places in
+    rw (c.set_number.ensures, c.set_end.ensures) (record {
+      rows = so_far-set c.args.costs.now c.args.places c.args.limit c.args.place (lists_of c.args.rows.now) (lists_of c.args.ends.now)
+          c.requires.costs c.requires.rows 0 last c.args.places c.requires.some (omega arith);
+      filled = place-first c.args.costs.now c.args.places c.args.limit c.args.place (lists_of c.args.rows.now) (lists_of c.args.ends.now)
+          c.requires.costs c.requires.rows c.requires.some;
+      bounds = c.requires.bounds;
+    })
+
+pub bounds-ends-k : goal.bounds-ends-k
+bounds-ends-k c =
+    has-row c.loop-k.ends c.args.places c.args.limit c.loop-k.invariant.rows.ends_shape c.loop-k.k c.loop-k-test.true
+
+pub bounds-rows-k : goal.bounds-rows-k
+bounds-rows-k c =
+    has-row c.loop-k.rows c.args.places c.args.limit c.loop-k.invariant.rows.rows_shape (c.loop-k.k - 1) (omega arith)
+
+pub least_end_in-number-requires-clause-row : goal.least_end_in-number-requires-clause-row
+least_end_in-number-requires-clause-row c = omega (arith, lists-length c.loop-k.bounds, c.loop-k.invariant.bounds.size)
+
+pub set_number-requires-in-loop-k : goal.set_number-requires-in-loop-k
+set_number-requires-in-loop-k c =
+    let shape = c.loop-k.invariant.rows.rows_shape in
+    let row = c.loop-k-test.true in
+    record {
+      row = has-row c.loop-k.rows c.args.places c.args.limit shape c.loop-k.k row;
+      place = has-place c.loop-k.rows c.args.places c.args.limit shape c.loop-k.k c.args.place row c.requires.costs.within;
+    }
+
+pub set_end-requires-in-loop-k : goal.set_end-requires-in-loop-k
+set_end-requires-in-loop-k c =
+    let shape = c.loop-k.invariant.rows.ends_shape in
+    let row = c.loop-k-test.true in
+    record {
+      row = has-row c.loop-k.ends c.args.places c.args.limit shape c.loop-k.k row;
+      place = has-place c.loop-k.ends c.args.places c.args.limit shape c.loop-k.k c.args.place row c.requires.costs.within;
+    }
