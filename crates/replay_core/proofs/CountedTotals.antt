@@ -33,17 +33,7 @@ loss_of_event-le classes p legal = by_test (is_silent p.1) (request_size p.0)
 pub AreBounded-after : (classes : List ℕ) (t : Totals) (p : Event × Answer) → IsLegalTable 1 classes → AreBounded t → t.events < 2 ^ 40 →
     AreBounded (totals_after classes t p)
 unfolding totals_after
-AreBounded-after classes t p legal b few = record {
-  events = omega arith;
-  requests = omega (arith, b.requests, one_if-le (is_request p.0));
-  null_large = omega (arith, b.null_large, one_if-le (is_large p.1));
-  null_no_class = omega (arith, b.null_no_class, one_if-le (is_no_class p.1));
-  null_exhausted = omega (arith, b.null_exhausted, one_if-le (is_exhausted p.1));
-  faults_tag = omega (arith, b.faults_tag, one_if-le (is_tag_fault p.1));
-  faults_unmapped = omega (arith, b.faults_unmapped, one_if-le (is_unmapped p.1));
-  refused_frees = omega (arith, b.refused_frees, one_if-le (is_refused p.1));
-  loss = omega (arith, b.loss, loss_of_event-le classes p legal);
-}
+AreBounded-after classes t p legal b few = grind (arith, one_if-le, loss_of_event-le)
 
 -- one event more, counted in parts
 pub counted_in_parts : (classes : List ℕ) (t answered requested : Totals) (size : Option ℕ) (event : Event) (answer : Answer) →

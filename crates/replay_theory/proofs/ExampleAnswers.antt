@@ -35,17 +35,3 @@ unfolding replay_of first_replay first_heap first_memory slots_of slots_of_class
     store_step malloc_step calloc_step free_step realloc_step moved chunk_at slot_for_request with_payload resized freed given_out slot_for
     choose_tag allowed_after drawn_tag next_offset next_seed addg subg each_granule tagged bytes_at written access_fault
 heap_of classes quarantine events = (replay_of (first_replay (record { classes = classes; granules = 64 }) 1 quarantine) events).heap
-
--- the nine totals, in the order of their lines
-abbrev pub totals : ℕ → ℕ → ℕ → ℕ → ℕ → ℕ → ℕ → ℕ → ℕ → Totals
-totals events requests null_large null_no_class null_exhausted faults_tag faults_unmapped refused_frees loss = record {
-  events = events;
-  requests = requests;
-  null_large = null_large;
-  null_no_class = null_no_class;
-  null_exhausted = null_exhausted;
-  faults_tag = faults_tag;
-  faults_unmapped = faults_unmapped;
-  refused_frees = refused_frees;
-  loss = loss;
-}

@@ -8,7 +8,8 @@ use Rattle.heap_theory.specs.declared.place_kind.PlaceKind.TheVariants.{Tail, De
 use Rattle.heap_theory.specs.Header.{first_word, header_for}
 use Rattle.heap_theory.specs.Header.Standing.{Quarantined, Freed}
 use Rattle.replay_theory.specs.Replay.Answer.{Silent, Loaded, TagFault, NoPointer, NotFreed}
-use Rattle.replay_theory.proofs.ExampleAnswers.{shown, heap_of, totals}
+use Rattle.replay_theory.specs.Totals.{no_totals}
+use Rattle.replay_theory.proofs.ExampleAnswers.{shown, heap_of}
 use Rattle.class_table.specs.Layout.{slots_of_classes, slots_of}
 
 in_place_moved_and_moved_back :
@@ -20,31 +21,37 @@ in_place_moved_and_moved_back :
       Silent ∷ Silent ∷ TagFault 2 0 1 Tail ∷ Silent ∷ Loaded (0 ∷ []) ∷ Silent ∷ Silent ∷ Loaded
           (replicate 4 0xab ++ replicate 2 0) ∷ TagFault 1 3 1 DeadChunk ∷ NotFreed NotLive
           ∷ NoPointer NoClass ∷ Loaded (0 ∷ []) ∷ Silent ∷ Loaded (replicate 4 0xab) ∷ Silent ∷ Loaded (0 ∷ []) ∷ [],
-      totals 16 7 0 1 0 2 0 1 103,
+      record no_totals { events = 16; requests = 7; null_no_class = 1; faults_tag = 2; refused_frees = 1; loss = 103 },
     )
 unfolding shown
 in_place_moved_and_moved_back = refl
 
 shrunk_chunk_leaves_a_tail : shown (3 ∷ []) 0 (Malloc 1 32 ∷ Realloc 1 16 ∷ Load 1 (pos 16) 1 ∷ [])
-    ≡ (Silent ∷ Silent ∷ TagFault 2 0 1 Tail ∷ [], totals 3 2 0 0 0 1 0 0 16)
+    ≡ (Silent ∷ Silent ∷ TagFault 2 0 1 Tail ∷ [], record no_totals { events = 3; requests = 2; faults_tag = 1; loss = 16 })
 unfolding shown
 shrunk_chunk_leaves_a_tail = refl
 
 refused_chunk_stays_live :
     shown (2 ∷ 31 ∷ []) 0 (Malloc 1 16 ∷ Malloc 2 480 ∷ Realloc 1 100 ∷ Load 1 (pos 0) 1 ∷ Free 1 ∷ [])
-    ≡ (Silent ∷ Silent ∷ NoPointer Exhausted ∷ Loaded (0 ∷ []) ∷ Silent ∷ [], totals 5 3 0 0 1 0 0 0 0)
+    ≡ (
+      Silent ∷ Silent ∷ NoPointer Exhausted ∷ Loaded (0 ∷ []) ∷ Silent ∷ [],
+      record no_totals { events = 5; requests = 3; null_exhausted = 1 },
+    )
 unfolding shown
 refused_chunk_stays_live = refl
 
 smaller_size_is_copied :
     shown (2 ∷ 5 ∷ []) 0 (Malloc 1 64 ∷ Store 1 (pos 0) 64 0xee ∷ Free 1 ∷ Malloc 2 3 ∷ Store 2 (pos 0) 16 0xab ∷ Realloc 2 40 ∷ Load 2
     (pos 0) 48 ∷ [])
-    ≡ (replicate 6 Silent ++ Loaded (replicate 3 0xab ++ replicate 45 0xee) ∷ [], totals 7 3 0 0 0 0 0 0 37)
+    ≡ (replicate 6 Silent ++ Loaded (replicate 3 0xab ++ replicate 45 0xee) ∷ [], record no_totals { events = 7; requests = 3; loss = 37 })
 unfolding shown
 smaller_size_is_copied = refl
 
 pointer_is_judged_before_the_size :
-    shown (2 ∷ []) 0 (Malloc 1 16 ∷ Free 1 ∷ Realloc 1 16369 ∷ []) ≡ (Silent ∷ Silent ∷ NotFreed NotLive ∷ [], totals 3 2 0 0 0 0 0 1 0)
+    shown (2 ∷ []) 0 (Malloc 1 16 ∷ Free 1 ∷ Realloc 1 16369 ∷ []) ≡ (
+      Silent ∷ Silent ∷ NotFreed NotLive ∷ [],
+      record no_totals { events = 3; requests = 2; refused_frees = 1 },
+    )
 unfolding shown
 pointer_is_judged_before_the_size = refl
 

@@ -31,17 +31,7 @@ invariant_of-result c = record {
     };
     stored_is = returns c ∙ sym (stored_of_none _ _ _);
   };
-  bounded = record {
-    events = omega arith;
-    requests = omega arith;
-    null_large = omega arith;
-    null_no_class = omega arith;
-    null_exhausted = omega arith;
-    faults_tag = omega arith;
-    faults_unmapped = omega arith;
-    refused_frees = omega arith;
-    loss = omega arith;
-  };
+  bounded = grind arith;
   long = ap length (c.in_ok-variables.ensures.items_if_clones_equal (λ y is. is)) ∙ length-replicate {A = ℕ} 1024 0;
   legal = subst (IsLegalTable 1) (sym (ap (λ (h : Heap). h.layout.classes) c.in_ok-heap.ensures.state)) c.len.ensures.legal;
   few = omega (arith, c.in_ok-heap.ensures.frees);
