@@ -1,8 +1,8 @@
 -- Bounds of blocks of ends, from row to row and from place to place.
-use Rattle.std.proofs.Common.{◌≡◌, ◌≢◌, ℕ, ◌+◌, ◌*◌, ◌/◌, ◌<◌, ◌≤◌, List, [], length, slice_index, slice_index_or, slice_set, arith, ap, ◌∙◌, inl, inr, Vec}
+use Rattle.std.proofs.Common.{◌≡◌, ◌≢◌, ℕ, ◌+◌, ◌*◌, ◌/◌, ◌<◌, ◌≤◌, List, [], length, replicate, slice_index, slice_index_or, slice_set, arith, ap, ◌∙◌, inl, inr, Vec}
 use Rattle.std.proofs.lemmas.Bool.{cases_eq, cases_lt}
-use Rattle.std.proofs.lemmas.List.{get_or-set_other, get_or-set_same, length-set, map-set}
-use Rattle.potential_check.specs.Footprints.Bounds.{AreBounds, AreRowBounds, IsNarrowed, IsSlack}
+use Rattle.std.proofs.lemmas.List.{get_or-replicate, get_or-set_other, get_or-set_same, length-replicate, length-set, map-set}
+use Rattle.potential_check.specs.Footprints.Bounds.{AreBounds, AreRowBounds, AreZeros, IsNarrowed, IsSlack}
 use Rattle.potential_check.specs.declared.footprints.slack.TheConstants.{BLOCK}
 use Rattle.tuner_theory.specs.Lists.{lists_of}
 use Rattle.tuner_theory.proofs.Lists.{lists-length}
@@ -76,6 +76,19 @@ slack-narrowed older costs old new place d narrowed is = record {
   long = omega (arith, is.long, ap (λ n. BLOCK * n) narrowed.size);
   small = λ b. omega (arith, narrowed.less b, is.small b);
 }
+
+-- no bounds, at the end of all places
+pub row_bounds-none : (costs slack : List ℕ) (d limit : ℕ) (rows : ℕ → ℕ → ℕ) (bounds : List (List ℕ)) → AreZeros limit (d / BLOCK + 1) bounds
+    → AreRowBounds costs slack d d limit rows bounds
+row_bounds-none costs slack d limit rows bounds zeros = record { size = zeros.size; each = each }
+  where
+    each : (k : ℕ) → 1 ≤ k → k < limit → AreBounds costs slack d d (rows k) (slice_index_or bounds k [])
+    each k one lt =
+        rw (zeros.each k lt) (record {
+          long = omega (arith, length-replicate {A = ℕ} (d / BLOCK + 1) 0);
+          below = λ j past to. absurd (omega arith);
+          none = λ b le. get_or-replicate (d / BLOCK + 1) b 0 0 (omega arith);
+        })
 
 -- ---- one vector of vectors with other items
 

@@ -25,6 +25,13 @@ pub record AreZeros (limit blocks : ℕ) (lists : List (List ℕ)) : Type 0 wher
   pub size : length lists ≡ limit
   pub each : (k : ℕ) → k < limit → slice_index_or lists k [] ≡ replicate blocks 0
 
+-- What the tests begin with: costs from no place, some slack of each block, and no bounds.
+pub record IsFresh (limit d : ℕ) (from older slack : List ℕ) (bounds : List (List ℕ)) : Type 0 where
+  pub from_length : length from ≡ d + 1
+  pub older_length : length older ≡ d + 1
+  pub is_slack : IsSlack d slack
+  pub none : AreZeros limit (d / BLOCK + 1) bounds
+
 -- The slack at a place, by that at the next one: what the cost of an end has grown covers what its block has lost.
 pub record IsNarrowed (older costs : List ℕ) (place d : ℕ) (old new : List ℕ) : Type 0 where
   pub size : length new ≡ length old

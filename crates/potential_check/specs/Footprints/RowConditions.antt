@@ -38,3 +38,23 @@ pub record DropsHoldFrom (d : ℕ) (rows : List (List ℕ)) (i : ℕ) : Type 0 w
 
 pub record EdgesHoldFrom (cost : ℕ → ℕ → ℕ) (d : ℕ) (rows : List (List ℕ)) (i : ℕ) : Type 0 where
   pub each : (m k j : ℕ) → i ≤ m → 1 ≤ k → k < length rows → m < j → j ≤ d → number_at rows (suc k) m ≤ cost m j + number_at rows k j
+
+-- ---- what is tested
+
+-- Each test says whether its condition holds at place i, for the costs from there.
+pub record AreTestsAt (costs : List ℕ) (d : ℕ) (rows : List (List ℕ)) (i : ℕ) (tests : RowTests) : Type 0 where
+  pub last_class : IsTrue tests.last_class ↔ (number_at rows 1 i ≤ slice_index costs d)
+  pub stage_drop : IsTrue tests.stage_drop ↔ DropsHoldAt rows i (length rows)
+  pub edge : IsTrue tests.edge ↔ EdgesHoldAt costs rows d i (length rows)
+
+-- The same at place i and the later ones.
+pub record AreTestsFrom (cost : ℕ → ℕ → ℕ) (d : ℕ) (rows : List (List ℕ)) (i : ℕ) (tests : RowTests) : Type 0 where
+  pub last_class : IsTrue tests.last_class ↔ LastHoldsFrom cost d rows i
+  pub stage_drop : IsTrue tests.stage_drop ↔ DropsHoldFrom d rows i
+  pub edge : IsTrue tests.edge ↔ EdgesHoldFrom cost d rows i
+
+-- What two tests both say.
+pub record AreBoth (one other both : RowTests) : Type 0 where
+  pub last_class : IsTrue both.last_class ↔ (IsTrue one.last_class × IsTrue other.last_class)
+  pub stage_drop : IsTrue both.stage_drop ↔ (IsTrue one.stage_drop × IsTrue other.stage_drop)
+  pub edge : IsTrue both.edge ↔ (IsTrue one.edge × IsTrue other.edge)

@@ -1,9 +1,10 @@
 //! The conditions on the rows of a certificate over any source of costs.
 ghost use Rattle.std.specs.Prelude.{◌≡◌, ◌≢◌, ◌↔◌, ℕ, ◌+◌, ◌-◌, ◌^◌, ◌<◌, ◌≤◌, [], length, slice_index, slice_index_or};
 ghost use Rattle.std.specs.Prelude.{IfOk, IsTrue, OnErr, OnOk};
-ghost use Rattle.potential_check.specs.Footprints.Bounds.{AreBounds, AreRowBounds, IsSlack};
+ghost use Rattle.potential_check.specs.Footprints.Bounds.{AreBounds, AreRowBounds, IsFresh, IsSlack};
 ghost use Rattle.potential_check.specs.Footprints.CallCounts.{span_count};
-ghost use Rattle.potential_check.specs.Footprints.RowConditions.{AreRowTests, DropsHoldAt, EdgeHoldsAt, EdgesHoldAt, WithinEdges};
+ghost use Rattle.potential_check.specs.Footprints.RowConditions.{AreBoth, AreRowTests, AreTestsAt};
+ghost use Rattle.potential_check.specs.Footprints.RowConditions.{DropsHoldAt, EdgeHoldsAt, EdgesHoldAt, WithinEdges};
 ghost use Rattle.tuner_theory.specs.Lists.{lists_of};
 ghost use Rattle.tuner_theory.specs.Rows.{HasShape, number_at};
 
@@ -32,31 +33,123 @@ pub fn test_rows<C: SpanCosts>(
     ensures not_asked { OnErr result (costs.new ≡ costs.old) }
 {
     let places = costs.places();
+    let mut held = take_buffers(alloc, rows.len(), places)?;
+    Ok(tests_of(
+        costs,
+        rows,
+        &mut held.from,
+        &mut held.older,
+        &mut held.slack,
+        &mut held.bounds,
+        places,
+    ))
+}
+
+// what the tests need of memory
+#[derive(Drop)]
+struct Buffers {
+    // the costs from a place
+    from: Vec<u64>,
+    // those from the next place
+    older: Vec<u64>,
+    // the slack of each block
+    slack: Vec<u64>,
+    // for each row the bound of each block
+    bounds: Vec<Vec<u64>>,
+}
+
+// the memory for so many rows over so many places
+fn take_buffers(alloc: Global, limit: usize, places: usize) -> Result<Buffers, AllocError>
+    requires few { places ≤ MOST_NEEDS }
+    ensures { IfOk result
+        (λ h. IsFresh limit places h.from.items h.older.items h.slack.items (lists_of h.bounds.items)) }
+{
+    let blocks = places / BLOCK + 1;
+    let bounds = no_bounds(alloc, limit, blocks)?;
+    let slack = vec![in alloc; WHOLE_SLACK; blocks]?;
+    let from = vec![in alloc; 0u64; places + 1]?;
+    let older = vec![in alloc; 0u64; places + 1]?;
+    Ok(Buffers {
+        from,
+        older,
+        slack,
+        bounds,
+    })
+}
+
+// the tests in this memory
+fn tests_of<C: SpanCosts>(
+    costs: &mut C,
+    rows: &Rows,
+    from: &mut Vec<u64>,
+    older: &mut Vec<u64>,
+    slack: &mut [u64],
+    bounds: &mut [Vec<u64>],
+    places: usize,
+) -> RowTests
+    requires are_places { places ≡ C.place_count costs.old }
+    requires few_places { places ≤ MOST_NEEDS }
+    requires shape { HasShape rows.now (length rows.now) places }
+    requires few { length rows.now ≤ 2 ^ 16 }
+    requires room { C.call_count costs.old < 2 ^ 62 }
+    requires fresh { IsFresh (length rows.now) places from.old.items older.old.items slack.old (lists_of bounds.old) }
+    ensures tests { AreRowTests (C.cost costs.old) places rows.now result }
+    ensures counted { costs.new ≡ C.after_calls costs.old (span_count places) }
+{
     let mut tests = RowTests {
         last_class: true,
         stage_drop: true,
         edge: true,
     };
-    let blocks = places / BLOCK + 1;
-    let mut bounds = no_bounds(alloc, rows.len(), blocks)?;
-    let mut slack = vec![in alloc; WHOLE_SLACK; blocks]?;
-    let mut from = vec![in alloc; 0u64; places + 1]?;
-    // the costs from the next place
-    let mut older = vec![in alloc; 0u64; places + 1]?;
     for i in (0..places).rev() {
-        swap(&mut from, &mut older);
-        costs.write_from(i, &mut from);
-        lower_slack(&older, &from, &mut slack, i, places);
-        let last_class = rows.number(1, i) <= from[places];
-        let stage_drop = drops_hold_at(rows, i);
-        let edge = edges_hold_at(&from, rows, &slack, &mut bounds, i, places);
-        tests = RowTests {
-            last_class: both(tests.last_class, last_class),
-            stage_drop: both(tests.stage_drop, stage_drop),
-            edge: both(tests.edge, edge),
-        };
+        swap(from, older);
+        costs.write_from(i, from);
+        lower_slack(older, from, slack, i, places);
+        tests = both_tests(&tests, &tests_at(from, rows, slack, bounds, i, places));
     }
-    Ok(tests)
+    tests
+}
+
+// the tests at place i, by the costs from there
+fn tests_at(
+    costs: &[u64],
+    rows: &Rows,
+    slack: &[u64],
+    bounds: &mut [Vec<u64>],
+    i: usize,
+    places: usize,
+) -> RowTests
+    requires few { length rows.now ≤ 2 ^ 16 }
+    requires few_places { places ≤ 2 ^ 16 }
+    requires shape { HasShape rows.now (length rows.now) places }
+    requires size { length costs.now ≡ places + 1 }
+    requires place { i < places }
+    requires slack { IsSlack places slack.now }
+    requires bounds { let limit = length rows.now in
+        AreRowBounds costs.now slack.now i places limit (number_at rows.now) (lists_of bounds.old) }
+    ensures tests { AreTestsAt costs.now places rows.now i result }
+    ensures bounds { let limit = length rows.now in
+        AreRowBounds costs.now slack.now i places limit (number_at rows.now) (lists_of bounds.new) }
+{
+    let last_class = rows.number(1, i) <= costs[places];
+    let stage_drop = drops_hold_at(rows, i);
+    let edge = edges_hold_at(costs, rows, slack, bounds, i, places);
+    RowTests {
+        last_class,
+        stage_drop,
+        edge,
+    }
+}
+
+// which conditions both meet
+fn both_tests(one: &RowTests, other: &RowTests) -> RowTests
+    ensures { AreBoth one.now other.now result }
+{
+    RowTests {
+        last_class: both(one.last_class, other.last_class),
+        stage_drop: both(one.stage_drop, other.stage_drop),
+        edge: both(one.edge, other.edge),
+    }
 }
 
 // whether both hold
