@@ -1,4 +1,4 @@
-use Rattle.std.proofs.Common.{◌≡◌, ◌≢◌, ℕ, ◌-◌, ◌≤◌, [], length, List, slice_index, slice_index_or, arith, ap, ◌∙◌, sym}
+use Rattle.std.proofs.Common.{◌≡◌, ◌≢◌, ℕ, ◌-◌, ◌<◌, ◌≤◌, [], length, List, slice_index, slice_index_or, arith, ap, ◌∙◌, sym}
 use Rattle.std.proofs.lemmas.Bool.{both_ways, false≢true}
 use Rattle.std.proofs.lemmas.Option.{get_or_from_slice_get}
 use Rattle.tuner_theory.proofs.Lists.{lists-length}
@@ -23,6 +23,27 @@ raised costs slack rows d limit i k row old new read size same others its are =
     row_bounds-set costs slack i d limit (number_at rows) old new k same others
     (bounds-same costs slack i d (slice_index row) (number_at rows k) (slice_index_or new k [])
     (λ j past. ap (λ (r : List ℕ). slice_index r j) read) (rw size at its)) are
+
+below : (k n : ℕ) → k < n → k ≤ n
+below k n lt = omega arith
+
+pub edge_holds_in-requires : goal.edge_holds_in-requires
+edge_holds_in-requires c =
+    let rows = c.args.rows.now in
+    let k = c.loop-k.k in
+    let within = rw c.len-k-end.ensures at c.loop-k-test.true in
+    let read = sym (get_or_from_slice_get rows (k - 1) c.row.result.now [] c.row.ensures) in
+    let size = row-length rows (length rows) c.args.places k c.row.result.now c.requires.shape (below k (length rows) within) c.loop-k.auto.k read in
+    rw size (record {
+      row = rw (← lists-length c.loop-k.bounds, c.loop-k.invariant.bounds.size) within;
+      size = c.requires.size;
+      place = c.requires.place;
+      short = c.requires.few_places;
+      slack = c.requires.slack;
+      bounds = bounds-same c.args.costs.now c.args.slack.now c.args.i c.args.places (number_at rows k) (slice_index c.row.result.now)
+          (slice_index_or (lists_of c.loop-k.bounds) k []) (λ j past. sym (ap (λ (row : List ℕ). slice_index row j) read))
+          (c.loop-k.invariant.bounds.each k c.loop-k.auto.k within);
+    })
 
 pub returns-then-not-edge_holds_in-clause-edges : goal.returns-then-not-edge_holds_in-clause-edges
 returns-then-not-edge_holds_in-clause-edges c =
