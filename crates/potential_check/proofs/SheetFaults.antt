@@ -68,13 +68,23 @@ module _ (cost : Cost) where
   rows_read (line ∷ ls) number zero finish = refl
   rows_read (line ∷ ls) number (suc most) finish = grind (arith, rows_read ls (number + 1) most)
 
+  -- one line of the head
+  line_read : {A B : Type 0} (read : Option A) (at : A → Place) (number : ℕ) (ls : List (List ℕ)) (after : Place → Reading)
+      (head : A × List (List ℕ) → Result B ℕ) (rows : B → Result Sheet ℕ) → ((x : A) → after (at x) ≡ numbered (head (x, ls) >>= rows))
+      → (ok_or (option_map at read) (number, tt) >>= after)
+      ≡ numbered ((ok_or (option_map (λ (x : A). (x, ls)) read) number >>= head) >>= rows)
+  line_read None at number ls after head rows same = refl
+  line_read (Some x) at number ls after head rows same = same x
+
   all_read : (ls : List (List ℕ)) → read_from cost 1 Table ls ≡ numbered (read_by cost ls)
   unfolding read_from read_by head_of_lines rows_from
-  all_read [] = grind arith
-  all_read (a ∷ []) = grind arith
-  all_read (a ∷ b ∷ []) = grind arith
-  all_read (a ∷ b ∷ c ∷ []) = grind (arith, rows_read)
-  all_read (a ∷ b ∷ c ∷ d ∷ ls) = grind (arith, rows_read, cost_number-written)
+  all_read [] = refl
+  all_read (a ∷ []) = line_read (table_in a) Limit 1 [] _ _ _ (λ table. refl)
+  all_read (a ∷ b ∷ []) =
+      line_read (table_in a) Limit 1 (b ∷ []) _ _ _ (λ table. line_read (limit_in b) (Step table) 2 [] _ _ _ (λ limit. refl))
+  all_read (a ∷ b ∷ c ∷ ls) =
+      line_read (table_in a) Limit 1 (b ∷ c ∷ ls) _ _ _
+      (λ table. line_read (limit_in b) (Step table) 2 (c ∷ ls) _ _ _ (λ limit. grind (arith, rows_read, cost_number-written)))
 
   -- ---- line by line
 
