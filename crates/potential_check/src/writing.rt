@@ -64,7 +64,8 @@ fn append_sheet<C: CostKind>(text: &mut Vec<u8>, sheet: &Certificate<C>) -> Resu
 
 // the lines before the rows
 fn append_head<C>(cost: Cost, text: &mut Vec<u8>, sheet: &Certificate<C>) -> Result<(), AllocError>
-    ensures written { OnOk result (text.new.items ≡ text.old.items ++ text_of (head_lines cost (sheet_of sheet.now))) }
+    ensures written { OnOk result
+        (text.new.items ≡ text.old.items ++ text_of (head_lines cost (sheet_of sheet.now))) }
     ensures kept { IsPrefix text.old.items text.new.items }
 {
     append_table(text, &sheet.table)?;
