@@ -1,4 +1,5 @@
 use Rattle.std.proofs.Common.{◌≡◌, length, ap, ◌∙◌, arith, sym}
+use Rattle.std.proofs.lemmas.List.{with_items_is}
 use Rattle.profile_count.proofs.LawLemmas.{length-zeros}
 use Rattle.tuner_theory.specs.Lists.{lists_of}
 use Rattle.tuner_theory.proofs.Lists.{lists-length}
@@ -14,6 +15,14 @@ loop-size-init c =
       taken = taken-none (lists_of c.args.snapshots.now) c.in_ok-lines.lines.sizes.items (lists_of c.in_ok-lines.lines.columns.items)
           c.in_ok-lines.lines.peaks (rw width c.in_ok-lines.ensures.holds) c.in_ok-lines.ensures.none
           (rw width c.in_ok-lines.ensures.snapshots);
+    }
+
+pub loop-size-preserved : goal.loop-size-preserved
+loop-size-preserved c =
+    let counts = with_items_is c.loop-size.counts c.take_size.new.counts (c.take_size.auto.counts ∙ c.deref_mut.ensures.len) in
+    record {
+      places = ap length counts ∙ (c.take_size.auto.counts ∙ (ap length c.deref_mut.ensures.value ∙ c.loop-size.invariant.places));
+      taken = c.in_ok-take_size.ensures;
     }
 
 pub new-requires-2-clause-large : goal.new-requires-2-clause-large

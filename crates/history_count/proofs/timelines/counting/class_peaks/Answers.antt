@@ -1,4 +1,5 @@
-use Rattle.std.proofs.Common.{◌≡◌, arith, length, subst, ℕ}
+use Rattle.std.proofs.Common.{◌≡◌, ◌∙◌, arith, length, subst, ℕ}
+use Rattle.std.proofs.lemmas.List.{with_items_is}
 use Rattle.history_count.specs.Timelines.LiveBlocks.{AreLive}
 use Rattle.history_count.proofs.TimelineLemmas.Steps.{all_counted, all_first, all_small, nothing_live}
 use Rattle.history_count.proofs.timelines.counting.class_peaks.Goals as goal
@@ -8,6 +9,13 @@ loop-k-init c = record {
   live = rw (c.in_ok-live.ensures, c.in_ok-most.ensures, c.in_ok-firsts.ensures, c.len.ensures.len, c.len-2.ensures.len, c.len-3.ensures.len)
       (nothing_live c.args.events.now c.args.table.now);
 }
+
+pub loop-k-preserved : goal.loop-k-preserved
+loop-k-preserved c =
+    let live = with_items_is c.loop-k.live c.count_event.new.live (c.count_event.auto.live ∙ c.deref_mut.ensures.len) in
+    let most = with_items_is c.loop-k.most c.count_event.new.most (c.count_event.auto.most ∙ c.deref_mut-in-loop-k.ensures.len) in
+    let firsts = with_items_is c.loop-k.firsts c.count_event.new.firsts (c.count_event.auto.firsts ∙ c.deref_mut-in-loop-k-2.ensures.len) in
+    record { live = rw (live, most, firsts) (rw c.new-layout.ensures at c.count_event.ensures) }
 
 pub returns-clause-most : goal.returns-clause-most
 returns-clause-most c =
