@@ -13,7 +13,7 @@ cd /root
 ! command -v rt
 mte_tool --version
 ln -s /usr/share/mte-tool/examples .
-mte_tool run --limit 8 --granules 262144 < examples/sqlite.trace | tail -n 9
+mte_tool run --limit 8 --granules 262144 < examples/sqlite.trace | sed -n '/^events/,$p'
 mte_tune_program --output redis redis-server --port 6399 --save '' --daemonize no &
 for turn in $(seq 600); do redis-cli -p 6399 ping >/dev/null 2>&1 && break; sleep 0.1; done
 redis-benchmark -p 6399 -q -n 20000 -t set,lpush,hset -r 10000 -d 100 | tail -n 3
