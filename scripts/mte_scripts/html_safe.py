@@ -1,5 +1,5 @@
 """What makes a page in HTML keep to itself: data that ends no element, and a policy by which the browser runs only the page's own scripts and
-styles, and lets nothing out."""
+styles, and lets nothing out. And what pages without a script share."""
 
 import base64
 import hashlib
@@ -10,6 +10,19 @@ HEAD = '<meta charset="utf-8">\n'
 INLINE = re.compile(r"<(script|style)>(.*?)</\1>", re.DOTALL)
 # none of these may stand in a script: they end it, or begin what hides its end
 ENDS = re.compile(r"<!--|<script|</script", re.IGNORECASE)
+
+STYLE = """
+:root { color-scheme: light dark; --back: #ffffff; --text: #1f2328; --soft: #59636e; --line: #d1d9e0; --shade: #f6f8fa }
+@media (prefers-color-scheme: dark) { :root { --back: #0d1117; --text: #e6edf3; --soft: #9198a1; --line: #3d444d; --shade: #151b23 } }
+* { box-sizing: border-box }
+body { margin: 0 auto; padding: 1.5rem 1rem 3rem; background: var(--back); color: var(--text); overflow-wrap: anywhere;
+  font: 16px/1.5 system-ui, -apple-system, "Segoe UI", "Noto Sans", "DejaVu Sans", sans-serif }
+h1 { font-size: 1.5rem; line-height: 1.25; margin: 0 0 .5rem }
+h2 { font-size: 1.15rem; margin: 2.25rem 0 .5rem; padding-top: .75rem; border-top: 1px solid var(--line) }
+p { margin: .5rem 0 }
+pre { background: var(--shade); border: 1px solid var(--line); border-radius: 6px; padding: .75rem }
+pre, code { font-family: ui-monospace, "DejaVu Sans Mono", monospace; font-size: .875rem }
+"""
 
 
 def shown(text: object) -> str:
@@ -59,3 +72,18 @@ def with_policy(page: str, allowed: "dict[str, str] | None" = None) -> str:
     if not mark:
         raise ValueError(f"the page has no line {HEAD.strip()}")
     return f'{before}{mark}<meta http-equiv="Content-Security-Policy" content="{policy(page, allowed)}">\n{after}'
+
+
+def document(title: str, style: str, body: str) -> str:
+    """A page with its policy and STYLE, and with this style. What it is made of is escaped already."""
+    return with_policy(f"""<!DOCTYPE html>
+<html lang="en">
+<head>
+{HEAD}<meta name="viewport" content="width=device-width, initial-scale=1">
+<title>{title}</title>
+<style>{STYLE}{style}</style>
+</head>
+<body>
+{body}</body>
+</html>
+""")

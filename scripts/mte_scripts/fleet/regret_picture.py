@@ -14,10 +14,9 @@ def svg(title: str, points: list, limit: Optional[float], note: str) -> str:
     picture = Drawing(WIDTH, HEIGHT, BELOW + 18 * len(programs), title)
     top = 1.15 * max([limit or 0.0, *(percent for _, _, percent in points)], default=0.0) or 1.0
     picture.levels(top, 6, lambda value: f"{value:g}%")
-    width = picture.right - picture.left
 
     def across(day: str) -> float:
-        return picture.left + width * (days.index(day) + 0.5) / len(days)
+        return picture.x((days.index(day) + 0.5) / len(days))
 
     for at, day in enumerate(days):
         if at % -(-len(days) // MOST_DAYS) == 0:

@@ -7,23 +7,17 @@ from mte_scripts import html_safe
 from mte_scripts.gate import statements
 from mte_scripts.gate.statements import Definition, Example, Foreign, Key, Statement
 
-STYLE = """
-:root { color-scheme: light dark; --back: #ffffff; --text: #1f2328; --soft: #59636e; --line: #d1d9e0; --shade: #f6f8fa; --link: #0969da }
-@media (prefers-color-scheme: dark) {
-  :root { --back: #0d1117; --text: #e6edf3; --soft: #9198a1; --line: #3d444d; --shade: #151b23; --link: #4493f8 }
-}
-* { box-sizing: border-box }
-body { margin: 0 auto; padding: 1.5rem 1rem 3rem; max-width: 68rem; background: var(--back); color: var(--text); overflow-wrap: anywhere;
-  font: 16px/1.5 system-ui, -apple-system, "Segoe UI", "Noto Sans", "DejaVu Sans", sans-serif }
-h1 { font-size: 1.5rem; line-height: 1.25; margin: 0 0 .5rem }
-h2 { font-size: 1.15rem; margin: 2.25rem 0 .5rem; padding-top: .75rem; border-top: 1px solid var(--line) }
-p { margin: .5rem 0; max-width: 50rem }
+STYLE = """\
+:root { --link: #0969da }
+@media (prefers-color-scheme: dark) { :root { --link: #4493f8 } }
+body { max-width: 68rem }
+p { max-width: 50rem }
 a { color: var(--link); text-decoration: none }
 a:hover, a:focus { text-decoration: underline }
 .comment { color: var(--soft) }
 .soft { color: var(--soft); font-size: .875rem; font-weight: 400 }
-pre { background: var(--shade); border: 1px solid var(--line); border-radius: 6px; padding: .75rem; margin: .5rem 0; overflow-x: auto }
-pre, code { font-family: ui-monospace, "DejaVu Sans Mono", monospace; font-size: .8125rem }
+pre { margin: .5rem 0; overflow-x: auto }
+pre, code { font-size: .8125rem }
 details { margin: .75rem 0; border-left: 3px solid var(--line); padding-left: .75rem }
 details details { margin: .25rem 0; border-left: 0 }
 details:target { border-left-color: var(--link) }
@@ -106,16 +100,6 @@ def page(found: Statement) -> str:
     sections.append(("Types and constants of the source", "".join(folded(it, places) for it in found.items)))
     sections.append(("Words that the kit defines", kit_words(found)))
     body = "".join(f"<h2>{heading}</h2>\n{text}" for heading, text in sections if text)
-    return html_safe.with_policy(f"""<!DOCTYPE html>
-<html lang="en">
-<head>
-{html_safe.HEAD}<meta name="viewport" content="width=device-width, initial-scale=1">
-<title>{escape(title)}: the statement</title>
-<style>{STYLE}</style>
-</head>
-<body>
-<h1>{escape(title)}: what its contract says</h1>
+    return html_safe.document(f"{escape(title)}: the statement", STYLE, f"""<h1>{escape(title)}: what its contract says</h1>
 <p>{escape(lead)}</p>
-{names(found, places) if found.definitions else ""}{body}</body>
-</html>
-""")
+{names(found, places) if found.definitions else ""}{body}""")

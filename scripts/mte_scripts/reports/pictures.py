@@ -39,6 +39,10 @@ class Picture:
     def text(self, x: float, y: float, words: object, anchor: str = "start") -> None:
         self.parts.append(f'<text x="{shown(x)}" y="{shown(y)}" text-anchor="{anchor}">{escape(words)}</text>')
 
+    def x(self, share: float) -> float:
+        """The place after this share of the width."""
+        return self.left + (self.right - self.left) * share
+
     def y(self, value: float, top: float) -> float:
         return self.bottom - (self.bottom - self.top) * value / top
 

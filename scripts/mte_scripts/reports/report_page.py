@@ -4,22 +4,17 @@ import math
 from collections.abc import Iterable
 
 from mte_scripts import claims, html_safe, texts
+from mte_scripts.claims import numbered
 from mte_scripts.reports.pictures import Picture, escape, shown
-from mte_scripts.tables.figures import GRANULE, Figures, Table, byte_text, class_text, kibibytes, number, numbered, percent
+from mte_scripts.tables.figures import GRANULE, Figures, Table, byte_text, class_text, kibibytes, number, percent
 
-STYLE = """
-:root { color-scheme: light dark; --back: #ffffff; --text: #1f2328; --soft: #59636e; --line: #d1d9e0; --shade: #f6f8fa;
-  --c0: #0969da; --c1: #bc4c00; --c2: #1a7f37; --c3: #8250df; --c4: #cf222e; --c5: #9a6700 }
+STYLE = """\
+:root { --c0: #0969da; --c1: #bc4c00; --c2: #1a7f37; --c3: #8250df; --c4: #cf222e; --c5: #9a6700 }
 @media (prefers-color-scheme: dark) {
-  :root { --back: #0d1117; --text: #e6edf3; --soft: #9198a1; --line: #3d444d; --shade: #151b23;
-    --c0: #4493f8; --c1: #f0883e; --c2: #3fb950; --c3: #ab7df8; --c4: #f85149; --c5: #d29922 }
+  :root { --c0: #4493f8; --c1: #f0883e; --c2: #3fb950; --c3: #ab7df8; --c4: #f85149; --c5: #d29922 }
 }
-* { box-sizing: border-box }
-body { margin: 0 auto; padding: 1.5rem 1rem 3rem; max-width: 58rem; background: var(--back); color: var(--text); overflow-wrap: anywhere;
-  font: 16px/1.5 system-ui, -apple-system, "Segoe UI", "Noto Sans", "DejaVu Sans", sans-serif }
-h1 { font-size: 1.5rem; line-height: 1.25; margin: 0 0 .5rem }
-h2 { font-size: 1.15rem; margin: 2.25rem 0 .5rem; padding-top: .75rem; border-top: 1px solid var(--line) }
-p { margin: .5rem 0; max-width: 46rem }
+body { max-width: 58rem }
+p { max-width: 46rem }
 .lead { font-size: 1.125rem }
 .soft, figcaption { color: var(--soft); font-size: .875rem }
 .warning { border-left: 4px solid var(--c5); padding: .25rem .75rem; background: var(--shade) }
@@ -38,8 +33,7 @@ tbody th { font-weight: 400; white-space: nowrap }
 .tuned > * { font-weight: 600 }
 .empty > * { color: var(--soft) }
 .share { display: inline-block; min-width: 4.25em; color: var(--soft); font-weight: 400 }
-pre { background: var(--shade); border: 1px solid var(--line); border-radius: 6px; padding: .75rem; white-space: pre-wrap }
-pre, code { font-family: ui-monospace, "DejaVu Sans Mono", monospace; font-size: .875rem }
+pre { white-space: pre-wrap }
 details { margin: .5rem 0 }
 figure { margin: .75rem 0 }
 svg { display: block; width: 100%; height: auto }
@@ -82,16 +76,7 @@ def page(figures: Figures, name: str, counted: str, warnings: list[str], checks:
     caption = claims.curve_caption(judged.kind, judged.step, judged.given, judged.forced)
     where = "" if texts.IS_PACKAGED else " at the top of the repository of <code>mte_tool</code>"
     over_time = " The footprint is the most memory of the classes over time." if figures.timed else ""
-    return html_safe.with_policy(f"""<!DOCTYPE html>
-<html lang="en">
-<head>
-<meta charset="utf-8">
-<meta name="viewport" content="width=device-width, initial-scale=1">
-<title>Size classes for {escape(name)}</title>
-<style>{STYLE}</style>
-</head>
-<body>
-<h1>Size classes for {escape(name)}</h1>
+    return html_safe.document(f"Size classes for {escape(name)}", STYLE, f"""<h1>Size classes for {escape(name)}</h1>
 <p class="lead">{escape(lead(figures))}</p>
 <p id="proof" data-verdict="{escape(judged.verdict)}" data-proved="{proved}">{with_code(known[0])}</p>
 {lines(f'<p id="proof-other">{with_code(words)}</p>' for words in known[1:])}
@@ -134,9 +119,7 @@ serves.</figcaption></figure>
 <pre id="class-line">{class_text(first.classes)}</pre>
 <p>Its certificate is checked by this{where}:</p>
 <pre id="check">{escape(checks[0])}</pre>
-{lines(other_section(*each) for each in zip(figures.made()[1:], checks[1:]))}</body>
-</html>
-""")
+{lines(other_section(*each) for each in zip(figures.made()[1:], checks[1:]))}""")
 
 
 def lead(figures: Figures) -> str:
@@ -278,21 +261,28 @@ def cost_text(figures: Figures, table: Table) -> str:
     return share(figures, table) if figures.objective == "waste" else kibibytes(table.footprint)
 
 
+def byte_levels(picture: Picture, top: float, most: int) -> None:
+    """The grid of round numbers of bytes, KiB and so on, up to so many bytes."""
+    unit = 1024 ** (int(math.log2(top)) // 10)
+    picture.levels(top / unit, most, lambda value: byte_text(value * unit) if value else "0")
+
+
 def curve(figures: Figures, kind: str, width: int, height: int) -> str:
     """The least cost by the number of classes, and each table as a point."""
     words, is_waste = claims.TEMPLATES, figures.objective == "waste"
     picture = Picture(kind, width, height, 46 if is_waste else 70, words[f"{figures.first_judged.kind}.curve.axis"])
     most = max([len(figures.least)] + [len(table.classes) for _, table in served(figures)])
     # as high as the worst table, or as 8 classes, and some more: tables of very few classes cost far more
-    highest = max([figures.least[:8][-1]] + [figures.cost(table) for _, table in served(figures)])
-    unit = figures.bytes / 100 if is_waste else 1024 ** (int(math.log2(max(highest, 1))) // 10)
-    top = 1.15 * highest / unit or 1
+    top = 1.15 * max([figures.least[:8][-1]] + [figures.cost(table) for _, table in served(figures)]) or figures.bytes / 100
 
     def at(classes: int, cost: int) -> tuple[float, float]:
         x = picture.left + 8 + (picture.right - picture.left - 8) * (classes - 1) / max(most - 1, 1)
-        return x, picture.y(cost / unit, top)
+        return x, picture.y(cost, top)
 
-    picture.levels(top, 5, lambda value: f"{value:g}%" if is_waste else byte_text(value * unit) if value else "0")
+    if is_waste:
+        picture.levels(100 * top / figures.bytes, 5, lambda value: f"{value:g}%")
+    else:
+        byte_levels(picture, top, 5)
     for classes in (1, *range(4, most + 1, 4)):
         picture.tick(at(classes, 0)[0], classes)
     picture.text(picture.middle, height - 6, "classes in the table", "middle")
@@ -352,25 +342,24 @@ def live_blocks(figures: Figures, layers: list, kind: str, width: int, height: i
     """The bytes of the live blocks over the run, the layers one upon the other, and the footprint."""
     picture = Picture(kind, width, height, 46, "bytes of live blocks")
     footprint = figures.first.footprint
-    unit = 1024 ** (int(math.log2(footprint)) // 10)
-    top = 1.05 * footprint / unit
-    picture.levels(top, 5, lambda value: byte_text(value * unit) if value else "0")
+    top = 1.05 * footprint
+    byte_levels(picture, top, 5)
     columns = len(layers[0][2])
-    x = [shown(picture.left + (picture.right - picture.left) * at / columns) for at in range(columns + 1)]
+    x = [shown(picture.x(at / columns)) for at in range(columns + 1)]
     below = [0] * columns
     for words, form, values, most in layers:
         above = [one + other for one, other in zip(below, values)]
-        up = "".join(f"H{x[at]}V{shown(picture.y(value / unit, top))}" for at, value in enumerate(above))
-        down = "".join(f"H{x[at + 1]}V{shown(picture.y(below[at] / unit, top))}" for at in reversed(range(columns)))
+        up = "".join(f"H{x[at]}V{shown(picture.y(value, top))}" for at, value in enumerate(above))
+        down = "".join(f"H{x[at + 1]}V{shown(picture.y(below[at], top))}" for at in reversed(range(columns)))
         title = f"{words}: at most {numbered(most, 'byte')}"
-        begin = shown(picture.y(below[0] / unit, top))
+        begin = shown(picture.y(below[0], top))
         picture.parts.append(f'<path {form} d="M{x[0]} {begin}{up}H{x[-1]}{down}Z"><title>{title}</title></path>')
         below = above
-    y, title = shown(picture.y(footprint / unit, top)), f"footprint: {numbered(footprint, 'byte')}"
+    y, title = shown(picture.y(footprint, top)), f"footprint: {numbered(footprint, 'byte')}"
     picture.parts.append(f'<path class="level" d="M{picture.left} {y}H{picture.right}"><title>{title}</title></path>')
     of = "events of the run" if figures.timed.kind == "timeline" else "recorded moments"
     for share_ in (0, 25, 50, 75, 100):
-        picture.tick(picture.left + (picture.right - picture.left) * share_ / 100, f"{share_}%")
+        picture.tick(picture.x(share_ / 100), f"{share_}%")
     picture.text(picture.middle, height - 6, of, "middle")
     return picture.svg("The bytes of the live blocks over the run, by class")
 
@@ -394,21 +383,19 @@ def histogram(figures: Figures, kind: str, width: int, height: int, per_octave: 
     """The requested bytes by size, on a logarithmic scale. Under it are the class borders of the tuned table and of Scudo's default."""
     picture = Picture(kind, width, height, 90, "requested bytes")
     groups = bars(figures.counts, per_octave)
-    highest = max(total for *_, total in groups.values())
-    unit = 1024 ** (int(math.log2(highest)) // 10)
-    top = 1.05 * highest / unit
+    top = 1.05 * max(total for *_, total in groups.values())
 
     def x(size: int) -> float:
-        return picture.left + (picture.right - picture.left) * (math.log2(max(size, 2**FIRST_OCTAVE)) - FIRST_OCTAVE) / OCTAVES
+        return picture.x((math.log2(max(size, 2**FIRST_OCTAVE)) - FIRST_OCTAVE) / OCTAVES)
 
     def borders(table: Table, y: float, down: float, form: str) -> None:
         lines = "".join(f"M{shown(x(GRANULE * granules - GRANULE))} {y}V{down}" for granules in table.classes)
         picture.parts.append(f'<path d="{lines}" fill="none" {form}/>')
 
-    picture.levels(top, 4, lambda value: byte_text(value * unit) if value else "0")
+    byte_levels(picture, top, 4)
     wide = (picture.right - picture.left) / (OCTAVES * per_octave)
     for place, (least, most, requests, total) in sorted(groups.items()):
-        y = picture.y(total / unit, top)
+        y = picture.y(total, top)
         form = f'x="{shown(picture.left + place * wide)}" y="{shown(y)}" width="{shown(wide - 0.5)}" height="{shown(picture.bottom - y)}"'
         title = f"{number(least)} to {number(most)} bytes: {numbered(requests, 'request')}, {numbered(total, 'byte')} in all"
         picture.parts.append(f'<rect class="bars" {form}><title>{title}</title></rect>')

@@ -79,7 +79,7 @@ def picture(curves: list[Curve]) -> str:
     last = LIMIT + 1.2 + 0.25 * len(curves)
 
     def across(classes: float) -> float:
-        return drawing.left + (drawing.right - drawing.left) * (classes - 0.5) / (last - 0.5)
+        return drawing.x((classes - 0.5) / (last - 0.5))
 
     drawing.levels(top, 8, lambda share: f"{share:g}%")
     for classes in (1, *range(4, LIMIT + 1, 4)):

@@ -341,10 +341,6 @@ def number(value: int) -> str:
     return f"{value:,}"
 
 
-def numbered(value: int, noun: str) -> str:
-    return f"{value:,} {noun}{'' if value == 1 else 's'}"
-
-
 def percent(part: int, whole: int) -> str:
     return f"{100 * part / whole:.1f}%"
 

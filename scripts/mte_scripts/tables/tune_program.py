@@ -2,16 +2,17 @@
 
 import argparse
 import os
-import subprocess
-import textwrap
 from collections.abc import Callable, Iterator
+from typing import Any
 
 from mte_scripts import private_folder, texts
 from mte_scripts.builds import web_page
+from mte_scripts.claims import numbered
 from mte_scripts.recording import children, recording, timelines
 from mte_scripts.reports import report_page
-from mte_scripts.tables import figures, verification
-from mte_scripts.tables.figures import kibibytes, number, numbered, percent
+from mte_scripts.tables import draw_waste, figures, scudo_map, verification
+from mte_scripts.tables.figures import kibibytes, number, percent
+from mte_scripts.texts import printable, wrapped
 from mte_scripts.words import ProgramWords, between, named, one_of, some
 
 HELP = """\
@@ -90,17 +91,10 @@ class Options(argparse.Namespace):
     objective: str
 
     def __init__(self, words: list[str]) -> None:
-        parser = ProgramWords(HELP)
-        parser.add_argument("--limit", type=between(1, texts.MOST_CLASSES), default=32)
-        parser.add_argument("--step", type=one_of(1, 2, 4, 8), default=1)
-        parser.add_argument("--all", action="store_true")
-        parser.add_argument("--largest", action="store_true", default=True)
-        parser.add_argument("--no-largest", action="store_false", dest="largest")
-        parser.add_argument("--against", type=some, action="append", default=[])
-        parser.add_argument("--objective", type=named("footprint", "waste"))
-        for name in ("--only", "--output", "--read", "--verify"):
-            parser.add_argument(name, type=some)
-        parser.take(words, into=self)
+        kinds: dict[str, Any] = {"limit": between(1, texts.MOST_CLASSES), "step": one_of(1, 2, 4, 8), "objective": named("footprint", "waste")}
+        kinds |= {"largest": {"action": "store_true", "default": True}, "no_largest": {"action": "store_false", "dest": "largest"}}
+        kinds |= {"against": {"action": "append", "type": some, "default": []}}
+        ProgramWords(HELP, defaults={"limit": 32, "step": 1}, **kinds).take(words, into=self)
         self.agree()
 
     def agree(self) -> None:
@@ -151,14 +145,12 @@ class Folder:
         return os.path.isfile(self.file(name))
 
     def write(self, name: str, data: "str | bytes") -> None:
-        path = self.file(name)
         try:
-            with open(path, "wb") as file:
-                file.write(data if isinstance(data, bytes) else data.encode(errors="surrogateescape"))
-        except OSError as error:
+            texts.write_file(self.file(name), data)
+        except texts.Refused:
             if self.has(name):
-                os.remove(path)  # what is there of it is no use
-            raise texts.Refused(3, f"{path} can't be written: {error.strerror}") from None
+                os.remove(self.file(name))  # what is there of it is no use
+            raise
 
     def drop_empty(self) -> None:
         """Without a profile nothing is worth keeping: then the next run finds its folder free."""
@@ -169,20 +161,6 @@ class Folder:
             os.rmdir(self.path)
         except OSError:
             pass  # there is something in it
-
-
-def script(name: str, words: list[str], given: "bytes | None" = None) -> bytes:
-    """What a script beside this one prints. Where it fails, so does this one, by its reason."""
-    try:
-        command = [os.path.join(texts.SCRIPTS, name), *words]
-        done = subprocess.run(command, input=given or b"", stdout=subprocess.PIPE, stderr=subprocess.PIPE)
-    except OSError as error:
-        raise texts.Refused(3, f"scripts/{name} can't be run: {error.strerror}") from None
-    status = done.returncode
-    if status != 0:
-        reason = done.stderr.decode(errors="replace").strip().split("\n")[-1].removeprefix(f"{texts.called(name)}: ")
-        raise texts.Refused(2 if status == 2 else 3, reason or f"scripts/{name} ended with status {status}")
-    return done.stdout
 
 
 def count(options: Options, folder: Folder, given: "str | None") -> tuple[int, list[str], dict[str, int]]:
@@ -220,20 +198,26 @@ def taken(path: str) -> str:
 
 def read_given(options: Options) -> "dict[str, str | bytes]":
     """The files of the profile, of the history or of the timeline, that --read names."""
-    data = texts.read(options.read)
+    data, name = texts.read(options.read), texts.named(options.read)
+    if not data:
+        raise texts.Refused(3, f"{name} is empty: did the command that writes it fail?")
     if texts.is_timeline(data):
         options.agree_on(data)
-        figures.refuse_timeline(data, texts.named(options.read))
+        figures.refuse_timeline(data, name)
         peak = timelines.history_at(data, [timelines.most_of(data, int)[1]])
         profile = {size: counts[0] for size, counts in peak.counts.items()}
         return {"program.profile": figures.profile_text(profile), "program.timeline": data}
-    text = script("merge_profiles", ["--", options.read if os.path.isfile(options.read) else "-"], data)
-    if not texts.is_history(text):
+    files: "dict[str, str | bytes]" = {}
+    if texts.is_history(data):
+        history = texts.parse_history(data, name)
+        options.agree_on(history)
+        profile, files["program.history"] = figures.at_peak(history), texts.history_text(history)
+    else:
+        profile = texts.parse_profile(data, name)
         options.agree_on(None)
-        return {"program.profile": text}
-    history = texts.parse_history(text)
-    options.agree_on(history)
-    return {"program.profile": figures.profile_text(figures.at_peak(history)), "program.history": text}
+    if not any(profile.values()):
+        raise texts.Refused(3, figures.NOTHING)
+    return {"program.profile": texts.profile_text(profile), **files}
 
 
 def warnings(options: Options, found: figures.Figures, notes: list[str]) -> Iterator[str]:
@@ -293,7 +277,7 @@ def headline(options: Options, found: figures.Figures) -> str:
 
 def summary(options: Options, found: figures.Figures, folder: Folder, noted: list[str], measured: dict[str, int]) -> str:
     """The summary: it fits a terminal of 80 columns and 24 lines, unless there are many tables, warnings or a record over time."""
-    lines = [*wrapped(headline(options, found), "  "), ""]
+    lines = [*wrapped(headline(options, found), indent="  "), ""]
     if found.timed:
         lines += wrapped(recorded(found.timed))
     what = f"{numbered(found.requests, 'request')} of {numbered(found.bytes, 'byte')}"
@@ -312,7 +296,7 @@ def summary(options: Options, found: figures.Figures, folder: Folder, noted: lis
     for known in found.known():
         lines += wrapped(known)
     for text in noted:
-        lines += wrapped(f"! {text}", "  ")
+        lines += wrapped(f"! {text}", indent="  ")
     said = {"tuned_map.inc": f"map of {found.first.name}", "tuned.sheet": found.best.name, "fitted.fit": found.fitted.name} if found.fitted else {}
     files = [f"{name:17}{said.get(name, words)}" for name, words in FILES if name in ("summary.txt", "report.html") or folder.has(name)]
     half = (len(files) + 1) // 2
@@ -347,7 +331,7 @@ def over_time(found: figures.Figures, measured: dict[str, int]) -> list[str]:
         if table.footprint is None:
             most = 16 * table.classes[-1] - 16 if table.classes else -1
             above = figures.byte_text(found.most(lambda size: size if size > most else 0))
-            lines += wrapped(f"  {table.name} serves no size above {number(most)} bytes, of which at most {above} were live.", "  ")
+            lines += wrapped(f"  {table.name} serves no size above {number(most)} bytes, of which at most {above} were live.", indent="  ")
     return lines + wrapped(predicted(found)) + wrapped(larger_blocks(found))
 
 
@@ -374,15 +358,6 @@ def predicted(found: figures.Figures) -> str:
         f"{kibibytes(found.saved_in_scudo)} where it gives nothing back, in whole pages and with its lists of free blocks, and by "
         f"{kibibytes(at_once)} where it gives back each block as it is freed."
     )
-
-
-def wrapped(text: str, indent: str = "") -> list[str]:
-    return textwrap.wrap(text, WIDTH, subsequent_indent=indent, break_long_words=False, break_on_hyphens=False)
-
-
-def printable(line: str) -> str:
-    """Names from outside may have bytes that move the cursor: those are shown escaped."""
-    return "".join(c if c.isprintable() else c.encode("unicode_escape", "surrogatepass").decode() for c in line)
 
 
 def comparison(found: figures.Figures) -> list[str]:
@@ -457,12 +432,17 @@ def made(options: Options, folder: Folder, others: list, notes: list[str], measu
     timed = fitted(options, folder)
     given = "program.timeline" if timed and timed.kind == "timeline" else "program.history"
     found = figures.Figures(profile, sheet, others, timed, options.objective, "program.profile", given)
-    failed = []
     # none of these is needed for what follows
-    makes: list[tuple[str, Callable]] = [("tuned_map.inc", scudo_map), ("waste.svg", picture), *[("page.html", tables)] * has_tables()]
-    for name, make in makes:
+    makes: dict[str, Callable[[], str]] = {
+        "tuned_map.inc": lambda: scudo_map.as_default(found.first.classes),
+        "waste.svg": lambda: draw_waste.picture([draw_waste.Curve(folder.file("program.profile"), options.name())]),
+    }
+    if engines := web_page.at_hand():  # with nothing to prove or compile before it
+        makes["page.html"] = lambda: tables(options, folder, engines)
+    failed = []
+    for name, make in makes.items():
         try:
-            folder.write(name, make(options, folder))
+            folder.write(name, make())
         except texts.Refused as refused:
             failed.append(f"{name} is not made: {refused.text}")
     noted = [*warnings(options, found, notes), *failed]
@@ -499,7 +479,7 @@ def verify(options: Options, folder: Folder, found: figures.Figures, scudo: veri
     fell = done.peaks[default] - done.peaks[found.first.name]
     lines += wrapped(f"With the map it falls by {kibibytes(fell)}, {percent(fell, done.peaks[default])}, against {default}. {predicted(found)}")
     for name in done.strange:
-        lines += wrapped(f"! With {name} the program ended otherwise than with glibc at first.", "  ")
+        lines += wrapped(f"! With {name} the program ended otherwise than with glibc at first.", indent="  ")
     text = "".join(f"{printable(line)}\n" for line in lines)
     folder.write("summary.txt", texts.read(folder.file("summary.txt")) + text.encode())
     texts.write(text)
@@ -540,24 +520,12 @@ def check_fit_command(folder: Folder, timed: figures.OverTime) -> str:
     return f"sed '1s/$/\\n{texts.LARGEST_SIZE}/' {timeline} | cat {fit} - | {texts.as_called('scripts/mte_tool')} check-fit"
 
 
-def scudo_map(options: Options, folder: Folder) -> bytes:
-    return script("scudo_classes", [], texts.read(folder.file("fitted.fit" if options.objective == "footprint" else "tuned.sheet")))
-
-
-def has_tables() -> bool:
-    """Whether the page of scripts/page can be made with nothing to prove or compile before it."""
-    return bool(web_page.at_hand())
-
-
-def tables(options: Options, folder: Folder) -> str:
-    """That page, of the record over time where the map is of its table, of a timeline the moments of the fit; else of the profile."""
+def tables(options: Options, folder: Folder, engines: dict[str, bytes]) -> str:
+    """The page of scripts/page, of the record over time where the map is of its table, of a timeline the moments of the fit; else of the
+    profile."""
     name = "program.profile"
     if options.objective == "footprint":
         name = "moments.history" if folder.has("moments.history") else "program.history"
     given = options.name(), texts.read(folder.file(name)).decode()
     begin_with = {"limit": options.limit, "step": options.step, "largest": options.largest}
-    return web_page.page(web_page.at_hand(), profile=given, options=begin_with)
-
-
-def picture(options: Options, folder: Folder) -> bytes:
-    return script("draw_waste", ["--name", options.name(), "--", folder.file("program.profile")])
+    return web_page.page(engines, profile=given, options=begin_with)
