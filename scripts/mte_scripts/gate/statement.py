@@ -1,14 +1,4 @@
-"""Prints what a reader has to read to believe a promise. `statement --help` says all."""
-
-import argparse
-
-from mte_scripts import texts
-from mte_scripts.gate import statement_page, statements
-from mte_scripts.running import Refused
-from mte_scripts.words import Words
-
-HELP = """\
-Print a promise's contract, and each definition that it reaches, where it is cited first.
+"""Print a promise's contract, and each definition that it reaches, where it is cited first.
 
 Usage: statement [--html] NAME
        statement --count
@@ -33,6 +23,13 @@ Examples:
   scripts/statement --html run > run.html
 """
 
+import argparse
+
+from mte_scripts import texts
+from mte_scripts.gate import statement_page, statements
+from mte_scripts.running import Refused
+from mte_scripts.words import Words
+
 
 def table() -> str:
     """The counts of all topics."""
@@ -43,22 +40,19 @@ def table() -> str:
 
 def printed(options: argparse.Namespace) -> str:
     if options.count:
+        if options.html or options.names:
+            raise Refused(2, "--count takes no name; --help says what there is")
         return table()
+    if len(options.names) != 1:
+        raise Refused(2, "it wants one name, of a command or a promise; --help lists them")
+    if options.names[0] not in statements.TOPICS:
+        raise Refused(2, f"there is no command or promise {options.names[0]}; the names are {', '.join(statements.TOPICS)}")
     found = statements.statement(options.names[0])
     return statement_page.page(found) if options.html else statements.as_text(found)
 
 
 def statement(words: "list[str]") -> int:
-    parser = Words(HELP, "names")
-    options = parser.take(words)
-    if options.count and (options.html or options.names):
-        parser.error("--count takes no name")
-    if not options.count and len(options.names) != 1:
-        raise Refused(2, "it wants one name, of a command or a promise; --help lists them")
-    if not options.count and options.names[0] not in statements.TOPICS:
-        raise Refused(2, f"there is no command or promise {options.names[0]}; the names are {', '.join(statements.TOPICS)}")
     try:
-        text = printed(options)
+        return texts.write(printed(Words(__doc__, "names").take(words)))
     except statements.Unresolved as error:
         raise Refused(1, str(error)) from None
-    return texts.write(text.encode())

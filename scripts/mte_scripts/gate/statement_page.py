@@ -26,10 +26,6 @@ summary { cursor: pointer; font-weight: 600 }
 """
 
 
-def name_of(key: Key) -> str:
-    return f"{statements.short(key)}::{key.name}"
-
-
 def ids(found: Statement) -> "dict[Key, str]":
     """The place in the page of each definition. Numbers are plain in any browser."""
     return {key: f"d{at}" for at, key in enumerate(dict.fromkeys(it.key for it in found.definitions), 1)}
@@ -83,13 +79,6 @@ def names(found: Statement, places: "dict[Key, str]") -> str:
     return f'<details><summary>All names</summary>\n<ul class="names">\n{items}</ul>\n</details>\n'
 
 
-def kit_words(found: Statement) -> str:
-    crates = sorted({it.crate for it in found.foreign})
-    return "".join(
-        f"<p>{escape(crate)}: <code>{escape(' '.join(it.name for it in found.foreign if it.crate == crate))}</code></p>\n" for crate in crates
-    )
-
-
 def page(found: Statement) -> str:
     """The statement in HTML, with its policy."""
     places, examples = ids(found), statements.examples()
@@ -98,7 +87,8 @@ def page(found: Statement) -> str:
     sections = [("The contract" if len(found.contracts) == 1 else "The contracts", "".join(folded(it, places) for it in found.contracts))]
     sections.append(("The definitions", "".join(folded(it, places, examples.get(it.key)) for it in found.own)))
     sections.append(("Types and constants of the source", "".join(folded(it, places) for it in found.items)))
-    sections.append(("Words that the kit defines", kit_words(found)))
+    of_kit = (f"<p>{escape(crate)}: <code>{escape(words)}</code></p>\n" for crate, words in found.kit_words.items())
+    sections.append(("Words that the kit defines", "".join(of_kit)))
     body = "".join(f"<h2>{heading}</h2>\n{text}" for heading, text in sections if text)
     return html_safe.document(f"{escape(title)}: the statement", STYLE, f"""<h1>{escape(title)}: what its contract says</h1>
 <p>{escape(lead)}</p>

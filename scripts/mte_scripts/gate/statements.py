@@ -4,6 +4,7 @@ The definitions are those of crates/*/specs. A name that a module `declared` giv
 is printed. Names of std and of clap are the kit's: they are listed, and not printed. A name that is none of these is an error."""
 
 import functools
+import glob
 import itertools
 import os
 import re
@@ -44,7 +45,7 @@ IMPORT = re.compile(r"(?m)^(?:ghost |    ghost )?(?:pub )?use ((?:Rattle|base|de
 RUST_USE = re.compile(r"(?ms)^(?:pub )?use ([a-z_][\w:]*?)(?:::\{([^}]*)\}|::(\w+))?(?: as (\w+))?;")
 GHOST = re.compile(r"(?m)^[ \t]*(?:ghost|requires|ensures)\b[^{\n;]*\{")
 # the language's own words
-OWN = set("Type × → λ let in record where elim as do = | ↦ ← Unit tt absurd ⊥ _".split())
+OWN = set("Type × → λ let in record data where elim as do = | ↦ ← Unit tt absurd ⊥ _ pub abbrev unfoldable opaque".split())
 # constructors whose names begin as a variable's do
 PATTERN_WORDS = set("zero suc pos negsuc true false tt".split())
 # what Rust, and the kit's Rust, has without an import
@@ -157,16 +158,14 @@ def module(name: str) -> Module:
     block: list = []
     block_comment: list = []
     fixity: list = []
-    last = ""
-    for line in [*text.split("\n"), "abbrev "]:
-        begins = bool(BEGINS.match(line)) and not re.match(r"pub (use|mod) ", line)
+    for line in [*text.split("\n"), ""]:
+        begins = BEGINS.match(line) and not re.match(r"pub (use|mod) ", line)
         outside = line.startswith(("--", "use ", "pub use ", "pub mod ")) or not line.strip()
         if (begins or outside) and block:
             head = HEAD.match(next(it for it in block if BEGINS.match(it)))
-            last = head["name"]
-            found.blocks[last] = ("\n".join(block_comment), "\n".join(block))
-            if (head["kind"] or "").strip() == "data":
-                found.constructors.update({it: last for it in re.findall(r"(?m)^  (\S+) :", "\n".join(block))})
+            found.blocks[head["name"]] = ("\n".join(block_comment), "\n".join(block))
+            if head["kind"] == "data ":
+                found.constructors.update({it: head["name"] for it in re.findall(r"(?m)^  (\S+) :", "\n".join(block))})
             block = []
         if begins:
             block, block_comment, comment, fixity = [*fixity, line], comment, [], []
@@ -191,23 +190,19 @@ def source(file: str) -> Source:
 
 
 @functools.lru_cache(maxsize=None)
-def sources_of(crate: str) -> tuple:
-    found = []
-    for folder, below, names in os.walk(os.path.join(CRATES, crate, "src")):
-        below.sort()
-        found += [os.path.join(folder, name) for name in sorted(names) if name.endswith(".rt")]
-    return tuple(found)
+def sources_of(crate: str) -> list:
+    return sorted(glob.glob(os.path.join(CRATES, crate, "src", "**", "*.rt"), recursive=True))
 
 
 # ---- items of the source
 
 
-def item_at(text: str, name: str, kinds: str) -> "re.Match | None":
-    return re.search(rf"(?m)^(?P<indent> *)(?:pub(?:\([a-z]*\))? )?(?:unsafe )?(?:{kinds}) {re.escape(name)}\b", text)
+def item_at(text: str, name: str) -> "re.Match | None":
+    return re.search(rf"(?m)^( *)(?:pub(?:\([a-z]*\))? )?(?:unsafe )?(?:enum|struct|trait|type|const) {re.escape(name)}\b", text)
 
 
 def item_end(text: str, start: int) -> int:
-    """Where an item that is no function ends, or what begins with a brace: after its braces, or its semicolon."""
+    """Where an item ends, or what begins with a brace: after its braces, or its semicolon."""
     depth = 0
     for match in TOKEN.finditer(text, start):
         mark = match["mark"] or " "
@@ -235,24 +230,20 @@ def dedented(text: str, indent: str) -> str:
 
 
 @functools.lru_cache(maxsize=None)
-def item(crate: str, name: str, kinds: str, within: str = "") -> "tuple | None":
+def item(crate: str, name: str, within: str = "") -> "tuple | None":
     """An item of a crate: its file, comment and text. Of a type with a Model, what a clause sees of its values: its fields are the code's
     own."""
     files = sorted(sources_of(crate), key=lambda file: within not in file)
     for file in files:
         text = source(file).text
-        found = item_at(text, name, kinds)
-        if not found:
+        if not (found := item_at(text, name)):
             continue
-        if item_at(text[found.end() :], name, kinds):
+        if item_at(text[found.end() :], name):
             raise Unresolved(f"{os.path.relpath(file, ROOT)} has two items {name}")
-        indent = found["indent"]
-        is_function = bool(re.search(r"\bfn\b", found[0]))
-        end = signature_end(text, found.end(), indent) if is_function else item_end(text, found.start())
-        shown = dedented(text[found.start() : end].rstrip(), indent)
+        shown = dedented(text[found.start() : item_end(text, found.start())].rstrip(), found[1])
         model = re.search(rf"(?m)^impl(?:<[^\n]*>)? Model for {re.escape(name)}\b[^\n]*", text)
         block = text[model.start() : item_end(text, model.start())] if model else ""
-        if "    ghost Value" in block and not is_function:
+        if "    ghost Value" in block:
             start = block.index("    ghost Value")
             value = block[start : item_end(block, start)]
             shown = f"{shown.split('{')[0].rstrip()} {{ .. }}\n\n{model[0]}\n{value};\n    ..\n}}"
@@ -260,15 +251,11 @@ def item(crate: str, name: str, kinds: str, within: str = "") -> "tuple | None":
     return None
 
 
-KINDS = "enum|struct|trait|type|const"
-
-
 def source_key(crate: str, name: str, within: str = "", seen: tuple = ()) -> "Key | Foreign | None":
     """The item with this name of a crate, which may hand on that of another."""
     if not is_own_crate(crate):
         return Foreign(crate, name)
-    found = item(crate, name, KINDS, within)
-    if found:
+    if found := item(crate, name, within):
         return Key(found[0], name, True)
     for file in sources_of(crate):
         path = source(file).uses.get(name)
@@ -281,7 +268,7 @@ def declared(crate: str, name: str, folders: list) -> "Key | None":
     """The item of a crate that one of its modules, in these folders, declares."""
     path = os.path.join(CRATES, crate, "src", *(folders or ["lib"]))
     for file in (f"{path}.rt", os.path.join(path, "mod.rt")):
-        if file in sources_of(crate) and item_at(source(file).text, name, KINDS):
+        if file in sources_of(crate) and item_at(source(file).text, name):
             return Key(file, name, True)
     return None
 
@@ -302,8 +289,7 @@ def target(place: str, name: str) -> "Key | Foreign":
         at = next((at for at, part in enumerate(parts) if part.startswith("The")), None)
         wanted = name if at is None or parts[at] == "TheConstants" else parts[at - 1]
         folders = [part for part in parts if part[0].islower()]
-        found = declared(crate, wanted, folders)
-        if found:
+        if found := declared(crate, wanted, folders):
             return found
         raise Unresolved(f"{place}.{name} is declared in no source")
     try:
@@ -329,10 +315,10 @@ def operators(names: "Iterable[str]") -> dict:
 
 
 def known_in(imports: dict, blocks: "Iterable[str]", constructors: dict, place: str) -> dict:
-    """What each word means in a module or a source."""
-    known = {name: ("import", *found) for name, found in imports.items()}
-    known.update({name: ("here", place, name) for name in blocks})
-    known.update({name: ("here", place, data) for name, data in constructors.items()})
+    """What each word means in a module or a source: a Key, a Foreign, or where it is imported from."""
+    known = dict(imports)
+    known.update({name: Key(place, name) for name in blocks})
+    known.update({name: Key(place, data) for name, data in constructors.items()})
     known.update({part: known[name] for part, name in operators(known).items()})
     if ">>=" in known:
         known["do"] = known[">>="]
@@ -340,10 +326,8 @@ def known_in(imports: dict, blocks: "Iterable[str]", constructors: dict, place: 
 
 
 def meaning(known: dict, word: str) -> "Key | Foreign | None":
-    if word not in known:
-        return None
-    kind, place, name = known[word]
-    return target(place, name) if kind == "import" else Key(place, name)
+    found = known.get(word)
+    return target(*found) if isinstance(found, tuple) else found
 
 
 # ---- what a text cites
@@ -360,9 +344,6 @@ def bound_in(tokens: list, is_clause: bool, known: dict) -> set:
     names = [*re.findall(r" [({] ([^][(){},;:.]*)(?=: )", text), *re.findall(r" λ ([^(.]*)", text), *re.findall(r" let (\S+)", text)]
     names += re.findall(r" (\([^(]*\)|\S+) ← ", text)
     bound = {each for some in names for each in some.split()}
-    for at in [at for at, word in enumerate(words) if word == "↦"]:
-        begin = max((before for before in range(at) if words[before] in ("[", "|")), default=0)
-        bound.update(filter(is_variable, words[begin + 1 : at]))
     depth = 0
     for word in words if is_clause else ():
         depth += (word in "([{") - (word in ")]}")
@@ -378,8 +359,8 @@ def tokens_of(text: str, start: int = 0) -> list:
     return [(it[0], start + it.start(), start + it.end()) for it in TOKEN.finditer(text) if it["mark"] or it["word"]]
 
 
-def cited(text: str, start: int, known: dict, bound: set, is_clause: bool, own: str, where: str) -> list:
-    """The links of a text of antt; the text begins at START of its definition."""
+def cited(text: str, start: int, known: dict, bound: set, is_clause: bool, where: str) -> list:
+    """The links of a text of antt; the text begins at START of its definition. What is BOUND has none."""
     tokens, links = tokens_of(text, start), []
     bound = bound | bound_in(tokens, is_clause, known)
     for at, (word, begin, end) in enumerate(tokens):
@@ -387,12 +368,9 @@ def cited(text: str, start: int, known: dict, bound: set, is_clause: bool, own: 
         after = tokens[at + 1][0] if at + 1 < len(tokens) else ""
         is_field = before[0] == "." and before[2] == begin and at > 1 and tokens[at - 2][2] == before[1]
         is_label = after == "=" and before[0] in ("{", ";") or after == ":" and before[0] == "pub"
-        if word in "(){}[],;:." or (word in OWN and word not in known) or word == own or is_field or is_label or NUMBER.match(word) or word in bound:
+        if word in "(){}[],;:." or (word in OWN and word not in known) or is_field or is_label or NUMBER.match(word) or word in bound:
             continue
-        if word in ("pub", "abbrev", "unfoldable", "opaque", "data"):
-            continue
-        found = meaning(known, word)
-        if not found:
+        if not (found := meaning(known, word)):
             raise Unresolved(f"{where}: nothing says what {word} is")
         links.append((begin, end, found))
     return links
@@ -410,37 +388,32 @@ def spec_definition(key: Key) -> Definition:
     comment, text = there.blocks[key.name]
     known = known_in(there.imports, there.blocks, there.constructors, key.place)
     found = Definition(key, there.file, comment, text)
-    own = {key.name} | {name for name, data in there.constructors.items() if data == key.name}
-    known = {word: it for word, it in known.items() if word not in own or it[1:] != (key.place, key.name)}
-    inner = bound_operators(key.name) | own
+    inner = own_words(key.name) | {name for name, data in there.constructors.items() if data == key.name}
     for start, part, is_clause in chunks(text):
         if part.startswith(("unfolding ", "infix")):
             continue
-        found.links += cited(part, start, known, inner, is_clause, key.name, short(key))
+        found.links += cited(part, start, known, inner, is_clause, short(key))
         if text.startswith("pub record "):  # a record's parameters, and the fields before, are known in a field
             inner = inner | bound_in(tokens_of(part), False, known) | set(re.findall(r"^  pub (\S+) :", part))
     return found
 
 
-def bound_operators(name: str) -> set:
-    return set(filter(None, name.split("◌")))
-
-
-def ghost_parts(text: str) -> "list[tuple[int, int]]":
-    """Where the clauses of an item stand, and what else is ghost."""
-    return [(match.end() - 1, item_end(text, match.end() - 1)) for match in GHOST.finditer(text)]
+def own_words(name: str) -> set:
+    """The name of a definition, and the signs of one with holes."""
+    return {name, *filter(None, name.split("◌"))}
 
 
 def source_links(file: str, text: str, own: str) -> list:
     """The links of an item of the source: those of its clauses, and then those of its types."""
     there = source(file)
     known = known_in(there.imports, (), {}, "")
-    ghosts = ghost_parts(text)
+    # where its clauses stand, and what else is ghost
+    ghosts = [(match.end() - 1, item_end(text, match.end() - 1)) for match in GHOST.finditer(text)]
     plain = list(text)
     for start, end in ghosts:
         plain[start:end] = " " * (end - start)
     rust = "".join(plain)
-    names = {it[0] for it in re.finditer(r"\b[a-z_]\w*(?=\s*[:=])", rust)} | set(re.findall(r"(?m)^\s*ghost (\w+)", rust)) | {"self", "result"}
+    names = {"self", "result", *re.findall(r"\b[a-z_]\w*(?=\s*[:=])", rust), *re.findall(r"(?m)^\s*ghost (\w+)", rust)}
     generics = set(re.findall(r"[<,]\s*([A-Z]\w*)\s*(?=[:,>])", rust.split("(")[0])) | set(re.findall(r"(?m)^\s*type (\w+)", rust))
     variants = set(re.findall(r"(?m)^    ([A-Z]\w*)(?=[,({ ])", rust)) if re.search(r"\benum\b", rust) else set()
     types, links = [], []
@@ -450,30 +423,18 @@ def source_links(file: str, text: str, own: str) -> list:
         is_here = word in RUST_OWN | generics | variants | {own} and not re.search(r"\b[a-z_]\w*::$", before)
         if not word or not word[0].isupper() or is_here:
             continue
-        found = rust_meaning(there, word, before)
-        if not found:
+        if not (found := rust_meaning(there, word, before)):
             raise Unresolved(f"{os.path.relpath(file, ROOT)}, {own}: nothing says what {word} is")
         types.append((match.start(), match.end(), found))
     for start, end in ghosts:
         part = text[start:end]
         scope = dict(known)
         for word in set(re.findall(r"\b[A-Z]\w*", part)) - set(scope) - generics:
-            found = rust_meaning(there, word, "")
-            if found:
-                scope[word] = ("found", found, "")
-        bound = names | generics | (RUST_OWN - set(scope)) | bound_operators(own)
-        links += cited_in_clause(part, start, scope, bound, own, file)
+            if found := rust_meaning(there, word, ""):
+                scope[word] = found
+        bound = names | generics | (RUST_OWN - set(scope)) | own_words(own)
+        links += cited(part, start, scope, bound, False, f"{os.path.relpath(file, ROOT)}, {own}")
     return links + types
-
-
-def cited_in_clause(part: str, start: int, scope: dict, bound: set, own: str, file: str) -> list:
-    foreign = {word: it[1] for word, it in scope.items() if it[0] == "found"}
-    where = f"{os.path.relpath(file, ROOT)}, {own}"
-    links = cited(part, start, {word: it for word, it in scope.items() if word not in foreign}, bound | set(foreign), False, own, where)
-    for word, begin, end in tokens_of(part, start):
-        if word in foreign:
-            links.append((begin, end, foreign[word]))
-    return links
 
 
 def rust_meaning(there: Source, word: str, before: str) -> "Key | Foreign | None":
@@ -488,15 +449,12 @@ def rust_meaning(there: Source, word: str, before: str) -> "Key | Foreign | None
     return source_key(there.crate, word, there.file)
 
 
-def source_definition(key: Key) -> Definition:
-    crate = os.path.relpath(key.place, CRATES).split(os.sep)[0]
-    file, comment, text = item(crate, key.name, KINDS, key.place)
-    return Definition(key, file, comment, text, source_links(file, text, key.name))
-
-
 @functools.lru_cache(maxsize=None)
 def definition(key: Key) -> Definition:
-    return source_definition(key) if key.is_source else spec_definition(key)
+    if not key.is_source:
+        return spec_definition(key)
+    file, comment, text = item(source(key.place).crate, key.name, key.place)
+    return Definition(key, file, comment, text, source_links(file, text, key.name))
 
 
 # ---- worked examples
@@ -507,7 +465,6 @@ class Example:
     """A lemma that works a definition out: its comment and statement, with what its own file defines for it."""
 
     file: str
-    name: str
     text: str
 
 
@@ -515,21 +472,17 @@ class Example:
 def examples() -> dict:
     """An example of each definition that has one: the shortest statement that cites it."""
     found: dict = {}
-    for crate in sorted(os.listdir(CRATES)):
-        folder = os.path.join(CRATES, crate, "proofs")
-        names = sorted(os.listdir(folder)) if os.path.isdir(folder) else []
-        for name in names:
-            if re.search(r"Examples\.antt$", name):
-                for key, example in examples_in(os.path.join(folder, name)):
-                    if key not in found or len(example.text) < len(found[key].text):
-                        found[key] = example
+    for file in sorted(glob.glob(os.path.join(CRATES, "*", "proofs", "*Examples.antt"))):
+        for key, example in examples_in(file):
+            if key not in found or len(example.text) < len(found[key].text):
+                found[key] = example
     return found
 
 
 def examples_in(file: str) -> "list[tuple[Key, Example]]":
     text = read(file)
     imports = {name: it for name, it in imports_in(text).items() if is_own_crate(it[0].split(".")[1]) and ".specs." in it[0]}
-    local, lemmas = {}, {}
+    local, lemmas = {}, []
     for part in re.split(r"\n\n+", text):
         lines = part.rstrip().split("\n")
         first = next((at for at, line in enumerate(lines) if not line.startswith(("--", "use ", "pub use "))), None)
@@ -538,11 +491,11 @@ def examples_in(file: str) -> "list[tuple[Key, Example]]":
         name = HEAD.match(lines[first])["name"]
         after = next((at for at in range(first + 1, len(lines)) if not lines[at][0].isspace()), len(lines))
         if not BEGINS.match(lines[first]) and "≡" in "\n".join(lines[first:after]):
-            lemmas[name] = "\n".join(lines[:after])
+            lemmas.append("\n".join(lines[:after]))
         else:
             local[name] = "\n".join(line for line in lines if not line.startswith("unfolding "))
     pairs = []
-    for name, statement in lemmas.items():
+    for statement in lemmas:
         own: list = []
         words = [it[0] for it in tokens_of(statement)]
         left = [word for word in words if word in local]
@@ -551,7 +504,7 @@ def examples_in(file: str) -> "list[tuple[Key, Example]]":
             if text_of_it not in own:
                 own.insert(0, text_of_it)
                 left += [it[0] for it in tokens_of(text_of_it) if it[0] in local]
-        example = Example(file, name, "\n\n".join([*own, statement]))
+        example = Example(file, "\n\n".join([*own, statement]))
         for word in sorted(set(words) & set(imports)):
             key = target(*imports[word])
             if isinstance(key, Key) and not key.is_source and key.name == word:
@@ -565,21 +518,19 @@ def examples_in(file: str) -> "list[tuple[Key, Example]]":
 def function(crate: str, name: str) -> Definition:
     """The contract of a public function; NAME may have its file in front, `program.run`."""
     within, _, name = name.rpartition(".")
+    indent = "(?:    )?" if name.startswith("law_") else ""  # a law may be a method
     for file in sources_of(crate):
-        if within and not file.endswith(f"{os.sep}{within}.rt"):
+        text = source(file).text
+        found = re.search(rf"(?m)^({indent})pub fn {name}\b", text)
+        if not found or within and not file.endswith(f"{os.sep}{within}.rt"):
             continue
-        # a law may be a method
-        found = re.search(rf"(?m)^(?P<indent>{'(?:    )?' if name.startswith('law_') else ''})pub fn {name}\b", source(file).text)
-        if found:
-            text = source(file).text
-            end = signature_end(text, found.end(), found["indent"])
-            shown = dedented(text[found.start() : end].rstrip(), found["indent"])
-            links = source_links(file, shown, name)
-            if found["indent"]:
-                owner = re.findall(r"(?m)^impl (\w+) ", text[: found.start()])[-1]
-                at = shown.index("self")
-                links.append((at, at + len("self"), rust_meaning(source(file), owner, "")))
-            return Definition(Key(file, name, True), file, commented(text, found.start()), shown, links)
+        shown = dedented(text[found.start() : signature_end(text, found.end(), found[1])].rstrip(), found[1])
+        links = source_links(file, shown, name)
+        if found[1]:
+            owner = re.findall(r"(?m)^impl (\w+) ", text[: found.start()])[-1]
+            at = shown.index("self")
+            links.append((at, at + len("self"), rust_meaning(source(file), owner, "")))
+        return Definition(Key(file, name, True), file, commented(text, found.start()), shown, links)
     raise Unresolved(f"crate {crate} has no public function {name}")
 
 
@@ -605,6 +556,11 @@ class Statement:
     @property
     def items(self) -> list:
         return [it for it in self.definitions if it.key.is_source]
+
+    @property
+    def kit_words(self) -> dict:
+        """The words of the kit's crates, by crate."""
+        return {crate: " ".join(it.name for it in its) for crate, its in itertools.groupby(self.foreign, lambda it: it.crate)}
 
     @property
     def counts(self) -> tuple:
@@ -655,6 +611,5 @@ def as_text(found: Statement) -> str:
             place = each.file
             parts.append(f"==== {os.path.relpath(place, ROOT)}")
         parts.append((each.comment + "\n" if each.comment else "") + each.text)
-    for crate in sorted({it.crate for it in found.foreign}):
-        parts.append(f"==== words of {crate}, which the kit defines: {' '.join(it.name for it in found.foreign if it.crate == crate)}")
+    parts += [f"==== words of {crate}, which the kit defines: {words}" for crate, words in found.kit_words.items()]
     return "\n\n".join(parts) + "\n"
