@@ -1,21 +1,9 @@
-"""The manifest of the built program: a small text beside it, that says of which sources and by which kit it was proved and built.
-
-    program SHA-256 of the program
-    sources SHA-256 of the list of the sources' SHA-256s
-    kit what `rt version` prints
-    proofs proved, or unproved
-    verdict the line of `rt` with its verdict on the program's crate, where a log has it
-
-The list is what this prints, in the repository's folder:
+"""The manifest of the built program: a small text beside it, that says of which sources and by which kit it was proved and built. `manifest
+--help` has its lines. The list of sources whose SHA-256 it has is what this prints, in the repository's folder:
 
     find crates.txt crates/*/src crates/*/specs crates/*/proofs -type f | LC_ALL=C sort | xargs sha256sum
 
-scripts/mte_tool writes the manifest after a build, and compares the program with it each time; it calls this module by `step`:
-
-    step manifest sources FOLDER                 prints the hash of the sources of the repository in FOLDER
-    step manifest write FOLDER PROGRAM SOURCES [LOG]   writes the manifest of a program that was just proved and built of sources with the
-                                                       hash SOURCES; where they have another one now, it says so in place of that. The
-                                                       verdict is in LOG, which has what rt printed"""
+scripts/mte_tool writes the manifest after a build, by scripts/step, and compares the program with it each time."""
 
 import contextlib
 import hashlib
@@ -97,11 +85,6 @@ def put(built: str, before: str, verdict: str, root: str) -> bool:
     return sources == before
 
 
-def write(root: str, program: str, before: str, log: str = "") -> None:
-    if not put(program, before, verdict_in(log, os.path.basename(program)), root):
-        running.say("mte_tool", "the sources were changed while the program was built: nothing is proved of what it answers")
-
-
 def why_unproved(program: str, root: "str | None") -> str:
     """Why this program is not known to be proved, or an empty text. ROOT is the repository of its sources, where there is one."""
     manifest = read(program)
@@ -124,8 +107,11 @@ def main(words: list[str]) -> None:
         if words[:1] == ["sources"] and len(words) == 2:
             print(sources_of(words[1]))
         elif words[:1] == ["write"] and len(words) in (4, 5):
-            with open(words[4] if words[4:] else os.devnull, encoding="utf-8", errors="replace") as file:
-                write(words[1], words[2], words[3], file.read())
+            root, program, before, log = [*words[1:], os.devnull][:4]  # the log has what rt printed
+            with open(log, encoding="utf-8", errors="replace") as file:
+                verdict = verdict_in(file.read(), os.path.basename(program))
+            if not put(program, before, verdict, root):
+                running.say("mte_tool", "the sources were changed while the program was built: nothing is proved of what it answers")
         else:
             raise running.Refused(2, "it is `step manifest sources FOLDER`, or `step manifest write FOLDER PROGRAM SOURCES [LOG]`")
     except (OSError, subprocess.CalledProcessError) as error:

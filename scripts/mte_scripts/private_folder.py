@@ -23,6 +23,7 @@ from mte_scripts.running import Refused
 MOST_LINKS = 40
 LOOK = os.O_PATH | os.O_NOFOLLOW | os.O_CLOEXEC
 LIST = os.O_RDONLY | os.O_DIRECTORY | os.O_NOFOLLOW | os.O_CLOEXEC
+CREATE = os.O_WRONLY | os.O_CREAT | os.O_EXCL | os.O_NOFOLLOW | os.O_CLOEXEC
 
 
 class NotPrivate(Exception):
@@ -30,7 +31,6 @@ class NotPrivate(Exception):
 
     def __init__(self, path: str) -> None:
         super().__init__(f"others can change {path}")
-        self.path = path
 
 
 def is_owned(status: os.stat_result) -> bool:
@@ -60,10 +60,6 @@ class Place:
     def file(self, name: str) -> str:
         return os.path.join(self.path, name)
 
-    def is_closed(self) -> bool:
-        """Whether others can't put files into it either."""
-        return not is_written_by_others(os.fstat(self.descriptor))
-
     def has(self, name: str) -> bool:
         """Whether it has a file of this name that nobody else can change; the folder itself is closed."""
         try:
@@ -84,22 +80,20 @@ class Place:
 
     def fill(self, folder: str) -> None:
         """Copies the files of another folder into it. None may have a name that is taken."""
-        def new(name: str, flags: int) -> int:
-            return os.open(name, flags | os.O_NOFOLLOW | os.O_CLOEXEC, 0o644, dir_fd=self.descriptor)
-
         for name in os.listdir(folder):
-            with open(os.path.join(folder, name), "rb") as source, open(name, "xb", opener=new) as copy:
+            new = os.open(name, CREATE, 0o644, dir_fd=self.descriptor)
+            with open(new, "wb") as copy, open(os.path.join(folder, name), "rb") as source:
                 while piece := source.read(1 << 20):
                     copy.write(piece)
 
     @contextlib.contextmanager
-    def new_file(self, name: str, mode: int = 0o755) -> "Iterator[str]":
+    def new_file(self, name: str) -> "Iterator[str]":
         """The path of a new and empty file. It takes the name at the end, or is removed after an exception."""
         new = f"new.{os.urandom(8).hex()}"
-        os.close(os.open(new, os.O_WRONLY | os.O_CREAT | os.O_EXCL | os.O_NOFOLLOW | os.O_CLOEXEC, 0o600, dir_fd=self.descriptor))
+        os.close(os.open(new, CREATE, 0o600, dir_fd=self.descriptor))
         try:
             yield self.file(new)
-            os.chmod(new, mode, dir_fd=self.descriptor)
+            os.chmod(new, 0o755, dir_fd=self.descriptor)
             os.rename(new, name, src_dir_fd=self.descriptor, dst_dir_fd=self.descriptor)
         except BaseException:
             with contextlib.suppress(OSError):
@@ -167,7 +161,7 @@ def tested(descriptor: int, path: str) -> Place:
 def closed(path: str, make: bool = False) -> Place:
     """The same, and others can't put files into the folder: what it has is the user's or root's."""
     place = opened(path, make)
-    if not place.is_closed():
+    if is_written_by_others(os.fstat(place.descriptor)):
         place.close()
         raise NotPrivate(place.path)
     return place
@@ -237,15 +231,11 @@ class Folder(Place):
         if not self.keep:
             with contextlib.suppress(OSError):
                 empty(self.descriptor)
-                if self.is_here():
+                named = os.stat(self.name, dir_fd=self.place.descriptor, follow_symlinks=False)
+                if os.path.samestat(named, os.fstat(self.descriptor)):  # the name is still its own
                     os.rmdir(self.name, dir_fd=self.place.descriptor)
         super().close()
         self.place.close()
-
-    def is_here(self) -> bool:
-        """Whether the name is still that of the folder."""
-        named = os.stat(self.name, dir_fd=self.place.descriptor, follow_symlinks=False)
-        return os.path.samestat(named, os.fstat(self.descriptor))
 
 
 def empty(descriptor: int) -> None:
@@ -265,13 +255,11 @@ def empty(descriptor: int) -> None:
             os.rmdir(name, dir_fd=descriptor)
 
 
-def new_folder(place: Place, prefix: str = "mte_tool.") -> Folder:
+def new_folder(place: Place) -> Folder:
     """A new folder in a place that was tested."""
-    while True:
-        name = prefix + os.urandom(8).hex()
-        with contextlib.suppress(FileExistsError):
-            make_folder(place, name)
-            return Folder(place, name)
+    name = f"mte_tool.{os.urandom(8).hex()}"
+    make_folder(place, name)
+    return Folder(place, name)
 
 
 def temporary_folder() -> Folder:

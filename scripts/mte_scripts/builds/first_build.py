@@ -12,7 +12,6 @@ first_build` alone prints how many lanes there are.
 import os
 import re
 import shutil
-import signal
 import subprocess
 import sys
 import tempfile
@@ -128,8 +127,6 @@ class Build:
 def main(words: "list[str]") -> "int | None":
     if not words:
         return print(lanes())
-    for number in (signal.SIGTERM, signal.SIGHUP):
-        signal.signal(number, lambda it, frame: sys.exit(128 + it))
     root, program = words
     build = Build(CrateList(root), program)
     try:
