@@ -5,6 +5,7 @@ docs/FORMATS.md says what the texts are. Files are read as bytes, since they may
 
 import functools
 import io
+import itertools
 import operator
 import os
 import re
@@ -13,7 +14,7 @@ import subprocess
 import sys
 import textwrap
 from collections import defaultdict, namedtuple
-from collections.abc import Callable, Iterable, Iterator, Sequence
+from collections.abc import Iterator, Sequence
 from typing import Any, BinaryIO
 
 from mte_scripts import claims, manifest
@@ -104,6 +105,17 @@ def write(text: "str | bytes") -> int:
     return 0
 
 
+def new_folder(path: str, option: str) -> str:
+    """Makes a folder, which this option names, for what a script writes."""
+    try:
+        os.mkdir(path)
+    except FileExistsError:
+        raise Refused(3, f"{path} is there already: move it away, or name another folder by {option}") from None
+    except OSError as error:
+        raise Refused(3, f"the folder {path} can't be made: {error.strerror}; {option} names another place") from None
+    return path
+
+
 def write_file(path: str, data: "str | bytes") -> None:
     """A file beside what is printed."""
     try:
@@ -118,11 +130,19 @@ def wrapped(text: str, width: int = 80, indent: str = "") -> "list[str]":
     return textwrap.wrap(text, width, subsequent_indent=indent, break_long_words=False, break_on_hyphens=False)
 
 
-def columns(rows: "Iterable[Sequence[str]]") -> "list[str]":
-    """Rows of cells as lines, all but the first cell to the right."""
-    widths = [max(map(len, column)) for column in zip(*rows)]
-    lines = [[row[0].ljust(widths[0]), *(cell.rjust(width) for cell, width in zip(row[1:], widths[1:]))] for row in rows]
-    return ["  ".join(line).rstrip() for line in lines]
+def columns(rows: "Sequence[Sequence[str]]", left: int = 0, most: "int | None" = None) -> "list[str]":
+    """Rows of cells as lines, all cells to the right but those of the column LEFT. The last cell of a row that is shorter than the first one may
+    be wider than its column. Where a line would have more than MOST characters, the first cells lose their begin."""
+    in_columns = [row if len(row) == len(rows[0]) else row[:-1] for row in rows]
+    widths = [max(map(len, column)) for column in itertools.zip_longest(*in_columns, fillvalue="")]
+    if most is not None:
+        widths[0] = min(widths[0], max(most - sum(widths[1:]) - 2 * len(widths[1:]), 12))
+    lines = []
+    for row in rows:
+        first = row[0] if len(row[0]) <= widths[0] else ".." + row[0][2 - widths[0] :]
+        cells = enumerate(zip([first, *row[1:]], widths))
+        lines.append("  ".join(cell.ljust(width) if at == left else cell.rjust(width) for at, (cell, width) in cells).rstrip())
+    return lines
 
 
 def opened(path: str) -> BinaryIO:
@@ -231,9 +251,7 @@ def parse_history(data: bytes, name: str = "the history") -> History:
             raise Refused(2, f"{name}: {wrong}")
         if counted(first):
             raise Refused(2, f"{name}: line 1 is of a profile, and no history: `profile_program --history` records one")
-        if is_timeline(first):
-            raise fault(first, 1, name, "SIZE N1 .. NT")
-        if first.split(b" ")[0] in EVENT_WORDS + SHEET_WORDS:
+        if is_timeline(first) or first.split(b" ")[0] in EVENT_WORDS + SHEET_WORDS:
             raise fault(first, 1, name, "SIZE N1 .. NT")
         raise Refused(2, f"{name}: line 1 is not `snapshots T` with T from 1 to {MOST_SNAPSHOTS}: {shown(first)}")
     snapshots = int(match[1])
@@ -281,27 +299,21 @@ def rows_text(rows: dict) -> str:
 
 def whole_lines(file: BinaryIO, path: str, rest: bytes) -> "Iterator[bytes]":
     """These bytes and those of a file in pieces of whole lines. The last line is given the newline that it may lack."""
-    while True:
-        piece = next_piece(file, path)
-        if not piece:
-            break
-        end = piece.rfind(b"\n") + 1
-        if end:
+    while piece := next_piece(file, path):
+        if end := piece.rfind(b"\n") + 1:
             yield rest + piece[:end]
-            rest = piece[end:]
-        else:
-            rest += piece
-            if len(rest) > PIECE:
-                raise fault(rest, None, path)
+            rest = b""
+        rest += piece[end:]
+        if len(rest) > PIECE:
+            raise fault(rest, None, path)
     if rest:
-        yield rest if rest.endswith(b"\n") else rest + b"\n"
+        yield rest.removesuffix(b"\n") + b"\n"
 
 
 def add_lines(counts: defaultdict, piece: bytes) -> bool:
     """Adds the counts of some whole lines, or says False where one is faulty. `large` is counted at the first size that is."""
-    if b"large" in piece:
-        if piece.count(b"large") == piece.count(b"\nlarge ") + piece.startswith(b"large "):
-            piece = piece.replace(b"large", LARGE)
+    if b"large" in piece and piece.count(b"large") == piece.count(b"\nlarge ") + piece.startswith(b"large "):
+        piece = piece.replace(b"large", LARGE)
     lines = piece.count(b"\n")
     words = piece.split()
     # Most lines are a size, a space and a count. Where all are, this is seen at once, and else line by line.
@@ -410,7 +422,7 @@ def parse_class_line(text: "str | bytes", name: str = "the class line") -> list[
 
 def parse_sheet(text: "str | bytes", name: str = "the sheet") -> Sheet:
     """A sheet as its parts. It has the form of a sheet; only `mte_tool check` says whether it is right."""
-    return parse_parts(text, name, "sheet", b"waste", Sheet)
+    return Sheet(*parts_of(text, name, "sheet", b"waste"))
 
 
 def parse_fit(text: "str | bytes", name: str = "the fit") -> Fit:
@@ -420,27 +432,41 @@ def parse_fit(text: "str | bytes", name: str = "the fit") -> Fit:
     if lines and (match := re.fullmatch(rb"moments((?: (?:0|[1-9][0-9]{0,9}))+)", lines[-1])):
         moments = [int(at) for at in match[1].split()]
         text = b"\n".join(lines[:-1])
-    return parse_parts(text, name, "fit", b"footprint", lambda *parts: Fit(*parts, moments))  # type: ignore[call-arg]
+    classes, limit, step, footprint, rows = parts_of(text, name, "fit", b"footprint")
+    return Fit(classes, limit, step, footprint, rows, moments)
 
 
-def parse_parts(text: "str | bytes", name: str, kind: str, cost: bytes, make: Callable) -> Any:
+def parts_of(text: "str | bytes", name: str, kind: str, cost: bytes) -> tuple:
+    """The classes, limit, step, cost and rows of a sheet or a fit."""
     lines = lines_of(os.fsencode(text))
     classes = parse_class_line(lines[0] if lines else None, name)
     numbers = {b"step": 1}
     rows = []
     for at, line in enumerate(lines[1:], 2):
         word, *values = line.split(b" ")
-        if not all(re.fullmatch(rb"0|[1-9][0-9]{0,19}", value) for value in values):
-            raise Refused(2, f"{name}: {encoding(line, at) or f'line {at} is no line of a {kind}: {shown(line)}'}")
-        if word == b"row":
-            rows.append([int(value) for value in values])
-        elif word in (b"limit", b"step", cost) and len(values) == 1 and not rows:
+        has_numbers = all(re.fullmatch(rb"0|[1-9][0-9]{0,19}", value) for value in values)
+        if has_numbers and word == b"row":
+            rows.append(list(map(int, values)))
+        elif has_numbers and word in (b"limit", b"step", cost) and len(values) == 1 and not rows:
             numbers[word] = int(values[0])
         else:
-            raise Refused(2, f"{name}: line {at} is no line of a {kind}: {shown(line)}")
+            raise Refused(2, f"{name}: {encoding(line, at) or f'line {at} is no line of a {kind}: {shown(line)}'}")
     if b"limit" not in numbers or cost not in numbers:
         raise Refused(2, f"{name}: it is no whole {kind}: a line `limit` or `{cost.decode()}` is missing")
-    return make(classes, numbers[b"limit"], numbers[b"step"], numbers[cost], rows)
+    return classes, numbers[b"limit"], numbers[b"step"], numbers[cost], rows
+
+
+def output_of(words: "Sequence[Any]", **how: Any) -> bytes:
+    """What a command prints. Where it fails, the script ends, and what the command said goes to standard error."""
+    how = {"stdin": subprocess.DEVNULL, "stdout": subprocess.PIPE, "stderr": subprocess.PIPE, **how}
+    try:
+        done = subprocess.run(words, **how)
+    except OSError as error:
+        raise Refused(3, f"{words[0]} can't be run: {error.strerror}") from None
+    if done.returncode:
+        sys.stderr.write((done.stdout if done.stderr is None else done.stderr).decode(errors="replace"))
+        raise Refused(3, f"{os.path.basename(words[0])} ended with status {done.returncode}")
+    return done.stdout
 
 
 @functools.lru_cache(maxsize=None)

@@ -36,10 +36,6 @@ class CrateList:
         """Copies these crates, without what rt has made in them, and crates.txt with their lines."""
         for name in names:
             shutil.copytree(self.folder(name), os.path.join(folder, "crates", name), ignore=shutil.ignore_patterns("out"))
-        self.list(names, folder)
-
-    def list(self, names: list[str], folder: str) -> None:
-        """Writes crates.txt with the lines of these crates."""
         with open(os.path.join(folder, "crates.txt"), "w", encoding="utf-8") as file:
             file.writelines(f"{self.lines[name]}\n" for name in names)
         shutil.copy(os.path.join(self.root, "HANDLES"), folder)

@@ -1,19 +1,4 @@
-"""Proves and builds the library for C, and lays it out in a folder. `library --help` says all."""
-
-import os
-import shutil
-import subprocess
-from pathlib import Path
-
-from mte_scripts import manifest, private_folder, texts
-from mte_scripts.builds import static_libraries
-from mte_scripts.formats import INTERFACE, VERSION
-from mte_scripts.places import ROOT
-from mte_scripts.texts import Refused
-from mte_scripts.words import Words
-
-HELP = """\
-Prove and build the library for C, and lay it out in a folder.
+"""Prove and build the library for C, and lay it out in a folder.
 
 Usage: library DIR
 
@@ -36,6 +21,18 @@ Exit status:
 Example:
   scripts/library /opt/mte_tool
 """
+
+import os
+import shutil
+import subprocess
+from pathlib import Path
+
+from mte_scripts import manifest, private_folder, texts
+from mte_scripts.builds import static_libraries
+from mte_scripts.formats import INTERFACE, VERSION
+from mte_scripts.places import ROOT
+from mte_scripts.texts import Refused
+from mte_scripts.words import Words
 
 SOURCES = os.path.join(ROOT, "library")
 HEADERS = ("mte_tool.h", "mte_tool.hpp")
@@ -87,10 +84,10 @@ def link(folder: str, proved: "list[str]") -> None:
 def proved_objects(folder: str) -> "tuple[list[str], str]":
     """The proved code, and the kit's calls of malloc, realloc and free; and the kit's verdict, where it said one."""
     texts.say("library", "proving and building mte_c")
-    said = static_libraries.make(folder, ["mte_c"])
+    said = static_libraries.make(folder, "mte_c")
     static_libraries.run(["ar", "x", "libmte_c.a"], cwd=folder)
     static_libraries.run(["ar", "x", f"{static_libraries.kit()}/c/liblibc_c.a", "heap.pic.o"], cwd=folder)
-    return [f"{folder}/mte_c.o", f"{folder}/heap.pic.o"], manifest.verdict_in(said["mte_c"], "mte_c")
+    return [f"{folder}/mte_c.o", f"{folder}/heap.pic.o"], manifest.verdict_in(said, "mte_c")
 
 
 def lay_out(work: str, folder: str) -> None:
@@ -106,7 +103,7 @@ def lay_out(work: str, folder: str) -> None:
 
 
 def make_library(words: "list[str]") -> None:
-    parser = Words(HELP, "folders")
+    parser = Words(__doc__, "folders")
     folders = parser.take(words).folders
     if len(folders) != 1:
         parser.error(f"it takes one folder, and not {len(folders)}")

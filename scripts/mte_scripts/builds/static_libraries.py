@@ -5,10 +5,10 @@ static library is proved once more over the libraries that `rt ci` left, and bui
 import os
 import shutil
 import subprocess
-import sys
 from pathlib import Path
 from typing import Any
 
+from mte_scripts import texts
 from mte_scripts.builds.crate_list import CrateList
 from mte_scripts.places import ROOT
 
@@ -24,12 +24,8 @@ def jobs() -> "list[str]":
 
 
 def run(words: "list[str]", **how: Any) -> str:
-    """Runs a command; what it says goes to standard error, and only where it fails."""
-    done = subprocess.run(words, stdout=subprocess.PIPE, stderr=subprocess.STDOUT, stdin=subprocess.DEVNULL, **how)
-    if done.returncode:
-        sys.stderr.write(done.stdout.decode(errors="replace"))
-        raise subprocess.CalledProcessError(done.returncode, words[0])
-    return done.stdout.decode(errors="replace")
+    """What a command prints, on both outputs; a failure ends the script."""
+    return texts.output_of(words, stderr=subprocess.STDOUT, **how).decode(errors="replace")
 
 
 def crates_below(crate: str) -> "list[str]":
@@ -84,15 +80,11 @@ def build(crate: str, archive: str, toolchain: str) -> str:
     return said
 
 
-def make(folder: str, crates: "list[str]") -> "dict[str, str]":
-    """Builds libCRATE.a of each crate in that folder; what the proof of each printed."""
-    said = {}
-    for crate in crates:
-        archive = os.path.join(os.path.abspath(folder), f"lib{crate}.a")
-        if are_left(crate):
-            said[crate] = build(crate, archive, f"{kit()}/toolchain")
-        else:
-            place = os.path.join(ROOT, "crates", crate)
-            said[crate] = run(["rt", "lib", *jobs()], cwd=place)
-            shutil.copyfile(f"{place}/out/lib{crate}.a", archive)
+def make(folder: str, crate: str) -> str:
+    """Builds libCRATE.a in that folder; what the proof printed."""
+    archive, place = os.path.join(os.path.abspath(folder), f"lib{crate}.a"), os.path.join(ROOT, "crates", crate)
+    if are_left(crate):
+        return build(crate, archive, f"{kit()}/toolchain")
+    said = run(["rt", "lib", *jobs()], cwd=place)
+    shutil.copyfile(f"{place}/out/lib{crate}.a", archive)
     return said

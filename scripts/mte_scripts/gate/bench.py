@@ -1,21 +1,4 @@
-"""Compares mte_tool with the same in plain Rust. `bench --help` says all."""
-
-import contextlib
-import os
-import random
-import re
-import shutil
-import subprocess
-from collections.abc import Callable
-from pathlib import Path
-
-from mte_scripts import formats, places, private_folder
-from mte_scripts.gate import growth
-from mte_scripts.running import Refused
-from mte_scripts.words import Words, between
-
-HELP = """\
-Compare mte_tool with bench/plain, which does the same in plain Rust, and print a table in Markdown.
+"""Compare mte_tool with bench/plain, which does the same in plain Rust, and print a table in Markdown.
 
 Usage: bench [--instructions] [--branches] [--runs N] [--seed N] [--keep FOLDER] [ROW..]
        bench --growth [--seed N]
@@ -50,6 +33,20 @@ Example:
   bench --instructions score tune check
 """
 
+import contextlib
+import os
+import random
+import re
+import shutil
+import subprocess
+from collections.abc import Callable
+from pathlib import Path
+
+from mte_scripts import formats, places, private_folder, texts
+from mte_scripts.gate import growth
+from mte_scripts.running import Refused
+from mte_scripts.words import Words, between
+
 ROOT = Path(places.ROOT)
 OURS = ROOT / "crates/mte_tool/out/mte_tool"
 RUSTC = os.environ.get("RUSTC", "rustc")
@@ -61,9 +58,7 @@ os.environ.pop("MTE_TOOL", None)
 # the same for each run, since the start of a program reads it
 ENVIRONMENT = {"LC_ALL": "C"}
 
-# the class line of `score` is Scudo's; `replay` has eight classes that serve most of the million events
-SCORED = (ROOT / "examples/scudo.classes").read_text()
-REPLAYED = "classes 2 4 6 8 12 18 32 65\n"
+SCORED = (ROOT / "examples/scudo.classes").read_text()  # the class line of `score`
 
 # what needs a large region
 RUN = ["run", "--limit", "32", "--granules", "262144"]
@@ -95,7 +90,7 @@ ROWS: "dict[str, tuple]" = {
 
 def options_of(words: "list[str]") -> dict:
     seed = between(1, formats.OPTIONS["seed"].most)
-    options = vars(Words(HELP, "rows", {"runs": 20, "seed": 1}, runs=between(1, 10_000), seed=seed).take(words))
+    options = vars(Words(__doc__, "rows", {"runs": 20, "seed": 1}, runs=between(1, 10_000), seed=seed).take(words))
     if unknown := [row for row in options["rows"] if row not in ROWS]:
         raise Refused(2, f"there is no row {unknown[0]}; --help says what there is")
     if options["growth"] and (options["rows"] or options["keep"] or options["instructions"] or options["branches"]):
@@ -123,13 +118,9 @@ def build(folder: Path) -> "dict[str, Path]":
     return {"mte_tool": OURS, "plain": plain}
 
 
-def output_of(command: list, source: "Path | None" = None) -> bytes:
-    """What a command writes; it has to succeed."""
-    with open(source or os.devnull, "rb") as given:
-        done = subprocess.run(command, stdin=given, stdout=subprocess.PIPE)
-    if done.returncode != 0:
-        raise Refused(3, f"{' '.join(map(str, command))} ended with status {done.returncode}")
-    return done.stdout
+def output_of(command: list, source: Path) -> bytes:
+    with open(source, "rb") as given:
+        return texts.output_of(command, stdin=given)
 
 
 def make_inputs(folder: Path, seed: int, plain: Path) -> None:
@@ -151,9 +142,9 @@ def make_inputs(folder: Path, seed: int, plain: Path) -> None:
     (folder / "fit.in").write_text(history)
     fit = output_of([plain, "fit", "--limit", "32"], folder / "fit.in")
     (folder / "check-fit.in").write_bytes(fit + history.encode())
-    events = output_of([plain, "events", "--seed", str(seed)])
+    events = texts.output_of([plain, "events", "--seed", str(seed)])
     (folder / "events.trace").write_bytes(events)
-    (folder / "replay.in").write_bytes(REPLAYED.encode() + events)
+    (folder / "replay.in").write_bytes(growth.TABLE.encode() + events)
     make_traces(folder, chance)
     timeline = timeline_of(chance)
     (folder / "run.timeline").write_text(timeline)
@@ -271,7 +262,7 @@ def print_table(options: dict, folder: Path) -> None:
 
 def print_growth(options: dict, folder: Path) -> None:
     programs = build(folder)
-    events = output_of([programs["plain"], "events", "--seed", str(options["seed"])]).decode().splitlines(keepends=True)
+    events = texts.output_of([programs["plain"], "events", "--seed", str(options["seed"])]).decode().splitlines(keepends=True)
 
     def write(name: str, text: str) -> Path:
         (folder / name).write_text(text)

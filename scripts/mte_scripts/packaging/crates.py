@@ -24,12 +24,6 @@ def published(text: str, name: str) -> str:
     return text
 
 
-def version_in(text: str, name: str) -> str:
-    if found := re.search(r'(?m)^version = "(.*)"$', text):
-        return found[1]
-    raise Refused(3, f"{name}/Cargo.toml has no line `version = \"..\"`")
-
-
 def crate(name: str, usr: Tree, parts: Parts, folder: str, work: str) -> str:
     """Writes one crate into the folder; its path."""
     tree = Tree(os.path.join(work, name))
@@ -46,12 +40,11 @@ def crate(name: str, usr: Tree, parts: Parts, folder: str, work: str) -> str:
         tree.copy(usr.path("lib", MULTIARCH, "libmte_tool.a"), LIBRARY)
     if not tree.has("LICENSE"):
         tree.copy(source("LICENSE"), "LICENSE")
-    version = version_in(text, f"rust/{name}")
-    if version != parts.number:
-        raise Refused(3, f"rust/{name}/Cargo.toml has the version {version}, and the program {parts.number}")
+    if f'\nversion = "{parts.number}"\n' not in text:
+        raise Refused(3, f"rust/{name}/Cargo.toml has not the version of the program, {parts.number}")
     tree.write(provenance.NAME, provenance.text_of(tree, parts, name))
-    path = os.path.join(folder, f"{name}-{version}.crate")
-    write_tar(tree, path, f"{name}-{version}", parts.seconds(), folders=False)
+    path = os.path.join(folder, f"{name}-{parts.number}.crate")
+    write_tar(tree, path, f"{name}-{parts.number}", parts.seconds(), folders=False)
     return path
 
 

@@ -35,7 +35,7 @@ def packages(tree: Tree, parts: Parts) -> "list[Package]":
     """The packages that the tree has files for; the first has what no other has."""
     found = [Package(NAME, "devel", "size-class tables with certificates, and a heap with memory tags",
                      "This package has the program, the scripts, the page, the documents and the examples.", commands_fields(tree), "")]
-    if provenance.has_library(tree):
+    if tree.has(f"{LIBRARIES}/libmte_tool.so"):
         soname = packaging.soname_of(tree)
         library = f"lib{NAME}{soname.rpartition('.')[2]}"
         moved = f"Breaks: {NAME} (<< {ONCE})\nReplaces: {NAME} (<< {ONCE})\n"

@@ -86,11 +86,6 @@ def version_of(number: str, commit_number: str, time: datetime.datetime, is_chan
     return f"{number}+git{time:%Y%m%d%H%M%S}.g{commit_number[:12]}{'.changed' if is_changed else ''}"
 
 
-def digest(path: str) -> str:
-    """What tells the program from others: in the package it is without the symbols that a debugger reads."""
-    return f"SHA-256 {manifest.hash_of(path)} before its symbols were stripped"
-
-
 def program_of(options: argparse.Namespace) -> str:
     """The path of the program. One that was built elsewhere has to print this commit's help."""
     path = options.program
@@ -114,12 +109,13 @@ def program_of(options: argparse.Namespace) -> str:
 
 def manifest_of(path: str, options: argparse.Namespace) -> "tuple[manifest.Manifest, str]":
     """The manifest that the package has, and where the program is from. It is called proved only by a manifest that holds."""
-    why = manifest.why_unproved(path, texts.ROOT)
+    why, digest = manifest.why_unproved(path, texts.ROOT), manifest.hash_of(path)
+    told = f"(SHA-256 {digest} before its symbols were stripped)"
     if not why:
-        return manifest.read(path), f"the program was proved and built from these sources ({digest(path)})"
+        return manifest.read(path), f"the program was proved and built from these sources {told}"
     texts.say("package", f"nothing is proved of the program: {why}")
-    unproved = manifest.Manifest(manifest.hash_of(path), manifest.sources_of(texts.ROOT), kit_of(options), "unproved")
-    return unproved, f"the program was built elsewhere, and nothing is proved of it: {why} ({digest(path)})"
+    unproved = manifest.Manifest(digest, manifest.sources_of(texts.ROOT), kit_of(options), "unproved")
+    return unproved, f"the program was built elsewhere, and nothing is proved of it: {why} {told}"
 
 
 def library_of(options: argparse.Namespace, folder: str) -> "tuple[str | None, str]":

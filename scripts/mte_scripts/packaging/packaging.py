@@ -109,9 +109,8 @@ def trusted(parts: Parts) -> str:
     tested = "The scripts, the page, the heap of the page in WebAssembly and what other languages call are tested, and not proved."
     if parts.manifest.proofs != "proved":
         return "Nothing shows that this build of the program is proved."
-    if not parts.library or parts.unproved:
-        return f"Every function of the program is proved to be safe, to return and to meet its contract. {tested}"
-    return f"Every function of the program and of the library's engines is proved to be safe, to return and to meet its contract. {tested}"
+    of_library = " and of the library's engines" if parts.library and not parts.unproved else ""
+    return f"Every function of the program{of_library} is proved to be safe, to return and to meet its contract. {tested}"
 
 
 def modules_of_commands() -> "list[str]":
@@ -167,8 +166,7 @@ def put_library(tree: Tree, folder: str, number: str) -> None:
     """What scripts/library laid out, where Debian has it."""
     for name in sorted(os.listdir(f"{folder}/include")):
         tree.copy(f"{folder}/include/{name}", f"usr/include/{name}")
-    names = os.listdir(f"{folder}/lib")
-    for name in sorted(names):
+    for name in sorted(os.listdir(f"{folder}/lib")):
         path = f"{folder}/lib/{name}"
         if os.path.islink(path):
             tree.link(f"{LIBRARIES}/{name}", f"{LIBRARIES}/{os.readlink(path)}")

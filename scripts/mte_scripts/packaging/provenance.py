@@ -10,7 +10,7 @@ import zlib
 
 from mte_scripts import manifest
 from mte_scripts.packaging import packaging
-from mte_scripts.packaging.packaging import LIBRARIES, Parts
+from mte_scripts.packaging.packaging import Parts
 from mte_scripts.packaging.tree import Tree
 
 NAME = "manifest.txt"
@@ -52,7 +52,3 @@ def text_of(tree: Tree, parts: Parts, package: str) -> str:
     lines += [*(("origin", each) for each in parts.origins), *(("without", each) for each in parts.left_out), *built(parts), *tools()]
     lines += [("file", f"{manifest.hash_of(tree.path(name))}  {name}") for name in tree.files()]
     return "".join(f"{name} {value}\n" for name, value in lines)
-
-
-def has_library(tree: Tree) -> bool:
-    return tree.has(f"{LIBRARIES}/libmte_tool.so")

@@ -30,33 +30,6 @@ Exit status:
 Example:
   git tag v1.0.0 && scripts/release ../mte-tool-1.0.0 && cd ../mte-tool-1.0.0 && sha256sum -c SHA256SUMS
 """
-NOTES = """\
-# mte_tool {version}
-
-Commit {commit}{tag}, built with {kit}.
-
-## What was proved
-
-{trusted} The proofs are in the repository, and `rt ci` repeats them.
-
-    proofs {proofs}
-    sources {sources}
-{verdict}
-## What was tested
-
-{tested}
-
-## What changed
-
-{changed}
-
-## The same bytes
-
-Whoever has this kit and these tools builds the same files by `scripts/release FOLDER` in a clone of the commit, and compares them by
-`sha256sum -c SHA256SUMS`. Each package has a `{manifest}` with the hashes of its files and of what was built.
-
-{tools}
-"""
 # what .ci/run prints of the scripts' tests, and of rt
 COUNTS = re.compile(r"(?m)^(?:all: |rt: )?(\d+) passed, (\d+) failed\b.*$")
 
@@ -98,9 +71,33 @@ def notes(parts: Parts, tested: str) -> str:
     verdict = f"    verdict {parts.manifest.verdict}\n" if parts.manifest.verdict else ""
     tag = f", tag v{parts.number}" if parts.version == parts.number else ""
     tools = "\n".join(f"- {text}" for _, text in provenance.tools())
-    return NOTES.format(version=parts.version, commit=parts.commit, tag=tag, kit=parts.kit, trusted=packaging.trusted(parts),
-                        proofs=parts.manifest.proofs, sources=parts.manifest.sources, verdict=verdict, tested=tested, changed=changes(),
-                        manifest=provenance.NAME, tools=tools)
+    return f"""\
+# mte_tool {parts.version}
+
+Commit {parts.commit}{tag}, built with {parts.kit}.
+
+## What was proved
+
+{packaging.trusted(parts)} The proofs are in the repository, and `rt ci` repeats them.
+
+    proofs {parts.manifest.proofs}
+    sources {parts.manifest.sources}
+{verdict}
+## What was tested
+
+{tested}
+
+## What changed
+
+{changes()}
+
+## The same bytes
+
+Whoever has this kit and these tools builds the same files by `scripts/release FOLDER` in a clone of the commit, and compares them by
+`sha256sum -c SHA256SUMS`. Each package has a `{provenance.NAME}` with the hashes of its files and of what was built.
+
+{tools}
+"""
 
 
 def want_whole(parts: Parts) -> None:

@@ -7,8 +7,6 @@ import io
 import os
 import re
 import shutil
-import subprocess
-import sys
 import tarfile
 import time
 import typing
@@ -21,14 +19,7 @@ from mte_scripts.texts import Refused
 
 def run(words: "list[str]", **how: typing.Any) -> str:
     """What a command prints; a failure ends the script."""
-    try:
-        done = subprocess.run(words, stdout=subprocess.PIPE, stderr=subprocess.PIPE, stdin=subprocess.DEVNULL, **how)
-    except OSError as error:
-        raise Refused(3, f"{words[0]} can't be run: {error.strerror}") from None
-    if done.returncode:
-        sys.stderr.write(done.stderr.decode(errors="replace"))
-        raise Refused(3, f"{os.path.basename(words[0])} ended with status {done.returncode}")
-    return done.stdout.decode(errors="replace")
+    return texts.output_of(words, **how).decode(errors="replace")
 
 
 def tracked(*paths: str) -> "list[str]":
