@@ -15,7 +15,8 @@ them by these rules, KIND being profile, history or timeline:
              a verdict that is no `optimal`: KIND.refused with the {verdict} and its {meaning}, which is refusal.CODE
              `optimal`, but not `holds`: KIND.other
              of a timeline whose `fit` found no certificate, timeline.between with the {bound} that it proves
-  sentence   where `holds` and the program is proved: prefix.proved and says; where it is not: KIND.unproved with {why}; else says
+  sentence   where `holds` and the program is proved: prefix.proved and says; where it is not: unproved with {why}, and the {command} that
+             judged; else says
 
 The page prints says. A class is forced by one more request, or one more block at each moment, of 16 * class - 16 bytes: what that class
 holds; of a timeline, one before the first event. Each table that has the class serves the request without waste, and takes one more of its
@@ -64,22 +65,17 @@ TEMPLATES = {
     "timeline.says.forced": "`check-fit` says `optimal` with a block of {size} bytes added before the first event, so {claim}",
     "timeline.between": "`fit` found no certificate: the table takes {cost} over all moments of {given}; {claim}",
     "prefix.proved": "Proved: ",
-    "profile.unproved": "Nothing is proved, since {why}. If its `check` is right, {claim}",
-    "history.unproved": "Nothing is proved, since {why}. If its `check-fit` is right, {claim}",
-    "timeline.unproved": "Nothing is proved, since {why}. If its `check-fit` is right, {claim}",
-    "timeline.between.unproved": "Nothing is proved, since {why}. If its `fit` is right, {claim}",
+    "unproved": "Nothing is proved, since {why}. If its `{command}` is right, {claim}",
     # a profile whose counts are above what a text may have, and the machines of a fleet, each with a history of its own
     "scaled.claim": "of {tables}, none wastes less on it than {cost}.",
     "scaled.says.own": "`check` says `optimal` of its counts, divided and rounded down, so {claim}",
     "scaled.says.forced": "`check` says `optimal` of its counts, divided and rounded down, with a request of {size} bytes added, so {claim}",
-    "scaled.unproved": "Nothing is proved, since {why}. If its `check` is right, {claim}",
     "scaled.refused": "`check` says `{verdict}` of its counts, divided and rounded down: nothing bounds what a table wastes on {given}. {meaning}",
     "scaled.other": "`check` says `optimal` of another profile, of which nothing follows for {given}.",
     "histories.claim": "of {tables}, none takes less over its machines together than {cost}.",
     "histories.says.own": "`check-fit` says `optimal` of moments over which no table takes more, so {claim}",
     "histories.says.forced": "`check-fit` says `optimal` of moments over which no table takes more, with a block of {size} bytes added at each, "
     "so {claim}",
-    "histories.unproved": "Nothing is proved, since {why}. If its `check-fit` is right, {claim}",
     "histories.refused": "`check-fit` says `{verdict}`: nothing bounds what a table takes over {given}. {meaning}",
     "histories.other": "`check-fit` says `optimal` of another history, of which nothing follows for {given}.",
     # a table that is none of those, beside what bounds them: {percent} is rounded up
@@ -91,7 +87,6 @@ TEMPLATES = {
     "worst.claim": "of {tables}, none stays below {percent}% on all of them.",
     "worst.says": "`{command}` says `optimal` of what bounds each load and of all joined{added}, so {claim}",
     "worst.added": " with a {what} of {size} bytes added",
-    "worst.unproved": "Nothing is proved, since {why}. If its `{command}` is right, {claim}",
     "worst.refused": "`{command}` says `{verdict}` of the loads joined: nothing bounds the worst of a table.",
     "worst.exact": "This is the worst of this table, so none has a lower one.",
     "worst.chosen": "This table was chosen among candidates, and its worst is {percent}%: another one may stay below that.",
@@ -175,10 +170,6 @@ def class_text(count: int) -> str:
     return f"{count} class{'' if count == 1 else 'es'}"
 
 
-def limit_words(limit: int, step: int) -> str:
-    return TEMPLATES["limit.one" if limit == 1 else "limit.many"].format(count=limit, block=GRANULE * step)
-
-
 def listed(words: Iterable) -> str:
     """1, 2 and 3."""
     *before, last = map(str, words)
@@ -210,7 +201,7 @@ def claim(judged: Judged) -> str:
 
 def tables_of(judged: Judged) -> str:
     """Among which tables."""
-    limit = limit_words(judged.limit, judged.step)
+    limit = TEMPLATES["limit.one" if judged.limit == 1 else "limit.many"].format(count=judged.limit, block=GRANULE * judged.step)
     if judged.forced:
         return TEMPLATES["tables.forced"].format(limit=limit, given=judged.given, forced=forced_words(judged.forced))
     return TEMPLATES["tables.own"].format(limit=limit, given=judged.given)
@@ -249,7 +240,8 @@ def sentence(judged: Judged, trust: Trust) -> str:
         return says(judged)
     if trust.is_proved:
         return TEMPLATES["prefix.proved"] + says(judged)
-    return TEMPLATES[f"{judged.kind}{'.between' * between}.unproved"].format(why=trust.why, claim=claim(judged))
+    command = "fit" if between else "check" if judged.kind in ("profile", "scaled") else "check-fit"
+    return TEMPLATES["unproved"].format(why=trust.why, command=command, claim=claim(judged))
 
 
 def regret(judged: Judged, table: str, cost: "int | None", above: "float | None", unserved: "int | None" = None) -> str:
@@ -275,7 +267,7 @@ def worst(judged: Judged, low: float, high: float, is_exact: bool, trust: Trust)
     if trust.is_proved:
         said = TEMPLATES["prefix.proved"] + TEMPLATES["worst.says"].format(command=command, added=added, claim=claim_)
     else:
-        said = TEMPLATES["worst.unproved"].format(command=command, why=trust.why, claim=claim_)
+        said = TEMPLATES["unproved"].format(command=command, why=trust.why, claim=claim_)
     return f"{said} {TEMPLATES['worst.exact' if is_exact else 'worst.chosen'].format(percent=f'{high:,.2f}')}"
 
 
@@ -296,7 +288,7 @@ def pools_sentence(judged: Pools, trust: Trust) -> str:
     """What is known of pools that `check-fit` calls `optimal`, for a summary or a header."""
     if trust.is_proved:
         return TEMPLATES["pools.proved"].format(unit=judged.unit, claim=pools_claim(judged))
-    return TEMPLATES["history.unproved"].format(why=trust.why, claim=pools_claim(judged))
+    return TEMPLATES["unproved"].format(why=trust.why, command="check-fit", claim=pools_claim(judged))
 
 
 def pools_refusal(judged: Pools) -> str:

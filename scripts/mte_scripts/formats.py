@@ -44,15 +44,6 @@ MOST_GRANULES = 262_144
 MOST_QUARANTINE = 4_194_304
 REGION_START = 1 << 36
 
-# what the contracts of the crates call a number, where it is not its name here
-PROVED_NAMES = {
-    "MOST_INPUT": "most_input",
-    "LARGEST_SIZE": "largest_counted",
-    "MOST_COUNT": "greatest_count",
-    "MOST_EVENTS": "most_events",
-    "LONGEST_LINE": "longest_line",
-    "REGION_START": "region_start",
-}
 NUMBERS = {name: value for name, value in list(globals().items()) if name.isupper() and isinstance(value, int)}
 
 

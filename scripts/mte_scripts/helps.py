@@ -9,10 +9,9 @@ from collections.abc import Iterator
 Option = namedtuple("Option", "names value text joined")
 # a paragraph of text, a list of (term, text), lines as they stand, or the items of a list
 Block = namedtuple("Block", "kind content")
-Section = namedtuple("Section", "title blocks")
 
 # headings of a help that are sections of a manual page
-TITLES = {"Options": "OPTIONS", "Commands": "COMMANDS", "Exit status": "EXIT STATUS", "Example": "EXAMPLES", "Examples": "EXAMPLES"}
+TITLES = {"Options:": "OPTIONS", "Commands:": "COMMANDS", "Exit status:": "EXIT STATUS", "Example:": "EXAMPLES", "Examples:": "EXAMPLES"}
 FILES = re.compile(r"FILE|FOLDER|TABLE|LIST|DIR|COUNTS")
 
 
@@ -22,16 +21,16 @@ def sessions(text: str) -> "dict[str, str]":
 
 
 class Help:
-    """What a help says: `intro`, the words before the usage; `usage`, its lines; and `sections` of blocks."""
+    """What a help says: `intro`, the words before the usage; `usage`, its lines; and the blocks of its `sections`."""
 
     def __init__(self, text: str) -> None:
         before, usage, after = re.fullmatch(r"(.*?)^Usage: (.*?\n)(?:\n(.*))?", text, re.S | re.M).groups()
         self.intro = " ".join(before.split())
         self.usage = [line.strip() for line in usage.splitlines()]
-        self.sections = list(sections(after or ""))
+        self.sections = sections(after or "")
 
     def blocks(self, title: str) -> "list[Block]":
-        return [block for section in self.sections if section.title == title for block in section.blocks]
+        return self.sections.get(title, [])
 
     def what(self) -> str:
         """The first clause of the intro, as the line NAME of a manual page has it."""
@@ -87,31 +86,25 @@ def groups(text: str) -> "Iterator[list[str]]":
             yield [line.rstrip() for line in group]
 
 
-def sections(text: str) -> "Iterator[Section]":
-    """The sections in their order; what has no heading of its own is the description."""
-    found, title = [], "DESCRIPTION"
+def sections(text: str) -> "dict[str, list[Block]]":
+    """The blocks by their section; what has no heading of its own is the description."""
+    found: "dict[str, list[Block]]" = {}
+    title = "DESCRIPTION"
     for group in groups(text):
-        heading = group[0].removesuffix(":") if len(group) == 1 and group[0].endswith(":") else None
-        inline = re.match(r"(Exit status): (.*)", " ".join(group))
-        if heading in TITLES:
-            title = TITLES[heading]
+        if len(group) == 1 and group[0] in TITLES:
+            title = TITLES[group[0]]
             continue
-        if inline:
-            found.append(Section("EXIT STATUS", [Block("text", inline[2])]))
-            continue
-        if re.match(r"(Refused|Failures)\b.*exit status \d", group[0]):
+        block, its_own = block_of(group), None
+        if inline := re.match("Exit status: (.*)", " ".join(group)):
+            block, its_own = Block("text", inline[1]), "EXIT STATUS"
+        elif re.match(r"(Refused|Failures)\b.*exit status \d", group[0]):
             title = "EXIT STATUS"
-            found.append(Section(title, [Block("text", " ".join(group))]))
-            continue
-        block = block_of(group)
-        if title == "DESCRIPTION" and block.kind == "terms" and all(term.startswith("-") for term, _ in block.content):
-            found.append(Section("OPTIONS", [block]))
-            continue
-        if not indent(group[0]) and title in ("OPTIONS", "COMMANDS", "EXIT STATUS"):
+        elif title == "DESCRIPTION" and block.kind == "terms" and all(term.startswith("-") for term, _ in block.content):
+            its_own = "OPTIONS"
+        elif title in ("OPTIONS", "COMMANDS", "EXIT STATUS") and block.kind == "text":
             title = "DESCRIPTION"
-        found.append(Section(title, [block]))
-    for name in dict.fromkeys(section.title for section in found):
-        yield Section(name, [block for section in found if section.title == name for block in section.blocks])
+        found.setdefault(its_own or title, []).append(block)
+    return found
 
 
 def block_of(group: "list[str]") -> Block:

@@ -56,13 +56,11 @@ def digest(text: str) -> str:
 def policy(page: str, allowed: "dict[str, str] | None" = None) -> str:
     """The Content-Security-Policy of a page: its inline scripts and styles by their digests, and nothing else but what is ALLOWED, sources
     by the name of their directive."""
-    inline: dict = {"script": [], "style": []}
+    rules: dict = {name: [] for name in ("default-src", "script-src", "style-src", "connect-src", "base-uri", "form-action")}
     for kind, text in INLINE.findall(page):
-        inline[kind].append(digest(text))
-    rules = {"default-src": ["'none'"], "script-src": inline["script"], "style-src": inline["style"], "connect-src": ["'none'"]}
-    rules.update({name: ["'none'"] for name in ("base-uri", "form-action")})
+        rules[f"{kind}-src"].append(digest(text))
     for name, sources in (allowed or {}).items():
-        rules[name] = [*rules.get(name, []), sources]
+        rules.setdefault(name, []).append(sources)
     return "; ".join(" ".join([name, *(sources or ["'none'"])]) for name, sources in rules.items())
 
 

@@ -144,13 +144,8 @@ def decimal(least: float, most: float, what: str) -> Callable[[str], float]:
 
 def one_of(*values: int) -> Callable[[str], int]:
     """One of these numbers."""
-    def taken(word: str) -> int:
-        if word.lstrip("0") not in map(str, values):
-            *most, last = map(str, values)
-            raise argparse.ArgumentTypeError(f"takes {', '.join(most)} or {last}, and not {word}")
-        return int(word)
-
-    return taken
+    name_of = named(*map(str, values))
+    return lambda word: int(name_of(word.lstrip("0") or "0"))
 
 
 def named(*names: str) -> Callable[[str], str]:
@@ -168,3 +163,7 @@ def some(word: str) -> str:
     if not word:
         raise argparse.ArgumentTypeError("takes a value")
     return word
+
+
+# which tables are meant: of at most so many classes, all multiples of so many granules
+TABLES: "dict[str, Any]" = {"limit": between(1, texts.MOST_CLASSES), "step": one_of(1, 2, 4, 8)}

@@ -14,14 +14,11 @@ from mte_scripts import claims, texts
 from mte_scripts.fleet.loads import FORCED, GRANULE, Load
 from mte_scripts.tables import figures
 from mte_scripts.texts import LARGEST_SIZE, MOST_COUNT, MOST_SNAPSHOTS, Refused
-from mte_scripts.words import between, one_of
 
 AMONG_HELP = """\
   --limit K          among tables of at most K classes, 1 to 32; 32 where it is left out
   --step S           whose classes are multiples of S granules of 16 bytes: 1, 2, 4 or 8; 1 where it is left out
   --no-largest       without it, only tables with class 1024 are meant, which serve every size that any can"""
-# these options in Words
-AMONG_KINDS: "dict[str, Any]" = {"limit": between(1, texts.MOST_CLASSES), "step": one_of(1, 2, 4, 8)}
 AMONG_DEFAULTS: "dict[str, Any]" = {"limit": texts.MOST_CLASSES, "step": 1}
 
 ROUNDS = 24  # of fits over more and more columns
@@ -70,22 +67,19 @@ def of(load: Load, among: Among) -> Bound:
     """The bound of one load."""
     if load.kind in ("history", "timeline") and load.most() <= MOST_COUNT:
         timed = figures.over_time(load.kind, load.text, among.largest, among.limit, among.step)
-        cost = load.cost(timed.fit.classes)
+        cost = load.cost(timed.fit.classes) or 0
         judged = claims.Judged(load.kind, timed.verdict, among.limit, among.step, timed.fit.classes, load.name, cost, timed.forced)
         between = claims.bound(judged)
         counts = figures.forced_into(load.kind, load.text) if among.largest else load.text
-        return shown(Bound(cost or 0 if between is None else between, judged, timed.fit.classes, timed.fit_text, counts))
+        return shown(Bound(cost if between is None else between, judged, timed.fit.classes, timed.fit_text, counts))
     divisor = -(-load.most() // MOST_COUNT)
     if load.kind == "profile":
-        found = checked(sheet([(1, load)], divisor, among))
-        kind, amount = ("profile" if divisor == 1 else "scaled"), load.fixed + divisor * found.cost
-        wasted = amount - load.fixed
-        judged = judged_of(kind, found, among, load.name, wasted)
+        kind, found = "profile" if divisor == 1 else "scaled", checked(sheet([(1, load)], divisor, among))
     else:
-        found = checked(fit([(1, load)], divisor, among, []))
-        amount = divisor * found.cost
-        judged = judged_of("histories", found, among, load.name, amount)
-    return shown(Bound(amount, judged, found.classes, found.certificate, found.counts.encode()))
+        kind, found = "histories", checked(fit([(1, load)], divisor, among, []))
+    cost = divisor * found.cost
+    judged = judged_of(kind, found, among, load.name, cost)
+    return shown(Bound(load.fixed + cost, judged, found.classes, found.certificate, found.counts.encode()))
 
 
 def checked(found: Certified) -> Certified:
@@ -119,13 +113,13 @@ def sheet(parts: Iterable[tuple], divisor: int, among: Among) -> Certified:
     return Certified("check", "", found.waste, found.classes, f"{made}\n", text, forced)
 
 
-def fit(parts: Sequence[tuple], divisor: int, among: Among, seen: list, rounds: int = ROUNDS) -> Certified:
+def fit(parts: Sequence[tuple], divisor: int, among: Among, seen: list) -> Certified:
     """The same of histories and timelines, and of their footprints. SEEN are tables whose columns are taken from the start; it gets
     those that are found."""
     if not seen:
         seen += [each for each in first_tables(parts) if all(load.unserved(each) is None for _, load in parts)]
     best: Optional[Certified] = None
-    for _ in range(rounds):
+    for _ in range(ROUNDS):
         text, forced = history(columns(parts, divisor, seen[-MOST_TABLES:]), among)
         _, made = figures.run(["fit", *among.words()], text)
         found = texts.parse_fit(made)

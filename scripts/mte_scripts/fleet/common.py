@@ -11,7 +11,6 @@ import math
 import os
 from collections.abc import Iterable, Sequence
 from fractions import Fraction
-from pathlib import Path
 from typing import NamedTuple, Optional
 
 from mte_scripts import claims, texts
@@ -19,7 +18,7 @@ from mte_scripts.fleet import bounds, loads, regret
 from mte_scripts.recording import timelines
 from mte_scripts.tables import figures
 from mte_scripts.texts import MOST_COUNT, Refused
-from mte_scripts.words import Words, between, named
+from mte_scripts.words import TABLES, Words, between, named
 
 HELP = f"""\
 {claims.TEMPLATES["worst.help"]}.
@@ -120,8 +119,8 @@ class Search:
     def is_closed(self) -> bool:
         return self.first is not None and self.low is not None and self.first[0][0] <= self.low[0]
 
-    def run(self) -> None:
-        """Round by round, with more weight on what the round's table is far above."""
+    def run(self) -> Table:
+        """The table that is found round by round, with more weight on what the round's table is far above."""
         for bound in self.own:
             self.offer(bound.classes)
         for _, classes in figures.other_tables([]):
@@ -135,8 +134,9 @@ class Search:
             step = math.sqrt(2 * math.log(len(weights) + 1) / (at + 1)) / spread
             weights = [weight * math.exp(step * float(ratio - max(ratios))) for weight, ratio in zip(weights, ratios)]
             weights = [max(weight / sum(weights), 1e-9) for weight in weights]
-        if not self.is_closed():
+        if self.first and not self.is_closed():
             self.move()
+        return self.table()
 
     def served(self, classes: list) -> list:
         """A table of joined loads of which small counts were rounded away: with the largest need, where it lacks that."""
@@ -148,8 +148,6 @@ class Search:
 
     def move(self) -> None:
         """Moves one class at a time to another need, while the worst ratio falls."""
-        if self.first is None:
-            return
         step = self.among.step
         needs = sorted({-(-timelines.need_of(size) // step) * step for load in self.given for size in load.sizes})
         each = sum(50 if load.kind == "timeline" else max(len(load.members), 1) for load in self.given)
@@ -173,9 +171,7 @@ class Search:
 
 def of(given: Sequence[loads.Load], own: Sequence[bounds.Bound], among: bounds.Among) -> Table:
     """A table in common for these loads, of which the bounds are known."""
-    search = Search(given, own, among)
-    search.run()
-    return search.table()
+    return Search(given, own, among).run()
 
 
 def together(given: Sequence[loads.Load]) -> loads.Load:
@@ -239,18 +235,14 @@ def write_certificates(folder: str, own: Iterable[bounds.Bound], table: Table, s
     each = ", ".join(map(str, table.numbers))
     lines.append(f"Joined: the loads in their order, times {each}, added up, divided by {table.divisor:,} and rounded down.\n")
     files["claims.txt"] = "".join(lines).encode(errors="surrogateescape")
-    try:
-        os.mkdir(folder)
-        for name, data in files.items():
-            Path(folder, name).write_bytes(data)
-    except OSError as error:
-        raise Refused(3, f"{error.filename or folder} can't be written: {error.strerror}") from None
+    texts.new_folder(folder, "--certificates")
+    for name, data in files.items():
+        texts.write_file(os.path.join(folder, name), data)
 
 
 def main(words: list) -> int:
     defaults = {"by": "worst", **bounds.AMONG_DEFAULTS}
-    parser = Words(HELP, "names", defaults, by=named("worst", "total"), hold_out=between(2, 1000), **bounds.AMONG_KINDS)
-    options = parser.take(words, once=True)
+    options = Words(HELP, "names", defaults, by=named("worst", "total"), hold_out=between(2, 1000), **TABLES).take(words, once=True)
     if not options.names or options.names.count("-") > 1:
         raise Refused(2, "name the loads, standard input once; --help says more")
     among = bounds.Among.of(options)

@@ -115,8 +115,7 @@ class Load:
             return None
         if self.kind != "profile":
             return sum(member.weight * member.footprint(classes) for member in self.members)
-        blocks = figures.Blocks(classes)
-        return sum(blocks.of(size) * count for size, count in self.counts.items())
+        return sum(figures.block_of(classes, size) * count for size, count in self.counts.items())
 
     def at_peaks(self, classes: list) -> list:
         """For each class of a table, by size, the blocks of all members, each at its own moment of the most blocks of the class, times

@@ -89,16 +89,13 @@ def write_folder(folder: str, groups: list) -> int:
     """A file for each group, where no file was before. All texts are made before the first is written."""
     every = [(values, ending, text) for values, records in groups for ending, text in texts_of(records)]
     made = [(os.path.join(folder, *map(name_of, values)) + ending, text) for values, ending, text in every]
+    texts.new_folder(folder, "--output")
     try:
-        os.mkdir(folder)
         for path, text in made:
             os.makedirs(os.path.dirname(path), exist_ok=True)
-            with open(path, "x", encoding="ascii") as file:
-                file.write(text)
-    except FileExistsError as error:
-        raise Refused(3, f"{error.filename} is there already: move it away, or name another folder") from None
+            texts.write_file(path, text)
     except OSError as error:
-        raise Refused(3, f"{error.filename or folder} can't be written: {error.strerror}") from None
+        raise Refused(3, f"{error.filename} can't be made: {error.strerror}") from None
     return len(made)
 
 

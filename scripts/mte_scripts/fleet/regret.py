@@ -6,10 +6,11 @@ from collections.abc import Iterable, Sequence
 from typing import NamedTuple, Optional
 
 from mte_scripts import claims, texts
-from mte_scripts.fleet import bounds, loads, regret_picture
+from mte_scripts.fleet import bounds, loads
+from mte_scripts.reports import pictures
 from mte_scripts.tables import figures
 from mte_scripts.texts import Refused
-from mte_scripts.words import Words, decimal
+from mte_scripts.words import TABLES, Words, decimal
 
 HELP = f"""\
 Say {claims.TEMPLATES["regret.help"]}, by a certificate for
@@ -46,8 +47,9 @@ Examples:
   fleet_regret in_use.classes --limit-percent 2 --plot regret.svg days/redis/*.profile
 """
 
-WIDTH = 80
+WIDTH = 80  # of a table
 HUNDREDTHS = 10**4  # of a percent, in a whole
+WIDE, HIGH, BELOW, MOST_DAYS = 760, 320, 40, 8  # of the picture, and how many days it names
 
 
 class Regret(NamedTuple):
@@ -85,10 +87,6 @@ def compared(load: loads.Load, bound: bounds.Bound, classes: list) -> Regret:
     return Regret(load, bound, cost, None if cost is None else percent_above(cost, bound.amount), load.unserved(classes))
 
 
-def regret_of(load: loads.Load, classes: list, among: bounds.Among) -> Regret:
-    return compared(load, bounds.of(load, among), classes)
-
-
 def is_within(found: Iterable[Regret], limit: Optional[float]) -> bool:
     return limit is None or all(each.above is not None and each.above <= limit for each in found)
 
@@ -111,10 +109,7 @@ def table_text(found: list, held_out: Sequence[Regret] = ()) -> str:
         rows.append((each.load.name, cost, figures.number(each.bound.amount), shown(each)))
     if held_out:
         rows = [(*row, cell) for row, cell in zip(rows, ["held out", *map(shown, held_out)])]
-    widths = [max(map(len, column)) for column in zip(*rows)]
-    name = min(widths[0], max(WIDTH - sum(widths[1:]) - 2 * len(widths[1:]), 12))
-    cut = [(row[0] if len(row[0]) <= name else ".." + row[0][2 - name :], *row[1:]) for row in rows]
-    return "".join(f"{line}\n" for line in texts.columns(cut))
+    return "".join(f"{line}\n" for line in texts.columns(rows, most=WIDTH))
 
 
 def summary(found: list, name: str, limit: Optional[float]) -> str:
@@ -129,7 +124,7 @@ def summary(found: list, name: str, limit: Optional[float]) -> str:
 
 
 def wrapped(text: str) -> str:
-    return "".join(f"{line}\n" for line in texts.wrapped(text, WIDTH))
+    return "".join(f"{line}\n" for line in texts.wrapped(text))
 
 
 def as_json(found: list, name: str, classes: list, among: bounds.Among, limit: Optional[float]) -> str:
@@ -149,9 +144,34 @@ def as_json(found: list, name: str, classes: list, among: bounds.Among, limit: O
     return json.dumps(whole, indent=1) + "\n"
 
 
+def picture(title: str, points: list, limit: Optional[float], note: str) -> str:
+    """The picture of (program, day, percent), a line for each program, in the order of the days; the limit as a broken line."""
+    programs = sorted({program for program, _, _ in points})
+    days = sorted({day for _, day, _ in points})
+    drawing = pictures.Drawing(WIDE, HIGH, BELOW + 18 * len(programs), title)
+    top = 1.15 * max([limit or 0.0, *(percent for _, _, percent in points)], default=0.0) or 1.0
+    drawing.levels(top, 6, lambda value: f"{value:g}%")
+
+    def across(day: str) -> float:
+        return drawing.x((days.index(day) + 0.5) / len(days))
+
+    for day in days[:: max(-(-len(days) // MOST_DAYS), 1)]:
+        drawing.tick(across(day), day)
+    if limit is not None:
+        y = pictures.shown(drawing.y(limit, top))
+        drawing.parts.append(f'<path class="limit" d="M{drawing.left} {y}H{drawing.right}"><title>the limit, {limit:g}%</title></path>')
+    for at, program in enumerate(programs):
+        own = sorted((day, percent) for name, day, percent in points if name == program)
+        drawing.curve(at, [(across(day), drawing.y(percent, top), f"{program}, {day}: {percent:,.2f}%") for day, percent in own])
+        drawing.key(at, drawing.left, HIGH - 12 - 18 * (len(programs) - 1 - at), program or "all")
+    if note:
+        drawing.text(drawing.right, 12, note, "end")
+    return drawing.svg(title)
+
+
 def main(words: list) -> int:
     percentage = decimal(0, 1_000_000, "a percentage")
-    given = Words(HELP, "names", bounds.AMONG_DEFAULTS, limit_percent=percentage, **bounds.AMONG_KINDS).take(words, once=True)
+    given = Words(HELP, "names", bounds.AMONG_DEFAULTS, limit_percent=percentage, **TABLES).take(words, once=True)
     if len(given.names) < 2:
         raise Refused(2, "name a table, and then the loads of its days; --help says more")
     if given.names.count("-") > 1:
@@ -159,12 +179,12 @@ def main(words: list) -> int:
     among = bounds.Among.of(given)
     classes = texts.class_line(given.names[0])
     name = texts.printable(figures.without_ending(given.names[0], ".classes", ".sheet", ".fit"))
-    found = [regret_of(load, classes, among) for load in loads.read(given.names[1:])]
+    found = [compared(load, bounds.of(load, among), classes) for load in loads.read(given.names[1:])]
     if given.plot:
         title = claims.TEMPLATES["regret.title"].format(table=name)
         points = [(each.load.program, each.load.day, each.above) for each in found if each.above is not None]
         note = "" if texts.trust().is_proved else claims.not_proved(texts.trust())
-        texts.write_file(given.plot, regret_picture.svg(title, points, given.limit_percent, note))
+        texts.write_file(given.plot, picture(title, points, given.limit_percent, note))
     if given.json:
         texts.write(as_json(found, name, classes, among, given.limit_percent))
     else:

@@ -126,27 +126,24 @@ def values_of(path: str) -> Values:
 
 
 def compared(sums: dict) -> Values:
+    """The values of machines; of a pilot, which has no other group, those before."""
     mean: Callable = lambda days, at: sum(day[at] for day in days.values()) / len(days)
-    found, has_before = {}, all("before" in groups for groups in sums.values())
+    is_pilot = all(groups.keys() == {"before"} for groups in sums.values())
+    has_before = not is_pilot and all("before" in groups for groups in sums.values())
     before = []
     resident: dict = {}
     requests: dict = {}
     for (program, machine), groups in sums.items():
-        own = [group for group in groups if group != "before"]
+        own = [group for group in groups if is_pilot or group != "before"]
         if len(own) > 1:
             raise Refused(2, f"the machine {machine} of {program} is in both groups")
-        if own:
-            found[program, machine] = own[0]
-            value = mean(groups[own[0]], 0)
+        for group in own:
+            value = mean(groups[group], 0)
             if has_before:
                 before.append(mean(groups["before"], 0))
                 value -= before[-1]
-            resident.setdefault(program, {}).setdefault(own[0], []).append(value)
-            requests.setdefault(program, {}).setdefault(own[0], []).append(mean(groups[own[0]], 1))
-    if not found:  # a pilot
-        for (program, _), groups in sums.items():
-            resident.setdefault(program, {}).setdefault("before", []).append(mean(groups["before"], 0))
-            requests.setdefault(program, {}).setdefault("before", []).append(mean(groups["before"], 1))
+            resident.setdefault(program, {}).setdefault(group, []).append(value)
+            requests.setdefault(program, {}).setdefault(group, []).append(mean(groups[group], 1))
     return Values(resident, requests, sum(before) / len(before) if before else None)
 
 
@@ -199,9 +196,7 @@ class Read(NamedTuple):
 
 def read(values: Values, level: float) -> Read:
     parts = strata(values.resident)
-    rows = []
-    for program, _, first, second in parts:
-        rows.append((program, first, second, samples.difference([(1.0, first, second)], level)))
+    rows = [(program, first, second, samples.difference([(1.0, first, second)], level)) for program, _, first, second in parts]
     whole = samples.difference([part[1:] for part in parts], level)
     mean = values.before or sum(share * first.mean for _, share, first, _ in parts)
     load = strata(values.requests)
@@ -334,13 +329,11 @@ def predict(words: list) -> int:
     whole = Predicted("all", machines, whole_old / machines, whole_new / machines)
     if given.json:
         each_row = [{**each._asdict(), "saving_kib": each.old - each.new} for each in (*found, whole)]
-        texts.write(json.dumps({"programs": each_row[:-1], "all": each_row[-1]}, indent=1) + "\n")
-        return 0
+        return texts.write(json.dumps({"programs": each_row[:-1], "all": each_row[-1]}, indent=1) + "\n")
     rows: list[tuple] = [("Program", "machines", "old, KiB", "new, KiB", "saving, KiB")]
     for each in (*found, whole):
         rows.append((texts.printable(each.program), *(f"{value:,.0f}" for value in (each.machines, each.old, each.new, each.old - each.new))))
-    texts.write("".join(f"{line}\n" for line in texts.columns(rows)))
-    return 0
+    return texts.write("".join(f"{line}\n" for line in texts.columns(rows)))
 
 
 def file_of(given: argparse.Namespace) -> str:
@@ -351,8 +344,7 @@ def file_of(given: argparse.Namespace) -> str:
 
 def assign(words: list) -> int:
     given = options_of(words, "names", "seed")
-    texts.write(assigned(lines_of(file_of(given), 2, "program and machine"), given.seed))
-    return 0
+    return texts.write(assigned(lines_of(file_of(given), 2, "program and machine"), given.seed))
 
 
 def plan(words: list) -> int:
@@ -366,8 +358,7 @@ def plan(words: list) -> int:
         begin = f"The pilot: a mean of {mean:,.0f} KiB, and a spread of {100 * spread:.2f}%.\n"
         if not spread:
             raise Refused(3, "all machines of the pilot take the same: there is no spread to plan with")
-    texts.write(begin + plan_text(given.saving / 100, spread, given))
-    return 0
+    return texts.write(begin + plan_text(given.saving / 100, spread, given))
 
 
 def read_result(words: list) -> int:

@@ -8,16 +8,16 @@ since no class is below two granules. So each class of a table there is a pool, 
 Several runs are one text: each but the last is ended by the frees of its live blocks. So at each moment the blocks of one run are live, and
 the most of a class over all is the most in any run."""
 
-import re
 from bisect import bisect_left
 from collections import Counter
-from collections.abc import Callable, Iterable, Iterator
+from collections.abc import Callable, Iterable
 from typing import NamedTuple, Union
 
 from mte_scripts import texts
-from mte_scripts.formats import CODES, GRANULE_BYTES, LARGEST_CLASS, LARGEST_SIZE, MOST_COUNT, MOST_INPUT, MOST_SNAPSHOTS
+from mte_scripts.formats import GRANULE_BYTES, LARGEST_CLASS, LARGEST_SIZE, MOST_COUNT, MOST_INPUT, MOST_SNAPSHOTS
 from mte_scripts.recording import timelines
 from mte_scripts.running import Refused
+from mte_scripts.tables import figures
 
 UNITS = (4, 8, 16, 32)
 MOST_OVERHEAD = 4096
@@ -46,14 +46,10 @@ class Timeline:
     def __init__(self, name: str, data: bytes) -> None:
         self.name = name
         self.data = data
-        self.events = set().union(*self.pieces())
+        self.events = set().union(*timelines.events_of(self.data))
         self.sizes = {int(event) for event in self.events if event.isdigit()}
         self.has_large = b"large" in self.events
         self.counted: dict[tuple[int, ...], list[int]] = {}
-
-    def pieces(self) -> Iterator[list[bytes]]:
-        """The events, some thousands at once."""
-        return timelines.events_of(self.data)
 
     def most(self, holds: list[int]) -> list[int]:
         """The most blocks live at once of each pool, whose largest requests ascend; the last number is of what no pool holds."""
@@ -70,7 +66,7 @@ class Timeline:
             places[event] = place if event == word else ~place
         live = [0] * (len(holds) + 1)
         most = live[:]
-        for piece in self.pieces():
+        for piece in timelines.events_of(self.data):
             for place in map(places.__getitem__, piece):
                 if place < 0:
                     live[~place] -= 1
@@ -86,7 +82,7 @@ class Timeline:
         for size, other in given.items():
             words[b"%d" % size], words[b"-%d" % size] = b"%d" % other, b"-%d" % other
         made = bytearray()
-        for piece in self.pieces():
+        for piece in timelines.events_of(self.data):
             made += b"\n".join(map(words.__getitem__, piece)) + b"\n"
         if not is_last:
             for event, count in self.left().items():
@@ -96,7 +92,7 @@ class Timeline:
     def left(self) -> Counter[bytes]:
         """How many blocks of each size are live at the end."""
         live: Counter[bytes] = Counter()
-        for piece in self.pieces():
+        for piece in timelines.events_of(self.data):
             live.update(piece)
         for event in [event for event in live if event.startswith(b"-")]:
             live[event[1:]] -= live.pop(event)
@@ -139,9 +135,6 @@ class Given(NamedTuple):
         """The bytes of pools whose table has this footprint. Each footprint is a multiple; a bound is rounded up to one."""
         return -(-footprint // (GRANULE_BYTES * self.scale)) * block.unit
 
-    def table(self, units: Iterable[int]) -> list[int]:
-        return [self.scale * each for each in units]
-
 
 def runs_of(paths: list[str]) -> list[Run]:
     """The runs in these files: timelines alone, or histories alone."""
@@ -158,7 +151,7 @@ def run_of(path: str) -> Run:
     data, name = texts.read_some(path), texts.printable(texts.named(path))
     first = data.split(b"\n", 1)[0]
     if first == b"timeline":
-        well_formed(name, data)
+        figures.refuse_timeline(data, name)
         return Timeline(name, data)
     if texts.is_history(data):
         return History(name, texts.parse_history(data, name))
@@ -166,18 +159,6 @@ def run_of(path: str) -> Run:
         raise Refused(2, f"{name}: {wrong}")
     kind = "a profile, which has no moments" if texts.counted(first) else "no timeline and no history"
     raise Refused(2, f"{name}: line 1 is of {kind}: `timeline` or `snapshots T` has to stand there, and not {texts.shown(first)}")
-
-
-def well_formed(name: str, data: bytes) -> None:
-    """Refuses a timeline at its first faulty line, which the program finds."""
-    status, _, error = texts.mte_tool(["footprint"], b"classes %d\n" % LARGEST_CLASS + data)
-    match = re.fullmatch(r"error (\d+) \w+ line (\d+)", error)
-    if match:
-        at = int(match[2]) - 1
-        line = next(line for number, line in enumerate(data.split(b"\n"), 1) if number == at)
-        raise Refused(2, f"{name}: line {at}: {texts.encoding(line, at) or CODES[int(match[1])].words}: {texts.shown(line)}")
-    if status not in (0, 1):
-        raise Refused(2 if status == 2 else 3, f"`mte_tool footprint` of {name} failed: {error or f'its status is {status}'}")
 
 
 def joined(runs: list[Run], block: Block) -> Given:

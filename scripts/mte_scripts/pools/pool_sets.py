@@ -13,7 +13,8 @@ from mte_scripts.pools.pool_runs import Block, Given, Run
 from mte_scripts.running import Refused
 from mte_scripts.tables import figures
 
-LINE = re.compile(r"(unit|overhead) (0|[1-9][0-9]{0,4})|pool ([1-9][0-9]{0,5}) ([1-9][0-9]{0,9})")
+# the first line, the second one, and each further one
+LINES = [re.compile(form) for form in ("unit (0|[1-9][0-9]{0,4})", "overhead (0|[1-9][0-9]{0,4})", "pool ([1-9][0-9]{0,5}) ([1-9][0-9]{0,9})")]
 
 
 class Pool(NamedTuple):
@@ -86,16 +87,16 @@ def read(path: str) -> PoolSet:
     at = next((at for at, line in enumerate(lines) if line.startswith("classes")), len(lines))
     values = []
     for number, line in enumerate(lines[:at], 1):
-        match = LINE.fullmatch(line)
-        values.append((match[1] or "pool", tuple(int(value) for value in match.groups()[1:] if value)) if match else None)
-        if not match or values[-1][0] != ("unit", "overhead", "pool")[min(number, 3) - 1]:
+        match = LINES[min(number, 3) - 1].fullmatch(line)
+        if not match:
             raise Refused(2, f"{name}: {texts.encoding(os.fsencode(line), number) or f'line {number} is no line of pools: {line[:60]}'}")
+        values.append(tuple(map(int, match.groups())))
     if at < 3 or at == len(lines):
         raise Refused(2, f"{name}: these are no whole pools: did the command that writes them fail?")
-    block = Block(values[0][1][0], values[1][1][0])
+    block = Block(*values[0], *values[1])
     if block.unit not in pool_runs.UNITS or block.overhead > pool_runs.MOST_OVERHEAD:
         raise Refused(2, f"{name}: no pools have a unit of {block.unit} bytes with {block.overhead} of overhead")
-    return PoolSet(block, [Pool(*pair) for _, pair in values[2:]], "".join(f"{line}\n" for line in lines[at:]))
+    return PoolSet(block, [Pool(*pair) for pair in values[2:]], "".join(f"{line}\n" for line in lines[at:]))
 
 
 class Verdict(NamedTuple):
@@ -113,17 +114,10 @@ def judged(pools: PoolSet, runs: list[Run]) -> Verdict:
         raise Refused(2, f"the pools are of {kinds[not moments]}, and these runs are {kinds[runs[0].is_sampled]}")
     fit = texts.parse_fit(rows, "the fit of the pools")
     given = pools.given or pool_runs.joined(runs, pools.block)
-    status, out, error = texts.mte_tool(["check-fit"], pools.fit.encode() + given.text)
-    if status not in (0, 1):
-        raise Refused(2 if status == 2 else 3, f"`mte_tool check-fit` refuses the fit: {error or f'its status is {status}'}")
-    verdict = out.decode("ascii", "replace").strip()
-    judged = of_runs(runs, pools, verdict, fit.limit)
-    return Verdict(judged, claims.pools_refusal(judged) if verdict != "optimal" else difference(pools, runs, given, fit))
-
-
-def of_runs(runs: list[Run], pools: PoolSet, verdict: str, limit: int) -> claims.Pools:
+    _, verdict = figures.run(["check-fit"], pools.fit.encode() + given.text)
     names = claims.listed(run.name for run in runs)
-    return claims.Pools(verdict, limit, pools.block.unit, pools.block.overhead, names, pools.bytes, runs[0].is_sampled)
+    judged = claims.Pools(verdict, fit.limit, pools.block.unit, pools.block.overhead, names, pools.bytes, runs[0].is_sampled)
+    return Verdict(judged, claims.pools_refusal(judged) if verdict != "optimal" else difference(pools, runs, given, fit))
 
 
 def difference(pools: PoolSet, runs: list[Run], given: Given, fit: texts.Fit) -> str:

@@ -80,11 +80,10 @@ class Options(argparse.Namespace):
         self.agree(parser.given(words))
 
     def agree(self, given: list[str]) -> None:
-        for one in ("--check", "--read"):
-            own = {"--check": ("--check", "--limit", "--unit", "--overhead"), "--read": ("--read", "--as", "--reserve", "--name")}[one]
-            for other in given if one in given else ():
-                if other not in own:
-                    raise Refused(2, f"{one} takes the pools of a file: {other} has no place beside it")
+        for one, *beside in (("--check", "--limit", "--unit", "--overhead"), ("--read", "--as", "--reserve", "--name")):
+            others = [other for other in given if other not in (one, *beside)]
+            if one in given and others:
+                raise Refused(2, f"{one} takes the pools of a file: {others[0]} has no place beside it")
         if self.read is not None:
             if self.as_ is None or self.runs:
                 raise Refused(2, "--read prints the pools of a file by --as FORM, and reads no run: --check compares them with runs")
@@ -169,7 +168,7 @@ def each_number(options: Options, runs: list) -> int:
         if not its.fit:
             break
     so = claims.TEMPLATES["pools.each.so"] if its.fit and options.limit > 1 else ""
-    lines = [*in_columns(rows, 2), "", *wrapped(f"{known} {so}")]
+    lines = [*texts.columns(rows, left=2), "", *wrapped(f"{known} {so}")]
     for note in warnings(runs):
         lines += wrapped(f"! {note}", "  ")
     texts.write("".join(f"{line}\n" for line in lines))
@@ -190,8 +189,7 @@ def check(options: Options) -> int:
         raise Refused(1, f"{name}: {found.why}")
     for note in warnings(runs):
         texts.say("pools", note)
-    texts.write(claims.pools_sentence(found.judged, texts.trust()) + "\n")
-    return 0
+    return texts.write(claims.pools_sentence(found.judged, texts.trust()) + "\n")
 
 
 def warnings(runs: list) -> "Iterator[str]":
@@ -238,19 +236,13 @@ def table(options: Options, runs: list, its: pool_sets.PoolSet) -> list[str]:
         rows[-1] += [names[0] + (f" and {len(names) - 1} more" if len(names) > 1 else "")] * (len(runs) > 1)
     total = pool_sets.bytes_of(its.with_reserve(options.reserve))
     rows.append(["", "", "", *[""] * bool(options.reserve), number(total), *[""] * (len(runs) > 1)])
-    return in_columns(rows, 4 + bool(options.reserve))
+    return texts.columns(rows, left=4 + bool(options.reserve))
 
 
 def short_names(runs: list) -> list[str]:
     """The names of the files without their folders, where no two are the same."""
     names = [os.path.basename(run.name) for run in runs]
     return names if len(set(names)) == len(names) else [run.name for run in runs]
-
-
-def in_columns(rows: list[list[str]], numbers: int) -> list[str]:
-    """Rows with so many columns of numbers, and names after them."""
-    widths = [max(len(row[at]) for row in rows) for at in range(numbers)]
-    return ["  ".join([*(cell.rjust(width) for cell, width in zip(row, widths)), *row[numbers:]]).rstrip() for row in rows]
 
 
 def today_lines(options: Options, runs: list, its: pool_sets.PoolSet) -> list[str]:
@@ -260,7 +252,7 @@ def today_lines(options: Options, runs: list, its: pool_sets.PoolSet) -> list[st
     rows = [["Today", "Blocks", "Used", "Bytes"]]
     rows += [list(map(number, (pool.block, pool.number, used, pool.block * pool.number))) for pool, used in zip(options.today, most)]
     total, own = pool_sets.bytes_of(options.today), its.bytes
-    lines = in_columns([*rows, ["", "", "", number(total)]], 4)
+    lines = texts.columns([*rows, ["", "", "", number(total)]], left=4)
     short = [f"{number(pool.block)} by {number(used - pool.number)}" for pool, used in zip(options.today, most) if used > pool.number]
     change = f"{number(abs(total - own))} bytes {'less' if own <= total else 'more'}"
     change += f", {percent(abs(total - own), total)}" if total else ""

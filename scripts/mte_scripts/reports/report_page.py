@@ -70,7 +70,7 @@ FIRST_OCTAVE, OCTAVES = 3, 11  # the sizes from 8 bytes to 16 KiB
 def page(figures: Figures, name: str, counted: str, warnings: list[str], checks: list[str], tables: "str | None" = None) -> str:
     """The page for a program or a profile of this name. COUNTED says what was counted, CHECKS are the commands that check the sheet or the fit of
     the first table, and that of the other one, if there is one. TABLES is the file beside it with the page of scripts/page, if that is made."""
-    first, judged = figures.first, figures.first_judged
+    first, judged = figures.first, figures.judged[0]
     known = figures.known()
     proved = int(claims.holds(judged) and texts.trust().is_proved)
     caption = claims.curve_caption(judged.kind, judged.step, judged.given, judged.forced)
@@ -200,7 +200,7 @@ def footprint_cells(figures: Figures, table: Table) -> str:
     cells, saving = cell("footprint", table.footprint, kibibytes(table.footprint)), figures.saved_footprint(table)
     if saving is None or table is figures.first:
         return cells + "<td></td>"
-    return cells + cell("saved", saving, with_share(kibibytes(saving), saving, table.footprint or 1))
+    return cells + cell("saved", saving, with_share(kibibytes(saving), saving, table.footprint))
 
 
 def least_row(figures: Figures, classes: int, cost: int) -> str:
@@ -270,7 +270,7 @@ def byte_levels(picture: Picture, top: float, most: int) -> None:
 def curve(figures: Figures, kind: str, width: int, height: int) -> str:
     """The least cost by the number of classes, and each table as a point."""
     words, is_waste = claims.TEMPLATES, figures.objective == "waste"
-    picture = Picture(kind, width, height, 46 if is_waste else 70, words[f"{figures.first_judged.kind}.curve.axis"])
+    picture = Picture(kind, width, height, 46 if is_waste else 70, words[f"{figures.judged[0].kind}.curve.axis"])
     most = max([len(figures.least)] + [len(table.classes) for _, table in served(figures)])
     # as high as the worst table, or as 8 classes, and some more: tables of very few classes cost far more
     top = 1.15 * max([figures.least[:8][-1]] + [figures.cost(table) for _, table in served(figures)]) or figures.bytes / 100
@@ -294,7 +294,7 @@ def curve(figures: Figures, kind: str, width: int, height: int) -> str:
     for style, table in reversed(served(figures)):
         title = f"{table.name}: {len(table.classes)} classes, {number(figures.cost(table))} bytes"
         picture.parts.append(mark(style, *at(len(table.classes), figures.cost(table)), title))
-    return picture.svg(words[f"{figures.first_judged.kind}.curve"])
+    return picture.svg(words[f"{figures.judged[0].kind}.curve"])
 
 
 def default_of(figures: Figures) -> tuple[int, Table]:

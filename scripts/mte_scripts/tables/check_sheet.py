@@ -1,12 +1,11 @@
 """Checks a sheet or a fit in a build, and says what it finds in words. `check_sheet --help` says all."""
 
 import argparse
-import os
 import re
 from typing import Any
 
 from mte_scripts import claims, texts
-from mte_scripts.words import Words, between, one_of
+from mte_scripts.words import TABLES, Words
 
 HELP = """Check a sheet or a fit in a build: does mte_tool accept it for your profile, history or timeline, your number of classes and your
 step? The last line says among which tables its table is the first then; where it is refused, what is wrong, and with which of the
@@ -38,24 +37,22 @@ MOST_OF_A_SHEET = 1 << 20
 
 
 def check(words: list[str]) -> int:
-    parser = Words(HELP, "names", {"step": 1}, limit=between(1, texts.MOST_CLASSES), step=one_of(1, 2, 4, 8))
-    options = parser.take(words, once=True)
+    options = Words(HELP, "names", {"step": 1}, **TABLES).take(words, once=True)
     names = options.names
     if len(names) != 2:
         raise texts.Refused(2, "name a sheet and a profile, or a fit and a history or a timeline; `check_sheet --help` says all")
     if "-" in names:
         raise texts.Refused(2, "standard input is not read: give the names of two files")
-    sheet_bytes, counts_bytes = non_empty(names[0], MOST_OF_A_SHEET, "no sheet has"), non_empty(names[1], texts.MOST_INPUT, "mte_tool reads")
+    sheet_bytes, counts_bytes = texts.read_some(names[0], MOST_OF_A_SHEET, "no sheet has"), texts.read_some(names[1])
     is_fit = bool(re.search(rb"(?m)^footprint ", sheet_bytes))
     kind = "profile" if not is_fit else "timeline" if texts.is_timeline(counts_bytes) else "history"
-    texts.write(COUNTED[kind](names[1], counts_bytes))
+    texts.write(counted(names[1], counts_bytes, kind))
     sheet = whole_sheet(names[0], sheet_bytes, is_fit)
     if is_fit and (sheet.moments is None) != (kind == "history"):
         of = "history" if sheet.moments is None else "timeline"
         raise texts.Refused(1, f"{names[0]} is the fit of a {of}, and {names[1]} is a {kind}: fit again")
     meets_options(names[0], sheet, options)
-    ending = b"" if sheet_bytes.endswith(b"\n") else b"\n"
-    status, answer, error = texts.mte_tool(["check-fit" if is_fit else "check"], sheet_bytes + ending + counts_bytes)
+    status, answer, error = texts.mte_tool(["check-fit" if is_fit else "check"], sheet_bytes.removesuffix(b"\n") + b"\n" + counts_bytes)
     if status not in (0, 1):
         raise texts.Refused(status if status in (2, 3) else 3, whose_fault(error, len(texts.lines_of(sheet_bytes)), names, kind))
     cost = sheet.footprint if is_fit else sheet.waste
@@ -63,8 +60,7 @@ def check(words: list[str]) -> int:
     judged = claims.Judged(kind, verdict, sheet.limit, sheet.step, sheet.classes, texts.printable(names[1]), cost, ())
     if not claims.holds(judged):
         raise texts.Refused(1, f"{names[0]}: {verdict}. {claims.refusal(judged)}".rstrip())
-    texts.write(claims.answer(judged, texts.trust()) + "\n")
-    return 0
+    return texts.write(claims.answer(judged, texts.trust()) + "\n")
 
 
 def whole_sheet(name: str, data: bytes, is_fit: bool) -> Any:
@@ -85,37 +81,23 @@ def meets_options(name: str, sheet: Any, options: argparse.Namespace) -> None:
     texts.write(f"it is for --limit {sheet.limit} and --step {sheet.step}\n")
 
 
-def counted_in_profile(name: str, data: bytes) -> str:
-    served = {size: count for size, count in texts.parse_profile(data, name).items() if size != "large" and count}
-    if not served:
-        raise texts.Refused(2, f"{name} counts no request of at most {texts.LARGEST_SIZE} bytes: was the right program counted?")
-    return f"the profile counts {sum(served.values())} requests of {len(served)} sizes\n"
-
-
-def counted_in_history(name: str, data: bytes) -> str:
-    found = texts.parse_history(data, name)
-    sizes = len(found.counts.keys() - {"large"})
+def counted(name: str, data: bytes, kind: str) -> str:
+    """What the profile, the history or the timeline counts. Of a timeline mte_tool finds what is wrong with its lines."""
+    none = "counts no request"
+    if kind == "profile":
+        served = {size: count for size, count in texts.parse_profile(data, name).items() if size != "large" and count}
+        sizes, what = len(served), f"the profile counts {sum(served.values())} requests of {len(served)} sizes"
+    elif kind == "history":
+        found = texts.parse_history(data, name)
+        sizes, none = len(found.counts.keys() - {"large"}), "counts no block"
+        what = f"the history counts blocks of {sizes} sizes at {found.snapshots} snapshots"
+    else:
+        events = texts.lines_of(data)[1:]
+        sizes, none = len({event for event in events if event.isdigit()}), "has no request"
+        what = f"the timeline has {len(events)} events, with requests of {sizes} sizes"
     if not sizes:
-        raise texts.Refused(2, f"{name} counts no block of at most {texts.LARGEST_SIZE} bytes: was the right program counted?")
-    return f"the history counts blocks of {sizes} sizes at {found.snapshots} snapshots\n"
-
-
-def counted_in_timeline(name: str, data: bytes) -> str:
-    """mte_tool finds what is wrong with its lines."""
-    events = texts.lines_of(data)[1:]
-    sizes = {event for event in events if event.isdigit()}
-    if not sizes:
-        raise texts.Refused(2, f"{name} has no request of at most {texts.LARGEST_SIZE} bytes: was the right program recorded?")
-    return f"the timeline has {len(events)} events, with requests of {len(sizes)} sizes\n"
-
-
-COUNTED = {"profile": counted_in_profile, "history": counted_in_history, "timeline": counted_in_timeline}
-
-
-def non_empty(path: str, most: int, whose: str) -> bytes:
-    if os.path.isdir(path):
-        raise texts.Refused(2, f"{path} is a folder")
-    return texts.read_some(path, most, whose)
+        raise texts.Refused(2, f"{name} {none} of at most {texts.LARGEST_SIZE} bytes: was it the right program?")
+    return f"{what}\n"
 
 
 def whose_fault(error: str, lines: int, names: list[str], kind: str) -> str:

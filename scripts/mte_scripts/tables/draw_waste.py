@@ -68,10 +68,6 @@ def table(curves: list[Curve]) -> str:
     return "".join(lines)
 
 
-def shortened(name: str) -> str:
-    return name if len(name) <= LONGEST_NAME else name[: LONGEST_NAME - 2] + ".."
-
-
 def picture(curves: list[Curve]) -> str:
     drawing = pictures.Drawing(WIDTH, HEIGHT, BELOW, claims.TEMPLATES["profile.curve.axis"])
     # the picture is as high as the largest share at 8 classes or of Scudo's, and some more
@@ -90,7 +86,8 @@ def picture(curves: list[Curve]) -> str:
         points = [(across(classes), drawing.y(share, top), f"{curve.name}, {classes}: {share:.2f}%") for classes, share in shares]
         drawing.curve(at, points)
         drawing.square(at, across(32.7 + 0.25 * at), drawing.y(curve.scudo, top), f"{curve.name}, Scudo's default: {curve.scudo:.2f}%")
-        drawing.key(at, drawing.right - 10, drawing.top + 20 + 20 * at, shortened(curve.name), "end")
+        name = curve.name if len(curve.name) <= LONGEST_NAME else curve.name[: LONGEST_NAME - 2] + ".."
+        drawing.key(at, drawing.right - 10, drawing.top + 20 + 20 * at, name, "end")
     notes = ["squares: Scudo's 32 default classes"]
     if not texts.trust().is_proved:
         notes.append(claims.not_proved(texts.trust()))

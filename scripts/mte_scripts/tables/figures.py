@@ -10,6 +10,7 @@ from collections.abc import Callable, Iterator
 from typing import NamedTuple, Optional
 
 from mte_scripts import claims, texts
+from mte_scripts.formats import CODES
 from mte_scripts.recording import timelines
 from mte_scripts.tables import scudo_map, scudo_memory
 
@@ -57,11 +58,15 @@ def run(words: list[str], given: "str | bytes") -> tuple[int, str]:
 
 
 def refuse_timeline(data: bytes, name: str) -> None:
-    """Refuses a timeline that has a faulty line."""
+    """Refuses a timeline at its first faulty line, which the program finds."""
     status, _, error = texts.mte_tool(["footprint"], class_text([texts.LARGEST_CLASS]).encode() + b"\n" + data)
+    if match := re.fullmatch(r"error (\d+) (\w+) line (\d+)", error):
+        at = int(match[3]) - 1
+        line = texts.lines_of(data)[at - 1]
+        why = texts.encoding(line, at) or CODES[int(match[1])].words
+        raise texts.Refused(2, f"{name}: {match[1]} {match[2]} line {at}: {why}: {texts.shown(line)}")
     if status not in (0, 1):
-        match = re.fullmatch(r"error (\d+ \w+) line (\d+)", error)
-        raise texts.Refused(2, f"{name}: {match[1]} line {int(match[2]) - 1}" if match else f"{name}: {error}")
+        raise texts.Refused(2 if status == 2 else 3, f"`mte_tool footprint` of {name} failed: {error or f'its status is {status}'}")
 
 
 class OverTime(NamedTuple):
@@ -109,26 +114,17 @@ class Table:
         status, answer = run(["score"], class_text(classes) + "\n" + profile_text(profile))
         number = int(answer.split()[-1])
         self.waste, self.unserved = (number, None) if status == 0 else (None, number)
-        # where there is a history or a timeline: its footprint, or the least size there that it does not serve
-        self.footprint: Optional[int] = None
-        self.unserved_over_time: Optional[int] = None
+        self.footprint: Optional[int] = None  # over a history or a timeline whose sizes it serves
 
     def over(self, text: bytes) -> None:
         status, answer = run(["footprint"], class_text(self.classes).encode() + b"\n" + text)
-        number = int(answer.split()[-1])
-        self.footprint, self.unserved_over_time = (number, None) if status == 0 else (None, number)
+        self.footprint = int(answer.split()[-1]) if status == 0 else None
 
 
-class Blocks:
-    """The blocks of a table, in bytes."""
-
-    def __init__(self, classes: list[int]) -> None:
-        self.classes = classes
-
-    def of(self, size: int) -> int:
-        """That of a size, which is 0 where no class serves it."""
-        at = bisect.bisect_left(self.classes, timelines.need_of(size))
-        return GRANULE * self.classes[at] if at < len(self.classes) else 0
+def block_of(classes: list[int], size: int) -> int:
+    """The block of a table for a size, in bytes; 0 where no class serves it."""
+    at = bisect.bisect_left(classes, timelines.need_of(size))
+    return GRANULE * classes[at] if at < len(classes) else 0
 
 
 class Figures:
@@ -144,32 +140,31 @@ class Figures:
         self.bytes = sum(size * count for size, count in self.counts.items())
         if not self.bytes:
             raise texts.Refused(3, NOTHING)
-        self.sheet = texts.parse_sheet(sheet)
-        self.best = Table(claims.name("profile"), self.sheet.classes, profile)
+        found = texts.parse_sheet(sheet)
+        self.best = Table(claims.name("profile"), found.classes, profile)
         if self.best.waste is None:
             unserved = f"the sheet's table does not serve {self.best.unserved} bytes, which the profile counts"
             raise texts.Refused(2, f"{unserved}: is it the sheet of another profile?")
-        self.tuned, self.verdict = self.checked(profile, sheet)
-        self.judged = claims.Judged(
-            "profile", self.verdict, self.sheet.limit, self.sheet.step, self.sheet.classes, given, self.best.waste, self.forced
-        )
+        self.tuned, verdict = self.checked(profile, sheet)
+        judged = [claims.Judged("profile", verdict, found.limit, found.step, found.classes, given, self.best.waste, self.forced)]
         self.others = [Table(name, classes, profile) for name, classes in others]
         self.timed = timed
         self.fitted: Optional[Table] = None
-        self.fit_judged: Optional[claims.Judged] = None
         if timed is not None:
-            self.take_fit(timed, profile, time_given)
+            judged.append(self.take_fit(timed, profile, time_given))
         self.objective = objective
+        # of the tables that are made, in their order
+        self.judged = judged[::-1] if objective == "footprint" else judged
         self.first, *self.rest = self.made() + self.others
         self.least = self.least_by_classes()
 
-    def take_fit(self, timed: OverTime, profile: dict[int, int], given: str) -> None:
-        """The table of the fit, and the footprint of each."""
+    def take_fit(self, timed: OverTime, profile: dict[int, int], given: str) -> claims.Judged:
+        """The table of the fit, the footprint of each, and what is judged of the fit."""
         fit = timed.fit
         self.fitted = Table(claims.name(timed.kind), fit.classes, profile)
         for table in (self.best, self.fitted, *self.others):
             table.over(timed.text)
-        self.fit_judged = claims.Judged(timed.kind, timed.verdict, fit.limit, fit.step, fit.classes, given, self.fitted.footprint, timed.forced)
+        return claims.Judged(timed.kind, timed.verdict, fit.limit, fit.step, fit.classes, given, self.fitted.footprint, timed.forced)
 
     @staticmethod
     def checked(profile: dict, sheet: str) -> tuple[dict, str]:
@@ -186,10 +181,6 @@ class Figures:
         """The classes that are forced: 1024, where the sheet is of the profile with a request that wants it, else none."""
         return () if self.tuned.get(texts.LARGEST_SIZE) == self.counts.get(texts.LARGEST_SIZE) else (texts.LARGEST_CLASS,)
 
-    @property
-    def first_judged(self) -> claims.Judged:
-        return self.fit_judged if self.objective == "footprint" else self.judged
-
     def made(self) -> list[Table]:
         """The tables that were made, the first by the objective before the other one."""
         made = [table for table in (self.best, self.fitted) if table]
@@ -198,7 +189,7 @@ class Figures:
     def least_by_classes(self) -> list[int]:
         """The least cost of at most 1, 2, .. classes that serve what is given, and have the classes that are forced. A timeline is seen at the
         moments of its fit."""
-        options = ["--limit", "32", "--step", str(self.first_judged.step)]
+        options = ["--limit", "32", "--step", str(self.judged[0].step)]
         if self.objective == "waste":
             return [row[0] for row in texts.parse_sheet(run(["tune", *options], profile_text(self.tuned))[1]).rows]
         forced = self.timed.forced
@@ -239,7 +230,7 @@ class Figures:
 
     def most_live(self, table: Table) -> int:
         """The most bytes of all its live blocks together: what it takes where each block that is freed is given back at once."""
-        return self.most(Blocks(table.classes).of)
+        return self.most(lambda size: block_of(table.classes, size))
 
     def heights(self, parts: int) -> list[list[int]]:
         """The most live blocks of each class of the first table in each of so many equal parts of a timeline, or at each moment of a
@@ -250,10 +241,10 @@ class Figures:
 
     def at_moments(self, classes: list[int]) -> list[list[int]]:
         """The live blocks of each class of a table at each moment of a history. What the table does not serve is left out."""
-        rows, blocks = [[0] * len(classes) for _ in range(self.timed.history.snapshots)], Blocks(classes)
+        rows = [[0] * len(classes) for _ in range(self.timed.history.snapshots)]
         for size, counts in self.timed.history.counts.items():
-            if size != "large" and blocks.of(size):
-                place = classes.index(blocks.of(size) // GRANULE)
+            if size != "large" and (block := block_of(classes, size)):
+                place = classes.index(block // GRANULE)
                 for row, count in zip(rows, counts):
                     row[place] += count
         return rows
@@ -283,9 +274,8 @@ class Figures:
     def larger(self, other: Table) -> tuple[list[tuple[int, int, int]], int, int]:
         """The sizes that get a larger block of the first table than of the other one, as (size, block, the other block), and what that costs at
         a moment at most. Sizes that one of the two does not serve are left out."""
-        ours, theirs = Blocks(self.first.classes), Blocks(other.classes)
         sizes = sorted(size for size in self.requested() if size != "large")
-        found = {size: (ours.of(size), theirs.of(size)) for size in sizes}
+        found = {size: (block_of(self.first.classes, size), block_of(other.classes, size)) for size in sizes}
         found = {size: blocks for size, blocks in found.items() if 0 < blocks[1] < blocks[0]}
         cost = self.most(lambda size: found[size][0] - found[size][1] if size in found else 0)
         return [(size, *blocks) for size, blocks in found.items()], len(sizes), cost
@@ -315,13 +305,11 @@ class Figures:
 
     def known(self) -> list[str]:
         """What is known of the table that is the first by the objective, and of the other one that is made."""
-        judged = [self.judged, self.fit_judged][:: -1 if self.objective == "footprint" else 1]
-        return [claims.sentence(each, texts.trust()) for each in judged if each]
+        return [claims.sentence(each, texts.trust()) for each in self.judged]
 
     def unheld(self) -> list[str]:
         """What `check` and `check-fit` say where nothing follows."""
-        judged = [each for each in (self.judged, self.fit_judged) if each and claims.bound(each) is None]
-        return [claims.says(each) for each in judged if not claims.holds(each)]
+        return [claims.says(each) for each in self.judged if claims.bound(each) is None and not claims.holds(each)]
 
 
 def other_tables(paths: list[str]) -> list[tuple[str, list[int]]]:
@@ -342,7 +330,7 @@ def number(value: int) -> str:
 
 
 def percent(part: int, whole: int) -> str:
-    return f"{100 * part / whole:.1f}%"
+    return f"{100 * part / whole:.1f}%" if whole else "0.0%"
 
 
 def kibibytes(count: int) -> str:

@@ -13,7 +13,7 @@ from mte_scripts.reports import report_page
 from mte_scripts.tables import draw_waste, figures, scudo_map, verification
 from mte_scripts.tables.figures import kibibytes, number, percent
 from mte_scripts.texts import printable, wrapped
-from mte_scripts.words import ProgramWords, between, named, one_of, some
+from mte_scripts.words import TABLES, ProgramWords, named, some
 
 HELP = """\
 Run a program, make two tables of size classes for it, check both, and say what they save. One is made to take little memory over
@@ -91,7 +91,7 @@ class Options(argparse.Namespace):
     objective: str
 
     def __init__(self, words: list[str]) -> None:
-        kinds: dict[str, Any] = {"limit": between(1, texts.MOST_CLASSES), "step": one_of(1, 2, 4, 8), "objective": named("footprint", "waste")}
+        kinds: dict[str, Any] = {**TABLES, "objective": named("footprint", "waste")}
         kinds |= {"largest": {"action": "store_true", "default": True}, "no_largest": {"action": "store_false", "dest": "largest"}}
         kinds |= {"against": {"action": "append", "type": some, "default": []}}
         ProgramWords(HELP, defaults={"limit": 32, "step": 1}, **kinds).take(words, into=self)
@@ -130,13 +130,7 @@ class Folder:
     """The new folder. What a step has made stays there, also where a later step fails."""
 
     def __init__(self, path: str) -> None:
-        self.path = path
-        try:
-            os.mkdir(path)
-        except FileExistsError:
-            raise texts.Refused(3, f"{path} is there already: move it away, or name another folder by --output") from None
-        except OSError as error:
-            raise texts.Refused(3, f"the folder {path} can't be made: {error.strerror}; --output names another place") from None
+        self.path = texts.new_folder(path, "--output")
 
     def file(self, name: str) -> str:
         return os.path.join(self.path, name)
@@ -201,14 +195,13 @@ def read_given(options: Options) -> "dict[str, str | bytes]":
     data, name = texts.read(options.read), texts.named(options.read)
     if not data:
         raise texts.Refused(3, f"{name} is empty: did the command that writes it fail?")
+    files: "dict[str, str | bytes]" = {}
     if texts.is_timeline(data):
         options.agree_on(data)
         figures.refuse_timeline(data, name)
         peak = timelines.history_at(data, [timelines.most_of(data, int)[1]])
-        profile = {size: counts[0] for size, counts in peak.counts.items()}
-        return {"program.profile": figures.profile_text(profile), "program.timeline": data}
-    files: "dict[str, str | bytes]" = {}
-    if texts.is_history(data):
+        profile, files["program.timeline"] = {size: counts[0] for size, counts in peak.counts.items()}, data
+    elif texts.is_history(data):
         history = texts.parse_history(data, name)
         options.agree_on(history)
         profile, files["program.history"] = figures.at_peak(history), texts.history_text(history)
@@ -236,14 +229,9 @@ def warnings(options: Options, found: figures.Figures, notes: list[str]) -> Iter
         yield from wasteful(found, default)
     if found.requests + found.large < 1000:
         yield f"Only {numbered(found.requests + found.large, 'request')} counted: a longer or larger job says more."
-    of_requests = found.large > found.requests
-    least = found.large * (texts.LARGEST_SIZE + 1)
-    of_bytes = least > found.bytes
-    if of_requests or of_bytes:
-        parts = ["requests"] * of_requests + ["bytes"] * of_bytes
+    if parts := ["requests"] * (found.large > found.requests) + ["bytes"] * (found.large * (texts.LARGEST_SIZE + 1) > found.bytes):
         yield f"More than half of the {' and of the '.join(parts)} are of large requests, which have no class."
-    for note in notes:
-        yield note
+    yield from notes
 
 
 def wasteful(found: figures.Figures, default: figures.Table) -> Iterator[str]:
@@ -271,8 +259,8 @@ def headline(options: Options, found: figures.Figures) -> str:
     saving = found.saving(default)
     if saving is None:
         return f"{options.name()}: {found.first.name}"
-    share = percent(abs(saving), found.whole(default)) if found.whole(default) else "0.0%"
-    return f"{options.name()}: {found.first.name}, {kibibytes(abs(saving))} ({share}) {'less' if saving >= 0 else 'more'} than {default.name}"
+    saved = f"{kibibytes(abs(saving))} ({percent(abs(saving), found.whole(default))}) {'less' if saving >= 0 else 'more'}"
+    return f"{options.name()}: {found.first.name}, {saved} than {default.name}"
 
 
 def summary(options: Options, found: figures.Figures, folder: Folder, noted: list[str], measured: dict[str, int]) -> str:
@@ -324,8 +312,7 @@ def over_time(found: figures.Figures, measured: dict[str, int]) -> list[str]:
     width = max(len(name) for name, *_ in rows)
     lines = ["Footprint, the most memory of the classes over time:"]
     for name, taken_, saved in rows:
-        share = percent(saved, taken_) if saved is not None and taken_ else "0.0%"
-        saving = "" if saved is None or name == found.first.name else f"  the first one saves {kibibytes(saved)}, {share}"
+        saving = "" if saved is None or name == found.first.name else f"  the first one saves {kibibytes(saved)}, {percent(saved, taken_)}"
         lines.append(f"  {name:{width}}  {kibibytes(taken_):>14}{saving}"[:WIDTH])
     for table in (found.first, *found.rest):
         if table.footprint is None:
@@ -370,17 +357,7 @@ def comparison(found: figures.Figures) -> list[str]:
         saving = found.saved_waste(table)
         saved = ("", "") if table is found.first else (kibibytes(saving), percent(saving, found.blocks(table)))
         rows.append((table.name, number(len(table.classes)), number(table.waste), percent(table.waste, found.bytes), *saved))
-    whole = [row for row in rows if len(row) == 6]
-    widths = [max(len(row[column]) for row in whole) for column in range(1, 6)]
-    widths[0] = 7
-    space = WIDTH - sum(widths) - 10
-    name = min(max(len(row[0]) for row in rows), max(space, 12))
-    lines = []
-    for row in rows:
-        first = row[0] if len(row[0]) <= name else row[0][: name - 2] + ".."
-        cells = [word.rjust(width) for word, width in zip(row[1:], widths)] if len(row) == 6 else [row[1].rjust(widths[0]), row[2]]
-        lines.append("  ".join([first.ljust(name), *cells]).rstrip())
-    return lines
+    return texts.columns(rows, most=WIDTH)
 
 
 def tune(words: list[str]) -> int:
@@ -427,7 +404,8 @@ def made(options: Options, folder: Folder, others: list, notes: list[str], measu
         raise texts.Refused(3, figures.NOTHING)
     tuned = figures.with_largest(profile) if options.largest else profile
     folder.write("tuned.profile", figures.profile_text(tuned))
-    sheet = tuned_sheet(options, figures.profile_text(tuned))
+    _, answer = figures.run(["tune", "--limit", str(options.limit), "--step", str(options.step)], figures.profile_text(tuned))
+    sheet = f"{answer}\n"
     folder.write("tuned.sheet", sheet)
     timed = fitted(options, folder)
     given = "program.timeline" if timed and timed.kind == "timeline" else "program.history"
@@ -499,11 +477,6 @@ def fitted(options: Options, folder: Folder) -> "figures.OverTime | None":
     if kind == "timeline":
         folder.write("moments.history", texts.history_text(timed.history))
     return timed
-
-
-def tuned_sheet(options: Options, text: str) -> str:
-    _, answer = figures.run(["tune", "--limit", str(options.limit), "--step", str(options.step)], text)
-    return answer + "\n"
 
 
 def check_command(folder: Folder, command: str, *names: str) -> str:

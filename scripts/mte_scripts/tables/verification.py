@@ -84,10 +84,8 @@ def peak(runner: str, words: list, path: str, library: Optional[str], given: Opt
     """The status of one run, and its most resident memory in bytes. What the program prints is not kept."""
     found = f"{runner}.found"
     with open(given or os.devnull, "rb") as file:
-        whole = [runner, found, library or "", path, *words]
-        of = file if given else None
-        nowhere = subprocess.DEVNULL
-        done = subprocess.run(whole, env=programs.environment(), stdin=of, stdout=nowhere, stderr=nowhere, close_fds=False)
+        streams: dict = {"stdin": file if given else None, "stdout": subprocess.DEVNULL, "stderr": subprocess.DEVNULL}
+        done = subprocess.run([runner, found, library or "", path, *words], env=programs.environment(), close_fds=False, **streams)
     if done.returncode:
         raise Refused(3, f"{words[0]} can't be run again")
     status, size = read(found).split()
