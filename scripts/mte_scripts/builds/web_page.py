@@ -1,4 +1,4 @@
-"""Puts the page of scripts/page together from the sources in web/ and the engines in WebAssembly."""
+"""Puts the page of scripts/page together from the sources in web/ and the engines in WebAssembly. `page --help` says all."""
 
 import base64
 import functools
@@ -10,6 +10,29 @@ from pathlib import Path
 from mte_scripts import claims, html_safe, manifest, texts
 from mte_scripts.builds import webassembly
 from mte_scripts.tables import scudo_map
+from mte_scripts.words import Words
+
+HELP = """\
+Print a page in HTML that tunes tables and shows the tagged heap step by step, in any browser.
+
+Usage: page [--profile FILE] [--trace FILE] > page.html
+
+  --profile FILE  the profile, or the history, that the page begins with; one of the examples where it is left out
+  --trace FILE    the trace that the page begins with; a use after free where it is left out. Without --profile its profile is tuned
+
+The page is one file. It loads nothing from elsewhere, and opens from the disk: take other files by dropping them on it. The engines are
+in it as WebAssembly. They are proved up to LLVM's module; the last step to WebAssembly is tested and not proved.
+
+It needs the Rattle kit and wasm-opt (Debian: binaryen), and proves and compiles the engines where that was not done yet.
+
+Exit status:
+  0  the page is printed
+  2  the words or a file are refused
+  3  a tool is missing, the engines could not be built, or a write failed
+
+Example:
+  scripts/page --trace examples/jq.trace > page.html
+"""
 
 WEB = os.path.join(webassembly.ROOT, "web")
 KEPT = "page.wasm"  # the module in the folder `out` of its crate; not NAME.wasm, which rt lib removes
@@ -141,3 +164,17 @@ def page(modules: "dict[str, bytes]", profile: "Named | None" = None, trace: "Na
         assert mark, f"web/page.html has no @{name}@"
         whole = before + text + after
     return html_safe.with_policy(whole, ALLOWED)
+
+
+def given(path: str) -> Named:
+    data = texts.read(path, texts.MOST_INPUT + 1)
+    if len(data) > texts.MOST_INPUT:
+        raise texts.Refused(2, f"{path} has more than {texts.MOST_INPUT} bytes")
+    if not data.isascii() or b"\0" in data:
+        raise texts.Refused(2, f"{path} is binary, and no text")
+    return (texts.named(path) if path == "-" else os.path.basename(path)), data.decode()
+
+
+def print_page(words: "list[str]") -> int:
+    files = {name: file for name, file in vars(Words(HELP, profile=given, trace=given).take(words)).items() if file}
+    return texts.write(page(built("page"), **files))
