@@ -264,17 +264,26 @@ def print_growth(options: dict, folder: Path) -> None:
     programs = build(folder)
     events = texts.output_of([programs["plain"], "events", "--seed", str(options["seed"])]).decode().splitlines(keepends=True)
 
-    def write(name: str, text: str) -> Path:
-        (folder / name).write_text(text)
-        return folder / name
+    print("| What grows | values | before | for each | instructions | memory in MiB |")
+    print("|---|---:|---:|---|---:|---:|")
+    for series in growth.all_series(events, options["seed"]):
+        rows = [growth_of(str(programs["mte_tool"]), trial, folder) for trial in series.trials]
+        before, each, resident = (" / ".join(cells) for cells in zip(*rows))
+        values = " / ".join(f"{value:,}" for value in series.values)
+        print(f"| {series.title} | {values} | {before} | {series.unit} | {each} | {resident} |", flush=True)
 
-    def counted(command: "list[str]", source: Path) -> int:
-        count, _, status = instructions(command, source, folder / "out")
+
+def growth_of(program: str, trial: growth.Trial, folder: Path) -> "tuple[str, str, str]":
+    """The instructions before what is counted, those for each of that, and the most memory."""
+    command, counts = [program, *trial.words], []
+    for text in (trial.without, trial.given):
+        (folder / "given").write_text(text)
+        count, _, status = instructions(command, folder / "given", folder / "out")
         if status != 0:
             raise Refused(3, f"{' '.join(command)} ended with status {status}")
-        return count
-
-    growth.print_table(str(programs["mte_tool"]), events, options["seed"], counted, memory, write)
+        counts.append(count)
+    before, whole = counts
+    return f"{before / 1e6:.2f} M", f"{(whole - before) / trial.count:,.0f}", f"{memory(command, folder / 'given') / 2**20:.1f}"
 
 
 def bench(words: "list[str]") -> None:

@@ -2,7 +2,7 @@
 
 import random
 from collections import namedtuple
-from collections.abc import Callable, Sequence
+from collections.abc import Sequence
 
 # mixed events that are the same in each series, but for the series of events
 EVENTS = 100_000
@@ -74,22 +74,3 @@ def over_limits(seed: int) -> Series:
     profile = profile_of(1023, random.Random(seed))
     trials = [Trial(["tune", "--limit", str(limit)], profile, "", limit) for limit in values]
     return Series("`tune` of 1,023 such sizes, classes", "class", values, trials)
-
-
-def print_table(program: str, events: "list[str]", seed: int, instructions: Callable, memory: Callable, write: Callable) -> None:
-    """Prints a row for each series. `write` makes a file of a text; the other two measure a command on a file."""
-    print("| What grows | values | before | for each | instructions | memory in MiB |")
-    print("|---|---:|---:|---|---:|---:|")
-    for series in all_series(events, seed):
-        rows = [measured(program, trial, instructions, memory, write) for trial in series.trials]
-        before, each, resident = (" / ".join(cells) for cells in zip(*rows))
-        values = " / ".join(f"{value:,}" for value in series.values)
-        print(f"| {series.title} | {values} | {before} | {series.unit} | {each} | {resident} |", flush=True)
-
-
-def measured(program: str, trial: Trial, instructions: Callable, memory: Callable, write: Callable) -> "tuple[str, str, str]":
-    command = [program, *trial.words]
-    given, without = write("given", trial.given), write("without", trial.without)
-    before = instructions(command, without)
-    each = (instructions(command, given) - before) / trial.count
-    return f"{before / 1e6:.2f} M", f"{each:,.0f}", f"{memory(command, given) / 2**20:.1f}"
