@@ -4,7 +4,7 @@ use Rattle.std.specs.Option.{option_map_or}
 use Rattle.class_table.specs.Sizes.{largest_counted, loss_of, serves}
 use Rattle.class_table.specs.Tables.{IsLegalTable, class_for, loss_of_size}
 use Rattle.trace_event.specs.declared.event.Event.{Event}
-use Rattle.replay_theory.specs.Replay.{Answer, is_large, is_no_class, is_exhausted, is_tag_fault, is_unmapped, is_refused, is_silent}
+use Rattle.replay_theory.specs.Replay.{Answer, is_silent}
 use Rattle.replay_theory.specs.Totals.{Totals, is_request, request_size, loss_of_request, loss_of_event, one_if, totals_after, with_answer, with_request}
 use Rattle.replay_core.specs.TotalsBounds.{AreBounded}
 

@@ -34,7 +34,7 @@ refused,
   E null large        or no-class, exhausted
   E refused misplaced or not-live, wrong-tag
 
-and nine totals, `events` to `loss`. `mte_tool replay --help` explains these lines.
+and the totals, `events` to `loss`. `mte_tool replay --help` explains these lines.
 
 Example:
   printf 'malloc 1 16\\nfree 1\\nload 1 0 1\\n' | mte_tool run --limit 1 --granules 64
