@@ -1,5 +1,5 @@
 -- Blocks of ends, and the bounds by which they are passed over.
-use Rattle.std.specs.Prelude.{◌≡◌, ℕ, ◌+◌, ◌*◌, ◌/◌, ◌^◌, ◌<◌, ◌≤◌, List, [], length, replicate, slice_index, slice_index_or}
+use Rattle.std.specs.Prelude.{◌≡◌, ◌⊎◌, ℕ, ◌+◌, ◌-◌, ◌*◌, ◌/◌, ◌^◌, ◌<◌, ◌≤◌, List, [], length, replicate, slice_index, slice_index_or}
 use Rattle.potential_check.specs.declared.footprints.slack.TheConstants.{BLOCK}
 
 -- Each block of ends has a slack.
@@ -32,9 +32,13 @@ pub record IsFresh (limit d : ℕ) (from older slack : List ℕ) (bounds : List 
   pub is_slack : IsSlack d slack
   pub none : AreZeros limit (d / BLOCK + 1) bounds
 
--- The slack at a place, by that at the next one: what the cost of an end has grown covers what its block has lost.
+-- The slack at a place, by that at the next one: what the cost of an end has grown covers what its block has lost. A block that begins after
+-- the next place has lost what the cost of one of its ends has grown. The others have lost nothing.
 pub record IsNarrowed (older costs : List ℕ) (place d : ℕ) (old new : List ℕ) : Type 0 where
   pub size : length new ≡ length old
   pub less : (b : ℕ) → slice_index new b ≤ slice_index old b
   pub grown : (j : ℕ) → place + 1 < j → j < d
       → slice_index older j + slice_index old (j / BLOCK) ≤ slice_index costs j + slice_index new (j / BLOCK)
+  pub lost : (b : ℕ) → place + 1 < BLOCK * b → BLOCK * b < d
+      → (j : ℕ) × (j < d) × (j / BLOCK ≡ b) × (slice_index new b ≡ slice_index old b - (slice_index costs j - slice_index older j))
+  pub kept : (b : ℕ) → (BLOCK * b ≤ place + 1) ⊎ (d ≤ BLOCK * b) → slice_index new b ≡ slice_index old b

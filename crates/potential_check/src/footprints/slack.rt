@@ -46,7 +46,9 @@ fn least_growth(older: &[u64], costs: &[u64], start: usize, stop: usize) -> u64
     requires in_older { stop ≤ length older.now }
     requires in_costs { stop ≤ length costs.now }
     requires grow { (j : ℕ) → start ≤ j → j < stop → slice_index older.now j ≤ slice_index costs.now j }
-    ensures { (j : ℕ) → start ≤ j → j < stop → result ≤ slice_index costs.now j - slice_index older.now j }
+    ensures least { (j : ℕ) → start ≤ j → j < stop → result ≤ slice_index costs.now j - slice_index older.now j }
+    ensures grown { start < stop
+        → (j : ℕ) × (start ≤ j) × (j < stop) × (result ≡ slice_index costs.now j - slice_index older.now j) }
 {
     let mut growth = u64::MAX;
     for j in start..stop {

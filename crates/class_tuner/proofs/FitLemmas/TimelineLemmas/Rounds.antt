@@ -1,5 +1,5 @@
 -- What a round shows, and what is kept of all of them.
-use Rattle.std.proofs.Common.{◌≡◌, ◌≤◌, ℕ, List, [], ◌∷◌, All, length, max, sym, subst, ◌∙◌, arith, refl, inl, inr}
+use Rattle.std.proofs.Common.{◌≡◌, ◌≢◌, ◌≤◌, ℕ, List, [], ◌∷◌, All, length, max, sym, subst, ◌∙◌, arith, refl, inl, inr}
 use Rattle.std.proofs.lemmas.Bool.{cases_lt}
 use Rattle.std.specs.List.{Contains}
 use Rattle.std.proofs.lemmas.List.{get_or_default}
@@ -17,7 +17,7 @@ use Rattle.tuner_theory.specs.declared.most_snapshots.TheConstants.{MOST_SNAPSHO
 use Rattle.tuner_theory.specs.declared.size_event.SizeEvent.{SizeEvent}
 use Rattle.tuner_theory.proofs.TimelineCanonical.{canonical_over}
 use Rattle.tuner_theory.proofs.Timelines.{fit_bounds_timeline}
-use Rattle.class_tuner.specs.Fits.Timelines.Found.{IsBetween, IsFitOfMoments, IsLeastFit}
+use Rattle.class_tuner.specs.Fits.Timelines.Found.{IsBetween, IsLeastFit, IsLooseFit}
 
 -- Some moments, with the one that decides what serves.
 pub record AreDeciding (events : List SizeEvent) (numbers : List ℕ) (moment : ℕ) : Type 0 where
@@ -94,27 +94,39 @@ module _ (events : List SizeEvent) (moment step limit : ℕ) (timeline : IsTimel
             (round-serves numbers fit takes round) (over ∙ round.fitted.made.costs);
       }
 
-  of-moments : (numbers : List ℕ) (fit : Sheet) (takes : ℕ) → IsRound events numbers moment step limit fit takes
-      → IsFitOfMoments events step limit fit
-  of-moments numbers fit takes round = record { numbers = numbers; are = round.over.are; over_moments = round.fitted }
+  loose : (numbers : List ℕ) (fit : Sheet) (takes : ℕ) → IsRound events numbers moment step limit fit takes → takes ≢ fit.cost
+      → IsLooseFit events step limit fit
+  loose numbers fit takes round differs = record {
+    numbers = numbers;
+    are = round.over.are;
+    over_moments = round.fitted;
+    takes_more = elim (cases_lt fit.cost takes) [
+      | inl more ↦ omega (arith, round.taken)
+      | inr none ↦ absurd (differs (omega (
+        arith,
+        round.taken,
+        round-bounds numbers fit takes round fit.table (round-candidate numbers fit takes round),
+      )))
+    ];
+  }
 
   -- the first round
-  pub between-first : (numbers : List ℕ) (fit : Sheet) (takes : ℕ) → IsRound events numbers moment step limit fit takes
+  pub between-first : (numbers : List ℕ) (fit : Sheet) (takes : ℕ) → IsRound events numbers moment step limit fit takes → takes ≢ fit.cost
       → IsBetween events step limit fit.table takes fit.cost
-  between-first numbers fit takes round = record {
+  between-first numbers fit takes round differs = record {
     candidate = round-candidate numbers fit takes round;
     taken = round.taken;
     bound = round-bounds numbers fit takes round;
-    table_of = (fit, of-moments numbers fit takes round, refl);
-    least_of = (fit, of-moments numbers fit takes round, refl, omega (arith, round.taken));
+    table_of = (fit, loose numbers fit takes round differs, refl);
+    least_of = (fit, loose numbers fit takes round differs, refl, omega (arith, round.taken));
   }
 
   -- one round more: the better table of its own and of the one before it, and the greater bound
   pub between-more : (numbers : List ℕ) (fit : Sheet) (takes : ℕ) (table : List ℕ) (best least : ℕ)
-      → IsRound events numbers moment step limit fit takes → IsBetween events step limit table best least
+      → IsRound events numbers moment step limit fit takes → takes ≢ fit.cost → IsBetween events step limit table best least
       → (best ≤ takes → IsBetween events step limit table best (max least fit.cost))
       × (takes ≤ best → IsBetween events step limit fit.table takes (max least fit.cost))
-  between-more numbers fit takes table best least round before = (
+  between-more numbers fit takes table best least round differs before = (
     λ le. record {
       candidate = before.candidate;
       taken = before.taken;
@@ -126,7 +138,7 @@ module _ (events : List SizeEvent) (moment step limit : ℕ) (timeline : IsTimel
       candidate = round-candidate numbers fit takes round;
       taken = round.taken;
       bound = bound;
-      table_of = (fit, of-moments numbers fit takes round, refl);
+      table_of = (fit, loose numbers fit takes round differs, refl);
       least_of = greater takes le (omega arith);
     },
   )
@@ -134,10 +146,10 @@ module _ (events : List SizeEvent) (moment step limit : ℕ) (timeline : IsTimel
       bound : (other : List ℕ) → IsCandidate (peaks (moments events)) step limit other → max least fit.cost ≤ footprint_over events other
       bound other candidate = omega (arith, before.bound other candidate, round-bounds numbers fit takes round other candidate)
 
-      greater : (n : ℕ) → n ≤ best → n ≤ takes → (it : Sheet) × IsFitOfMoments events step limit it × (max least fit.cost ≡ it.cost)
+      greater : (n : ℕ) → n ≤ best → n ≤ takes → (it : Sheet) × IsLooseFit events step limit it × (max least fit.cost ≡ it.cost)
           × (n ≤ footprint_over events it.table)
       greater n of-best of-own =
           elim (cases_lt least fit.cost) [
-            | inl more ↦ (fit, of-moments numbers fit takes round, omega arith, omega (arith, round.taken))
+            | inl more ↦ (fit, loose numbers fit takes round differs, omega arith, omega (arith, round.taken))
             | inr kept ↦ let it = before.least_of in (it.0, it.1, omega (arith, it.2), omega (arith, it.3))
           ]

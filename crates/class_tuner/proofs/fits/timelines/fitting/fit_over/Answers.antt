@@ -1,4 +1,5 @@
-use Rattle.std.proofs.Common.{inl, inr}
+use Rattle.std.proofs.Common.{inl, inr, sym, ◌∙◌}
+use Rattle.std.proofs.lemmas.Bool.{true≢false}
 use Rattle.potential_check.specs.Certificates.SheetView.{sheet_of}
 use Rattle.tuner_theory.specs.Timelines.{IsTimeline}
 use Rattle.class_tuner.proofs.FitLemmas.TimelineLemmas.Rounds.{IsRound, between-first, between-more, firsts-within, more-moments, one-moment, round-least}
@@ -45,7 +46,7 @@ loop-round-init c =
       over = more-moments events c.in_ok-numbers-2.numbers.items moment c.in_ok-numbers-2.ensures.few c.in_ok-numbers-2.ensures.within
           c.in_ok-numbers-2.ensures.kept;
       between = between-first events moment c.args.step c.args.limit timeline c.largest_moment-decisive.ensures.decides numbers fit
-          c.in_ok-best.best.takes round;
+          c.in_ok-best.best.takes round (λ tight. true≢false (sym (c.is_tight.ensures.1 tight) ∙ c.if-is_tight.false));
     }
 
 pub round_over-requires-in-loop-round-clause-moments : goal.round_over-requires-in-loop-round-clause-moments
@@ -95,7 +96,8 @@ loop-round-preserved c =
       taken = c.in_ok-next.ensures.takes;
     } in
     let both = between-more events moment c.args.step c.args.limit timeline c.largest_moment-decisive.ensures.decides numbers fit
-    c.in_ok-next.next.takes c.loop-round.best.fit.table c.loop-round.best.takes c.loop-round.least round c.loop-round.invariant.between in
+    c.in_ok-next.next.takes c.loop-round.best.fit.table c.loop-round.best.takes c.loop-round.least round
+    (λ tight. true≢false (sym (c.is_tight-in-loop-round.ensures.1 tight) ∙ c.if-is_tight-2.false)) c.loop-round.invariant.between in
     record {
       over = more-moments events c.in_ok-numbers-3.numbers.items moment c.in_ok-numbers-3.ensures.few c.in_ok-numbers-3.ensures.within
           c.in_ok-numbers-3.ensures.kept;
