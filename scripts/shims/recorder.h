@@ -174,13 +174,6 @@ static int is_own(void) {
   return !inside && !untouched;
 }
 
-// an aligned request counts as the bytes that an allocator with 16-byte granules sets aside for it
-static size_t aligned(size_t alignment, size_t size) {
-  size_t all = size;
-  if (alignment > 16 && __builtin_add_overflow(size, alignment - 16, &all)) all = -1;
-  return all;
-}
-
 static volatile int reached;  // whether a call came to the library's malloc while it may not record
 
 // Whether the program's malloc is the library's: of two, the loader takes the first. A program at a fixed place may have a stub of its own,
@@ -277,20 +270,20 @@ static void *map_file(const char *variable, uint64_t form, size_t least, size_t 
   return mapped;
 }
 
-// whether the process is the one that is recorded, where it is one alone: the first that comes, also after it ran another program
-static int is_the_one(void) {
-  uint64_t none = 0, process = getpid();
-  return __atomic_compare_exchange_n(&notes->process, &none, process, 0, __ATOMIC_SEQ_CST, __ATOMIC_SEQ_CST) || none == process;
-}
+static int is_other;  // whether another process is the one that is recorded
 
 static void leave(void) { here->recorded = here->noted = 0; }  // in a forked child
 
-static void record_here(int recorded) {
+// Whether this process is the one that is recorded, where that is one alone: the first that comes, also after it ran another program.
+static int is_recorded_alone(void) {
+  uint64_t none = 0, process = getpid();
+  is_other = !__atomic_compare_exchange_n(&notes->process, &none, process, 0, __ATOMIC_SEQ_CST, __ATOMIC_SEQ_CST) && none != process;
   void *page = mmap(NULL, PAGE, PROT_READ | PROT_WRITE, MAP_PRIVATE | MAP_ANONYMOUS, -1, 0);
   if (page != MAP_FAILED) here = page;
   if (page == MAP_FAILED || madvise(page, PAGE, MADV_WIPEONFORK)) pthread_atfork(NULL, NULL, leave);
-  here->recorded = recorded;
-  if (recorded) notes->executed = 0;
+  here->recorded = !is_other;
+  if (!is_other) notes->executed = 0;
+  return !is_other;
 }
 
 // The program that runs next in the place of this process clears the note, where it has the library.
@@ -314,5 +307,70 @@ EXECUTES(execvp, (const char *file, char *const words[]), (file, words))
 static void note_other(void) {
   if (!here->noted) here->noted = 1, __atomic_fetch_add(&notes->others, 1, __ATOMIC_RELAXED);
   __atomic_fetch_add(&notes->other_requests, 1, __ATOMIC_RELAXED);
+}
+
+// The program's calls. Each library says what it does of them, and has realloc to itself.
+static inline size_t before(size_t size, size_t alignment);  // a request, alignment 0 where it has none: how many bytes more its block gets
+static inline void *after(const char *name, void *block, size_t size, size_t more);  // it: the block, or null where it failed
+static void lose(void *block);                                                       // before its free
+
+void *malloc(size_t size) {
+  if (!is_own()) return reached = 1, next.malloc(size);
+  size_t more = before(size, 0);
+  return after("malloc", next.malloc(size + more), size, more);
+}
+
+void *calloc(size_t number, size_t each) {
+  if (!is_own()) return next.calloc(number, each);
+  size_t size;
+  if (__builtin_mul_overflow(number, each, &size)) size = -1;
+  size_t more = before(size, 0);
+  return after("calloc", more ? next.calloc(1, size + more) : next.calloc(number, each), size, more);
+}
+
+void free(void *block) {
+  int error = errno, own = is_own();
+  inside++;
+  if (own && block) lose(block);
+  next.free(block);
+  inside--;
+  errno = error;
+}
+
+// an aligned request counts as the bytes that an allocator with 16-byte granules sets aside for it
+static size_t aligned(size_t alignment, size_t size) {
+  size_t all = size;
+  if (alignment > 16 && __builtin_add_overflow(size, alignment - 16, &all)) all = -1;
+  return all;
+}
+
+// by memalign where the block gets more: some allocators want a multiple of the alignment for aligned_alloc
+static void *aligned_block(void *(*call)(size_t, size_t), size_t alignment, size_t size) {
+  size_t all = aligned(alignment, size), more = before(all, alignment);
+  return after("malloc", more ? next.memalign(alignment, size + more) : call(alignment, size), all, more);
+}
+
+void *memalign(size_t alignment, size_t size) {
+  return is_own() ? aligned_block(next.memalign, alignment, size) : next.memalign(alignment, size);
+}
+
+void *aligned_alloc(size_t alignment, size_t size) {
+  return is_own() ? aligned_block(next.aligned_alloc, alignment, size) : next.aligned_alloc(alignment, size);
+}
+
+void *valloc(size_t size) { return is_own() ? aligned_block(next.memalign, getpagesize(), size) : next.valloc(size); }
+
+void *pvalloc(size_t size) {
+  size_t page = getpagesize(), all = size <= -page ? (size + page - 1) / page * page : size;
+  return is_own() ? aligned_block(next.memalign, page, all) : next.pvalloc(size);
+}
+
+int posix_memalign(void **result, size_t alignment, size_t size) {
+  int is_wrong = alignment % sizeof(void *) || !alignment || alignment & (alignment - 1);
+  if (!is_own() || is_wrong) return next.posix_memalign(result, alignment, size);
+  size_t all = aligned(alignment, size), more = before(all, alignment);
+  int refused = next.posix_memalign(result, alignment, size + more);
+  after("malloc", refused ? NULL : *result, all, more);
+  return refused;
 }
 #endif

@@ -19,13 +19,12 @@ static const uint64_t FORM_ALL = 0x315A49534C4C41, FORM_LIVE = 0x315A495345564C,
 
 static uint64_t early[COUNTERS], *counts = early;  // `early` until the file is mapped
 static int live;                                   // whether blocks are followed until they are freed
-static int is_other;                               // whether another process is the one that is counted
 
 static uint64_t early_all, *all = &early_all;      // the requests that all processes counted; the same for `early`
 
 static size_t counter_of(size_t size) { return size < LARGE ? size : LARGE; }
 
-static void request(size_t size) {
+static inline void request(size_t size) {
   if (live ? !here->recorded : is_other) note_other();
   else if (!live) __atomic_fetch_add(all, 1, __ATOMIC_RELAXED), __atomic_fetch_add(&counts[counter_of(size)], 1, __ATOMIC_RELAXED);
 }
@@ -177,34 +176,24 @@ static int stays(size_t size, size_t less, size_t wanted) {
 
 static int is_small(size_t size) { return size < 1UL << 46; }  // no larger request can succeed
 
-void *malloc(size_t size) {
-  if (!is_own()) return reached = 1, next.malloc(size);
+static int is_aligned_own;  // whether the allocator has its memalign and posix_memalign; else their blocks are not followed
+
+static inline size_t before(size_t size, size_t alignment) {
   inside++;
   request(size);
-  void *block = live && is_small(size) ? come(next.malloc(size + 8), size) : next.malloc(size);
+  int can_follow = !alignment || (is_aligned_own && !(alignment & (alignment - 1)));
+  return live && can_follow && is_small(size) ? 8 : 0;
+}
+
+static inline void *after(const char *name, void *block, size_t size, size_t more) {
+  (void)name;
+  if (more) come(block, size);
   inside--;
   return block;
 }
 
-void *calloc(size_t number, size_t each) {
-  if (!is_own()) return next.calloc(number, each);
-  size_t size;
-  if (__builtin_mul_overflow(number, each, &size)) size = -1;
-  inside++;
-  request(size);
-  void *block = live && is_small(size) ? come(next.calloc(1, size + 8), size) : next.calloc(number, each);
-  inside--;
-  return block;
-}
-
-void free(void *block) {
-  int error = errno;
-  int own = is_own();
-  inside++;
-  if (own && live) go(block);
-  next.free(block);
-  inside--;
-  errno = error;
+static void lose(void *block) {
+  if (live) go(block);
 }
 
 void *realloc(void *block, size_t size) {
@@ -224,50 +213,6 @@ void *realloc(void *block, size_t size) {
   else if (follows) come(moved, size);
   inside--;
   return moved;
-}
-
-static int is_aligned_own;  // whether the allocator has its memalign and posix_memalign; else their blocks are not followed
-
-static int follows_aligned(size_t alignment, size_t all) {
-  return live && is_aligned_own && is_small(all) && !(alignment & (alignment - 1));
-}
-
-// by memalign where the block is followed: some allocators want a multiple of the alignment for aligned_alloc
-static void *aligned_block(void *(*call)(size_t, size_t), size_t alignment, size_t size) {
-  size_t all = aligned(alignment, size);
-  inside++;
-  request(all);
-  void *block = follows_aligned(alignment, all) ? come(next.memalign(alignment, size + 8), all) : call(alignment, size);
-  inside--;
-  return block;
-}
-
-void *memalign(size_t alignment, size_t size) {
-  return is_own() ? aligned_block(next.memalign, alignment, size) : next.memalign(alignment, size);
-}
-
-void *aligned_alloc(size_t alignment, size_t size) {
-  return is_own() ? aligned_block(next.aligned_alloc, alignment, size) : next.aligned_alloc(alignment, size);
-}
-
-void *valloc(size_t size) { return is_own() ? memalign(getpagesize(), size) : next.valloc(size); }
-
-void *pvalloc(size_t size) {
-  size_t page = getpagesize();
-  return is_own() && size <= -page ? memalign(page, (size + page - 1) / page * page) : next.pvalloc(size);
-}
-
-int posix_memalign(void **result, size_t alignment, size_t size) {
-  if (!is_own()) return next.posix_memalign(result, alignment, size);
-  int is_wrong = alignment % sizeof(void *) || !alignment || alignment & (alignment - 1);
-  size_t all = aligned(alignment, size);
-  inside++;
-  if (!is_wrong) request(all);
-  int follows = !is_wrong && follows_aligned(alignment, all);
-  int refused = next.posix_memalign(result, alignment, follows ? size + 8 : size);
-  if (follows && !refused) come(*result, all);
-  inside--;
-  return refused;
 }
 
 // A live block has no room beyond its request. So a program that fills a block to its end before it requests more, such as redis, requests
@@ -301,9 +246,7 @@ static void begin(void) {
     for (int i = 0; i < COUNTERS; i++) __atomic_fetch_add(&counts[i], early[i], __ATOMIC_RELAXED);
     return;
   }
-  is_other = !is_the_one();
-  record_here(!is_other);
-  if (is_other) return;
+  if (!is_recorded_alone()) return;
   if (history && !timeline) snapshots = room / sizeof early < SNAPSHOTS ? room / sizeof early : SNAPSHOTS;
   // of what the process ran before in its own place
   memset(notes->taken, 0, sizeof notes->taken), memset(notes->sums, 0, sizeof notes->sums), notes->most = 0, memset(counts, 0, sizeof early);

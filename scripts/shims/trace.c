@@ -13,7 +13,6 @@ static const uint64_t FORM = 0x3145434152544C;
 
 static char *text, *end;                 // where the next line goes, and the end of the room; null while nothing is traced
 static size_t most;                      // the events that the trace may have
-static int is_other;                     // whether another process is the one that is traced
 static void *variables[VARIABLES];       // the live pointer of each variable, or null
 static void *freed[VARIABLES];           // the pointer that each variable had at its last free
 static size_t freed_at[VARIABLES], sizes[VARIABLES];
@@ -89,8 +88,14 @@ static void *untraced(void *pointer) {
   return pointer;
 }
 
-// after the call that gets a block
-static void *fresh(const char *name, void *pointer, size_t size) {
+static inline size_t before(size_t size, size_t alignment) {
+  (void)size, (void)alignment;
+  inside++;
+  return 0;
+}
+
+static inline void *after(const char *name, void *pointer, size_t size, size_t more) {
+  (void)more;
   int error = errno;
   if (!is_tracing()) {
     untraced(pointer);
@@ -125,7 +130,7 @@ static void wrong(void *pointer, const size_t *size) {
 
 static void lose(void *pointer) {
   if (!is_tracing()) {
-    if (!started && pointer) *place_of(pointer) = &gone;
+    if (!started) *place_of(pointer) = &gone;
     return;
   }
   pthread_mutex_lock(&lock);
@@ -140,29 +145,6 @@ static void lose(void *pointer) {
     else wrong(pointer, NULL);
   }
   pthread_mutex_unlock(&lock);
-}
-
-void *malloc(size_t size) {
-  if (!is_own()) return reached = 1, next.malloc(size);
-  inside++;
-  return fresh("malloc", next.malloc(size), size);
-}
-
-void *calloc(size_t number, size_t each) {
-  if (!is_own()) return next.calloc(number, each);
-  size_t size;
-  if (__builtin_mul_overflow(number, each, &size)) size = LARGEST_REQUEST;
-  inside++;
-  return fresh("calloc", next.calloc(number, each), size);
-}
-
-void free(void *pointer) {
-  int error = errno, own = is_own();
-  inside++;
-  if (own && pointer) lose(pointer);
-  next.free(pointer);
-  inside--;
-  errno = error;
 }
 
 // while the block moves, its variable holds no pointer of the program and is not free either
@@ -195,42 +177,17 @@ static void *resized(void *pointer, size_t size) {
 void *realloc(void *pointer, size_t size) {
   if (!is_own()) return next.realloc(pointer, size);
   inside++;
-  if (!pointer) return fresh("malloc", next.realloc(NULL, size), size);
+  if (!pointer) return after("malloc", next.realloc(NULL, size), size, 0);
   void *moved;
   if (size) {
     moved = resized(pointer, size);
   } else {  // a free; another allocator than glibc's may give a block for it
     lose(pointer);
     moved = next.realloc(pointer, 0);
-    if (moved) return fresh("malloc", moved, 0);
+    if (moved) return after("malloc", moved, 0, 0);
   }
   inside--;
   return moved;
-}
-
-#define ALIGNED(call, alignment, size) \
-  if (!is_own()) return next.call; \
-  inside++; \
-  return fresh("malloc", next.call, aligned(alignment, size));
-
-void *memalign(size_t alignment, size_t size) { ALIGNED(memalign(alignment, size), alignment, size) }
-
-void *aligned_alloc(size_t alignment, size_t size) { ALIGNED(aligned_alloc(alignment, size), alignment, size) }
-
-void *valloc(size_t size) { ALIGNED(valloc(size), getpagesize(), size) }
-
-void *pvalloc(size_t size) {
-  size_t page = getpagesize(), all = size <= -page ? (size + page - 1) / page * page : size;
-  ALIGNED(pvalloc(size), page, all)
-}
-
-int posix_memalign(void **result, size_t alignment, size_t size) {
-  if (!is_own()) return next.posix_memalign(result, alignment, size);
-  inside++;
-  int refused = next.posix_memalign(result, alignment, size);
-  if (refused == EINVAL) inside--;
-  else fresh("malloc", refused ? NULL : *result, aligned(alignment, size));
-  return refused;
 }
 
 static void begin(void) {
@@ -241,9 +198,7 @@ static void begin(void) {
   if (!notes) return;
   examine(0);
   if (untouched) return;
-  is_other = !is_the_one();
-  record_here(!is_other);
-  if (is_other) return;
+  if (!is_recorded_alone()) return;
   most = first ? strtoul(first, NULL, 10) : MOST_EVENTS;
   notes->variables = notes->shared = notes->wrong = 0;
   text = (char *)notes + PAGE, end = text + room;

@@ -1,7 +1,6 @@
 """Runs a program and prints its profile: how often it requested each size. `profile_program --help` says all."""
 
 import argparse
-import array
 import os
 import stat
 import time
@@ -11,6 +10,7 @@ from mte_scripts import private_folder, texts
 from mte_scripts.private_folder import NotPrivate
 from mte_scripts.recording import counts, recording, timelines
 from mte_scripts.recording.imports import found, importing
+from mte_scripts.recording.notes import PAGE, SNAPSHOTS, Notes
 from mte_scripts.running import Refused
 from mte_scripts.words import ProgramWords, between, named
 
@@ -103,7 +103,7 @@ FOREGROUND = "run it in the foreground (nginx: daemon off)"
 
 class Options(argparse.Namespace):
     def __init__(self, words: list[str]) -> None:
-        history = {"type": between(1, counts.SNAPSHOTS), "nargs": "?", "const": 32}
+        history = {"type": between(1, SNAPSHOTS), "nargs": "?", "const": 32}
         live = {"action": "store_const", "const": "--live"}
         ProgramWords(HELP, history=history, live=live, as_=named(*importing.NAMES)).take(words, into=self)
         self.table = None if self.classes is None else texts.class_line(self.classes)
@@ -147,25 +147,23 @@ class Options(argparse.Namespace):
 
 # ---- counts
 
-def print_counts(speaker: recording.Speaker, notes: recording.Notes, found: Any, file: str, peak: "str | None" = None) -> bool:
-    """Prints what was counted, of the words of a file of counts, which may still be written, or of a Record. False where that is nothing."""
+def print_counts(speaker: recording.Speaker, notes: Notes, found: Any, file: str, peak: "str | None" = None) -> bool:
+    """Prints what was counted, of a Counts whose file may still be written, or of a Record. False where that is nothing."""
     if notes.form == timelines.FORM:
         return print_record(speaker, found, peak)
-    profile = counts.profile_of(found)
-    if notes.form != counts.HISTORY:
-        if not profile:
-            return False
+    profile = texts.profile_text(found.profile())
+    if notes.form == counts.HISTORY:
+        return print_history(found.history(read_counts(file, PAGE).notes), profile, peak)
+    if profile:
         recording.write("the profile", profile)
-        return True
-    return print_history(counts.history_text(found, read_counts(file, 8 * counts.PAGE)), profile, peak)
+    return bool(profile)
 
 
-def print_history(history: str, profile: str, peak: "str | None") -> bool:
-    if not history:
-        return False
-    recording.write("the history", history)
-    write_peak(peak, profile)
-    return True
+def print_history(history: texts.History, profile: str, peak: "str | None") -> bool:
+    if history.counts:
+        recording.write("the history", texts.history_text(history))
+        write_peak(peak, profile)
+    return bool(history.counts)
 
 
 def print_record(speaker: recording.Speaker, record: timelines.Record, peak: "str | None") -> bool:
@@ -174,7 +172,7 @@ def print_record(speaker: recording.Speaker, record: timelines.Record, peak: "st
         if wide := record.class_bytes:
             moments = f"the {record.history.snapshots} moments at which each class of {wide} bytes had the most blocks"
             speaker.say(f"the timeline would have more than {timelines.MOST_TEXT:,} bytes: a history is made in its place, of {moments}")
-        return print_history(texts.history_text(record.history), texts.profile_text(record.peak), peak)
+        return print_history(record.history, texts.profile_text(record.peak), peak)
     if not record.events:
         return False
     if record.mark.ended == timelines.NO_ROOM:
@@ -190,13 +188,13 @@ def write_peak(peak: "str | None", profile: str) -> None:
         texts.write_file(peak, profile)
 
 
-def write_measured(path: "str | None", notes: recording.Notes) -> None:
+def write_measured(path: "str | None", notes: Notes) -> None:
     if path:
         found = {"large": notes.large, "resident": notes.resident, "glibc": notes.system}
         texts.write_file(path, "".join(f"{name} {value}\n" for name, value in found.items() if value))
 
 
-def say_uncounted(speaker: recording.Speaker, notes: recording.Notes, live: str, program: str) -> None:
+def say_uncounted(speaker: recording.Speaker, notes: Notes, live: str, program: str) -> None:
     """What the counts are not of."""
     if notes.foreign:
         speaker.say(recording.foreign(program, notes, "counted"))
@@ -206,33 +204,33 @@ def say_uncounted(speaker: recording.Speaker, notes: recording.Notes, live: str,
         speaker.say(f"{live} counted one process. Others requested too, and are not counted {others}: {remedy}")
 
 
-def read_counts(path: str, most: int = 8 * counts.MOST + 1) -> array.array:
-    """The words of a file of counts, or so many bytes of it."""
+def read_counts(path: str, most: int = counts.MOST + 1) -> counts.Counts:
+    """What a file of counts has, or so many bytes of it."""
     try:
         with open(os.open(path, os.O_RDONLY | os.O_NONBLOCK | os.O_CLOEXEC), "rb") as file:
             if not stat.S_ISREG(os.fstat(file.fileno()).st_mode):
                 raise Refused(3, f"{path} is no file of counts")
-            return array.array("Q", file.read(most))
+            return counts.Counts(file.read(most))
     except OSError as error:
         raise Refused(3, f"{path} can't be read: {error.strerror}") from None
     except ValueError:  # it ends inside a word
         raise Refused(3, f"{path} is no file of counts") from None
 
 
-def sound_counts(path: str, forms: "list[int]") -> "array.array | timelines.Record | None":
-    """The words of a file of counts of one of these forms, or the Record in it. The library may still write there. None where it is none, or
-    was overwritten."""
+def sound_counts(path: str, forms: "list[int]") -> "counts.Counts | timelines.Record | None":
+    """The Counts of a file of one of these forms, or the Record in it. The library may still write there. None where it is none, or was
+    overwritten."""
     for _ in range(READINGS):
-        form = read_counts(path, 8 * counts.PAGE)[:1].tolist()
-        if form == [timelines.FORM] and timelines.FORM in forms:
-            if found := timelines.read(path):
-                return found
-        elif form and form[0] in forms:
-            words = read_counts(path)
-            if not counts.is_whole(words):
+        form = read_counts(path, PAGE).notes.form
+        if form == timelines.FORM and form in forms:
+            if record := timelines.read(path):
+                return record
+        elif form in forms:
+            found = read_counts(path)
+            if not found.is_whole():
                 return None
-            if words[0] in forms and counts.is_sound(words, read_counts(path, 8 * counts.PAGE)):
-                return words
+            if found.notes.form in forms and found.is_sound(read_counts(path, PAGE).notes):
+                return found
         if not recording.having(os.path.realpath(path)):
             return None
         time.sleep(0.02)
@@ -246,7 +244,7 @@ def read_only(options: Options, speaker: recording.Speaker) -> int:
     found = sound_counts(options.read, [*counts.FORMS, timelines.FORM])
     if not found:
         raise Refused(3, f"{options.read} is no file of counts, or the program overwrote it, or it changes too fast: nothing is read of it")
-    notes = recording.Notes(read_counts(options.read, 8 * counts.PAGE).tobytes())
+    notes = read_counts(options.read, PAGE).notes
     say_uncounted(speaker, notes, {counts.HISTORY: "--history", timelines.FORM: "--timeline"}.get(notes.form, "--live"), "the program")
     if print_counts(speaker, notes, found, options.read):
         return 0

@@ -9,18 +9,17 @@ import os
 import re
 import shutil
 import stat
-import struct
 import subprocess
 import sys
 import threading
 import time
-import types
 from collections.abc import Callable, Iterator
 from typing import NoReturn
 
 from mte_scripts import private_folder, texts
 from mte_scripts.private_folder import NotPrivate
 from mte_scripts.recording import children, programs
+from mte_scripts.recording.notes import PAGE, Notes
 from mte_scripts.running import Refused
 
 SHIMS = os.path.join(texts.SCRIPTS, "shims")
@@ -31,25 +30,6 @@ FLAGS = ("-O2", "-fno-builtin", "-shared", "-fPIC", "-Wall")
 VARIABLES = re.compile("(SIZES|TRACE)(_|$)")  # of the environment, which the libraries read
 WATCHED = 1  # a line on a terminal every so many seconds
 ANOTHER_PLACE = "set XDG_CACHE_HOME to another place"
-
-# the first page of the file that a library writes: struct notes in shims/recorder.h
-PAGE = 4096
-NOTES = ("form process others other_requests untouched foreign most length events variables shared wrong ended").split()
-COUNTED = 78  # the place of `all`
-MEASURED = 155  # the place of `requests`, and of those after it
-ALLOCATOR = slice(2048, 3072)
-
-
-class Notes(types.SimpleNamespace):
-    """What the library noted; the file's form is tested by the caller."""
-
-    def __init__(self, page: bytes) -> None:
-        page = page.ljust(PAGE, b"\0")
-        super().__init__(**dict(zip(NOTES, struct.unpack_from(f"={len(NOTES)}Q", page))))
-        self.all = struct.unpack_from("=Q", page, 8 * COUNTED)[0]
-        measures = struct.unpack_from("=6Q", page, 8 * MEASURED)
-        self.requests, self.live, self.large, self.resident, self.system, self.executed = measures
-        self.allocator = os.fsdecode(page[ALLOCATOR].split(b"\0")[0])
 
 
 class Speaker:
@@ -261,7 +241,7 @@ class Run:
         page = self.page()
         if not page:
             self.refuse_no_record(words[0])
-        notes = Notes(page)
+        notes = Notes.of(page)
         if notes.executed and not self.settings[f"{self.variable}_ONLY"]:
             self.speaker.say(f"{words[0]} ran another program in its own place, without the recorder: what that requested is not counted")
         return notes
@@ -307,7 +287,7 @@ def watched(page: "Callable[[], bytes]") -> "Iterator[None]":
 
     def watch() -> None:
         while not end.wait(WATCHED):
-            notes = Notes(page())
+            notes = Notes.of(page())
             live = f", {notes.live / 2**20:,.1f} MiB live" if notes.requests else ""
             line = f"{time.monotonic() - begin:,.0f} s, {notes.requests or notes.all:,} requests{live}"
             os.write(2, f"\r{line}\033[K\r".encode())

@@ -3,13 +3,13 @@
 import argparse
 import contextlib
 import os
-from array import array
 from collections.abc import Iterator
 
 from mte_scripts import private_folder
-from mte_scripts.checksum import crc, folded
+from mte_scripts.checksum import crc
 from mte_scripts.formats import MOST_EVENTS
-from mte_scripts.recording import counts, recording, timelines
+from mte_scripts.recording import recording
+from mte_scripts.recording.notes import PAGE, Notes
 from mte_scripts.running import Refused
 from mte_scripts.words import ProgramWords, between
 
@@ -54,7 +54,7 @@ def options_of(words: "list[str]") -> argparse.Namespace:
     return ProgramWords(HELP, first=between(3, MOST_EVENTS)).take(words)
 
 
-def remarks(options: argparse.Namespace, notes: recording.Notes, work: private_folder.Folder, left: "list[int]") -> "Iterator[str]":
+def remarks(options: argparse.Namespace, notes: Notes, work: private_folder.Folder, left: "list[int]") -> "Iterator[str]":
     """What is to be said of the trace."""
     program = options.words[0]
     if left:
@@ -77,7 +77,7 @@ def remarks(options: argparse.Namespace, notes: recording.Notes, work: private_f
         yield frees if notes.wrong == 1 else f"{notes.wrong} frees are of no live block, and a replay refuses them"
 
 
-def variables(notes: recording.Notes) -> str:
+def variables(notes: Notes) -> str:
     """How many blocks have a variable of their own."""
     blocks = notes.variables + notes.shared
     if not notes.shared:
@@ -87,19 +87,18 @@ def variables(notes: recording.Notes) -> str:
     return f"{own}; the other {notes.shared} are never freed in the trace{sample}"
 
 
-def is_sound(file: str, notes: recording.Notes) -> bool:
+def is_sound(file: str, notes: Notes) -> bool:
     """Whether the trace is as the library wrote it. The notes get its length, its events and why it ended from the mark that is whole."""
     with contextlib.suppress(OSError), open(file, "rb", opener=private_folder.look_at) as recorded:
-        words = array("Q", recorded.read(recording.PAGE).ljust(recording.PAGE, b"\0"))
-        room = os.fstat(recorded.fileno()).st_size - recording.PAGE
-        mark = timelines.mark_of(words)
-        if words[0] != FORM or words[counts.SEAL] != folded((FORM, room)) or not mark or mark.length > room:
+        written, room = Notes.of(recorded.read(PAGE)), os.fstat(recorded.fileno()).st_size - PAGE
+        mark = written.mark()
+        if written.form != FORM or not written.is_sealed(room) or not mark or mark.length > room:
             return False
-        notes.length, notes.events, notes.ended, total, _ = mark
-        found, left = 0, notes.length
+        notes.length, notes.events, notes.ended = mark.length, mark.events, mark.ended
+        found, left = 0, mark.length
         while left and (piece := recorded.read(min(left, PIECE))):
             found, left = crc(piece, found), left - len(piece)
-        return not left and found == total
+        return not left and found == mark.sum
     return False
 
 
@@ -107,7 +106,7 @@ def print_trace(file: str, length: int) -> None:
     """The text after the notes."""
     try:
         with open(file, "rb") as recorded:
-            recorded.seek(recording.PAGE)
+            recorded.seek(PAGE)
             while length > 0 and (piece := recorded.read(min(length, PIECE))):
                 recording.write("the trace", piece)
                 length -= len(piece)

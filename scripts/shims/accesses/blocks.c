@@ -204,35 +204,29 @@ static struct block *live_block_at(address a) {
   return block && block->start == a && block->state == LIVE ? block : NULL;
 }
 
-// the live block that begins at the address; where there is none, the wrong free is logged
-static struct block *block_at(address a, struct caller from, struct stack *stack) {
-  struct block *block = owner(a);
-  int is_right = block && block->start == a && block->state == LIVE;
-  if (is_right || !is_logging()) return is_right ? block : NULL;
+// Takes the lock. The live block that begins at the address; where there is none, the wrong free is logged.
+static struct block *enter_at(address a, struct caller from) {
+  struct stack stack;
+  stack.count = 0;
+  if (has_log() && !live_block_at(a)) unwind(from, &stack);  // before the lock is held: the unwinder may wait for others
+  enter();
+  tell_guess();
+  struct block *live = live_block_at(a), *block = owner(a);
+  if (live || !is_logging()) return live;
   struct wrong found = {.letter = was_given_out(a) ? 'o' : 'n', .at = a};
   if (block) found = (struct wrong){.letter = 'x', .is_freed = block->state == FREED, .number = block - BLOCKS, .offset = (long)(a - block->start),
                                       .block_size = (long)block->size};
   put_record(found.letter, block ? 2 : 0, found.number, found.offset);
-  if (!stack->count) walk(from, (address)__builtin_frame_address(0), stack);
-  put_frames(stack);
-  found.stack = *stack;
+  if (!stack.count) walk(from, (address)__builtin_frame_address(0), &stack);
+  put_frames(&stack);
+  found.stack = stack;
   will_tell(&found);
   return NULL;
 }
 
-// the stack of a free that seems to be wrong, before the lock is held: the unwinder may wait for others
-static inline void look(address a, struct caller from, struct stack *stack) {
-  stack->count = 0;
-  if (has_log() && !live_block_at(a)) unwind(from, stack);
-}
-
 static void give_back(void *pointer, struct caller from) {
   if (!pointer || busy) return;
-  struct stack stack;
-  look((address)pointer, from, &stack);
-  enter();
-  tell_guess();
-  struct block *block = block_at((address)pointer, from, &stack);
+  struct block *block = enter_at((address)pointer, from);
   if (block) {
     if (is_logging()) {
       put_record('f', 1, (long)(block - BLOCKS));
@@ -247,11 +241,7 @@ static void give_back(void *pointer, struct caller from) {
 static void *resize(void *pointer, size_t size, struct caller from) {
   if (!pointer) return request('m', size, 16, from);
   if (!size) return give_back(pointer, from), NULL;
-  struct stack stack;
-  look((address)pointer, from, &stack);
-  enter();
-  tell_guess();
-  struct block *block = block_at((address)pointer, from, &stack), *new = new_block(size, 16), *old = owner((address)pointer);
+  struct block *block = enter_at((address)pointer, from), *new = new_block(size, 16), *old = owner((address)pointer);
   if (new) {
     if (is_logging()) {
       if (block) put_record('r', 3, (long)(block - BLOCKS), (long)(new - BLOCKS), (long)size);
@@ -298,8 +288,8 @@ SHOWN int posix_memalign(void **result, size_t alignment, size_t size) {
 }
 
 SHOWN size_t malloc_usable_size(void *pointer) {
-  struct block *block = owner((address)pointer);
-  return block && block->start == (address)pointer && block->state == LIVE ? block->size : 0;
+  struct block *block = live_block_at((address)pointer);
+  return block ? block->size : 0;
 }
 
 // C++: new and delete, by the names that its ABI gives them

@@ -1,7 +1,6 @@
 // The signals by which a program ends through its own fault. A handler on a stack of its own logs and tells where it came from, and passes it
 // on: the program ends by it as without the handler. A program's own handler takes its place.
-#include "accesses.h"
-#include <dlfcn.h>
+#include "calls.h"
 #include <errno.h>
 #include <setjmp.h>
 #include <signal.h>
@@ -116,8 +115,7 @@ static void *begin_thread(void *at) {
 }
 
 SHOWN int pthread_create(pthread_t *thread, const pthread_attr_t *how, void *(*run)(void *), void *given) {
-  static __typeof__(&pthread_create) real;
-  if (!real) busy++, real = (__typeof__(&pthread_create))dlsym(RTLD_NEXT, "pthread_create"), busy--;
+  REAL(pthread_create);
   if (!is_watching) return real(thread, how, run, given);
   void *stack = mmap(NULL, STACK_SIZE, PROT_READ | PROT_WRITE, MAP_PRIVATE | MAP_ANONYMOUS, -1, 0);
   if (stack == MAP_FAILED) return real(thread, how, run, given);

@@ -105,9 +105,10 @@ static NOT_INLINE void see_stored(const char *format, va_list given, int stored,
   va_end(values);
 }
 
-#define PRINTS(name, parameters, real_name, words, after) \
-  SHOWN int name parameters { \
-    REAL(real_name); \
+// the function of a name, and the one of a list of values beside it; the parameters end with the format
+#define PRINTS(name, words, after, ...) \
+  SHOWN int name(__VA_ARGS__, ...) { \
+    REAL(v##name); \
     va_list values; \
     va_start(values, format); \
     see_texts(format, values, CALLER); \
@@ -115,36 +116,27 @@ static NOT_INLINE void see_stored(const char *format, va_list given, int stored,
     va_end(values); \
     after; \
     return n; \
-  }
-#define PRINTS_LIST(name, parameters, words, after) \
-  SHOWN int name parameters { \
-    REAL(name); \
+  } \
+  SHOWN int v##name(__VA_ARGS__, va_list values) { \
+    REAL(v##name); \
     see_texts(format, values, CALLER); \
     int n = real words; \
     after; \
     return n; \
   }
-PRINTS(printf, (const char *format, ...), vprintf, (format, values), )
-PRINTS(fprintf, (FILE *file, const char *format, ...), vfprintf, (file, format, values), )
-PRINTS(dprintf, (int file, const char *format, ...), vdprintf, (file, format, values), )
-PRINTS(asprintf, (char **to, const char *format, ...), vasprintf, (to, format, values), STORES(to, sizeof *to))
-PRINTS(sprintf, (char *to, const char *format, ...), vsprintf, (to, format, values), if (n >= 0) STORES(to, (size_t)n + 1))
-PRINTS(snprintf, (char *to, size_t most, const char *format, ...), vsnprintf, (to, most, format, values),
-       if (n >= 0 && most) STORES(to, with_end(n, most)))
-PRINTS_LIST(vprintf, (const char *format, va_list values), (format, values), )
-PRINTS_LIST(vfprintf, (FILE *file, const char *format, va_list values), (file, format, values), )
-PRINTS_LIST(vdprintf, (int file, const char *format, va_list values), (file, format, values), )
-PRINTS_LIST(vasprintf, (char **to, const char *format, va_list values), (to, format, values), STORES(to, sizeof *to))
-PRINTS_LIST(vsprintf, (char *to, const char *format, va_list values), (to, format, values), if (n >= 0) STORES(to, (size_t)n + 1))
-PRINTS_LIST(vsnprintf, (char *to, size_t most, const char *format, va_list values), (to, most, format, values),
-            if (n >= 0 && most) STORES(to, with_end(n, most)))
+PRINTS(printf, (format, values), , const char *format)
+PRINTS(fprintf, (file, format, values), , FILE *file, const char *format)
+PRINTS(dprintf, (file, format, values), , int file, const char *format)
+PRINTS(asprintf, (to, format, values), STORES(to, sizeof *to), char **to, const char *format)
+PRINTS(sprintf, (to, format, values), if (n >= 0) STORES(to, (size_t)n + 1), char *to, const char *format)
+PRINTS(snprintf, (to, most, format, values), if (n >= 0 && most) STORES(to, with_end(n, most)), char *to, size_t most, const char *format)
 
 // The headers give scanf other names by the standard of C that is asked for.
-#define SCANS_AS(name, symbol, base, parameters, real_symbol, words, before) \
-  SHOWN int name parameters __asm__(symbol); \
-  int name parameters { \
+#define SCANS_AS(own, symbol, list_symbol, base, words, before, ...) \
+  SHOWN int own(__VA_ARGS__, ...) __asm__(symbol); \
+  int own(__VA_ARGS__, ...) { \
     static __typeof__(&base) real; \
-    REAL_OF(real, real_symbol); \
+    REAL_OF(real, list_symbol); \
     before; \
     va_list values; \
     va_start(values, format); \
@@ -154,12 +146,11 @@ PRINTS_LIST(vsnprintf, (char *to, size_t most, const char *format, va_list value
     see_stored(format, values, n, CALLER); \
     va_end(values); \
     return n; \
-  }
-#define SCANS_LIST_AS(name, symbol, base, parameters, words, before) \
-  SHOWN int name parameters __asm__(symbol); \
-  int name parameters { \
+  } \
+  SHOWN int own##_list(__VA_ARGS__, va_list values) __asm__(list_symbol); \
+  int own##_list(__VA_ARGS__, va_list values) { \
     static __typeof__(&base) real; \
-    REAL_OF(real, symbol); \
+    REAL_OF(real, list_symbol); \
     before; \
     va_list kept; \
     va_copy(kept, values); \
@@ -169,16 +160,10 @@ PRINTS_LIST(vsnprintf, (char *to, size_t most, const char *format, va_list value
     return n; \
   }
 #define SCANS(own, prefix) \
-  SCANS_AS(own##_sscanf, prefix "sscanf", vsscanf, (const char *text, const char *format, ...), prefix "vsscanf", (text, format, values), \
-           LOADS_TEXT(text); LOADS_TEXT(format)) \
-  SCANS_AS(own##_fscanf, prefix "fscanf", vfscanf, (FILE *file, const char *format, ...), prefix "vfscanf", (file, format, values), \
-           LOADS_TEXT(format)) \
-  SCANS_AS(own##_scanf, prefix "scanf", vscanf, (const char *format, ...), prefix "vscanf", (format, values), LOADS_TEXT(format)) \
-  SCANS_LIST_AS(own##_vsscanf, prefix "vsscanf", vsscanf, (const char *text, const char *format, va_list values), (text, format, values), \
-                LOADS_TEXT(text); LOADS_TEXT(format)) \
-  SCANS_LIST_AS(own##_vfscanf, prefix "vfscanf", vfscanf, (FILE *file, const char *format, va_list values), (file, format, values), \
-                LOADS_TEXT(format)) \
-  SCANS_LIST_AS(own##_vscanf, prefix "vscanf", vscanf, (const char *format, va_list values), (format, values), LOADS_TEXT(format))
+  SCANS_AS(own##_sscanf, prefix "sscanf", prefix "vsscanf", vsscanf, (text, format, values), LOADS_TEXT(text); LOADS_TEXT(format), \
+           const char *text, const char *format) \
+  SCANS_AS(own##_fscanf, prefix "fscanf", prefix "vfscanf", vfscanf, (file, format, values), LOADS_TEXT(format), FILE *file, const char *format) \
+  SCANS_AS(own##_scanf, prefix "scanf", prefix "vscanf", vscanf, (format, values), LOADS_TEXT(format), const char *format)
 SCANS(c90, "")
 SCANS(c99, "__isoc99_")
 SCANS(c23, "__isoc23_")

@@ -51,28 +51,26 @@ SHOWN void *mempcpy(void *to, const void *from, size_t n) { LOADS(from, n), STOR
 SHOWN void *memset(void *to, int byte, size_t n) { STORES(to, n), fill_bytes(to, byte, n); return to; }
 SHOWN void bzero(void *to, size_t n) { STORES(to, n), fill_bytes(to, 0, n); }
 
-#define COMPARED(most, fold, goes_on) \
-  const unsigned char *a = left, *b = right; \
+// both have so many bytes, wherever they differ
+SHOWN int memcmp(const void *left, const void *right, size_t n) {
+  const unsigned char *a = left, *b = right;
+  size_t i = 0;
+  LOADS(left, n), LOADS(right, n);
+  while (i < n && a[i] == b[i]) i++;
+  return i < n ? a[i] - b[i] : 0;
+}
+SHOWN int bcmp(const void *, const void *, size_t) __attribute__((alias("memcmp")));
+
+#define COMPARED_TEXTS(most, fold) \
+  const unsigned char *a = (const void *)s, *b = (const void *)t; \
   size_t i = 0; \
-  while (i < (most) && fold(a[i]) == fold(b[i]) && (goes_on)) i++; \
+  while (i < (most) && fold(a[i]) == fold(b[i]) && a[i]) i++; \
   LOADS(a, with_end(i, most)), LOADS(b, with_end(i, most)); \
   return i < (most) ? fold(a[i]) - fold(b[i]) : 0
-// both have so many bytes, wherever they differ
-#define COMPARED_BYTES \
-  LOADS(left, n), LOADS(right, n); \
-  const unsigned char *a = left, *b = right; \
-  size_t i = 0; \
-  while (i < n && a[i] == b[i]) i++; \
-  return i < n ? a[i] - b[i] : 0
-SHOWN int memcmp(const void *left, const void *right, size_t n) { COMPARED_BYTES; }
-SHOWN int bcmp(const void *left, const void *right, size_t n) { COMPARED_BYTES; }
-#define COMPARED_TEXTS(left_text, right_text, most, fold) \
-  const void *left = left_text, *right = right_text; \
-  COMPARED(most, fold, a[i])
-SHOWN int strcmp(const char *s, const char *t) { COMPARED_TEXTS(s, t, ENDLESS, same); }
-SHOWN int strncmp(const char *s, const char *t, size_t n) { COMPARED_TEXTS(s, t, n, same); }
-SHOWN int strcasecmp(const char *s, const char *t) { COMPARED_TEXTS(s, t, ENDLESS, small); }
-SHOWN int strncasecmp(const char *s, const char *t, size_t n) { COMPARED_TEXTS(s, t, n, small); }
+SHOWN int strcmp(const char *s, const char *t) { COMPARED_TEXTS(ENDLESS, same); }
+SHOWN int strncmp(const char *s, const char *t, size_t n) { COMPARED_TEXTS(n, same); }
+SHOWN int strcasecmp(const char *s, const char *t) { COMPARED_TEXTS(ENDLESS, small); }
+SHOWN int strncasecmp(const char *s, const char *t, size_t n) { COMPARED_TEXTS(n, small); }
 
 SHOWN void *memchr(const void *in, int byte, size_t n) {
   const unsigned char *s = in;
@@ -82,49 +80,49 @@ SHOWN void *memchr(const void *in, int byte, size_t n) {
   return i < n ? (void *)(s + i) : NULL;
 }
 
-SHOWN size_t strlen(const char *s) {
-  size_t n = length(s, ENDLESS);
-  LOADS(s, n + 1);
-  return n;
-}
-
 SHOWN size_t strnlen(const char *s, size_t most) {
   size_t n = length(s, most);
   LOADS(s, with_end(n, most));
   return n;
 }
 
-SHOWN size_t wcslen(const wchar_t *s) {
+static size_t wide_length(const wchar_t *s, size_t most) {
   size_t n = 0;
-  while (s[n]) n++;
-  LOADS(s, (n + 1) * sizeof *s);
+  while (n < most && s[n]) n++;
   return n;
 }
 
-// stores the text, of at most so many bytes, with an end; the bytes of the text
-static inline __attribute__((always_inline)) size_t copy_text(char *to, const char *from, size_t most, struct caller caller) {
-  size_t n = length(from, most);
-  touch(from, with_end(n, most), 0, caller);
-  touch(to, n + 1, 1, caller);
-  move_bytes(to, from, n);
-  to[n] = 0;
-  return n;
-}
-SHOWN char *strcpy(char *to, const char *from) { return copy_text(to, from, ENDLESS, CALLER), to; }
+// The same of narrow and of wide texts. COPY stores one of at most so many characters, with an end, and returns how many it has.
+#define TEXTS(type, length, copy, strlen, strcpy, strcat, strncpy) \
+  static inline __attribute__((always_inline)) size_t copy(type *to, const type *from, size_t most, struct caller caller) { \
+    size_t n = length(from, most); \
+    touch(from, with_end(n, most) * sizeof *from, 0, caller); \
+    touch(to, (n + 1) * sizeof *to, 1, caller); \
+    move_bytes(to, from, n * sizeof *to); \
+    to[n] = 0; \
+    return n; \
+  } \
+  SHOWN size_t strlen(const type *s) { \
+    size_t n = length(s, ENDLESS); \
+    LOADS(s, (n + 1) * sizeof *s); \
+    return n; \
+  } \
+  SHOWN type *strcpy(type *to, const type *from) { return copy(to, from, ENDLESS, CALLER), to; } \
+  SHOWN type *strcat(type *to, const type *from) { \
+    size_t n = length(to, ENDLESS); \
+    LOADS(to, (n + 1) * sizeof *to); \
+    return copy(to + n, from, ENDLESS, CALLER), to; \
+  } \
+  SHOWN type *strncpy(type *to, const type *from, size_t most) { \
+    size_t n = length(from, most); \
+    LOADS(from, with_end(n, most) * sizeof *from), STORES(to, most * sizeof *to); \
+    move_bytes(to, from, n * sizeof *to), fill_bytes(to + n, 0, (most - n) * sizeof *to); \
+    return to; \
+  }
+TEXTS(char, length, copy_text, strlen, strcpy, strcat, strncpy)
+TEXTS(wchar_t, wide_length, copy_wide, wcslen, wcscpy, wcscat, wcsncpy)
+
 SHOWN char *stpcpy(char *to, const char *from) { return to + copy_text(to, from, ENDLESS, CALLER); }
-
-SHOWN char *strncpy(char *to, const char *from, size_t most) {
-  size_t n = length(from, most);
-  LOADS(from, with_end(n, most)), STORES(to, most);
-  move_bytes(to, from, n), fill_bytes(to + n, 0, most - n);
-  return to;
-}
-
-SHOWN char *strcat(char *to, const char *from) {
-  size_t n = length(to, ENDLESS);
-  LOADS(to, n + 1);
-  return copy_text(to + n, from, ENDLESS, CALLER), to;
-}
 
 SHOWN char *strncat(char *to, const char *from, size_t most) {
   size_t n = length(to, ENDLESS);
@@ -140,13 +138,13 @@ static inline __attribute__((always_inline)) char *copy_of(const char *from, siz
 SHOWN char *strdup(const char *s) { return copy_of(s, ENDLESS, CALLER); }
 SHOWN char *strndup(const char *s, size_t most) { return copy_of(s, most, CALLER); }
 
-#define FOUND \
-  size_t i = 0; \
-  while (s[i] && s[i] != (char)c) i++; \
-  LOADS(s, i + 1); \
-  return s[i] == (char)c ? (char *)s + i : NULL
-SHOWN char *strchr(const char *s, int c) { FOUND; }
-SHOWN char *index(const char *s, int c) { FOUND; }
+SHOWN char *strchr(const char *s, int c) {
+  size_t i = 0;
+  while (s[i] && s[i] != (char)c) i++;
+  LOADS(s, i + 1);
+  return s[i] == (char)c ? (char *)s + i : NULL;
+}
+SHOWN char *index(const char *, int) __attribute__((alias("strchr")));
 
 SHOWN char *strrchr(const char *s, int c) {
   size_t n = length(s, ENDLESS), i = n + 1;
@@ -199,7 +197,7 @@ static inline __attribute__((always_inline)) char *next_word(char *s, const char
 static char *rest_of_text;
 SHOWN char *strtok(char *s, const char *set) { return next_word(s, set, &rest_of_text, CALLER); }
 SHOWN char *strtok_r(char *s, const char *set, char **rest) { return next_word(s, set, rest, CALLER); }
-SHOWN char *__strtok_r(char *s, const char *set, char **rest) { return next_word(s, set, rest, CALLER); }
+SHOWN char *__strtok_r(char *, const char *, char **) __attribute__((alias("strtok_r")));
 
 SHOWN char *strsep(char **from, const char *set) {
   char *s = *from;
@@ -211,11 +209,6 @@ SHOWN char *strsep(char **from, const char *set) {
 }
 
 #define WIDE (sizeof(wchar_t))
-static size_t wide_length(const wchar_t *s, size_t most) {
-  size_t n = 0;
-  while (n < most && s[n]) n++;
-  return n;
-}
 SHOWN wchar_t *wmemcpy(wchar_t *to, const wchar_t *from, size_t n) { LOADS(from, n * WIDE), STORES(to, n * WIDE); return move_bytes(to, from, n * WIDE); }
 SHOWN wchar_t *wmemmove(wchar_t *to, const wchar_t *from, size_t n) { LOADS(from, n * WIDE), STORES(to, n * WIDE); return move_bytes(to, from, n * WIDE); }
 SHOWN wchar_t *wmemset(wchar_t *to, wchar_t with, size_t n) {
@@ -223,35 +216,19 @@ SHOWN wchar_t *wmemset(wchar_t *to, wchar_t with, size_t n) {
   for (size_t i = 0; i < n; i++) to[i] = with;
   return to;
 }
-static inline __attribute__((always_inline)) wchar_t *copy_wide(wchar_t *to, const wchar_t *from, size_t most, struct caller caller) {
-  size_t n = wide_length(from, most);
-  touch(from, with_end(n, most) * WIDE, 0, caller), touch(to, (n + 1) * WIDE, 1, caller);
-  move_bytes(to, from, n * WIDE);
-  to[n] = 0;
-  return to;
-}
-SHOWN wchar_t *wcscpy(wchar_t *to, const wchar_t *from) { return copy_wide(to, from, ENDLESS, CALLER); }
-SHOWN wchar_t *wcscat(wchar_t *to, const wchar_t *from) {
-  size_t n = wide_length(to, ENDLESS);
-  LOADS(to, (n + 1) * WIDE);
-  return copy_wide(to + n, from, ENDLESS, CALLER), to;
-}
-SHOWN wchar_t *wcsncpy(wchar_t *to, const wchar_t *from, size_t most) {
-  size_t n = wide_length(from, most);
-  LOADS(from, with_end(n, most) * WIDE), STORES(to, most * WIDE);
-  move_bytes(to, from, n * WIDE);
-  for (size_t i = n; i < most; i++) to[i] = 0;
-  return to;
-}
 
-// a function of libc that returns how much it moved
-#define MOVING(type, name, parameters, words, touches) \
+// a function of libc that loads a text or more, or stores what it answers
+#define CALLS(type, name, parameters, words, before, after) \
   SHOWN type name parameters { \
     REAL(name); \
+    before; \
     type n = real words; \
-    if ((ssize_t)n > 0) touches; \
+    after; \
     return n; \
   }
+
+// a function of libc that returns how much it moved
+#define MOVING(type, name, parameters, words, touches) CALLS(type, name, parameters, words, , if ((ssize_t)n > 0) touches)
 MOVING(ssize_t, read, (int file, void *to, size_t most), (file, to, most), STORES(to, n))
 MOVING(ssize_t, recv, (int file, void *to, size_t most, int how), (file, to, most, how), STORES(to, n))
 MOVING(ssize_t, write, (int file, const void *from, size_t most), (file, from, most), LOADS(from, n))
@@ -281,15 +258,6 @@ SHOWN void qsort(void *at, size_t number, size_t each, int (*compare)(const void
   real(at, number, each, compare);
 }
 
-// a function of libc that loads a text or more, or stores what it answers
-#define CALLS(type, name, parameters, words, before, after) \
-  SHOWN type name parameters { \
-    REAL(name); \
-    before; \
-    type n = real words; \
-    after; \
-    return n; \
-  }
 CALLS(char *, fgets, (char *to, int most, FILE *file), (to, most, file), , if (n) STORES_TEXT(to))
 CALLS(int, fputs, (const char *s, FILE *file), (s, file), LOADS_TEXT(s), )
 CALLS(int, puts, (const char *s), (s), LOADS_TEXT(s), )
@@ -345,22 +313,15 @@ WHOLE_NUMBERS(c23, "__isoc23_")
 NUMBERS(double, to_double, "strtod", , (s, &last))
 NUMBERS(float, to_float, "strtof", , (s, &last))
 
-static inline __attribute__((always_inline)) long number_in(const char *s, struct caller caller) {
-  static long (*real)(const char *, char **, int);
-  REAL_OF(real, "strtol");
-  char *last = NULL;
-  long value = real(s, &last, 10);
-  touch(s, (size_t)(last - s) + 1, 0, caller);
-  return value;
-}
-SHOWN int atoi(const char *s) { return number_in(s, CALLER); }
-SHOWN long atol(const char *s) { return number_in(s, CALLER); }
-SHOWN long long atoll(const char *s) { return number_in(s, CALLER); }
-SHOWN double atof(const char *s) {
-  static double (*real)(const char *, char **);
-  REAL_OF(real, "strtod");
-  char *last = NULL;
-  double value = real(s, &last);
-  LOADS(s, (size_t)(last - s) + 1);
-  return value;
-}
+#define NUMBER_IN(type, name, base, words) \
+  SHOWN type name(const char *s) { \
+    REAL(base); \
+    char *last = NULL; \
+    type value = real words; \
+    LOADS(s, (size_t)(last - s) + 1); \
+    return value; \
+  }
+NUMBER_IN(int, atoi, strtol, (s, &last, 10))
+NUMBER_IN(long, atol, strtol, (s, &last, 10))
+NUMBER_IN(long long, atoll, strtol, (s, &last, 10))
+NUMBER_IN(double, atof, strtod, (s, &last))

@@ -18,6 +18,7 @@
 // is wrong, and after some hundred bytes of others, so of a killed program the last requests may be missing.
 #include "accesses.h"
 #include "../checksum.h"
+#include "../log_head.h"
 #include "../private_folder.h"
 #include <errno.h>
 #include <fcntl.h>
@@ -32,14 +33,6 @@ enum { MARGIN = 8192, MOST_UNMARKED = 512 };
 #define PIECE ((size_t)8 << 20)
 #define FIRST_PIECE ((size_t)256 << 10)
 #define LOG_SIZE ((size_t)1 << 30)
-
-// Two marks take turns, so that one is whole wherever the program ends. The sum is the CRC-32 of the text. scripts/mte_scripts/faults/fault_log.py reads it.
-enum end { RUNNING = 1, ENDED, CUT };
-struct mark { uint64_t length, sum, not_logged, state, check; };
-struct head { char form[8]; uint64_t turn; struct mark marks[2]; };
-enum { HEAD = 128 };
-static const char FORM[8] = "ACCESS1";
-_Static_assert(sizeof(struct head) <= HEAD, "the text begins after the head");
 
 long not_logged;
 static char *log_start, *log_end;  // up to its end the file has memory
@@ -171,11 +164,7 @@ static int name_log(char **end) {
       *to++ = *from;
       continue;
     }
-    char digits[24];
-    unsigned long process = syscall(SYS_getpid), n = 0;
-    do digits[n++] = '0' + process % 10;
-    while (process /= 10);
-    while (n) *to++ = digits[--n];
+    to = decimal_at(to, syscall(SYS_getpid));
     from++;
     is_one_of_many = 1;
   }
@@ -244,12 +233,9 @@ static void in_child(void) {
 // The program may go to another folder before its log grows.
 static void make_absolute(void) {
   static char absolute[MOST_NAME];
-  if (*pattern == '/' || syscall(SYS_getcwd, absolute, sizeof absolute) < 0) return;
-  size_t length = strlen(absolute);
-  if (length + strlen(pattern) + 2 > sizeof absolute) return;
-  absolute[length] = '/';
-  memcpy(absolute + length + 1, pattern, strlen(pattern) + 1);
-  pattern = absolute;
+  char here[MOST_NAME];
+  if (*pattern == '/' || syscall(SYS_getcwd, here, sizeof here) < 0) return;
+  if (strlen(here) + strlen(pattern) + 2 <= sizeof absolute && join(absolute, here, strlen(here), pattern)) pattern = absolute;
 }
 
 // The program came to its end, which may also be in a handler of a signal that came in the runtime, or in a child that has the memory of

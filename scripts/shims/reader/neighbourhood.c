@@ -15,6 +15,7 @@
 // The exit status is 4 where that can't be done, or the log is none that a program wrote to its end: then the whole log has to be read.
 #include "../checksum.h"
 #include "../formats.h"
+#include "../log_head.h"
 #include <fcntl.h>
 #include <stdint.h>
 #include <stdio.h>
@@ -24,9 +25,8 @@
 #include <sys/stat.h>
 #include <unistd.h>
 
-enum { HEAD = 128, LARGEST = LARGEST_SIZE, GRANULE = 16, MOST_GRANULES = 262144, WINDOW = 64, MOST_OFFSET = FARTHEST_ACCESS };
+enum { LARGEST = LARGEST_SIZE, GRANULE = 16, MOST_GRANULES = 262144, WINDOW = 64, MOST_OFFSET = FARTHEST_ACCESS };
 enum { MOST_ERRORS = 50000, MOST_STACKS = 1 << 20, LARGE_FILLER = 20000, MOST_TOUCHED = 8 };
-static const char FORM[8] = "ACCESS1";
 
 static _Noreturn void give_up(const char *why) {
   fprintf(stderr, "neighbourhood: %s\n", why);
@@ -39,22 +39,28 @@ static void *zeros(size_t number, size_t each) {
   return made;
 }
 
+// an array with room for one more
+static inline void *with_room(void *array, size_t count, size_t *room, size_t each) {
+  if (count < *room) return array;
+  *room = 2 * *room + (1 << 16);
+  if (!(array = realloc(array, *room * each))) give_up("no memory");
+  return array;
+}
+
 // the text of the log
 static const char *text, *text_end;
 
 static void open_log(const char *path) {
-  struct mark { uint64_t length, sum, not_logged, state, check; } marks[2];
   struct stat status;
-  uint64_t turn;
   int file = open(path, O_RDONLY | O_NONBLOCK | O_CLOEXEC);
   if (file < 0 || fstat(file, &status) || !S_ISREG(status.st_mode) || status.st_size < HEAD) give_up("no log");
-  const char *whole = mmap(NULL, status.st_size, PROT_READ, MAP_PRIVATE, file, 0);
-  if (whole == MAP_FAILED || memcmp(whole, FORM, sizeof FORM)) give_up("no log");
-  memcpy(&turn, whole + 8, 8), memcpy(marks, whole + 16, sizeof marks);
-  if (turn > 1 || folded(&marks[turn].length, 4) != marks[turn].check) give_up("its head is damaged");
-  if (marks[turn].length > (uint64_t)status.st_size - HEAD) give_up("it is cut");
-  text = whole + HEAD, text_end = text + marks[turn].length;
-  if (crc(0, text, text_end - text) != marks[turn].sum || (text < text_end && text_end[-1] != '\n')) give_up("it is damaged");
+  const struct head *head = mmap(NULL, status.st_size, PROT_READ, MAP_PRIVATE, file, 0);
+  if (head == MAP_FAILED || memcmp(head->form, FORM, sizeof FORM)) give_up("no log");
+  const struct mark *mark = &head->marks[head->turn & 1];
+  if (head->turn > 1 || folded(&mark->length, 4) != mark->check) give_up("its head is damaged");
+  if (mark->length > (uint64_t)status.st_size - HEAD) give_up("it is cut");
+  text = (const char *)(head + 1), text_end = text + mark->length;
+  if (crc(0, text, text_end - text) != mark->sum || (text < text_end && text_end[-1] != '\n')) give_up("it is damaged");
 }
 
 // a record: its letter, its numbers, and where its stack is; the line from its begin to its end
@@ -123,10 +129,7 @@ static struct step { uint32_t at, block; } *steps;
 static size_t step_count, step_room;
 
 static void add_step(const char *at, uint32_t block) {
-  if (step_count == step_room) {
-    step_room = 2 * step_room + (1 << 16);
-    if (!(steps = realloc(steps, step_room * sizeof *steps))) give_up("no memory");
-  }
+  steps = with_room(steps, step_count, &step_room, sizeof *steps);
   steps[step_count++] = (struct step){at - text, block};
 }
 
@@ -134,10 +137,7 @@ static void add_block(long block, long size) {
   static size_t room;
   if (block != last_block + 1l || block >= 1l << 28 || size < 0) give_up("a block is wrong, or was not recorded");
   last_block = block;
-  if ((size_t)block >= room) {
-    room = 2 * room + (1 << 16);
-    if (!(sizes = realloc(sizes, room * sizeof *sizes))) give_up("no memory");
-  }
+  sizes = with_room(sizes, block, &room, sizeof *sizes);
   sizes[0] = 0, sizes[block] = size <= LARGEST ? size : LARGEST + 1;
   counts[sizes[block]]++;
 }
@@ -198,6 +198,12 @@ static void begin_slots(char *classes) {
 
 static int class_of(uint32_t size) { return class_for[size ? (size + GRANULE - 1) / GRANULE : 1]; }
 
+// the slot that a block has, or had; null where the heap does not serve it
+static struct slot *slot_with(uint32_t block) { return slot_of[block] ? &slots[slot_of[block] - 1] : NULL; }
+
+// the granule of a byte, which may be before the heap
+static long granule_of(long at) { return (at < 0 ? at - GRANULE + 1 : at) / GRANULE; }
+
 static void give_slot(uint32_t block) {
   uint32_t size = sizes[block];
   int number = size <= LARGEST ? class_of(size) : class_count;
@@ -236,8 +242,8 @@ static long start_of(const struct slot *slot) {
 // The slots that an error meets: its own first. A free meets the one that it would free.
 static int met_by(const struct record *record, struct slot *met[MOST_TOUCHED]) {
   uint32_t block = record->numbers[0];
-  if (!slot_of[block]) return 0;
-  struct slot *own = met[0] = &slots[slot_of[block] - 1], *next;
+  struct slot *own = met[0] = slot_with(block), *next;
+  if (!own) return 0;
   int count = 1, is_live = !is_ended[block];
   long offset = record->numbers[1], begin = offset, length = 0, first, last;
   if (record->letter == 'x') {
@@ -249,7 +255,7 @@ static int met_by(const struct record *record, struct slot *met[MOST_TOUCHED]) {
     if (length > WINDOW || record->numbers[2] < 0) length = WINDOW;
     if (begin < -MOST_OFFSET || begin > MOST_OFFSET || length < 1) return 1;
     long at = GRANULE * (start_of(own) + 1) + begin;
-    first = (at < 0 ? at - GRANULE + 1 : at) / GRANULE, last = (at + length - 1 < 0 ? at + length - GRANULE : at + length - 1) / GRANULE;
+    first = granule_of(at), last = granule_of(at + length - 1);
   }
   for (long granule = first; granule <= last; granule++)
     if ((next = slot_at(granule)) && next != met[count - 1] && next != own && count < MOST_TOUCHED) met[count++] = next;
@@ -259,7 +265,8 @@ static int met_by(const struct record *record, struct slot *met[MOST_TOUCHED]) {
 // Gives each block its slot, in the order of the log, and asks what each error meets.
 static void take_place(uint32_t block, const char *at) {
   give_slot(block);
-  if (slot_of[block] && !slots[slot_of[block] - 1].first) slots[slot_of[block] - 1].first = at;
+  struct slot *slot = slot_with(block);
+  if (slot && !slot->first) slot->first = at;
 }
 
 static void place(void) {
@@ -274,7 +281,7 @@ static void place(void) {
       case 'm': case 'c': take_place(old, at); continue;
       case 'f':
         if (is_ended[old]++) give_up("a block was freed twice");
-        if (slot_of[old]) free_slot(&slots[slot_of[old] - 1]);
+        if ((slot = slot_with(old))) free_slot(slot);
         continue;
       default: read_record(&at, &record);
     }
@@ -282,7 +289,7 @@ static void place(void) {
       case 'r':
         block = record.numbers[1];
         if (is_ended[old]++) give_up("a block was freed twice");
-        slot = slot_of[old] ? &slots[slot_of[old] - 1] : NULL;
+        slot = slot_with(old);
         if (slot && record.numbers[2] <= LARGEST && class_of(record.numbers[2]) == slot->class_number) {
           slot_of[block] = slot_of[old], generation_of[block] = generation_of[old];
           slot->block = block, slot->size = sizes[block];
@@ -315,51 +322,41 @@ static void place(void) {
   }
 }
 
-// The new log.
+// The new log, in memory until its checksum is known.
+static FILE *new_log;
 static char *written;
-static size_t written_length, written_room;
+static size_t written_length;
 static uint32_t new_blocks, new_released[MOST_CLASSES];
 static uint32_t new_fresh[MOST_CLASSES];
 
-static void write_bytes(const char *from, size_t length) {
-  if (written_room - written_length < length) {
-    written_room = 2 * written_room + length + (1 << 16);
-    if (!(written = realloc(written, written_room))) give_up("no memory");
-  }
-  memcpy(written + written_length, from, length);
-  written_length += length;
-}
-
-static void write_words(char letter, int count, long one, long two, long three) {
-  char line[96];
-  int length = count == 1 ? snprintf(line, sizeof line, "%c %ld", letter, one) : count == 2 ? snprintf(line, sizeof line, "%c %ld %ld", letter, one, two) :
-               snprintf(line, sizeof line, "%c %ld %ld %ld", letter, one, two, three);
-  write_bytes(line, length);
-}
+static void write_text(const char *from, size_t length) { fwrite(from, 1, length, new_log); }
 
 // a stack as the log has it: with its addresses at its first time
 static void write_stack(const struct record *record) {
   long number;
-  char digits[32];
   const char *at = read_number(record->stack, &number);
-  if (!number && *at != ':') return write_bytes(" 0\n", 3);
-  if (!number) return write_bytes(" ", 1), write_bytes(record->stack, record->end - record->stack + 1);
-  if (number >= MOST_STACKS || !stacks[number].at) give_up("a stack is unknown");
-  write_bytes(digits, snprintf(digits, sizeof digits, " %ld", number));
-  if (!stacks[number].is_written++) write_bytes(stacks[number].at, stacks[number].length);
-  write_bytes("\n", 1);
+  fprintf(new_log, " %ld", number);
+  if (!number && *at == ':') write_text(at, record->end - at);
+  if (number && (number >= MOST_STACKS || !stacks[number].at)) give_up("a stack is unknown");
+  if (number && !stacks[number].is_written++) write_text(stacks[number].at, stacks[number].length);
+  putc('\n', new_log);
 }
 
-static void write_filler(long size) { write_words('m', 2, ++new_blocks, size, 0), write_bytes(" 0\n", 3); }
+static void write_filler(long size) { fprintf(new_log, "m %u %ld 0\n", ++new_blocks, size); }
 
 static void write_request(const struct record *record, uint32_t block, long size) {
   new_number[block] = ++new_blocks;
-  write_words(record->letter == 'c' ? 'c' : 'm', 2, new_blocks, size, 0);
+  fprintf(new_log, "%c %u %ld", record->letter == 'c' ? 'c' : 'm', new_blocks, size);
+  write_stack(record);
+}
+
+static void write_resize(const struct record *record, long size) {
+  fprintf(new_log, "r %u %u %ld", new_number[record->numbers[0]], ++new_blocks, size);
   write_stack(record);
 }
 
 static void end_stand_in(uint32_t block) {
-  if (stand_in[block]) write_words('f', 1, stand_in[block], 0, 0), write_bytes(" 0\n", 3);
+  if (stand_in[block]) fprintf(new_log, "f %u 0\n", stand_in[block]);
   stand_in[block] = 0;
 }
 
@@ -368,10 +365,12 @@ static void end_stand_in(uint32_t block) {
 static void write_end(const struct record *record) {
   uint32_t old = record->numbers[0], block = record->numbers[1];
   if (!new_number[old]) give_up("a free comes before its request");
-  if (record->letter == 'f' || !errors_left[old]) return write_words('f', 1, new_number[old], 0, 0), write_stack(record);
-  stand_in[block] = ++new_blocks;
-  write_words('r', 3, new_number[old], new_blocks, record->numbers[2] > LARGEST ? record->numbers[2] : LARGE_FILLER);
-  write_stack(record);
+  if (record->letter == 'f' || !errors_left[old]) {
+    fprintf(new_log, "f %u", new_number[old]);
+    return write_stack(record);
+  }
+  write_resize(record, record->numbers[2] > LARGEST ? record->numbers[2] : LARGE_FILLER);
+  stand_in[block] = new_blocks;
   if (is_ended[block]) end_stand_in(block);
 }
 
@@ -424,7 +423,7 @@ static void write_fresh(int class_number, const struct slot *up_to, const char *
 
 static void add_request(const struct record *record, int error) {
   uint32_t block = block_in(record);
-  struct slot *slot = slot_of[block] ? &slots[slot_of[block] - 1] : NULL;
+  struct slot *slot = slot_with(block);
   if (!slot) {
     if (!errors_left[block]) return;
     if (sizes[block] <= LARGEST) give_up("a block of an error has no slot");
@@ -441,7 +440,7 @@ static void add_request(const struct record *record, int error) {
 
 static void add_free(const struct record *record, int error) {
   uint32_t block = record->numbers[0];
-  struct slot *slot = slot_of[block] ? &slots[slot_of[block] - 1] : NULL;
+  struct slot *slot = slot_with(block);
   if (errors_left[block]) freed_at[block] = request_count + 1 + (record->letter == 'r');
   end_stand_in(block);
   if (slot && slot->is_wanted && slot->last_error >= error) slot->pending = record->begin;
@@ -452,32 +451,35 @@ static void add_resize(const struct record *record, int error) {
   uint32_t old = record->numbers[0], block = record->numbers[1];
   end_stand_in(old);
   if (slot_of[old] && slot_of[old] == slot_of[block] && generation_of[old] == generation_of[block]) {
-    struct slot *slot = &slots[slot_of[old] - 1];
+    struct slot *slot = slot_with(old);
     if (!slot->is_wanted || slot->last_error < error) return;
     if (!new_number[old]) give_up("a block moves before its request");
-    new_number[block] = ++new_blocks;
-    write_words('r', 3, new_number[old], new_blocks, record->numbers[2]);
-    return write_stack(record);
+    write_resize(record, record->numbers[2]);
+    new_number[block] = new_blocks;
+    return;
   }
   add_request(record, error);
   add_free(record, error);
 }
 
+static void write_error(const struct record *record, uint32_t new_block) {
+  putc(record->letter, new_log);
+  if (record->count) fprintf(new_log, " %u", new_block);
+  for (int i = 1; i < record->count; i++) fprintf(new_log, " %ld", record->numbers[i]);
+  write_stack(record);
+}
+
 static void add_error(const struct record *record) {
-  if (record->letter == 'o' || record->letter == 'n') write_bytes(record->begin, 1), write_stack(record);
-  else if (!record->numbers[0]) write_words(record->letter, record->count, 0, record->numbers[1], record->numbers[2]), write_stack(record);
-  else {
-    struct slot *met[MOST_TOUCHED];
-    uint32_t block = record->numbers[0];
-    int count = met_by(record, met);
-    for (int i = 0; i < count; i++)
-      if (met[i]->pending) write_free(met[i]);
-    if (!new_number[block]) give_up("an error comes before its block");
-    if (freed_at[block] && freed_at[block] <= request_count) write_filler(LARGE_FILLER);  // there was a request since the free
-    write_words(record->letter, record->count, new_number[block], record->numbers[1], record->numbers[2]);
-    write_stack(record);
-    if (errors_left[block] < 255) errors_left[block]--;
-  }
+  if (!record->count || !record->numbers[0]) return write_error(record, 0);
+  struct slot *met[MOST_TOUCHED];
+  uint32_t block = record->numbers[0];
+  int count = met_by(record, met);
+  for (int i = 0; i < count; i++)
+    if (met[i]->pending) write_free(met[i]);
+  if (!new_number[block]) give_up("an error comes before its block");
+  if (freed_at[block] && freed_at[block] <= request_count) write_filler(LARGE_FILLER);  // there was a request since the free
+  write_error(record, new_number[block]);
+  if (errors_left[block] < 255) errors_left[block]--;
 }
 
 static void reduce(void) {
@@ -488,13 +490,13 @@ static void reduce(void) {
     if (text[steps[i].at] == 'f' || text[steps[i].at] == 'r') first_end = text + steps[i].at;
   for (int i = 0; i < class_count && first_end; i++) write_fresh(i, NULL, first_end, 0);
   // whether a block may come from one that was freed, the odds on other heaps ask
-  if (first_end) write_filler(LARGE_FILLER), write_words('f', 1, new_blocks, 0, 0), write_bytes(" 0\n", 3);
+  if (first_end) write_filler(LARGE_FILLER), fprintf(new_log, "f %u 0\n", new_blocks);
   for (int i = 0; i < class_count; i++) write_fresh(i, NULL, NULL, 0);
   memset(is_ended, 0, last_block + 1);
   for (struct step *step = steps; step < steps + step_count; step++) {
     const char *at = text + step->at;
     uint32_t block = step->block;
-    struct slot *slot = is_request_or_free(*at) && slot_of[block] ? &slots[slot_of[block] - 1] : NULL;
+    struct slot *slot = is_request_or_free(*at) ? slot_with(block) : NULL;
     int is_wanted = slot ? slot->is_wanted && slot->last_error >= error : errors_left[block] || new_number[block] || stand_in[block];
     if (*at == 'f') is_ended[block] = 1;
     if (is_request_or_free(*at) && !is_wanted && !stand_in[block]) {
@@ -507,11 +509,11 @@ static void reduce(void) {
       case 'f': add_free(&record, error); break;
       case 'r': is_ended[record.numbers[0]] = 1, add_resize(&record, error), request_count++; break;
       case 'L': case 'S': case 'x': case 'o': case 'n': add_error(&record), error++; break;
-      case 'M': case '-': case '+': case 'e': write_bytes(record.begin, record.end - record.begin + 1); break;
+      case 'M': case '-': case '+': case 'e': write_text(record.begin, record.end - record.begin + 1); break;
       case 'C': {  // its stack is the last word
         const char *last = record.end;
         while (last[-1] != ' ') last--;
-        write_bytes(record.begin, last - 1 - record.begin);
+        write_text(record.begin, last - 1 - record.begin);
         record.stack = last, write_stack(&record);
       }
     }
@@ -519,12 +521,12 @@ static void reduce(void) {
 }
 
 static void write_log(const char *path) {
-  char head[HEAD] = {0};
-  uint64_t mark[5] = {written_length, crc(0, written, written_length), 0, 2, 0};
-  mark[4] = folded(mark, 4);
-  memcpy(head, FORM, sizeof FORM), memcpy(head + 16, mark, sizeof mark);
+  if (ferror(new_log) || fclose(new_log)) give_up("no memory");
+  struct head head = {.marks = {{written_length, crc(0, written, written_length), 0, ENDED, 0}}};
+  head.marks[0].check = folded(&head.marks[0].length, 4);
+  memcpy(head.form, FORM, sizeof FORM);
   FILE *file = fopen(path, "wb");
-  if (!file || fwrite(head, 1, HEAD, file) != HEAD || fwrite(written, 1, written_length, file) != written_length || fclose(file)) give_up("it can't be written");
+  if (!file || fwrite(&head, HEAD, 1, file) != 1 || fwrite(written, 1, written_length, file) != written_length || fclose(file)) give_up("it can't be written");
 }
 
 static void print_profile(void) {
@@ -550,6 +552,7 @@ int main(int words, char **word) {
   for (int i = 0; i < 5; i++) *columns[i] = zeros(last_block + 1, sizeof **columns[i]);
   errors_left = zeros(last_block + 1, 1), is_ended = zeros(last_block + 1, 1);
   begin_slots(classes);
+  if (!(new_log = open_memstream(&written, &written_length))) give_up("no memory");
   place();
   reduce();
   write_log(word[2]);

@@ -83,7 +83,7 @@ def made(result: Found, wanted: str, snapshots: int) -> Imported:
 
 def made_of_run(events: array, peak_at: int, wanted: str, snapshots: int, told: list) -> Imported:
     """The timeline, or the history of some moments."""
-    peak = live_at(events, [peak_at])[peak_at]
+    peak = timelines.live_at(events, [peak_at])[peak_at]
     if wanted == found.TIMELINE and length_of(events) <= timelines.MOST_TEXT:
         return Imported("the timeline", timelines.text_of(events), texts.profile_text(peak), told)
     if wanted == found.TIMELINE:
@@ -93,7 +93,7 @@ def made_of_run(events: array, peak_at: int, wanted: str, snapshots: int, told: 
         told.append(f"the timeline would have more than {timelines.MOST_TEXT:,} bytes: a history is made in its place, {of}")
     else:
         spaced = {round(len(events) * each / snapshots) for each in range(1, snapshots)}
-        moments = live_at(events, sorted(spaced | {peak_at}))
+        moments = timelines.live_at(events, sorted(spaced | {peak_at}))
         told.append(f"the history has {found.number(len(moments), 'moment')}, evenly spaced but for that of the most bytes")
     return Imported("the history", [texts.history_text(timelines.history_of(moments)).encode()], texts.profile_text(peak), told)
 
@@ -101,13 +101,3 @@ def made_of_run(events: array, peak_at: int, wanted: str, snapshots: int, told: 
 def length_of(events: array) -> int:
     """The bytes of the timeline."""
     return sum(times * len(timelines.LINES[code]) for code, times in Counter(events).items())
-
-
-def live_at(events: array, moments: list) -> dict:
-    """The live blocks at these ascending moments."""
-    live: Counter = Counter()
-    at, begin = {}, 0
-    for moment in moments:
-        live.update(timelines.by_size(events[begin:moment]))
-        at[moment], begin = timelines.named(live), moment
-    return at

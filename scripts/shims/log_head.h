@@ -1,0 +1,12 @@
+// The head of the log that a program of traced_cc writes. scripts/mte_scripts/faults/fault_log.py reads it, too.
+#ifndef LOG_HEAD_H
+#define LOG_HEAD_H
+#include <stdint.h>
+
+// Two marks take turns, so that one is whole wherever the program ends. The sum is the CRC-32 of the text.
+enum end { RUNNING = 1, ENDED, CUT };
+struct mark { uint64_t length, sum, not_logged, state, check; };
+struct head { char form[8]; uint64_t turn; struct mark marks[2]; char room[32]; };
+enum { HEAD = sizeof(struct head) };
+static const char FORM[8] = "ACCESS1";
+#endif
