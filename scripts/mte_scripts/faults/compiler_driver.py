@@ -94,27 +94,20 @@ def sum_of(flags: list, sources: list) -> str:
     return whole.hexdigest()[:16]
 
 
-def sources_sum() -> str:
-    return sum_of(RUNTIME_FLAGS, [*SOURCES, *HEADERS])
-
-
 def runtime(plain: str) -> str:
     """The path of the runtime, built once for each version of its sources."""
-    return kept(f"accesses-{sources_sum()}", RUNTIME, lambda new: build(plain, new))
+    return kept(f"accesses-{sum_of(RUNTIME_FLAGS, [*SOURCES, *HEADERS])}", RUNTIME, lambda new: build(plain, new))
 
 
 def reader() -> "str | None":
     """The path of the program that reduces large logs, built as the runtime is; None where there is no compiler or no place for it."""
     try:
         plain = found("TRACED_CC", "gcc", "clang")
-        return kept(f"reader-{sum_of(READER_FLAGS, [READER, *HEADERS])}", "neighbourhood", lambda new: build_reader(plain, new))
+        words = [plain, *READER_FLAGS, READER, "-o"]
+        folder = f"reader-{sum_of(READER_FLAGS, [READER, *HEADERS])}"
+        return kept(folder, "neighbourhood", lambda new: compile_alone([*words, new], "the reader could not be compiled"))
     except Refused:
         return None
-
-
-def build_reader(plain: str, to: str) -> None:
-    if compile_alone([plain, *READER_FLAGS, READER, "-o", to]):
-        raise Refused(3, "the reader could not be compiled")
 
 
 def kept(folder: str, name: str, build_new: "Callable[[str], None]") -> str:
@@ -134,15 +127,15 @@ def build(plain: str, to: str) -> None:
     # else a loop over bytes calls memset, which is the program's
     own = [] if is_clang(plain) else ["-fno-tree-loop-distribute-patterns"]
     words = [plain, *RUNTIME_FLAGS, *own, *(path for path in SOURCES if path.endswith(".c")), "-o", to, "-ldl", "-pthread"]
-    if compile_alone(words):
-        raise Refused(3, f"the runtime could not be compiled: it needs glibc, and room in {os.path.dirname(to)}")
+    compile_alone(words, f"the runtime could not be compiled: it needs glibc, and room in {os.path.dirname(to)}")
 
 
-def compile_alone(words: list) -> int:
+def compile_alone(words: list, refusal: str) -> None:
     import subprocess
 
     with private_folder.temporary() as folder:
-        return subprocess.run(words, stdin=subprocess.DEVNULL, stdout=2, env={**os.environ, "TMPDIR": folder}).returncode
+        if subprocess.run(words, stdin=subprocess.DEVNULL, stdout=2, env={**os.environ, "TMPDIR": folder}).returncode:
+            raise Refused(3, refusal)
 
 
 def traced_flags(compiler: str, is_for_cxx: bool) -> list:

@@ -55,13 +55,20 @@ class Error(namedtuple("Error", "letter block offset size stack state times", de
         return begin, min(self.offset + self.size - begin, WINDOW)
 
 
+def opened(path: str) -> BinaryIO:
+    """A file that is open for reading; a pipe is not waited for."""
+    return open(path, "rb", opener=lambda path, how: os.open(path, how | os.O_NONBLOCK | os.O_NOCTTY))
+
+
 class Text:
     """The lines of a log, and what is missing of it."""
 
     def __init__(self, file: BinaryIO) -> None:
-        if os.fstat(file.fileno()).st_size > HEAD + MOST_BYTES:
+        status = os.fstat(file.fileno())
+        if not stat.S_ISREG(status.st_mode) or status.st_size > HEAD + MOST_BYTES:
             raise NoLog
         self.file, self.missing, self.is_damaged = file, [], False
+        self.length, self.sum, self.not_logged, self.state = 0, 0, 0, ENDED
         head = file.read(HEAD)
         self.is_empty = not head.strip(b"\0")
         if self.is_empty:
@@ -83,7 +90,7 @@ class Text:
 
     def lines(self) -> "Iterator[bytes]":
         """The whole lines that the head speaks of."""
-        left, found, rest = 0 if self.is_empty else self.length, 0, b""
+        left, found, rest = self.length, 0, b""
         while left:
             piece = self.file.read(min(left, PIECE))
             if not piece:
@@ -95,13 +102,11 @@ class Text:
             if len(rest) > LONGEST_LINE:
                 break
             yield from lines
-        if not self.is_empty and (left or rest or found != self.sum) and not self.is_damaged:
+        if (left or rest or found != self.sum) and not self.is_damaged:
             self._damaged("a line has no end" if left or rest else "its checksum is another one")
 
     def say_end(self) -> None:
         """Adds what is missing where all that there is of the log was read."""
-        if self.is_empty:
-            return
         if self.state == CUT:
             self.missing.append(f"the log could not grow at {self.length} bytes: what the program did later is not in it")
         elif self.state != ENDED:
@@ -143,15 +148,13 @@ class Log:
         self.unrecorded: set[int] = set()  # blocks that a handler of a signal requested have no record
         self._taken_back: set[int] = set()
         self._kept: Optional[list[int]] = None  # where some were taken back: the numbers in the log of the others
-        descriptor = os.open(path, os.O_RDONLY | os.O_NONBLOCK | os.O_NOCTTY | os.O_CLOEXEC)
-        with open(descriptor, "rb") as file:
-            if not stat.S_ISREG(os.fstat(descriptor).st_mode):
-                raise NoLog
+        with opened(path) as file:
             text = Text(file)
             self._read_all(text)
             text.say_end()
         self.missing, self.is_empty, self.is_damaged = text.missing, text.is_empty, text.is_damaged
-        self._count_times()
+        for at, times in self._times.items():
+            self.errors[at] = self.errors[at]._replace(times=times)
         self._drop_taken_back()
 
     def _read_all(self, text: Text) -> None:
@@ -268,10 +271,6 @@ class Log:
         state = "live" if self.ended[block] == -1 else "resized" if self.next[block] else "freed"
         self._add(b"E", len(self.errors))
         self.errors.append(Error(letter, block, offset, size, stack, state))
-
-    def _count_times(self) -> None:
-        for at, times in self._times.items():
-            self.errors[at] = self.errors[at]._replace(times=times)
 
     def _drop_taken_back(self) -> None:
         """The runtime took some errors back as it learned more; their records are left as frees of no block, which are passed over."""

@@ -5,47 +5,39 @@ program (scripts/shims/reader/neighbourhood.c) gives all blocks of the large log
 went through; its replay holds nothing back. The model of the slots finds in it what each error meets, and has to find what the program
 says of the whole log (fault_trace.Trace.misplaced). Where it does not, or the program gives up, the whole log is read."""
 
+import contextlib
 import os
 import subprocess
 from collections.abc import Callable, Iterable
 
 from mte_scripts import private_folder
 from mte_scripts.faults import compiler_driver
-from mte_scripts.faults.fault_log import Log, NoLog, Text
+from mte_scripts.faults.fault_log import Log, NoLog, Text, opened
 
 LARGE = 4 << 20  # bytes; what is smaller is read in a few seconds
 
 
 def small(path: str, table_of: "Callable[[str], list[int]]", granules: int, quarantine: int, least: int = LARGE) -> "Log | None":
     """The small Log of a large log, or None where there is none. table_of(profile) gives the heap's classes."""
-    try:
-        with open(path, "rb", opener=lambda path, how: os.open(path, how | os.O_NONBLOCK | os.O_NOCTTY)) as file:
-            text = Text(file)
-            text.say_end()
-    except (OSError, NoLog):
-        return None
-    if text.is_empty or text.is_damaged or text.length < least:
-        return None
-    program = compiler_driver.reader()
-    if not program:
-        return None
+    with contextlib.suppress(OSError, NoLog), opened(path) as file:
+        text = Text(file)
+        text.say_end()
+        program = compiler_driver.reader() if not text.is_damaged and text.length >= least else None
+        return made([program, path], table_of, [str(granules), str(quarantine)], text) if program else None
+    return None
+
+
+def made(words: list, table_of: "Callable[[str], list[int]]", heap: list, text: Text) -> "Log | None":
+    """The log that the program makes, where it does."""
     with private_folder.temporary() as folder:
         new = os.path.join(folder, "log")
-        words = [program, path, new, str(granules), str(quarantine)]
+        words = [*words, new, *heap]
         with subprocess.Popen(words, stdin=subprocess.PIPE, stdout=subprocess.PIPE, stderr=subprocess.DEVNULL, text=True) as running:
-            try:
-                profile = profile_in(running.stdout)
-                if profile is None:
-                    return None
-                places = running.communicate(" ".join(map(str, table_of(profile))) + "\n")[0]
-            except OSError:
-                running.kill()
+            profile = profile_in(running.stdout)
+            places = running.communicate(" ".join(map(str, table_of(profile))) + "\n")[0] if profile is not None else ""
         if running.returncode:
             return None
-        try:
-            log = Log(new)
-        except NoLog:
-            return None
+        log = Log(new)
     log.take_place(profile, places.split("\n")[:-1], text.missing)
     return log
 

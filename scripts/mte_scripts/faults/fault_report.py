@@ -143,11 +143,6 @@ def ending(status: int) -> list:
     return [f"the program ended with status {status}"] if status else []
 
 
-def incomplete(log: Log) -> "list[str]":
-    """A line for each thing that is missing of the log."""
-    return [f"incomplete: {each}" for each in log.missing]
-
-
 def answers(verdicts: "list[Verdict]") -> "list[str]":
     """What the laws promise of each error, in a word."""
     by_kind = {"left": "not replayed", "large": "not caught", "ruled": "caught"}

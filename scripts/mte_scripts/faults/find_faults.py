@@ -3,7 +3,6 @@
 import argparse
 import contextlib
 import os
-import shutil
 from collections.abc import Iterator
 from typing import Any
 
@@ -17,7 +16,7 @@ from mte_scripts.faults.fault_variables import Choice, Everything
 from mte_scripts.faults.odds import Odds
 from mte_scripts.faults.slot_model import Slots
 from mte_scripts.formats import MOST_GRANULES, OPTIONS
-from mte_scripts.recording import children
+from mte_scripts.recording import children, recording
 from mte_scripts.texts import Refused
 from mte_scripts.words import ProgramWords, between
 
@@ -90,9 +89,7 @@ def read_words(words: list[str]) -> argparse.Namespace:
 def record(options: argparse.Namespace, folder: str) -> None:
     """Runs the program; its log is in the folder then."""
     log = os.path.join(folder, "%p" if options.children else "log")
-    path = shutil.which(options.words[0])
-    if not path:
-        raise Refused(3, f"there is no program {options.words[0]}")
+    recording.find_program(options.words[0])
     environment = dict(os.environ, ACCESSES=log)
     environment.pop("ACCESSES_ONLY", None)
     if options.only:
@@ -256,12 +253,9 @@ class Lists:
     """What is given beside the program: suppressions, an earlier answer, and a tombstone."""
 
     def __init__(self, options: argparse.Namespace) -> None:
-        try:
-            self.suppressed = findings.suppressions(options.suppressions) if options.suppressions else []
-            self.known = findings.baseline(options.baseline) if options.baseline else {}
-            self.tombstone = tombstone.read(findings.read(options.tombstone)) if options.tombstone else None
-        except findings.Unreadable as error:
-            raise Refused(2, str(error)) from None
+        self.suppressed = findings.suppressions(options.suppressions) if options.suppressions else []
+        self.known = findings.baseline(options.baseline) if options.baseline else {}
+        self.tombstone = tombstone.read(findings.read(options.tombstone)) if options.tombstone else None
         self.used: set = set()
 
     def mark(self, values: list[dict]) -> None:

@@ -11,11 +11,13 @@ import json
 import os
 from collections import Counter, namedtuple
 
+from mte_scripts import texts
 from mte_scripts.faults import fault_entries, odds as shares
 from mte_scripts.faults.fault_entries import Entry
 from mte_scripts.faults.fault_log import Log
 from mte_scripts.faults.fault_places import Frame, Places
 from mte_scripts.faults.fault_report import count, crash_sentence, sentence
+from mte_scripts.running import Refused
 
 FORM = 1  # of the JSON
 FRAMES_OF_ID = 3
@@ -29,10 +31,6 @@ LARGEST_FILE = 64 << 20
 
 # A line of a file of suppressions: the kind and the place are patterns as of file names.
 Suppression = namedtuple("Suppression", "kind place line number")
-
-
-class Unreadable(Exception):
-    """A file of suppressions or a baseline can't be read, or is none."""
 
 
 def all_of(log: Log, found: "list[Entry]", places: Places, odds: "shares.Odds") -> "list[dict]":
@@ -133,16 +131,14 @@ def text(value: dict) -> str:
 
 
 def read(path: str) -> str:
-    try:
-        with open(path, encoding="utf-8") as file:
-            content = file.read(LARGEST_FILE + 1)
-    except OSError as error:
-        raise Unreadable(f"{path} can't be read: {error.strerror}") from None
-    except UnicodeDecodeError:
-        raise Unreadable(f"{path} is no text") from None
+    """The text of a file of suppressions, a baseline or a tombstone."""
+    content = texts.read(path, LARGEST_FILE + 1)
     if len(content) > LARGEST_FILE:
-        raise Unreadable(f"{path} is too long")
-    return content
+        raise Refused(2, f"{path} is too long")
+    try:
+        return content.decode()
+    except UnicodeDecodeError:
+        raise Refused(2, f"{path} is no text") from None
 
 
 def suppressions(path: str) -> list[Suppression]:
@@ -154,7 +150,7 @@ def suppressions(path: str) -> list[Suppression]:
             continue
         kind, _, place = (word.strip() for word in line.partition(":"))
         if not kind or not place or not any(fnmatch.fnmatchcase(kind_id(each), kind) for each in CWES):
-            raise Unreadable(f"{path}, line {number}: it is no KIND:PLACE, with a kind of {', '.join(map(kind_id, CWES))}")
+            raise Refused(2, f"{path}, line {number}: it is no KIND:PLACE, with a kind of {', '.join(map(kind_id, CWES))}")
         found.append(Suppression(kind, place, line, number))
     return found
 
@@ -172,7 +168,7 @@ def baseline(path: str) -> dict[str, str]:
             raise ValueError
         return {each["id"]: title(each) for process in value["processes"] for each in process["findings"]}
     except (ValueError, KeyError, TypeError, AttributeError, RecursionError):
-        raise Unreadable(f"{path} is no --json of find_faults") from None
+        raise Refused(2, f"{path} is no --json of find_faults") from None
 
 
 def matches(suppression: Suppression, value: dict) -> bool:

@@ -15,6 +15,7 @@ from mte_scripts.faults.fault_entries import CAUGHT, Entry, Use
 from mte_scripts.faults.fault_log import Error
 from mte_scripts.faults.fault_places import RUNTIME
 from mte_scripts.faults.fault_report import count
+from mte_scripts.running import Refused
 
 BASE, TAG_SHIFT = 0x7000_0000_0000, 56
 GRANULE = 16
@@ -112,10 +113,10 @@ def frames_of(judged: Any, stack: int) -> "list[str]":
 # reading
 
 def read(text: str) -> Tombstone:
-    """A Tombstone of the text of one; Unreadable where it tells no signal."""
+    """A Tombstone of the text of one."""
     signal = SIGNAL.search(text)
     if not signal:
-        raise findings.Unreadable("the tombstone has no line `signal N (NAME), code N (NAME)`")
+        raise Refused(2, "the tombstone has no line `signal N (NAME), code N (NAME)`")
     causes = []
     for kind, distance, side, size in CAUSE.findall(text):
         offset = {"into": int(distance), "left of": -int(distance), "right of": int(size) + int(distance)}[side]

@@ -177,7 +177,7 @@ def print_record(speaker: recording.Speaker, record: timelines.Record, peak: "st
         return False
     if record.mark.ended == timelines.NO_ROOM:
         speaker.say(f"there is no more memory for the record: the timeline is of the first {record.mark.events:,} events of the run")
-    for piece in record.text():
+    for piece in timelines.text_of(record.events):
         recording.write("the timeline", piece)
     write_peak(peak, texts.profile_text(record.peak))
     return True

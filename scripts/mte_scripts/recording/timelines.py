@@ -41,9 +41,6 @@ class Record(NamedTuple):
     history: Optional[texts.History]
     class_bytes: int  # the classes of whose peaks the history has the moments are so wide; 0 where they are those of a table
 
-    def text(self) -> Iterator[bytes]:
-        return text_of(self.events)
-
 
 def lines() -> list[bytes]:
     """The line of each event, by its number."""
@@ -72,6 +69,11 @@ def by_size(events: array) -> Counter:
     for code, times in Counter(events).items():
         found[code & SIZE] += -times if code & FREED else times
     return found
+
+
+def requested(events: array) -> Counter:
+    """How often each size is requested."""
+    return Counter({code: times for code, times in Counter(events).items() if not code & FREED})
 
 
 def read(path: str) -> Optional[Record]:
@@ -135,16 +137,16 @@ def in_groups(groups: tuple, live: dict) -> Counter:
 def peaks(piece: array, before: int, live: Counter, groups: tuple, moments: list) -> dict:
     """The moments of a piece at which a group has more blocks than at any before, by the number of events; the same as mark_peaks of
     shims/timeline.h, and what follows it there."""
+    groups = tuple(group + 1 for group in groups)  # an event of a large block has 0
     most: Counter = Counter()
     for each in moments:
         most |= in_groups(groups, each)
     now, at = in_groups(groups, live), {}
-    of_size = [groups[need_of(size)] for size in range(LARGE)]
-    for place, code in enumerate(piece, 1):
-        size = code & SIZE
-        if size < LARGE:
-            group = of_size[size]
-            now[group] += -1 if code & FREED else 1
+    for place, group in enumerate(map(by_code(lambda size: groups[need_of(size)]).__getitem__, piece), 1):
+        if group < 0:
+            now[-group] -= 1
+        elif group:
+            now[group] += 1
             if now[group] > most[group]:
                 most[group], at[group] = now[group], place
     return {before + place: blocks for place, blocks in live_at(piece, sorted(at.values()), live).items()}
@@ -197,7 +199,7 @@ def history_at(text: bytes, moments: list) -> texts.History:
 
 def requests_of(text: bytes) -> dict:
     """The profile of all requests."""
-    return named({code: times for code, times in Counter(parsed(text)).items() if not code & FREED})
+    return named(requested(parsed(text)))
 
 
 def by_code(of_size: Callable[[int], int]) -> list:

@@ -50,10 +50,6 @@ NO_ROOM = 2  # why a trace ended
 REASON = "So a replay is of a sample; for a whole one trace a smaller job, one program of it (--only), or its start (--first N)"
 
 
-def options_of(words: "list[str]") -> argparse.Namespace:
-    return ProgramWords(HELP, first=between(3, MOST_EVENTS)).take(words)
-
-
 def remarks(options: argparse.Namespace, notes: Notes, work: private_folder.Folder, left: "list[int]") -> "Iterator[str]":
     """What is to be said of the trace."""
     program = options.words[0]
@@ -133,7 +129,7 @@ def run_program(options: argparse.Namespace, speaker: recording.Speaker, path: s
 
 
 def trace(words: list[str], speaker: recording.Speaker) -> int:
-    options = options_of(words)
+    options = ProgramWords(HELP, first=between(3, MOST_EVENTS)).take(words)
     if not options.words:
         return recording.print_usage(HELP)
     path = recording.find_program(options.words[0])

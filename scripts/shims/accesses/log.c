@@ -189,30 +189,22 @@ static int make_log(void) {
   return file;
 }
 
-// The log begins with the records of the one before the fork.
-static void begin_log(const char *old, size_t used) {
-  text = log_start + HEAD;
-  if (used) copy_bytes(text, old, used);
-  sum = 0, marked = text;
-  ended = text += used;
-  process = syscall(SYS_getpid);
-  write_mark();
-}
-
-// Where there is a log already, as after a fork, it is copied into the new one.
+// Where there is a log already, as after a fork, the new one begins with its records.
 static void open_log(void) {
   size_t used = text ? text - log_start - HEAD : 0;
   char *old = log_start, *old_end = log_end;
   text = NULL;
   int file = make_log();
-  if (file >= 0) {
-    char *mapped = mmap(NULL, LOG_SIZE, PROT_READ | PROT_WRITE, MAP_SHARED, file, 0);
-    syscall(SYS_close, file);
-    if (mapped != MAP_FAILED) {
-      log_start = log_end = text = mapped;
-      ended = marked = log_start + HEAD, sum = 0;
-      while (text && (size_t)(log_end - log_start) < HEAD + used + MARGIN) grow();
-      if (text) begin_log(old + HEAD, used);
+  char *mapped = file < 0 ? MAP_FAILED : mmap(NULL, LOG_SIZE, PROT_READ | PROT_WRITE, MAP_SHARED, file, 0);
+  if (file >= 0) syscall(SYS_close, file);
+  if (mapped != MAP_FAILED) {
+    log_start = log_end = mapped, text = ended = marked = log_start + HEAD, sum = 0;
+    while (text && (size_t)(log_end - log_start) < HEAD + used + MARGIN) grow();
+    if (text) {
+      copy_bytes(text, old + HEAD, used);
+      ended = text += used;
+      process = syscall(SYS_getpid);
+      write_mark();
     }
   }
   if (old_end) munmap(old, LOG_SIZE);

@@ -6,8 +6,6 @@
 #include <poll.h>
 #include <sched.h>
 #include <signal.h>
-#include <stdarg.h>
-#include <stdio.h>
 #include <elf.h>
 #include <stdlib.h>
 #include <string.h>

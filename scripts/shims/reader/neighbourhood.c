@@ -23,7 +23,6 @@
 #include <string.h>
 #include <sys/mman.h>
 #include <sys/stat.h>
-#include <unistd.h>
 
 enum { LARGEST = LARGEST_SIZE, GRANULE = 16, MOST_GRANULES = 262144, WINDOW = 64, MOST_OFFSET = FARTHEST_ACCESS };
 enum { MOST_ERRORS = 50000, MOST_STACKS = 1 << 20, LARGE_FILLER = 20000, MOST_TOUCHED = 8 };
@@ -78,7 +77,7 @@ static inline const char *read_number(const char *at, long *value) {
 static inline void read_record(const char **from, struct record *to) {
   const char *at = *from, *end = memchr(at, '\n', text_end - at);
   if (!end || end == at) give_up("a line is wrong");
-  to->letter = *at, to->begin = at, to->end = end, to->stack = NULL, to->count = 0;
+  to->letter = *at, to->begin = at, to->end = end, to->stack = NULL, to->count = 0, to->numbers[0] = 0;
   *from = end + 1;
   int numbers, has_stack = 1;
   switch (*at) {
@@ -150,9 +149,10 @@ static void scan(void) {
     read_record(&at, &record);
     if (record.letter == 'm' || record.letter == 'c') add_block(record.numbers[0], record.numbers[1]);
     if (record.letter == 'r') add_block(record.numbers[1], record.numbers[2]);
-    if ((is_request_or_free(record.letter) || record.letter == 'r') && (record.numbers[0] < 1 || record.numbers[0] > last_block)) give_up("a block has no request");
-    if (record.letter != 'l' && record.letter != 's') add_step(record.begin, record.count ? record.numbers[0] : 0);
-    error_count += is_error(record.letter);
+    int is_wrong = is_error(record.letter), has_block = is_wrong || is_request_or_free(record.letter) || record.letter == 'r';
+    if (has_block && (record.numbers[0] < !is_wrong || record.numbers[0] > last_block)) give_up("a block has no request");
+    if (record.letter != 'l' && record.letter != 's') add_step(record.begin, has_block ? record.numbers[0] : 0);
+    error_count += is_wrong;
     if (record.stack) learn_stack(&record);
   }
 }
@@ -164,7 +164,6 @@ static long granules, quarantine, share;
 static uint32_t first_slot[MOST_CLASSES + 1], fresh[MOST_CLASSES];
 static struct slot {
   uint32_t generation, next;  // of the released slots of its class, plus one
-  uint32_t block, size;       // who had it last
   int class_number, last_error, is_live, is_wanted, has_to_be_fresh;
   // of the new log
   const char *first;  // the record of its first block
@@ -212,7 +211,7 @@ static void give_slot(uint32_t block) {
   if (released[number]) slot = &slots[released[number] - 1], released[number] = slot->next;
   else if (fresh[number] < first_slot[number + 1] - first_slot[number]) slot = &slots[first_slot[number] + fresh[number]++];
   else return;
-  slot->is_live = 1, slot->block = block, slot->size = size;
+  slot->is_live = 1;
   slot_of[block] = slot - slots + 1, generation_of[block] = ++slot->generation;
 }
 
@@ -269,56 +268,42 @@ static void take_place(uint32_t block, const char *at) {
   if (slot && !slot->first) slot->first = at;
 }
 
+static void place_resized(const struct record *record) {
+  uint32_t old = record->numbers[0], block = record->numbers[1];
+  struct slot *slot = slot_with(old);
+  if (slot && record->numbers[2] <= LARGEST && class_of(record->numbers[2]) == slot->class_number) {
+    slot_of[block] = slot_of[old], generation_of[block] = generation_of[old];
+    return;
+  }
+  take_place(block, record->begin);
+  if (slot) free_slot(slot);
+}
+
+static void print_met(const struct record *record, int error) {
+  struct slot *met[MOST_TOUCHED];
+  uint32_t block = record->numbers[0];
+  int count = met_by(record, met);
+  errors_left[block] += block && errors_left[block] < 255;
+  if (count) printf("%ld %u", (long)(met[0] - slots), generation_of[block]);
+  else putchar('-');
+  for (int i = 0; i < count; i++) {
+    met[i]->is_wanted = 1, met[i]->last_error = error;
+    met[i]->has_to_be_fresh |= !met[i]->generation;
+    if (i) printf(" %ld %u %d", (long)(met[i] - slots), met[i]->generation, met[i]->is_live);
+  }
+  putchar('\n');
+}
+
 static void place(void) {
   struct record record;
-  struct slot *met[MOST_TOUCHED];
   int error = 0;
   for (struct step *step = steps; step < steps + step_count; step++) {
-    const char *at = text + step->at, *begin = at;
-    uint32_t old = step->block, block;
-    struct slot *slot;
-    switch (*at) {
-      case 'm': case 'c': take_place(old, at); continue;
-      case 'f':
-        if (is_ended[old]++) give_up("a block was freed twice");
-        if ((slot = slot_with(old))) free_slot(slot);
-        continue;
-      default: read_record(&at, &record);
-    }
-    switch (record.letter) {
-      case 'r':
-        block = record.numbers[1];
-        if (is_ended[old]++) give_up("a block was freed twice");
-        slot = slot_with(old);
-        if (slot && record.numbers[2] <= LARGEST && class_of(record.numbers[2]) == slot->class_number) {
-          slot_of[block] = slot_of[old], generation_of[block] = generation_of[old];
-          slot->block = block, slot->size = sizes[block];
-          break;
-        }
-        take_place(block, begin);
-        if (slot) free_slot(slot);
-        break;
-      case 'L': case 'S': case 'x':
-        if (record.numbers[0] < 0 || record.numbers[0] > last_block) give_up("a block of an error is wrong");
-        if (!record.numbers[0]) {
-          puts("-");
-        } else {
-          int count = met_by(&record, met);
-          block = record.numbers[0];
-          errors_left[block] += errors_left[block] < 255;
-          printf(count ? "%ld %u" : "-", count ? (long)(met[0] - slots) : 0, generation_of[block]);
-          for (int i = 0; i < count; i++) {
-            met[i]->is_wanted = 1, met[i]->last_error = error;
-            met[i]->has_to_be_fresh |= !met[i]->generation;
-            if (i) printf(" %ld %u %d", (long)(met[i] - slots), met[i]->generation, met[i]->is_live);
-          }
-          putchar('\n');
-        }
-        error++;
-        break;
-      case 'o': case 'n':
-        puts("-"), error++;
-    }
+    const char *at = text + step->at;
+    if ((*at == 'f' || *at == 'r') && is_ended[step->block]++) give_up("a block was freed twice");
+    if (*at == 'm' || *at == 'c') take_place(step->block, at);
+    else if (*at == 'f' && slot_of[step->block]) free_slot(slot_with(step->block));
+    else if (*at == 'r') read_record(&at, &record), place_resized(&record);
+    else if (is_error(*at)) read_record(&at, &record), print_met(&record, error++);
   }
 }
 
@@ -326,8 +311,7 @@ static void place(void) {
 static FILE *new_log;
 static char *written;
 static size_t written_length;
-static uint32_t new_blocks, new_released[MOST_CLASSES];
-static uint32_t new_fresh[MOST_CLASSES];
+static uint32_t new_blocks, new_released[MOST_CLASSES], new_fresh[MOST_CLASSES];
 
 static void write_text(const char *from, size_t length) { fwrite(from, 1, length, new_log); }
 
@@ -470,7 +454,7 @@ static void write_error(const struct record *record, uint32_t new_block) {
 }
 
 static void add_error(const struct record *record) {
-  if (!record->count || !record->numbers[0]) return write_error(record, 0);
+  if (!record->numbers[0]) return write_error(record, 0);
   struct slot *met[MOST_TOUCHED];
   uint32_t block = record->numbers[0];
   int count = met_by(record, met);

@@ -2,9 +2,9 @@
 
 import re
 from array import array
-from collections import Counter
 
 from mte_scripts import texts
+from mte_scripts.recording import timelines
 from mte_scripts.recording.imports import found
 from mte_scripts.recording.imports.found import FREED, LARGE, Found, counter_of, number
 from mte_scripts.recording.imports.source import Source, Wrong
@@ -105,12 +105,7 @@ def read(source: Source, kind: str) -> Found:
 
 
 def counted(run: Run, kind: str) -> Found:
-    counts: Counter = Counter()
-    for code, times in Counter(run.events[: run.peak_at] if kind == found.LIVE else run.events).items():
-        if not code & FREED:
-            counts[code] += times
-        elif kind == found.LIVE:
-            counts[code & ~FREED] -= times
+    counts = timelines.by_size(run.events[: run.peak_at]) if kind == found.LIVE else timelines.requested(run.events)
     events = f"{len(run.events):,} requests and frees"
     told = [f"heaptrack: {events}. Each size is exact; that of an aligned block is without its alignment"]
     if run.is_attached:
