@@ -6,14 +6,10 @@ They run for each file of a build and each question of a `configure`, so what ta
 import os
 from _collections_abc import Callable
 
-from mte_scripts import places, private_folder
+from mte_scripts import private_folder
 from mte_scripts.recording import programs
+from mte_scripts.recording.shims import SHIMS, compile_alone, sources_in, sum_of
 from mte_scripts.running import Refused
-
-try:
-    from _sha1 import sha1  # hashlib loads OpenSSL, which takes longer than all else here
-except ImportError:
-    from hashlib import sha1
 
 HELP = """\
 Compile a C program so that scripts/find_faults can show its memory errors; traced_c++ compiles C++.
@@ -35,16 +31,8 @@ Example:
   traced_cc -g use.c -o use && find_faults ./use
 """
 
-SHIMS = os.path.join(places.SCRIPTS, "shims")
-
-
-def sources_in(folder: str, *endings: str) -> list:
-    return sorted(os.path.join(folder, name) for name in os.listdir(folder) if name.endswith(endings))
-
-
 SOURCES = sources_in(os.path.join(SHIMS, "accesses"), ".c", ".h")
 READER, READER_FLAGS = os.path.join(SHIMS, "reader", "neighbourhood.c"), ["-O2", "-g", "-Wall"]
-HEADERS = sources_in(SHIMS, ".h")
 RUNTIME = "libmte_accesses.so"
 RUNTIME_FLAGS = "-O2 -g -Wall -fPIC -shared -fvisibility=hidden -fno-builtin -fomit-frame-pointer -static-libgcc".split()
 RUNTIME_FLAGS += [f"-Wl,-soname,{RUNTIME}", "-Wl,--exclude-libs,ALL"]
@@ -86,17 +74,9 @@ def is_clang(compiler: str) -> bool:
     return b"clang" in done.stdout
 
 
-def sum_of(flags: list, sources: list) -> str:
-    whole = sha1(" ".join(flags).encode())
-    for path in sources:
-        with open(path, "rb") as file:
-            whole.update(file.read())
-    return whole.hexdigest()[:16]
-
-
 def runtime(plain: str) -> str:
     """The path of the runtime, built once for each version of its sources."""
-    return kept(f"accesses-{sum_of(RUNTIME_FLAGS, [*SOURCES, *HEADERS])}", RUNTIME, lambda new: build(plain, new))
+    return kept(f"accesses-{sum_of(RUNTIME_FLAGS, SOURCES)}", RUNTIME, lambda new: build(plain, new))
 
 
 def reader() -> "str | None":
@@ -104,7 +84,7 @@ def reader() -> "str | None":
     try:
         plain = found("TRACED_CC", "gcc", "clang")
         words = [plain, *READER_FLAGS, READER, "-o"]
-        folder = f"reader-{sum_of(READER_FLAGS, [READER, *HEADERS])}"
+        folder = f"reader-{sum_of(READER_FLAGS, [READER])}"
         return kept(folder, "neighbourhood", lambda new: compile_alone([*words, new], "the reader could not be compiled"))
     except Refused:
         return None
@@ -128,14 +108,6 @@ def build(plain: str, to: str) -> None:
     own = [] if is_clang(plain) else ["-fno-tree-loop-distribute-patterns"]
     words = [plain, *RUNTIME_FLAGS, *own, *(path for path in SOURCES if path.endswith(".c")), "-o", to, "-ldl", "-pthread"]
     compile_alone(words, f"the runtime could not be compiled: it needs glibc, and room in {os.path.dirname(to)}")
-
-
-def compile_alone(words: list, refusal: str) -> None:
-    import subprocess
-
-    with private_folder.temporary() as folder:
-        if subprocess.run(words, stdin=subprocess.DEVNULL, stdout=2, env={**os.environ, "TMPDIR": folder}).returncode:
-            raise Refused(3, refusal)
 
 
 def traced_flags(compiler: str, is_for_cxx: bool) -> list:

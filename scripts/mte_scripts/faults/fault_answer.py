@@ -36,7 +36,7 @@ def of_one(judged: Judged, options: argparse.Namespace) -> list[str]:
     """The text of a process that was run alone."""
     log, trace = judged.log, judged.trace
     if options.seeds:
-        return fault_report.tell_seeds(log, new(judged), judged.places, judged.reports, judged.odds)
+        return list(fault_report.tell_seeds(log, new(judged), judged.places, judged.reports, judged.odds))
     lines = fault_report.tell(log, new(judged), judged.places, judged.odds) + fault_report.totals(log, new(judged), trace)
     if judged.whole is not trace:
         lines.append(fault_report.changed_promises(trace, judged.whole))

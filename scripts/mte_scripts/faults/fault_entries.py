@@ -17,6 +17,7 @@ side of the block. An access of a freed or resized block has one with each other
 callers and first wrongly used at the same line, and of what is one object with it (its_calls). Whoever called the function of the wrong
 access does not count where it made or freed the block itself (within). A free has one with those from the same line."""
 
+import functools
 import itertools
 from collections import namedtuple
 
@@ -75,12 +76,9 @@ def within(frames: list[Frame], others: list[Frame]) -> int:
 def entries(log: Log, outcomes: "list[tuple]", places: Places) -> "list[Entry]":
     """The entries of a log, in the order of their first use. An outcome of an error is (verdict, result, why). places has learned the
     stacks of all errors."""
-    lines = {}  # of a stack: its innermost place
-
+    @functools.lru_cache(maxsize=None)
     def line(stack: int) -> str:
-        if stack not in lines:
-            lines[stack] = places.show(stack, callers=False)
-        return lines[stack]
+        return places.show(stack, callers=False)
 
     def callers(stack: int) -> str:
         return ",".join(log.stacks[max(stack, 0)].split(",")[:SAME_CALLERS])

@@ -12,6 +12,7 @@ from mte_scripts.faults.fault_log import Log
 
 RUNTIME = "libmte_accesses.so"
 SYSTEM = ("/usr/lib", "/lib", "/usr/include")
+NAME = re.compile(r"(?:operator\(\)|\(anonymous namespace\)|[^(])*")
 LOADED = re.compile(r"(?m)^ +LOAD +0x(\w+) 0x(\w+) 0x\w+ 0x(\w+) ")  # a line of `readelf -l`: offset, address, bytes in the file
 
 
@@ -56,11 +57,8 @@ class Places:
         if not shutil.which("addr2line") or not shutil.which("readelf"):
             return
         segments = loaded_segments(path)
-        asked = {}
-        for address, offset in offsets.items():
-            for begin, virtual, size in segments:
-                if begin <= offset < begin + size:
-                    asked[address] = offset - begin + virtual - 1
+        places = ((address, offset, each) for address, offset in offsets.items() for each in segments)
+        asked = {address: offset - begin + virtual - 1 for address, offset, (begin, virtual, size) in places if begin <= offset < begin + size}
         if not asked:
             return
         words, given = ["addr2line", "-a", "-f", "-C", "-i", "-e", path], "\n".join(map(hex, asked.values())).encode()
@@ -101,13 +99,7 @@ def is_own(path: str) -> bool:
 
 def short(function: str) -> str:
     """A function's name without its parameters."""
-    kept = {"(anonymous namespace)": "\1", "operator()": "\2"}
-    for text, mark in kept.items():
-        function = function.replace(text, mark)
-    function = function.split("(")[0]
-    for text, mark in kept.items():
-        function = function.replace(mark, text)
-    return function
+    return NAME.match(function)[0]
 
 
 def loaded_segments(path: str) -> "list[tuple[int, ...]]":

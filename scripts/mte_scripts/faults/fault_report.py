@@ -2,7 +2,7 @@
 
 import html
 from collections import Counter
-from collections.abc import Iterable
+from collections.abc import Iterable, Iterator
 
 from mte_scripts import html_safe
 from mte_scripts.faults.fault_entries import CAUGHT, CRASH, NOT_CAUGHT, NOT_REPLAYED, RESULTS, Entry, entries, stacks_of
@@ -108,20 +108,18 @@ def often(times: int) -> str:
     return f" ({times} times)" if times > 1 else ""
 
 
-def notes(log: Log, trace: Trace, report: "dict[int, str]") -> "list[tuple[int, str]]":
+def notes(log: Log, trace: Trace, report: "dict[int, str]") -> "Iterator[tuple[int, str]]":
     """For each error that an event of the trace asks: the event, and what the program did, what came of it, and whose block it was."""
     asked = [(error, verdict) for error, verdict in zip(log.errors, trace.verdicts) if verdict.event]
     places = Places(log)
     places.learn(stacks_of(log, [error for error, _ in asked]))
-    told = []
     for error, verdict in asked:
         result, why = outcome(verdict, report)
         text = f"{places.show(error.stack, callers=False)}: {sentence(error, log)}. {result.capitalize()}: {why}."
         text += f" Allocated at {places.show(log.made[error.block])}."
         if error.state != "live":
             text += f" {error.state.capitalize()} at {places.show(log.ended[error.block])}."
-        told.append((verdict.event, printable(text)))
-    return told
+        yield verdict.event, printable(text)
 
 
 def totals(log: Log, found: "list[Entry]", trace: Trace) -> "list[str]":
@@ -157,30 +155,26 @@ def changed_promises(trace: Trace, whole: Trace) -> str:
     return f"promises that the blocks left out change: {sum(changes.values())}{text}"
 
 
-def tell_differences(differences: "Iterable[tuple]", trace: Trace) -> "list[str]":
+def tell_differences(differences: "Iterable[tuple]", trace: Trace) -> "Iterator[str]":
     """What to say where the replay, the recorder and the laws do not agree."""
-    lines = []
     for event, promise, line in differences:
         wanted = promise.report if promise.report is not None else promise.answer
         found = f"the promise is {wanted} ({promise.reason}), the replay has {line or 'no line'}"
-        lines.append(f"event {event}, {trace.lines[event - 1]}: {found}")
+        yield f"event {event}, {trace.lines[event - 1]}: {found}"
     for event in trace.conflicts:
-        lines.append(f"event {event}, {trace.lines[event - 1]}: the model of the slots does not let this right access succeed")
-    return lines
+        yield f"event {event}, {trace.lines[event - 1]}: the model of the slots does not let this right access succeed"
 
 
-def tell_seeds(log: Log, found: "list[Entry]", places: Places, reports: "list[dict[int, str]]", odds: Odds) -> "list[str]":
+def tell_seeds(log: Log, found: "list[Entry]", places: Places, reports: "list[dict[int, str]]", odds: Odds) -> "Iterator[str]":
     """A line for each use of each entry: over how many seeds it was caught, and what that rests on; and the odds of the entry."""
-    lines = []
     for entry in found:
         for use in entry.uses:
             results = Counter(outcome(use.verdict, report)[0] for report in reports)
             counts = ", ".join(f"{result} {results[result]}" for result in RESULTS if results[result])
             reason = "law_own_pointer" if use.verdict.kind == "ruled" else use.verdict.promise.reason
-            lines.append(f"{places.show(use.error.stack, callers=False)}: {sentence(use.error, log)}: {counts} ({reason})")
+            yield f"{places.show(use.error.stack, callers=False)}: {sentence(use.error, log)}: {counts} ({reason})"
         if entry.uses:
-            lines.append(f"    {odds.line(entry.numbers)}")
-    return lines
+            yield f"    {odds.line(entry.numbers)}"
 
 
 def page(name: str, lines: list[str]) -> str:

@@ -188,12 +188,9 @@ class Trace:
 
     def _wrong_free(self, variable: int, pointer: tuple[Slot, int], granules: int) -> tuple[Promise, int]:
         promise = self.slots.freeing(pointer, granules)
-        left = abs(granules)
-        while left:
-            step = min(left, FARTHEST_MOVE)
-            self._event(f"{'addg' if granules > 0 else 'subg'} {SHARED} {variable} {step} 0")
+        for left in range(abs(granules), 0, -FARTHEST_MOVE):
+            self._event(f"{'addg' if granules > 0 else 'subg'} {SHARED} {variable} {min(left, FARTHEST_MOVE)} 0")
             variable = SHARED
-            left -= step
         return promise, self._event(f"free {variable}" if promise.answer == "refused" else f"load {variable} 0 1", promise)
 
 

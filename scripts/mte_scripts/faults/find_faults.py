@@ -175,7 +175,8 @@ def replayed(options: argparse.Namespace, log: Log) -> tuple[Trace, Trace, list[
     whole = Trace(log, slots(), Everything(log), is_asked=False) if log.errors and trace.choice.left_out else trace
     events = "".join(line + "\n" for line in trace.lines).encode()
     given = sheet.split(b"\n", 1)[0] + b"\n" + events
-    reports, differing, output = [], [], b""
+    reports, output = [], b""
+    differing: list[str] = []
     for seed in spread(options.seeds) if options.seeds else [options.seed]:
         report, output = replay(options, log, seed, given)
         reports.append(report)
@@ -272,7 +273,7 @@ def write_page(options: argparse.Namespace, judged: Judged, lines: list[str]) ->
     if modules:
         heap = {"granules": options.granules, "seed": spread(1)[0] if options.seeds else options.seed, "quarantine": quarantine_of(options, judged.log)}
         line = "classes " + " ".join(map(str, judged.table)) if judged.table else "classes"
-        replayed = {"line": line, "heap": heap, "notes": fault_report.notes(judged.log, judged.trace, judged.reports[0])}
+        replayed = {"line": line, "heap": heap, "notes": list(fault_report.notes(judged.log, judged.trace, judged.reports[0]))}
         text = web_page.page(modules, trace=(texts.printable(name), judged.files["trace"].decode()), replay=replayed)
     else:
         text = fault_report.page(texts.printable(name), lines)
@@ -283,16 +284,15 @@ def write_page(options: argparse.Namespace, judged: Judged, lines: list[str]) ->
 def place_of_run(kept: "str | None") -> "Iterator[str]":
     """The path of a folder. The one to keep is filled at the end if others can change the way to it."""
     with contextlib.ExitStack() as open_until_the_end:
-        if kept:
-            place = open_until_the_end.enter_context(folder_to_keep(kept))
-            if private_folder.is_safe(kept):
-                yield os.path.abspath(kept)
-                return
+        place = open_until_the_end.enter_context(folder_to_keep(kept)) if kept else None
+        if place and private_folder.is_safe(kept):
+            yield os.path.abspath(kept)
+            return
         with private_folder.temporary() as folder:
             try:
                 yield folder
             finally:
-                if kept:
+                if place:
                     try:
                         place.fill(folder)
                     except OSError as error:

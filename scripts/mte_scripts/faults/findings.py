@@ -9,6 +9,7 @@ import functools
 import hashlib
 import json
 import os
+import pathlib
 from collections import Counter, namedtuple
 
 from mte_scripts import texts
@@ -83,12 +84,9 @@ def as_values(frames: list[Frame]) -> list[dict]:
 @functools.lru_cache(maxsize=None)
 def root() -> str:
     """The folder that the paths of sources are told from: the repository that the working folder is in, or the working folder."""
-    here = folder = os.getcwd()
-    while not os.path.lexists(os.path.join(folder, ".git")):
-        folder, below = os.path.dirname(folder), folder
-        if folder == below:
-            return here
-    return folder
+    here = os.getcwd()
+    folders = (here, *map(str, pathlib.PurePath(here).parents))
+    return next((folder for folder in folders if os.path.lexists(os.path.join(folder, ".git"))), here)
 
 
 def path_of(frame: Frame) -> str:

@@ -5,6 +5,7 @@ On the heap of docs/HEAP.md the program's calls alone decide which slot a pointe
 two draws have the same tag, and that is counted: over the draws of the slots between the two. The other heaps have other places, so for them
 only that is said which holds whatever the places are."""
 
+import math
 from collections import defaultdict, namedtuple
 from collections.abc import Callable, Iterable
 from fractions import Fraction
@@ -112,7 +113,6 @@ def components(pairs: "Iterable[Pair]") -> "tuple[dict, dict]":
 def count_same(classes: int, links: "list[tuple[int, int, int]]", tags: int, slots: int) -> Fraction:
     """The sum over all tags of some classes of draws: of each the product over the links of how probable the second tag is after the first,
     and of the first draw of each slot. Only which classes have the same tag matters, so it goes over these partitions."""
-    total = Fraction(0)
     first = Fraction(1, tags) ** slots
 
     def weight(block: "list[int]", number: int) -> Fraction:
@@ -122,20 +122,14 @@ def count_same(classes: int, links: "list[tuple[int, int, int]]", tags: int, slo
             product *= same if block[one] == block[other] else (1 - same) / (tags - 1)
             if not product:
                 return product
-        for at in range(number):
-            product *= tags - at
-        return product
+        return product * math.perm(tags, number)
 
-    def walk(block: "list[int]", number: int) -> None:
-        nonlocal total
+    def walk(block: "list[int]", number: int) -> Fraction:
         if len(block) == classes:
-            total += weight(block, number)
-            return
-        for each in range(min(number + 1, tags)):
-            walk([*block, each], max(number, each + 1))
+            return weight(block, number)
+        return sum((walk([*block, each], max(number, each + 1)) for each in range(min(number + 1, tags))), Fraction(0))
 
-    walk([], 0)
-    return total
+    return walk([], 0)
 
 
 def on_this_heap(verdicts: list[Verdict], has_parity: bool = True) -> Share:

@@ -3,6 +3,7 @@
 import os
 import pathlib
 import urllib.parse
+from collections.abc import Iterator
 
 from mte_scripts.faults import fault_entries, findings
 
@@ -109,9 +110,9 @@ def escaped(text: str, of_property: bool = False) -> str:
     return text
 
 
-def annotations(answer: dict) -> list[str]:
+def annotations(answer: dict) -> Iterator[str]:
     """A line for each cause that is neither known nor suppressed, whichever processes have it: a runner shows it beside its source line."""
-    lines, told = [], set()
+    told = set()
     for value in (each for process in answer["processes"] for each in process["findings"]):
         if value.get("state", "new") != "new" or value["id"] in told:
             continue
@@ -119,5 +120,4 @@ def annotations(answer: dict) -> list[str]:
         place = next((frame for frame in value["frames"] if frame["file"] and not os.path.isabs(frame["file"])), None)
         where = f"file={escaped(place['file'], True)},line={place['line'] or 1}," if place else ""
         callers = "".join(f"\nfrom {findings.place(frame)}" for frame in value["frames"][1:])
-        lines.append(f"::error {where}title={escaped(RULES[value['kind']], True)}::{escaped(said(value) + callers)}")
-    return lines
+        yield f"::error {where}title={escaped(RULES[value['kind']], True)}::{escaped(said(value) + callers)}"

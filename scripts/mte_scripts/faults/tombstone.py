@@ -160,32 +160,25 @@ def in_common(one: list[str], other: list[str]) -> int:
 
 def fit(entry: Entry, judged: Any, wanted: Tombstone) -> "tuple[float, int, list[str]]":
     """(how well an entry fits, of how much; why)."""
-    rank, most, why = 0.0, 0, []
-
-    def count_in(weight: int, share: float, says: str) -> None:
-        nonlocal rank, most
-        rank, most = rank + weight * share, most + weight
-        if share:
-            why.append(says)
-
+    parts: "list[tuple[int, float, str]]" = []  # of how much, which share of it, and why
     size = judged.log.size[entry.uses[0].error.block]
     if wanted.causes:
         same = [cause for cause in wanted.causes if cause.kind == CAUSES.get(entry.kind)]
-        count_in(OF_KIND, bool(same), "the kind")
         sizes = [cause for cause in same or wanted.causes if cause.size == size]
-        count_in(OF_SIZE, bool(sizes), "the size")
         offsets = {offset_of(use.error, size) for use in entry.uses if not use.error.is_free()} | {use.error.offset for use in entry.uses}
-        count_in(OF_OFFSET, any(cause.offset in offsets for cause in sizes), "the offset")
+        is_there = any(cause.offset in offsets for cause in sizes)
+        parts += [(OF_KIND, bool(same), "the kind"), (OF_SIZE, bool(sizes), "the size"), (OF_OFFSET, is_there, "the offset")]
     elif wanted.abort:
-        count_in(OF_KIND, entry.kind in FREES[wanted.abort], "the kind")
+        parts.append((OF_KIND, entry.kind in FREES[wanted.abort], "the kind"))
     for weight, theirs, stack, says in ((OF_STACK, wanted.backtrace, entry.stack, "of the backtrace"),
                                         (OF_BLOCK, wanted.allocated, entry.made, "of the allocation"),
                                         (OF_BLOCK, wanted.freed, entry.ended, "of the free")):
         if theirs:
             ours = [plain(frame.function) for frame in judged.places.frames(stack)]
             shared = in_common(ours, theirs)
-            count_in(weight, shared / max(min(len(ours), len(theirs)), 1), f"{count(shared, 'function')} {says}")
-    return rank, most, why
+            parts.append((weight, shared / max(min(len(ours), len(theirs)), 1), f"{count(shared, 'function')} {says}"))
+    rank, most = sum(weight * share for weight, share, _ in parts), sum(weight for weight, *_ in parts)
+    return rank, most, [says for _, share, says in parts if share]
 
 
 def ranking(processes: list, wanted: Tombstone) -> "list[str]":

@@ -2,6 +2,7 @@
 
 import argparse
 import os
+import pathlib
 import stat
 import time
 from typing import Any
@@ -306,12 +307,9 @@ def installed(library: str, folder: str, work: private_folder.Folder) -> str:
 
 def refuse_unreachable(path: str) -> None:
     """Refuses a folder that a service's user can't enter, or one below such a folder."""
-    while True:
-        if not os.stat(path).st_mode & stat.S_IXOTH:
-            raise Refused(3, f"no other user can enter {path}: {OPEN_PLACE}")
-        if path == "/":
-            return
-        path = os.path.dirname(path)
+    for folder in (pathlib.Path(path), *pathlib.Path(path).parents):
+        if not folder.stat().st_mode & stat.S_IXOTH:
+            raise Refused(3, f"no other user can enter {folder}: {OPEN_PLACE}")
 
 
 # ---- a run

@@ -3,7 +3,6 @@
 import contextlib
 import errno
 import glob
-import hashlib
 import mmap
 import os
 import re
@@ -20,13 +19,12 @@ from mte_scripts import private_folder, texts
 from mte_scripts.private_folder import NotPrivate
 from mte_scripts.recording import children, programs
 from mte_scripts.recording.notes import PAGE, Notes
+from mte_scripts.recording.shims import SHIMS, compile_alone, sum_of
 from mte_scripts.running import Refused
 
-SHIMS = os.path.join(texts.SCRIPTS, "shims")
 RECORDERS = os.path.join(texts.ROOT, "recorders")  # of a package
-SOURCES = ("formats.h", "recorder.h", "timeline.h", "checksum.h", "private_folder.h")
 # without -fno-builtin gcc makes a calloc of a malloc and a memset, also inside calloc
-FLAGS = ("-O2", "-fno-builtin", "-shared", "-fPIC", "-Wall")
+FLAGS = ["-O2", "-fno-builtin", "-shared", "-fPIC", "-Wall"]
 VARIABLES = re.compile("(SIZES|TRACE)(_|$)")  # of the environment, which the libraries read
 WATCHED = 1  # a line on a terminal every so many seconds
 ANOTHER_PLACE = "set XDG_CACHE_HOME to another place"
@@ -82,9 +80,10 @@ def make_library(name: str, work: private_folder.Folder) -> str:
     there is no cache that nobody else can change."""
     if texts.IS_PACKAGED and (path := packaged(name)):
         return path
-    file = f"{name}-{sources_sum(name)}.so"
+    source = os.path.join(SHIMS, f"{name}.c")
+    file = f"{name}-{sum_of(FLAGS, [source])}.so"
     with cache_or(work, file) as place:
-        return place.kept(file, lambda new: compile_library(name, new, work))
+        return place.kept(file, lambda new: compile_library(source, new))
 
 
 def packaged(name: str) -> "str | None":
@@ -97,13 +96,6 @@ def packaged(name: str) -> "str | None":
     return path if good and not tried({"LD_PRELOAD": path})[1] else None
 
 
-def sources_sum(name: str) -> str:
-    found = hashlib.sha256(" ".join(FLAGS).encode())
-    for source in (f"{name}.c", *SOURCES):
-        found.update(texts.read(os.path.join(SHIMS, source)))
-    return found.hexdigest()[:16]
-
-
 def cache_or(work: private_folder.Folder, file: str) -> private_folder.Place:
     """The cache if it has the file or can take it; else the folder of this run."""
     with contextlib.suppress(Refused):
@@ -114,14 +106,13 @@ def cache_or(work: private_folder.Folder, file: str) -> private_folder.Place:
     return private_folder.closed(work.path)
 
 
-def compile_library(name: str, to: str, work: private_folder.Folder) -> None:
+def compile_library(source: str, to: str) -> None:
     compiler = os.environ.get("CC") or "cc"
     if not shutil.which(compiler):
         install = "install one, for example by `apt-get install gcc libc6-dev`, or set CC"
         raise Refused(3, f"there is no C compiler `{compiler}`: {install}")
-    words = [compiler, *FLAGS, os.path.join(SHIMS, f"{name}.c"), "-o", to, "-pthread", "-ldl"]
-    if subprocess.run(words, stdin=subprocess.DEVNULL, stdout=2, env={**os.environ, "TMPDIR": work.path}).returncode:
-        raise Refused(3, f"{SHIMS}/{name}.c could not be compiled: it needs glibc, and room in {os.path.dirname(to)}")
+    words = [compiler, *FLAGS, source, "-o", to, "-pthread", "-ldl"]
+    compile_alone(words, f"{source} could not be compiled: it needs glibc, and room in {os.path.dirname(to)}")
 
 
 def tried(more: dict) -> tuple:

@@ -44,8 +44,8 @@ Example:
   trace_program sort /etc/services > sort.trace
 """
 
-PIECE = 1 << 20
 FORM = 0x3145434152544C
+MOST_TEXT = 32 * MOST_EVENTS  # bytes
 NO_ROOM = 2  # why a trace ended
 REASON = "So a replay is of a sample; for a whole one trace a smaller job, one program of it (--only), or its start (--first N)"
 
@@ -83,31 +83,17 @@ def variables(notes: Notes) -> str:
     return f"{own}; the other {notes.shared} are never freed in the trace{sample}"
 
 
-def is_sound(file: str, notes: Notes) -> bool:
-    """Whether the trace is as the library wrote it. The notes get its length, its events and why it ended from the mark that is whole."""
-    with contextlib.suppress(OSError), open(file, "rb", opener=private_folder.look_at) as recorded:
-        written, room = Notes.of(recorded.read(PAGE)), os.fstat(recorded.fileno()).st_size - PAGE
+def recorded(file: str, notes: Notes) -> "bytes | None":
+    """The trace, or None where it is not as the library wrote it. The notes get its length, its events and why it ended from the mark that is
+    whole."""
+    with contextlib.suppress(OSError), open(file, "rb", opener=private_folder.look_at) as found:
+        written, room = Notes.of(found.read(PAGE)), os.fstat(found.fileno()).st_size - PAGE
         mark = written.mark()
-        if written.form != FORM or not written.is_sealed(room) or not mark or mark.length > room:
-            return False
-        notes.length, notes.events, notes.ended = mark.length, mark.events, mark.ended
-        found, left = 0, mark.length
-        while left and (piece := recorded.read(min(left, PIECE))):
-            found, left = crc(piece, found), left - len(piece)
-        return not left and found == mark.sum
-    return False
-
-
-def print_trace(file: str, length: int) -> None:
-    """The text after the notes."""
-    try:
-        with open(file, "rb") as recorded:
-            recorded.seek(PAGE)
-            while length > 0 and (piece := recorded.read(min(length, PIECE))):
-                recording.write("the trace", piece)
-                length -= len(piece)
-    except OSError as error:
-        raise Refused(3, f"what was recorded can't be read: {error.strerror}") from None
+        if written.form == FORM and written.is_sealed(room) and mark and mark.length <= min(room, MOST_TEXT):
+            notes.length, notes.events, notes.ended = mark.length, mark.events, mark.ended
+            text = found.read(mark.length)
+            return text if len(text) == mark.length and crc(text) == mark.sum else None
+    return None
 
 
 def run_program(options: argparse.Namespace, speaker: recording.Speaker, path: str, work: private_folder.Folder) -> int:
@@ -115,13 +101,14 @@ def run_program(options: argparse.Namespace, speaker: recording.Speaker, path: s
         settings = {"TRACE_ONLY": options.only, "TRACE_FIRST": str(options.first) if options.first else None}
         run = recording.Run(speaker, "TRACE", work, library, settings)
         notes = run.run(options.words, path)
-        if not is_sound(run.recorded, notes):
+        text = recorded(run.recorded, notes)
+        if text is None:
             raise Refused(3, f"{options.words[0]} overwrote what was recorded: nothing of it is printed")
         left = run.left()
-        for text in remarks(options, notes, work, left):
-            speaker.say(text)
+        for remark in remarks(options, notes, work, left):
+            speaker.say(remark)
         try:
-            print_trace(run.recorded, notes.length)
+            recording.write("the trace", text)
         finally:
             if left:
                 run.keep_library()

@@ -19,6 +19,7 @@ TYPE, UNIT = 1, 2
 VALUE, LABEL = 2, 3
 KEY, NUMERIC = 1, 3
 MOST_TYPES = 64
+MOST_BYTES = 10  # of a number
 # what may be counted, by the names of the number of blocks and of their bytes
 PAIRS = {
     found.ALL: [("alloc_objects", "alloc_space"), ("allocations", "size")],
@@ -72,20 +73,12 @@ def number_at(data: bytes, at: int, end: int) -> tuple:
     """A number, and where it ends."""
     if at < end and data[at] < 128:  # most have one byte
         return data[at], at + 1
-    value = shift = 0
-    begin = at
-    while at < end:
-        byte = data[at]
-        at += 1
-        value |= (byte & 127) << shift
-        if byte < 128:
-            if value >> 64:
-                break
-            return value, at
-        shift += 7
-        if shift > 63:
-            break
-    raise Wrong(f"at byte {begin} is no number of Protocol Buffers")
+    value = 0
+    for place, byte in enumerate(data[at : min(at + MOST_BYTES, end)]):
+        value |= (byte & 127) << 7 * place
+        if byte < 128 and not value >> 64:
+            return value, at + place + 1
+    raise Wrong(f"at byte {at} is no number of Protocol Buffers")
 
 
 def fields(data: bytes, at: int, end: int) -> Iterator[Field]:

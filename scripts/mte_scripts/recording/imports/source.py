@@ -40,10 +40,7 @@ class Source:
         self.file.close()
 
     def packed(self) -> bytes:
-        try:
-            return self.file.read(PIECE) or b""
-        except OSError as error:
-            raise Refused(2, f"{self.name} can't be read: {error.strerror}") from None
+        return texts.next_piece(self.file, self.name, PIECE) or b""
 
     def unpacked(self, begin: bytes) -> Pieces:
         pieces = self.from_gzip if begin.startswith(GZIP) else self.from_zstd if begin.startswith(ZSTD) else self.plain
