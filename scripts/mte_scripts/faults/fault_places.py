@@ -12,7 +12,7 @@ from mte_scripts.faults.fault_log import Log
 
 RUNTIME = "libmte_accesses.so"
 SYSTEM = ("/usr/lib", "/lib", "/usr/include")
-NAME = re.compile(r"(?:operator\(\)|\(anonymous namespace\)|[^(])*")
+NAME = re.compile(r"(?:operator\(\)|\(anonymous namespace\)|[^(])*")  # of a function, without its parameters
 LOADED = re.compile(r"(?m)^ +LOAD +0x(\w+) 0x(\w+) 0x\w+ 0x(\w+) ")  # a line of `readelf -l`: offset, address, bytes in the file
 
 
@@ -67,7 +67,7 @@ class Places:
         for address, text in zip(asked, re.split(r"(?m)^0x.*\n", said)[1:]):
             lines, frames, function = text.split("\n"), [], "??"
             for name, place in zip(lines[::2], lines[1::2]):
-                function, (source, _, line) = short(name), place.split(" (")[0].rpartition(":")
+                function, (source, _, line) = NAME.match(name)[0], place.split(" (")[0].rpartition(":")
                 if not source.startswith("??"):
                     frames.append(Frame(function, source, int(line) if line.isdigit() else 0, path))
             if frames:
@@ -95,11 +95,6 @@ class Places:
 def is_own(path: str) -> bool:
     """Whether a file is the program's, and not the system's."""
     return not path.startswith(SYSTEM) and "/bits/" not in path
-
-
-def short(function: str) -> str:
-    """A function's name without its parameters."""
-    return NAME.match(function)[0]
 
 
 def loaded_segments(path: str) -> "list[tuple[int, ...]]":

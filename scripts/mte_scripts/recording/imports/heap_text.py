@@ -42,12 +42,12 @@ def read(source: Source, kind: str) -> Found:
     if match := HEADER.fullmatch(first):
         period, form = sampling(match[5].decode(errors="replace"))
         profile.header = numbers(match, 1)
-        read_stacks(profile, lines)
+        read_stacks(profile, up_to_end(profile, lines))
         if profile.sums != profile.header and not profile.has_end:
             raise Wrong("its stacks have other sums than its first line: it was cut off")
     elif match := DUMP.fullmatch(first):
         period, form = int(match[1]), "jemalloc"
-        read_dump(profile, lines)
+        read_dump(profile, up_to_end(profile, lines))
     else:
         raise Wrong(f"its first line is not `heap profile: ..` or `heap_v2/N`: {texts.shown(first)}")
     if source.ends_in_line:
@@ -73,14 +73,18 @@ def sampling(word: str) -> tuple:
     return (int(match[2]) // 2, "Go") if match[1] == "heap" else (int(match[2]), "gperftools")
 
 
+def up_to_end(profile: Profile, lines: Iterator[bytes]) -> Iterator[bytes]:
+    """The lines before those of libraries, which are read too."""
+    for line in lines:
+        profile.has_end = profile.has_end or line == END
+        if not profile.has_end:
+            yield line
+
+
 def read_stacks(profile: Profile, lines: Iterator[bytes]) -> None:
     for at, line in enumerate(lines, 2):
         if match := STACK.fullmatch(line):
             take(profile, numbers(match, 1))
-        elif line == END:
-            profile.has_end = True
-            for _ in lines:
-                pass
         elif line.strip() and not line.startswith(b"#"):
             raise Wrong(texts.encoding(line, at) or f"line {at} is no line of a stack: {texts.shown(line)}")
 
@@ -98,10 +102,6 @@ def read_dump(profile: Profile, lines: Iterator[bytes]) -> None:
                 if has_stack:
                     take(profile, numbers(match, 2))
                 is_told = True
-        elif line == END:
-            profile.has_end = True
-            for _ in lines:
-                pass
         elif line.strip():
             raise Wrong(texts.encoding(line, at) or f"line {at} is no line of a dump: {texts.shown(line)}")
     if not is_told or not has_stack:
