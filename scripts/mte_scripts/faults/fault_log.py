@@ -49,9 +49,7 @@ class Error(namedtuple("Error", "letter block offset size stack state times", de
 
     def window(self, block_size: int) -> tuple[int, int]:
         """(offset, length) of what a trace asks: from the first wrong byte on, at most 64 bytes."""
-        begin = self.offset
-        if self.state == "live" and begin >= 0:
-            begin = max(begin, block_size)
+        begin = max(self.offset, block_size) if self.state == "live" and self.offset >= 0 else self.offset
         return begin, min(self.offset + self.size - begin, WINDOW)
 
 
