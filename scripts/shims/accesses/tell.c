@@ -175,14 +175,12 @@ static void add_sentence(struct line *line, const struct wrong *wrong) {
   }
   add(line, wrong->letter == 'L' ? "load of " : "store of "), add_count(line, wrong->size, "byte");
   if (!wrong->number) return add(line, offset ? " of an address that the heap never gave out" : " of a block that was freed long ago");
-  add(line, ", ");
-  if (offset < 0) add_count(line, -offset, "byte"), add(line, " before");
-  else if (offset >= size) add_count(line, offset - size, "byte"), add(line, " after");
-  else if (!wrong->is_freed) add(line, "from "), add_count(line, offset, "byte"), add(line, " into");
-  else add_count(line, offset, "byte"), add(line, " into");
+  int begins_inside = offset >= 0 && offset < size, leaves = begins_inside && !wrong->is_freed;
+  add(line, leaves ? ", from " : ", ");
+  add_count(line, offset < 0 ? -offset : begins_inside ? offset : offset - size, "byte");
+  add(line, offset < 0 ? " before" : begins_inside ? " into" : " after");
   add_block(line, wrong);
-  if (offset >= 0 && offset < size && !wrong->is_freed)
-    add(line, " to "), add_count(line, offset + wrong->size - size, "byte"), add(line, " after it");
+  if (leaves) add(line, " to "), add_count(line, offset + wrong->size - size, "byte"), add(line, " after it");
 }
 
 // whether nothing of this place and kind was told
