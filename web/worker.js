@@ -158,7 +158,8 @@ class Replay {
     return { at, to: at + len, slot: this.users.slotAt(Math.floor(at / GRANULE)) };
   }
 
-  /** The granules that an event touched, and at a tag fault both tags. */
+  /** The granules that an event touched, and at a tag fault both tags. Of a slot that was never given out, which has no chunk, it is the one to
+   * which the pointer leads. */
   marks(event, fault) {
     if (fault?.granule !== undefined) return { ...fault, fault: true };
     if (fault?.report === "fault unmapped" || fault?.report === "refused misplaced") return null;

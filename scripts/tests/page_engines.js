@@ -1,14 +1,15 @@
-// Runs the engines of a page in node: `node page_engines.js PAGE < CASES`. A case is {command, options, input} and is answered by {status,
-// text}, or {line, trace, options}: a replay of which after each event the picture and what the page knows of slots, variables and quarantine
-// are compared with page_model.js. Both are lists in JSON.
+// Runs the worker of a page in node: `node page_engines.js PAGE < CASES`. A case is {command, options, input} and is answered by {status,
+// text}, or {line, trace, options}: a replay of which after each event the picture, what the page knows of slots, variables and quarantine,
+// and the granules that it frames are compared with page_model.js. It is answered by how many events were compared, and the last frame. Both
+// are lists in JSON.
 "use strict";
 
 const fs = require("fs");
 const path = require("path");
 const source = (name) => fs.readFileSync(path.join(__dirname, name), "utf8");
-const SOURCES = ["../../web/formats.js", "../../web/engine.js", "../../web/users.js", "page_model.js"];
-const { Engines, Users, HeapModel, eventOf } = new Function(`${SOURCES.map(source).join("\n")}
-return { Engines, Users, HeapModel, eventOf };`)();
+const OF_WORKER = ["formats", "engine", "users", "words", "worker"].map((name) => `../../web/${name}.js`);
+const { ANSWERS, HeapModel, eventOf, chunkGranules, replayOf } = new Function("onmessage", `${[...OF_WORKER, "page_model.js"].map(source).join("\n")}
+return { ANSWERS, HeapModel, eventOf, chunkGranules, replayOf: () => replay };`)();
 
 /** What the page says of a slot, or the model. */
 const words = ({ number, start, granules, state, size, tag, generation, user, made, freed }) =>
@@ -28,8 +29,7 @@ function* slotsOf({ layout, slots, queue }) {
 }
 
 /** What is another in the page's replay than in the model, or null. */
-function differenceOf(users, model) {
-  const { steps } = users;
+function differenceOf({ steps, users }, model) {
   const granule = model.differsFrom(steps.draw());
   if (granule >= 0) return `granule ${granule}`;
   for (const slot of slotsOf(model)) {
@@ -41,38 +41,52 @@ function differenceOf(users, model) {
   return queue === model.queue.join(" ") ? null : `the quarantine, ${queue} and not ${model.queue.join(" ")},`;
 }
 
+/** The granules that an event has to frame, by what became of it in the model: the one of a tag fault with both tags, those of an access, or the
+ * chunk of the slot that another event is about. A slot that was never given out has none: the first of its payload, to which the pointer
+ * leads. */
+function frameOf(model, { granule, memory, pointer, first, last, slot, report }) {
+  if (granule !== undefined) return { granule, last: granule, memory, pointer, fault: true };
+  if (first !== undefined) return { granule: first, last };
+  if (slot === undefined) return null;
+  const { start, generation, size } = [...slotsOf(model)][slot];
+  return { granule: start + 1, last: start + (generation ? chunkGranules(size) : 1), fault: Boolean(report) };
+}
+
+/** A frame in words. */
+const framed = (frame) =>
+  frame ? [frame.granule, frame.last ?? frame.granule, ...(frame.fault ? ["fault", frame.memory, frame.pointer] : [])].join(" ").trim() : "none";
+
 /** Where the page's replay, or a line of the report, is another than the model's; or what was compared. */
-function compare(engines, { line, trace, options }) {
+async function compare({ line, trace, options }) {
   const lines = trace.split("\n").slice(0, -1);
-  const report = new Map();
-  for (const words of engines.call("replay", options, `${line}\n${trace}`).text.split("\n")) {
-    const found = /^(\d+) ((?!data).*)$/.exec(words);
-    if (found) report.set(Number(found[1]), found[2]);
-  }
+  await ANSWERS.trace({ input: trace });
+  const { events } = ANSWERS.replay({ line, options });
+  if (events !== lines.length) return { wrong: `there are ${events} events` };
+  const replay = replayOf();
   const model = new HeapModel(line.split(" ").slice(1).map(Number), options);
-  const steps = engines.begin(line, trace, options);
-  for (let g = 0; g < steps.granules; g++)
-    if (steps.slot(g)?.number !== model.layout.slotAt(g)?.number) return { wrong: `granule ${g} is in another slot` };
-  const users = new Users(steps);
+  for (let g = 0; g < options.granules; g++)
+    if (replay.steps.slot(g)?.number !== model.layout.slotAt(g)?.number) return { wrong: `granule ${g} is in another slot` };
+  let frame = "none";
   for (let k = 0; ; k++) {
-    const difference = differenceOf(users, model);
+    const difference = differenceOf(replay, model);
     if (difference) return { wrong: `after event ${k} ${difference} differs` };
     if (k === lines.length) break;
-    const event = eventOf(lines[k]);
-    const outcome = model.step(event).report;
-    if (outcome !== report.get(k + 1)) return { wrong: `event ${k + 1} is reported as ${report.get(k + 1)}, the model has ${outcome}` };
-    users.go(event);
-    if (steps.done !== k + 1) return { wrong: `there is no event ${k + 1}` };
+    const outcome = model.step(eventOf(lines[k]));
+    const { marks } = ANSWERS.show({ k: k + 1 });
+    const report = replay.report.get(k + 1)?.replace(/^data.*/, "") || undefined;
+    if (outcome.report !== report) return { wrong: `event ${k + 1} is reported as ${report}, the model has ${outcome.report}` };
+    frame = framed(frameOf(model, outcome));
+    if (framed(marks) !== frame) return { wrong: `event ${k + 1} frames ${framed(marks)}, the model has ${frame}` };
+    if (replay.steps.done !== k + 1) return { wrong: `there is no event ${k + 1}` };
   }
-  const wentOn = steps.go();
-  steps.free();
-  return wentOn ? { wrong: "there is an event too many" } : { compared: lines.length };
+  return replay.steps.go() ? { wrong: "there is an event too many" } : { compared: lines.length, frame };
 }
 
 (async () => {
   const page = fs.readFileSync(process.argv[2], "utf8");
   const data = JSON.parse(/<script type="application\/json" id="data">([^]*?)<\/script>/.exec(page)[1]);
-  const engines = await Engines.load(Buffer.from(data.tool, "base64"), Buffer.from(data.steps, "base64"));
-  const answers = JSON.parse(fs.readFileSync(0, "utf8")).map((it) => (it.trace === undefined ? engines.call(it.command, it.options, it.input) : compare(engines, it)));
+  await ANSWERS.start({ tool: Buffer.from(data.tool, "base64"), steps: Buffer.from(data.steps, "base64") });
+  const answers = [];
+  for (const it of JSON.parse(fs.readFileSync(0, "utf8"))) answers.push(it.trace === undefined ? ANSWERS.call(it) : await compare(it));
   process.stdout.write(JSON.stringify(answers));
 })();

@@ -1,5 +1,5 @@
 // The heap of docs/HEAP.md once more, by hand: a second opinion on what the page's proved replay says of granules, slots and variables, and on
-// the report's faults. page_engines.js reads it after formats.js and users.js of the page.
+// the report's faults. page_engines.js reads it after the sources of the page's worker.
 "use strict";
 
 const WORD = 1n << 64n;
@@ -119,8 +119,8 @@ class HeapModel {
     const granule = Number(place) / GRANULE;
     const at = address >> 60n || place < 0n || granule >= this.layout.granules ? null : this.layout.slotAt(Math.floor(granule));
     if (!at || at.before !== 1 || !Number.isInteger(granule)) return { refusal: "misplaced" };
-    const slot = this.slots.get(at.number);
-    if (!slot || !slot.isLive) return { refusal: "not-live", slot };
+    const slot = this.slots.get(at.number) ?? at;
+    if (!slot.isLive) return { refusal: "not-live", slot };
     if (slot.tag !== tagOf(address)) return { refusal: "wrong-tag", slot };
     return { slot };
   }
