@@ -1,22 +1,18 @@
 // The sentences that say what is known of a table, filled from the words and by the rules of scripts/mte_scripts/claims.py, which are in the page's
-// data. What is judged is {kind, given, limit, step, forced, classes, cost, verdict}: the kind is profile, history or timeline, the cost is
-// that on what the user gave, and the verdict is the engine's, or `between L` where `fit` found no certificate.
+// data. What is judged is {kind, limit, step, forced, classes, cost, verdict}: the kind is profile, history or timeline, the cost is that on
+// what the user gave, and the verdict is the engine's, or `between L` where `fit` found no certificate.
 "use strict";
-
-const WORDS_OF = {
-  profile: { sheet: "sheet", counts: "profile", costs: "wastes" },
-  history: { sheet: "fit", counts: "history", costs: "takes" },
-  timeline: { sheet: "fit", counts: "timeline", costs: "takes" },
-};
 
 const filled = (name, places = {}) => (data.claims[name] ?? "").replace(/\{(\w+)\}/g, (_, place) => places[place]);
 const listed = (words) => [words.slice(0, -1).join(", "), ...words.slice(-1)].filter(Boolean).join(" and ");
+const givenAs = (kind) => `this ${kind}`;
 const blockText = (step) => String(GRANULE * step);
 const forcedWords = (forced) => filled(`forced.${forced.length === 1 ? "one" : "many"}`, { classes: listed(forced) });
 
-function tablesWords({ given, limit, step, forced }) {
+function tablesWords({ kind, limit, step, forced }) {
   const most = filled(`limit.${limit === 1 ? "one" : "many"}`, { count: limit, block: blockText(step) });
-  return filled(`tables.${forced.length ? "forced" : "own"}`, { limit: most, given, forced: forced.length ? forcedWords(forced) : "" });
+  const places = { limit: most, given: givenAs(kind), forced: forcedWords(forced) };
+  return filled(`tables.${forced.length ? "forced" : "own"}`, places);
 }
 
 /** Whether `optimal`, said of the larger counts, says the same of the user's own. */
@@ -33,10 +29,12 @@ const claim = (judged) => filled(`${judged.kind}.claim`, { tables: tablesWords(j
 
 /** What the verdict means, as `says` of scripts/mte_scripts/claims.py has it. */
 function says(judged) {
-  const { kind, given, forced, verdict } = judged;
+  const { kind, forced, verdict } = judged;
+  const given = givenAs(kind);
   if (bound(judged) !== null) return filled("timeline.between", { cost: bytesText(judged.cost), given, claim: claim(judged) });
   if (verdict !== "optimal") {
-    const meaning = filled(`refusal.${verdict.split(" ")[1]}`, WORDS_OF[kind]);
+    const words = kind === "profile" ? { sheet: "sheet", costs: "wastes" } : { sheet: "fit", costs: "takes" };
+    const meaning = filled(`refusal.${verdict.split(" ")[1]}`, { counts: kind, ...words });
     return filled(`${kind}.refused`, { given, verdict, meaning }).trimEnd();
   }
   if (!holds(judged)) return filled(`${kind}.other`, { given });
@@ -49,8 +47,14 @@ function showWords(id, words) {
   $(id).innerHTML = escaped(words).replace(/`([^`]*)`/g, "<code>$1</code>");
 }
 
+/** The same of what an engine said of a sheet. */
+function tellVerdict(id, words, good) {
+  showWords(id, words);
+  $(id).className = good ? "good" : "bad";
+}
+
 /** What the curve over the number of classes shows. */
-function curveWords({ kind, given, step, forced }) {
+function curveWords({ kind, step, forced }) {
   const having = forced.length ? filled("curve.with", { forced: forcedWords(forced) }) : "";
-  return filled(`${kind}.curve.caption`, { block: blockText(step), given, with: having });
+  return filled(`${kind}.curve.caption`, { block: blockText(step), given: givenAs(kind), with: having });
 }

@@ -5,105 +5,109 @@
 const sumOf = (numbers) => numbers.reduce((sum, n) => sum + n, 0);
 /** The greatest of numbers, of which there may be more than a call takes. */
 const mostOf = (numbers) => numbers.reduce((most, n) => (n > most ? n : most), 0);
-const kindOf = (text) => {
-  const word = /^[^ \n]*/.exec(text)[0];
+const wordOf = (text) => /^[^ \n]*/.exec(text)[0];
+
+/** What a text is by its first word: a profile, a history, a timeline, or null. */
+function kindOf(text) {
+  const word = wordOf(text);
   if (word === "snapshots") return "history";
   if (word === "timeline") return "timeline";
   return word === "large" || /^\d+$/.test(word) || text === "" ? "profile" : null;
-};
+}
+
+/** For each class the least and the greatest size that it serves. */
+const spansOf = (classes) => classes.map((c, i) => [i ? GRANULE * classes[i - 1] - GRANULE + 1 : 0, GRANULE * c - GRANULE]);
+
+/** What both have: the sizes, each with its count, over time that of its most blocks; and for each class its heights at each moment. */
+class Counts {
+  constructor(kind, text) {
+    Object.assign(this, { kind, text, large: 0 });
+  }
+
+  /** Keeps the sizes, and what they come to. */
+  keep(sizes) {
+    this.sizes = sizes;
+    this.blocks = sumOf(sizes.map(([, count]) => count));
+    this.bytes = sumOf(sizes.map(([size, count]) => size * count));
+  }
+
+  hasLargest() {
+    return this.sizes.at(-1)?.[0] === LARGEST_SIZE;
+  }
+
+  /** For each class its sizes, what it serves of them, and what it loses; over time, the most of its blocks at once, and what they take. */
+  byClass(classes) {
+    const heights = this.heights(classes, 1);
+    return spansOf(classes).map(([least, most], i) => {
+      const served = mostOf(heights[i]);
+      const losses = this.sizes.filter(([size]) => size >= least && size <= most).map(([size, count]) => count * (most - size));
+      return { least, most, served, cost: this.kind === "profile" ? sumOf(losses) : (most + GRANULE) * served };
+    });
+  }
+}
 
 /** A profile or a history: for each size its counts, one or one for each snapshot. */
-class Rows {
+class Rows extends Counts {
   constructor(kind, text) {
-    Object.assign(this, { kind, text, lines: [], large: 0 });
+    super(kind, text);
+    this.lines = [];
     for (const line of text.split("\n")) {
-      const [size, ...counts] = line.split(" ");
-      if (line === "" || size === "snapshots") continue;
-      if (size === "large") this.large = mostOf(counts.map(Number));
-      else this.lines.push([Number(size), counts.map(Number)]);
+      const [size, ...words] = line.split(" ");
+      const counts = words.map(Number);
+      if (size === "large") this.large = mostOf(counts);
+      else if (line !== "" && size !== "snapshots") this.lines.push([Number(size), counts]);
     }
-    this.sizes = this.lines.map(([size, counts]) => [size, mostOf(counts)]);
+    this.keep(this.lines.map(([size, counts]) => [size, mostOf(counts)]));
   }
 
   /** For each class its blocks at each moment, or the requests that it serves; of one that serves nothing no number. */
   heights(classes) {
-    let least = 0;
-    return classes.map((c) => {
-      const most = GRANULE * c - GRANULE;
-      const mine = this.lines.filter(([size]) => size >= least && size <= most);
-      least = most + 1;
-      return (mine[0]?.[1] ?? []).map((_, i) => sumOf(mine.map(([, counts]) => counts[i])));
+    return spansOf(classes).map(([least, most]) => {
+      const mine = this.lines.filter(([size]) => size >= least && size <= most).map(([, counts]) => counts);
+      return (mine[0] ?? []).map((_, i) => sumOf(mine.map((counts) => counts[i])));
     });
-  }
-
-  /** For each class the requests that it serves, or the most of its blocks at once. */
-  servedBy(classes) {
-    return this.heights(classes).map(mostOf);
-  }
-
-  /** What a class loses, or takes, that serves the sizes from LEAST on. */
-  costOf(c, least, served) {
-    if (this.kind === "history") return GRANULE * c * served;
-    const most = GRANULE * c - GRANULE;
-    return sumOf(this.lines.filter(([size]) => size >= least && size <= most).map(([size, [n]]) => n * (most - size)));
   }
 
   /** The text with a request, or a block at each moment, that class 1024 alone serves. */
   withLargest() {
-    const moments = this.kind === "history" ? Number(/^snapshots (\d+)/.exec(this.text)[1]) : 1;
-    const lines = this.text.split("\n").filter((line) => !line.startsWith(`${LARGEST_SIZE} `));
-    const large = lines.findIndex((line) => line.startsWith("large "));
-    lines.splice(large < 0 ? lines.length - 1 : large, 0, `${LARGEST_SIZE}${" 1".repeat(moments)}`);
-    return lines.join("\n");
-  }
-
-  /** Whether a class 1024 serves something at each moment anyway. */
-  hasLargest() {
-    return Boolean(this.lines.find(([size]) => size === LARGEST_SIZE)?.[1].some((count) => count > 0));
+    const moments = Number(/^snapshots (\d+)/.exec(this.text)?.[1] ?? 1);
+    const large = this.text.search(/^large /m);
+    const at = large < 0 ? this.text.length : large;
+    return `${this.text.slice(0, at)}${LARGEST_SIZE}${" 1".repeat(moments)}\n${this.text.slice(at)}`;
   }
 }
 
-const [DASH, ZERO, SMALL_L] = [45, 48, 108];
-
 /** A timeline: its events, SIZE + 1 for a request and that below 0 for a free, and 0 for the large ones. */
-class Events {
+class Events extends Counts {
   constructor(kind, text) {
-    Object.assign(this, { kind, text, requests: 0, live: 0, mostLive: 0, large: 0 });
+    super(kind, text);
+    Object.assign(this, { requests: 0, mostLive: 0 });
     const events = new Int16Array(text.length >> 1);
     const [now, most] = [new Int32Array(LARGEST_SIZE + 1), new Int32Array(LARGEST_SIZE + 1)];
-    let [count, large, at] = [0, 0, text.indexOf("\n") + 1];
-    for (; at > 0 && at < text.length; at++) {
-      const isFree = text.charCodeAt(at) === DASH;
-      if (isFree) at += 1;
-      if (text.charCodeAt(at) === SMALL_L) {
-        large += isFree ? -1 : 1;
-        if (large > this.large) this.large = large;
-        events[count++] = 0;
-        at = text.indexOf("\n", at);
-        if (at < 0) break;
+    let [count, large, live] = [0, 0, 0];
+    for (const [, minus, word] of text.matchAll(/^(-?)(\d+|large)$/gm)) {
+      const [sign, size] = [minus ? -1 : 1, Number(word)];
+      if (word === "large") {
+        large += sign;
+        this.large = Math.max(this.large, large);
+        count += 1;
         continue;
       }
-      let size = 0;
-      for (let code; (code = text.charCodeAt(at)) >= ZERO; at++) size = 10 * size + code - ZERO;
-      events[count++] = isFree ? -size - 1 : size + 1;
-      now[size] += isFree ? -1 : 1;
-      if (now[size] > most[size]) most[size] = now[size];
-      this.requests += isFree ? 0 : 1;
-      this.live += isFree ? -size : size;
-      if (this.live > this.mostLive) this.mostLive = this.live;
+      events[count++] = sign * (size + 1);
+      now[size] += sign;
+      most[size] = Math.max(most[size], now[size]);
+      live += sign * size;
+      this.mostLive = Math.max(this.mostLive, live);
+      if (!minus) this.requests += 1;
     }
     this.events = events.slice(0, count);
-    this.sizes = [...most.keys()].filter((size) => most[size]).map((size) => [size, most[size]]);
+    this.keep([...most.keys()].filter((size) => most[size]).map((size) => [size, most[size]]));
   }
 
   /** For each class the most of its blocks in each of so many equal parts of the events, or of fewer where there are fewer. */
   heights(classes, parts) {
     const classOf = new Uint8Array(LARGEST_SIZE + 2);
-    let least = 0;
-    classes.forEach((c, i) => {
-      classOf.fill(i, least + 1, GRANULE * c - GRANULE + 2);
-      least = GRANULE * c - GRANULE + 1;
-    });
+    spansOf(classes).forEach(([least, most], i) => classOf.fill(i, least + 1, most + 2));
     const columns = Math.min(parts, this.events.length);
     const [now, found] = [new Int32Array(classes.length), classes.map(() => [])];
     for (let part = 1, at = 0; part <= columns; part++) {
@@ -121,31 +125,19 @@ class Events {
     return found;
   }
 
-  servedBy(classes) {
-    return this.heights(classes, 1).map(mostOf);
-  }
-
-  costOf(c, _, served) {
-    return GRANULE * c * served;
-  }
-
   /** The history of some moments, each the number of events before it, ascending. */
   historyAt(moments) {
     const now = new Int32Array(LARGEST_SIZE + 1);
-    const rows = new Map();
+    const rows = new Map(this.sizes.map(([size]) => [size, []]));
     let at = 0;
-    moments.forEach((moment, i) => {
+    for (const moment of moments) {
       for (; at < moment; at++) {
         const event = this.events[at];
-        if (event > 0) now[event - 1] += 1;
-        else if (event < 0) now[-event - 1] -= 1;
+        if (event) now[Math.abs(event) - 1] += Math.sign(event);
       }
-      for (const [size] of this.sizes) {
-        if (now[size] && !rows.has(size)) rows.set(size, new Array(moments.length).fill(0));
-        if (now[size]) rows.get(size)[i] = now[size];
-      }
-    });
-    const lines = this.sizes.filter(([size]) => rows.has(size)).map(([size]) => `${size} ${rows.get(size).join(" ")}\n`);
+      for (const [size, counts] of rows) counts.push(now[size]);
+    }
+    const lines = [...rows].filter(([, counts]) => mostOf(counts)).map(([size, counts]) => `${size} ${counts.join(" ")}\n`);
     return `snapshots ${moments.length}\n${lines.join("")}`;
   }
 
@@ -153,16 +145,7 @@ class Events {
   withLargest() {
     return this.text.replace("\n", `\n${LARGEST_SIZE}\n`);
   }
-
-  hasLargest() {
-    return this.sizes.at(-1)?.[0] === LARGEST_SIZE;
-  }
 }
 
-/** What a text of this kind counts. Its requests and bytes are those of a profile; over time, of the most blocks of each size at once. */
-function countsOf(kind, text) {
-  const counts = kind === "timeline" ? new Events(kind, text) : new Rows(kind, text);
-  counts.blocks = sumOf(counts.sizes.map(([, count]) => count));
-  counts.bytes = sumOf(counts.sizes.map(([size, count]) => size * count));
-  return counts;
-}
+/** What a text of this kind counts. */
+const countsOf = (kind, text) => (kind === "timeline" ? new Events(kind, text) : new Rows(kind, text));

@@ -2,21 +2,22 @@
 // `engines.begin(line, trace, options)` is a replay that goes on event by event. Runs in a page's worker and in node.
 "use strict";
 
-/** A structure of these options, of 9 to 16 bytes, as the calling convention passes it: in two words, the second of 4 bytes if these do. */
+/** A structure of these options or their defaults, of 9 to 16 bytes, as the calling convention passes it: in two words, the second of 4 bytes if these do. */
 function packed(names, options) {
   const room = new DataView(new ArrayBuffer(16));
   let at = 0;
   for (const name of names) {
     const bits = OPTION_BITS[name];
     at = Math.ceil((8 * at) / bits) * (bits / 8);
-    room[`setUint${bits}`](at, options[name], true);
+    room[`setUint${bits}`](at, options[name] ?? DEFAULTS[name], true);
     at += bits / 8;
   }
   return [room.getBigInt64(0, true), at > 12 ? room.getBigInt64(8, true) : room.getInt32(8, true)];
 }
 
 const asBytes = (input) => (typeof input === "string" ? new TextEncoder().encode(input) : input);
-const asText = (bytes) => new TextDecoder("latin1").decode(bytes);
+const latin = new TextDecoder("latin1");
+const asText = (bytes) => latin.decode(bytes);
 
 /** A WebAssembly module and its memory. */
 class Module {
@@ -31,7 +32,7 @@ class Module {
 
   /** A place of so many bytes. */
   take(length) {
-    const place = this.exports.web_take(BigInt(length || 1));
+    const place = this.exports.web_take(BigInt(length));
     if (!place) throw new RangeError("the page is out of memory");
     return place;
   }
@@ -77,11 +78,11 @@ class Module {
 /** A replay of a trace on a heap. */
 class Steps {
   constructor(module, line, trace, options) {
-    const o = { ...DEFAULTS, ...options };
     const texts = [module.put(line), module.put(trace)];
-    [this.module, this.handle, this.facts, this.granules, this.done] = [module, module.take(8), module.take(24), o.granules, 0];
+    const granules = options.granules ?? DEFAULTS.granules;
+    Object.assign(this, { module, granules, handle: module.take(8), facts: module.take(24), done: 0 });
     module.bytes(this.handle, 8).fill(0);
-    const status = module.run("mte_step_new", ...packed(HEAP_OPTIONS, o), ...texts[0], ...texts[1], this.handle);
+    const status = module.run("mte_step_new", ...packed(HEAP_OPTIONS, options), ...texts[0], ...texts[1], this.handle);
     module.give(texts[0][0], texts[1][0]);
     if (status) {
       module.give(this.handle, this.facts);
@@ -128,11 +129,7 @@ class Steps {
 /** All engines of the page. */
 class Engines {
   static async load(tool, steps) {
-    const engines = new Engines();
-    engines.sources = { tool, steps };
-    engines.tool = await Module.load(tool);
-    engines.steps = await Module.load(steps);
-    return engines;
+    return Object.assign(new Engines(), { tool: await Module.load(tool), steps: await Module.load(steps) });
   }
 
   /** What a command answers: its exit status and its text, of standard output or, for status 2, of standard error. */
@@ -144,7 +141,7 @@ class Engines {
   /** The same in bytes, of a fault without the word before it. */
   answer(command, options, ...inputs) {
     const m = this.tool;
-    const words = packed(Object.keys(OPTION_BITS), { ...DEFAULTS, ...options });
+    const words = packed(Object.keys(OPTION_BITS), options);
     const [from, length] = m.put(...inputs);
     const [ending, text] = [m.take(16), m.take(16)];
     m.bytes(text, 16).fill(0);

@@ -43,5 +43,3 @@ const CAUSES = {
   "not-live": "the chunk there is not live",
   "wrong-tag": "the address has another tag than the chunk",
 };
-
-if (typeof module !== "undefined") module.exports = { GRANULE, REGION, LARGEST_SIZE, DEFAULTS, ENDED };

@@ -14,36 +14,16 @@ class LinkFault extends Error {}
 
 const canLink = () => typeof CompressionStream === "function" && typeof DecompressionStream === "function";
 
-/** The bytes that a stream of the browser makes of others, at most so many. */
-async function streamed(bytes, stream, most) {
-  const reader = new Blob([bytes]).stream().pipeThrough(stream).getReader();
-  const pieces = [];
-  let length = 0;
-  for (;;) {
-    const { done, value } = await reader.read();
-    if (done) break;
-    length += value.length;
-    if (length > most) {
-      await reader.cancel();
-      throw new LinkFault(`it holds more than ${bytesText(most)}`);
-    }
-    pieces.push(value);
-  }
-  return new Uint8Array(await new Blob(pieces).arrayBuffer());
-}
-
 function asLetters(bytes) {
-  let text = "";
-  for (let at = 0; at < bytes.length; at += 4096) text += String.fromCharCode(...bytes.subarray(at, at + 4096));
+  const text = Array.from(bytes, (byte) => String.fromCharCode(byte)).join("");
   return btoa(text).replaceAll("+", "-").replaceAll("/", "_").replaceAll("=", "");
 }
 
 function fromLetters(letters) {
-  if (!/^[\w-]*$/.test(letters)) throw new LinkFault("it has other characters than letters, digits, - and _");
   try {
-    return Uint8Array.from(atob(letters.replaceAll("-", "+").replaceAll("_", "/")), (c) => c.charCodeAt(0));
+    return fromBase64(letters.replaceAll("-", "+").replaceAll("_", "/"));
   } catch {
-    throw new LinkFault("a part of it is missing");
+    throw new LinkFault("it has other characters than letters, digits, - and _, or a part of it is missing");
   }
 }
 
@@ -63,22 +43,27 @@ async function shownData() {
 
 /** The letters of a link that carries this. */
 async function packed(value) {
-  const text = new TextEncoder().encode(JSON.stringify(value));
-  return asLetters(await streamed(text, new CompressionStream("deflate-raw"), Infinity));
+  const packing = new Blob([JSON.stringify(value)]).stream().pipeThrough(new CompressionStream("deflate-raw"));
+  return asLetters(new Uint8Array(await new Response(packing).arrayBuffer()));
 }
 
 /** What the letters of a link carry. */
 async function unpacked(letters) {
-  let text;
+  let length = 0;
+  const limit = new TransformStream({
+    transform(piece, made) {
+      length += piece.length;
+      if (length <= MOST_INPUT) made.enqueue(piece);
+      else made.terminate();
+    },
+  });
+  const unpacking = new Blob([fromLetters(letters)]).stream().pipeThrough(new DecompressionStream("deflate-raw")).pipeThrough(limit);
   try {
-    text = new TextDecoder().decode(await streamed(fromLetters(letters), new DecompressionStream("deflate-raw"), MOST_INPUT));
+    return await new Response(unpacking).json();
   } catch (error) {
-    throw error instanceof LinkFault ? error : new LinkFault("its data can't be decompressed: a part of it is missing, or was changed");
-  }
-  try {
-    return JSON.parse(text);
-  } catch {
-    throw new LinkFault("its data is not of a page of mte_tool");
+    if (length > MOST_INPUT) throw new LinkFault(`it holds more than ${bytesText(MOST_INPUT)}`);
+    if (error instanceof SyntaxError) throw new LinkFault("its data is not of a page of mte_tool");
+    throw new LinkFault("its data can't be decompressed: a part of it is missing, or was changed");
   }
 }
 
@@ -116,26 +101,20 @@ async function openTuning({ limit, step, largest, own, at, slots: held }) {
   tuner = slots[0];
   for (const [i, { name, text }] of held.entries()) {
     comesTo = i;
-    if (!(await takeCounts(kindOf(text), text, name))) return false;
+    if (!(await takeCounts(text, name))) return false;
   }
   lookAt(at);
   say(`${tuner.name}: a ${tuner.kind} of ${counted(tuner.counts.sizes.length, "size")}, by a link.`, false, "tune");
   $("sheet").value = held[at].sheet;
   const { words, good } = await checkSheet();
-  showWords("from-link", `The sheet came with the link, and this browser has checked it again: ${words}`);
-  $("from-link").className = good ? "good" : "bad";
+  tellVerdict("from-link", `The sheet came with the link, and this browser has checked it again: ${words}`, good);
   $("from-link").hidden = false;
   return true;
 }
 
 async function openHeap({ name, trace, line, event, notes, granules, seed, quarantine }) {
   show("heap");
-  edit(trace, name);
-  watched.notes = new Map(notes);
-  $("tuned").checked = false;
-  $("line").value = line;
-  [$("granules").value, $("seed").value, $("quarantine").value] = [granules, seed, quarantine];
-  const went = sayTrace(await replayTrace(), ", by a link");
+  const went = await takeGiven(trace, name, { line, notes, heap: { granules, seed, quarantine } }, ", by a link");
   if (went) await go(event);
   return went;
 }
@@ -144,24 +123,20 @@ async function openHeap({ name, trace, line, event, notes, granules, seed, quara
 async function makeLink() {
   $("linked").hidden = false;
   $("link").value = "";
-  const tell = (words, bad = false) => {
-    $("link-told").textContent = words;
-    $("link-told").className = bad ? "bad" : "soft";
-  };
-  if (!canLink()) return tell("This browser can't compress, so it makes no link. A newer one does.", true);
+  if (!canLink()) return tell("link-told", "This browser can't compress, so it makes no link. A newer one does.", "bad");
   const shown = await shownData();
   const link = shown && `${location.href.split("#")[0]}${LINK_MARK}${await packed(shown)}`;
   if (!link || link.length > MOST_LINK) {
     const size = link ? `That would be a link of ${grouped(link.length)} characters` : "That is far too long for a link";
     const most = `a link has at most ${grouped(MOST_LINK)}, since browsers and programs cut longer ones`;
-    return tell(`${size}; ${most}. Send the file, and the sheet if it is one of counts.`, true);
+    return tell("link-told", `${size}; ${most}. Send the file, and the sheet if it is one of counts.`, "bad");
   }
-  const size = `${grouped(link.length)} characters`;
   $("link").value = link;
   const copied = await copyText(link);
   const cut = link.length > SAFE_LINK ? ` Some mail and chat programs cut links of more than ${grouped(SAFE_LINK)}.` : "";
   const where = location.protocol === "file:" ? " It leads to this page's file: who has the page elsewhere puts what stands from # on behind its address." : "";
-  return tell(`The link has ${size}${copied ? ", and is copied" : ": copy it from here"}.${cut}${where}`);
+  const size = `${grouped(link.length)} characters`;
+  return tell("link-told", `The link has ${size}${copied ? ", and is copied" : ": copy it from here"}.${cut}${where}`, "soft");
 }
 
 async function copyText(text) {
@@ -182,8 +157,6 @@ function forgetLink() {
 
 const isLink = (text) => text.length <= 4 * MOST_LINK && /^\S*#mte_tool=\S*$/.test(text.trim());
 
-function startLinks() {
-  $("share").onclick = told(makeLink);
-  $("link").onfocus = () => $("link").select();
-  addEventListener("hashchange", told(() => location.hash.startsWith(LINK_MARK) && openLink(location.hash)));
-}
+$("share").onclick = told(makeLink);
+$("link").onfocus = () => $("link").select();
+addEventListener("hashchange", told(() => location.hash.startsWith(LINK_MARK) && openLink(location.hash)));

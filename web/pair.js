@@ -1,9 +1,6 @@
 // Two profiles, histories or timelines beside each other: which is looked at, and what each table costs on both.
 "use strict";
 
-/** A table of one slot by its name among those of both. */
-const nameInPair = (slot, table) => (table.style === 0 ? `the table of ${slot.slot}` : table.name);
-
 /** Says which of the two is looked at, and offers what may be done. */
 function showSlots() {
   const [, second] = slots;
@@ -16,13 +13,6 @@ function showSlots() {
   }
 }
 
-/** What a table costs on a slot's counts, as two cells. */
-function pairCells(slot, table) {
-  if (!table) return '<td colspan="2">–</td>';
-  if (table.total === undefined) return `<td colspan="2">does not serve ${bytesText(table.unserved)}</td>`;
-  return `<td>${grouped(table.total)}</td><td>${percent(table.total, isOverTime(slot) ? slot.total : slot.counts.bytes)}</td>`;
-}
-
 function showPair() {
   const filled = filledSlots();
   $("pair").hidden = filled.length < 2;
@@ -33,16 +23,14 @@ function showPair() {
     showWords(`pair-claim-${slot.slot}`, says(slot.judged));
     drawHistogram($(`pair-histogram-${slot.slot}`), slot.counts.sizes, slot.classes, classesOf(data.scudo));
   }
-  const named = filled.map((slot) => new Map(slot.tables.map((table) => [nameInPair(slot, table), table])));
-  const names = [...filled.map((slot) => `the table of ${slot.slot}`), ...filled[0].tables.filter((t) => t.style && t.style < 4).map((t) => t.name)];
-  const rows = names.map((name) => {
-    const tables = named.map((of) => of.get(name));
-    const classes = tables.find(Boolean)?.classes ?? "–";
-    const cells = filled.map((slot, i) => pairCells(slot, tables[i])).join("");
-    return `<tr><th scope="row">${escaped(name)}</th><td>${classes}</td>${cells}</tr>`;
+  // each has the same tables, its own among them
+  const named = filled.map((slot) => new Map(slot.tables.map((table) => [table.style ? table.name : `the table of ${slot.slot}`, table])));
+  const rows = [...named[0]].map(([name, { classes }]) => {
+    const cells = filled.flatMap((slot, i) => costCells(slot, named[i].get(name)));
+    return [escaped(name), cell(classes), ...cells];
   });
   const over = filled.map((slot) => (isOverTime(slot) ? [`Footprint over ${slot.slot}, bytes`, "Of its own table's"] : [`Waste on ${slot.slot}, bytes`, "Of its bytes"]));
-  $("pair-tables").innerHTML = headings("Table", "Classes", ...over.flat()) + `<tbody>${rows.join("")}</tbody>`;
+  fillTable("pair-tables", ["Table", "Classes", ...over.flat()], rows);
 }
 
 /** The next file, text or example comes as this one of the two. */
@@ -66,9 +54,7 @@ function dropSecond() {
   return tune();
 }
 
-function startPair() {
-  $("beside").onclick = () => comeTo(comesTo === 1 ? 0 : 1);
-  $("look-A").onchange = () => lookAt(0);
-  $("look-B").onchange = () => lookAt(1);
-  $("drop-B").onclick = told(dropSecond);
-}
+$("beside").onclick = () => comeTo(comesTo === 1 ? 0 : 1);
+$("look-A").onchange = () => lookAt(0);
+$("look-B").onchange = () => lookAt(1);
+$("drop-B").onclick = told(dropSecond);

@@ -20,30 +20,30 @@ function byteText(n) {
   return `${(n / unit).toLocaleString("en", { maximumSignificantDigits: 3 })} ${name}`;
 }
 
-/** A picture with a vertical scale from 0 to TOP. */
+/** A round number, of which up to five make the top. */
+function roundStep(top) {
+  const ten = 10 ** Math.floor(Math.log10(top / 5));
+  return [1, 2, 2.5, 5, 10].map((n) => n * ten).find((step) => step >= top / 5);
+}
+
+/** A picture with a vertical scale of bytes, from 0 to MOST and some room. Where OF is given, the levels are its percents. */
 class Picture {
-  constructor(svg, height, top, levelText) {
-    this.svg = svg;
-    this.width = Math.max(280, Math.min(1000, Math.round(svg.parentElement.clientWidth || 760)));
-    Object.assign(this, { height, left: 64, right: this.width - 12, upper: 12, lower: height - 46, parts: [] });
-    this.top = top || 1;
-    const step = this.levelStep();
-    for (let level = 0; level <= this.top; level += step) {
-      const y = this.y(level);
+  constructor(svg, height, most, room, of) {
+    const width = Math.max(280, Math.min(1000, Math.round(svg.parentElement.clientWidth || 760)));
+    Object.assign(this, { svg, width, height, left: 64, right: width - 12, upper: 12, lower: height - 46, parts: [] });
+    [this.wide, this.high] = [this.right - this.left, this.lower - this.upper];
+    const unit = of ? of / 100 : 1024 ** Math.floor(Math.log(Math.max(1, most)) / Math.log(1024));
+    this.top = room * most || unit;
+    const step = roundStep(this.top / unit);
+    for (let level = 0; level * unit <= this.top; level += step) {
+      const y = this.y(level * unit);
       this.parts.push(`<path class="${level ? "gridline" : "axis"}" d="M${this.left} ${short(y)}H${this.right}"/>`);
-      this.text(this.left - 6, y + 4, levelText(level), "end");
+      this.text(this.left - 6, y + 4, of ? `${shortLevel(level)}%` : level ? byteText(level * unit) : "0", "end");
     }
   }
 
-  /** A round number, of which up to five make the top. */
-  levelStep() {
-    const rough = this.top / 5;
-    const ten = 10 ** Math.floor(Math.log10(rough));
-    return [1, 2, 2.5, 5, 10].map((n) => n * ten).find((step) => step >= rough);
-  }
-
-  y(value) {
-    return this.lower - ((this.lower - this.upper) * value) / this.top;
+  y(bytes) {
+    return this.lower - (this.high * bytes) / this.top;
   }
 
   text(x, y, words, anchor = "middle") {
@@ -66,20 +66,16 @@ class Picture {
  * percents, and else bytes. */
 function drawCurve(svg, least, tables, label, of) {
   const highest = Math.max(least[Math.min(7, least.length - 1)] ?? 0, ...tables.map((t) => t.total));
-  const unit = of ? of / 100 : 1024 ** Math.floor(Math.log(Math.max(1, highest)) / Math.log(1024));
-  const levelText = (level) => (of ? `${shortLevel(level)}%` : level ? byteText(level * unit) : "0");
-  const picture = new Picture(svg, 320, (1.15 * highest) / unit, levelText);
-  const y = (bytes) => picture.y(bytes / unit);
-  const x = (classes) => picture.left + 8 + ((picture.right - picture.left - 16) * (classes - 1)) / 31;
+  const picture = new Picture(svg, 320, highest, 1.15, of);
+  const x = (classes) => picture.left + 8 + ((picture.wide - 16) * (classes - 1)) / 31;
   for (const classes of [1, 4, 8, 12, 16, 20, 24, 28, 32]) picture.text(x(classes), picture.lower + 18, classes);
-  picture.text((picture.left + picture.right) / 2, picture.height - 8, "classes in the table");
-  const points = least.map((bytes, i) => `${short(x(i + 1))},${short(Math.max(y(bytes), -10 * picture.height))}`);
-  const [wide, high] = [picture.right - picture.left, picture.lower - picture.upper];
-  const area = `x="${picture.left}" y="${picture.upper - 8}" width="${wide}" height="${high + 10}"`;
+  picture.text(picture.left + picture.wide / 2, picture.height - 8, "classes in the table");
+  const points = least.map((bytes, i) => `${short(x(i + 1))},${short(Math.max(picture.y(bytes), -10 * picture.height))}`);
+  const area = `x="${picture.left}" y="${picture.upper - 8}" width="${picture.wide}" height="${picture.high + 10}"`;
   picture.parts.push(`<clipPath id="area"><rect ${area}/></clipPath>`);
   picture.parts.push(`<polyline class="curve" clip-path="url(#area)" points="${points.join(" ")}"/>`);
   for (const t of [...tables].reverse()) {
-    picture.mark(t.style, x(t.classes), y(t.total), `${t.name}: ${classesText(t.classes)}, ${bytesText(t.total)}`);
+    picture.mark(t.style, x(t.classes), picture.y(t.total), `${t.name}: ${classesText(t.classes)}, ${bytesText(t.total)}`);
   }
   const ends = least.length ? `${bytesText(least[0])} with one, ${bytesText(least.at(-1))} with ${least.length}` : "not known";
   picture.finish(`${label}: ${ends}.`);
@@ -106,11 +102,10 @@ function layersOf(classes, heights) {
 
 /** The bytes of the live blocks over time in their layers, and the footprint. */
 function drawLayers(svg, layers, footprint, of) {
-  const unit = 1024 ** Math.floor(Math.log(Math.max(1, footprint)) / Math.log(1024));
-  const picture = new Picture(svg, 320, (1.05 * footprint) / unit, (level) => (level ? byteText(level * unit) : "0"));
-  const [wide, columns] = [picture.right - picture.left, layers[0]?.bytes.length ?? 0];
-  const x = (at) => short(picture.left + (wide * at) / columns);
-  const y = (bytes) => short(picture.y(bytes / unit));
+  const picture = new Picture(svg, 320, footprint, 1.05);
+  const columns = layers[0]?.bytes.length ?? 0;
+  const x = (at) => short(picture.left + (picture.wide * at) / columns);
+  const y = (bytes) => short(picture.y(bytes));
   let below = new Array(columns).fill(0);
   for (const { words, form, bytes, most } of layers) {
     const above = below.map((under, at) => under + bytes[at]);
@@ -122,9 +117,9 @@ function drawLayers(svg, layers, footprint, of) {
   }
   picture.parts.push(`<path class="level" d="M${picture.left} ${y(footprint)}H${picture.right}"><title>footprint: ${bytesText(footprint)}</title></path>`);
   for (const share of [0, 25, 50, 75, 100]) {
-    picture.text(picture.left + (wide * share) / 100, picture.lower + 18, `${share}%`, share === 100 ? "end" : "middle");
+    picture.text(picture.left + (picture.wide * share) / 100, picture.lower + 18, `${share}%`, share === 100 ? "end" : "middle");
   }
-  picture.text(picture.left + wide / 2, picture.height - 8, of);
+  picture.text(picture.left + picture.wide / 2, picture.height - 8, of);
   picture.finish(`The bytes of the live blocks over time, by class; the footprint is ${bytesText(footprint)}.`);
 }
 
@@ -147,12 +142,11 @@ function drawHistogram(svg, sizes, classes, other) {
   const perOctave = svg.parentElement.clientWidth < 500 ? 4 : 8;
   const groups = barsOf(sizes, perOctave);
   const highest = Math.max(1, ...[...groups.values()].map((g) => g.bytes));
-  const unit = 1024 ** Math.floor(Math.log(highest) / Math.log(1024));
-  const picture = new Picture(svg, 300, (1.05 * highest) / unit, (level) => (level ? byteText(level * unit) : "0"));
-  const x = (size) => picture.left + ((picture.right - picture.left) * octaves(size)) / 11;
-  const wide = (picture.right - picture.left) / (11 * perOctave);
+  const picture = new Picture(svg, 300, highest, 1.05);
+  const x = (size) => picture.left + (picture.wide * octaves(size)) / 11;
+  const wide = picture.wide / (11 * perOctave);
   for (const [place, g] of groups) {
-    const y = picture.y(g.bytes / unit);
+    const y = picture.y(g.bytes);
     const title = `${grouped(g.least)} to ${grouped(g.most)} bytes: ${grouped(g.requests)}, ${byteText(g.bytes)} in all`;
     const [width, height] = [Math.max(1, wide - 0.5), Math.max(0.5, picture.lower - y)];
     const at = `x="${short(picture.left + place * wide)}" y="${short(y)}" width="${short(width)}" height="${short(height)}"`;
@@ -164,6 +158,6 @@ function drawHistogram(svg, sizes, classes, other) {
   }
   for (const c of other) picture.parts.push(`<path class="scudo" d="M${short(x(16 * c - 16))} ${picture.lower + 2}v8"/>`);
   for (const [size, words] of TICKS) picture.text(x(size), picture.lower + 26, words, size === TICKS.at(-1)[0] ? "end" : "middle");
-  picture.text((picture.left + picture.right) / 2, picture.height - 4, "size in bytes");
+  picture.text(picture.left + picture.wide / 2, picture.height - 4, "size in bytes");
   picture.finish(`The bytes by size, in ${counted(groups.size, "bar")}, with ${counted(classes.length, "border")} of the table.`);
 }

@@ -2,7 +2,7 @@
 "use strict";
 
 /** One of the two profiles, histories or timelines that the page holds: what it counts, and what the engines found for it. */
-const newSlot = (slot) => ({ slot, kind: null, name: "", counts: null, sheet: "", least: [], forced: [], tables: [], answers: new Map() });
+const newSlot = (slot) => ({ slot, kind: null, name: "", counts: null, sheet: "", least: [], tables: [], answers: new Map() });
 const slots = [newSlot("A"), newSlot("B")];
 /** The one that is looked at. */
 let tuner = slots[0];
@@ -14,35 +14,37 @@ const percent = (part, whole) => (whole ? `${((100 * part) / whole).toFixed(part
 /** Whether what counts is the footprint, over a history or a timeline, and not the waste on a profile. */
 const isOverTime = (slot) => slot.kind !== "profile";
 const options = () => ({ limit: Number($("limit").value), step: Number($("step").value) });
-const given = (slot) => `this ${slot.kind}`;
+const finderOf = (slot) => (isOverTime(slot) ? "fit" : "tune");
 const heldAs = (slot, forced) => `${slot.slot}${forced.length ? " forced" : ""}`;
 const filledSlots = () => slots.filter((slot) => slot.kind);
-/** What an engine says where it gives no answer, else null. */
-const refusal = (answer) => (answer.status < 2 ? null : answer.status === 2 ? faultWords(answer.text).words : `${answer.ended}.`);
+/** What an engine says where it gives no answer. */
+const refusal = (answer) => (answer.status === 2 ? faultWords(answer.text).words : `${answer.ended}.`);
 
 /** What TUNE or FIT answers for a slot's counts, or with class 1024 forced. Answers are kept, since a slider goes back and forth. */
 async function made(slot, limit, step, forced) {
   const key = `${limit} ${step} ${forced.length}`;
   if (!slot.answers.has(key)) {
-    const command = isOverTime(slot) ? "fit" : "tune";
-    slot.answers.set(key, await ask("call", { command, options: { limit, step }, input: "", and: heldAs(slot, forced) }));
+    slot.answers.set(key, await ask("call", { command: finderOf(slot), options: { limit, step }, input: "", and: heldAs(slot, forced) }));
   }
   return slot.answers.get(key);
 }
 
+const sayRefused = (name, words) => say(`${name} is refused. ${words}`, true);
+
 /** Takes a profile, a history or a timeline that the engines accept. */
-async function takeCounts(kind, text, name) {
+async function takeCounts(text, name, refuse = (words) => sayRefused(name, words)) {
   const { limit, step } = options();
+  const kind = kindOf(text) ?? "profile";
   const slot = { ...newSlot(slots[comesTo].slot), kind, name };
   const whole = text.endsWith("\n") || text === "" ? text : `${text}\n`;
-  await ask("hold", { name: "next", input: whole });
-  const command = isOverTime(slot) ? "fit" : "tune";
-  const answer = await ask("call", { command, options: { limit, step }, input: "", and: "next" });
-  if (answer.status > 1) return sayFault(name, answer);
+  const answer = await ask("call", { command: finderOf(slot), options: { limit, step }, input: whole, keep: slot.slot });
+  if (answer.status > 1) {
+    refuse(refusal(answer));
+    return false;
+  }
   slot.counts = countsOf(kind, whole);
   slot.answers.set(`${limit} ${step} 0`, answer);
-  await ask("hold", { name: slot.slot, of: "next" });
-  if (!slot.counts.hasLargest()) await ask("hold", { name: `${slot.slot} forced`, input: slot.counts.withLargest() });
+  if (!slot.counts.hasLargest()) ask("hold", { name: heldAs(slot, [LARGEST_CLASS]), input: slot.counts.withLargest() });
   slots[slots.findIndex((it) => it.slot === slot.slot)] = slot;
   tuner = slot;
   say(`${name}: a ${kind} of ${counted(slot.counts.sizes.length, "size")}.`, false, "tune");
@@ -63,36 +65,25 @@ async function totalOf(line, slot) {
   return word === "not" ? { unserved: Number(third) } : { total: Number(second) };
 }
 
-let tuning = null;
-let isTuningWanted = false;
-
-/** Tunes what the slots hold. What is wished meanwhile is done once, at the end. */
-function tune() {
-  isTuningWanted = true;
-  tuning ??= tuneWanted().finally(() => {
-    tuning = null;
-  });
-  return tuning;
-}
-
-async function tuneWanted() {
-  while (isTuningWanted) {
-    isTuningWanted = false;
-    $("limit-shown").value = $("limit").value;
-    for (const slot of filledSlots()) await tuneSlot(slot);
-    if (!isTuningWanted && tuner.kind && (await compare())) showSheet();
-  }
-}
+/** Tunes what the slots hold. */
+const tune = oneAtATime(async () => {
+  $("limit-shown").value = $("limit").value;
+  for (const slot of filledSlots()) await tuneSlot(slot);
+  if (tuner.kind && (await compare())) showSheet();
+});
 
 /** Finds the table of a slot, its line over the number of classes, and what the checker says. */
 async function tuneSlot(slot) {
   const { limit, step } = options();
   const forced = $("largest").checked ? forcedFor(slot) : [];
   const answer = await made(slot, limit, step, forced);
-  if (answer.status > 1) return sayFault(slot.name, answer);
-  const judged = answer.status === 0 ? await judge(slot, answer.text, [forced]) : await between(slot, answer.text, { limit, step, forced });
-  const least = await lineOf(slot, answer.text, step, forced);
-  return Object.assign(slot, { sheet: answer.text, judged, forced, classes: judged.classes, total: judged.cost, least });
+  if (answer.status > 1) return sayRefused(slot.name, refusal(answer));
+  const sheet = answer.text;
+  // a fit without a certificate says what no table takes less than
+  const verdict = `between ${/less than (\d+)/.exec(sheet)?.[1]}`;
+  const judged = await (answer.status === 0 ? judge(slot, sheet, [forced]) : judgedAs(slot, sheet, { limit, step, forced, verdict }));
+  const least = await lineOf(slot, sheet, step, forced);
+  return Object.assign(slot, { sheet, judged, classes: judged.classes, total: judged.cost, least });
 }
 
 /** The line over the number of classes: of a profile or a history over all of it, of a timeline over the moments of its fit. */
@@ -111,12 +102,10 @@ async function madeAtMoments(slot, fit, step, forced) {
   return ask("call", { command: "fit", options: { limit: MOST_CLASSES, step }, input: counts.historyAt(moments) });
 }
 
-/** What is known of the table of a fit without a certificate. */
-async function between(slot, text, { limit, step, forced }) {
-  const [line] = text.split("\n");
-  const cost = (await totalOf(line, slot)).total;
-  const verdict = `between ${/less than (\d+)/.exec(text)[1]}`;
-  return { kind: slot.kind, given: given(slot), limit, step, forced, classes: classesOf(line), cost, verdict };
+/** What was judged of a table, with what it costs. */
+async function judgedAs(slot, sheet, judgement) {
+  const [line] = sheet.split("\n");
+  return { kind: slot.kind, classes: classesOf(line), cost: (await totalOf(line, slot)).total, ...judgement };
 }
 
 /** What the engine says of a sheet over a slot's counts with each of these classes forced: of the first over which it is optimal, else of the
@@ -130,11 +119,10 @@ async function judge(slot, sheet, forcedOnes) {
     answers.push({ verdict: answer.text.trim(), forced });
     if (answer.status === 0) break;
   }
-  const found = answers.at(-1).verdict === "optimal" ? answers.at(-1) : answers[0];
+  const found = answers.find(({ verdict }) => verdict === "optimal") ?? answers[0];
   // the engine took the sheet, so each number stands there in its one spelling
   const number = (name) => Number(new RegExp(`^${name} (\\d+)$`, "m").exec(sheet)?.[1] ?? 1);
-  const cost = (await totalOf(sheet.split("\n")[0], slot)).total;
-  return { kind: slot.kind, given: given(slot), limit: number("limit"), step: number("step"), classes: classesOf(sheet), cost, ...found };
+  return judgedAs(slot, sheet, { limit: number("limit"), step: number("step"), ...found });
 }
 
 /** All tables: those of the slots beside Scudo's, and the user's own. Whether they are still those of what the slots hold. */
@@ -145,15 +133,12 @@ async function compare() {
   for (const slot of filled) {
     const twin = filled.find((it) => it !== slot);
     const lines = twin ? [[`the table of ${twin.slot}`, `classes ${twin.classes.join(" ")}`, 4], ...others] : others;
-    const found = await Promise.all(lines.map(([, line]) => totalOf(line, slot)));
-    const first = { name: tableName(slot), classes: slot.classes.length, total: slot.total, style: 0 };
-    slot.tables = [first, ...lines.map(([name, line, style], i) => ({ name, classes: classesOf(line).length, style, ...found[i] }))];
+    const found = lines.map(async ([name, line, style]) => ({ name, classes: classesOf(line).length, style, ...(await totalOf(line, slot)) }));
+    slot.tables = [{ name: tableName(slot), classes: slot.classes.length, total: slot.total, style: 0 }, ...(await Promise.all(found))];
   }
   // meanwhile another may have come
   if (!filled.includes(tuner) || !filled.every((slot) => slots.includes(slot))) return false;
-  const mine = own ? tuner.tables.at(-1) : null;
-  $("own-told").textContent = mine?.refused ?? "";
-  $("own-told").className = "bad";
+  $("own-told").textContent = tuner.tables.find((t) => t.refused)?.refused ?? "";
   for (const slot of filled) slot.tables = slot.tables.filter((t) => !t.refused);
   showTuned();
   return true;
@@ -173,7 +158,7 @@ function showTuned() {
 
 /** What has to be drawn anew in a window of another width, if it is seen. */
 function showPictures() {
-  if ($("view-tune").hidden) return;
+  if ($("view-tune").hidden || !tuner.judged) return;
   showCurve();
   showLayers();
   showPair();
@@ -209,28 +194,37 @@ function showLead() {
   $("cards").innerHTML = shown.join("");
 }
 
-const headings = (...names) => `<thead><tr>${names.map((name) => `<th scope="col">${name}</th>`).join("")}</tr></thead>`;
+const cell = (words, more = "") => `<td${more}>${words}</td>`;
+
+/** Fills a table with its headings, and with rows: a name and cells. */
+function fillTable(id, headings, rows) {
+  const head = headings.map((words) => `<th scope="col">${words}</th>`).join("");
+  const body = rows.map(([name, ...cells]) => `<tr><th scope="row">${name}</th>${cells.join("")}</tr>`).join("");
+  $(id).innerHTML = `<thead><tr>${head}</tr></thead><tbody>${body}</tbody>`;
+}
+
+/** What a table costs on a slot's counts, as cells: in bytes, as a share, and more. */
+function costCells(slot, { total, unserved }, more = []) {
+  if (total === undefined) return [cell(`does not serve ${bytesText(unserved)}`, ` colspan="${2 + more.length}"`)];
+  return [cell(grouped(total)), cell(percent(total, isOverTime(slot) ? slot.total : slot.counts.bytes)), ...more];
+}
 
 function showTables() {
   const most = mostOf(tuner.tables.map((t) => t.total ?? 0));
-  const rows = tuner.tables.map((t, i) => {
-    const whole = isOverTime(tuner) ? tuner.total : tuner.counts.bytes;
-    const served = `<td>${grouped(t.total ?? 0)}</td><td>${percent(t.total, whole)}</td><td class="bar">${barOf(t.total, most, t.style)}</td>`;
-    const cells = t.total === undefined ? `<td colspan="3">does not serve ${bytesText(t.unserved)}</td>` : served;
-    return `<tr${i ? "" : ' class="tuned"'} data-table="${i}"><th scope="row">${escaped(t.name)}</th><td>${t.classes}</td>${cells}</tr>`;
-  });
+  const barCell = (t) => cell(barOf(t.total, most, t.style), ' class="bar"');
+  const rows = tuner.tables.map((t) => [escaped(t.name), cell(t.classes), ...costCells(tuner, t, [barCell(t)])]);
   const names = isOverTime(tuner) ? ["Footprint, bytes", "Of the first one's"] : ["Waste, bytes", "Of the requested bytes"];
-  $("tables").innerHTML = headings("Table", "Classes", ...names, '<span class="unseen">As a bar</span>') + `<tbody>${rows.join("")}</tbody>`;
+  fillTable("tables", ["Table", "Classes", ...names, '<span class="unseen">As a bar</span>'], rows);
 }
 
 function showCurve() {
-  const shown = tuner.tables.filter((t) => t.total !== undefined);
-  drawCurve($("curve"), tuner.least, shown, filled(`${tuner.kind}.curve`), isOverTime(tuner) ? 0 : tuner.counts.bytes);
-  $("curve-told").textContent = curveWords({ kind: tuner.kind, given: given(tuner), step: options().step, forced: tuner.forced });
+  const { kind, tables, least, counts, classes, judged } = tuner;
+  const shown = tables.filter((t) => t.total !== undefined);
+  drawCurve($("curve"), least, shown, filled(`${kind}.curve`), isOverTime(tuner) ? 0 : counts.bytes);
+  $("curve-told").textContent = curveWords(judged);
   $("curve-key").innerHTML = shown.map((t) => `<li>${markOf(t.style)}${escaped(t.name)}</li>`).join("");
-  const rows = tuner.least.map((bytes, i) => `<tr><th scope="row">${i + 1}</th><td>${grouped(bytes)}</td></tr>`);
-  $("curve-table").innerHTML = headings("Classes", filled(`${tuner.kind}.curve.column`)) + `<tbody>${rows.join("")}</tbody>`;
-  drawHistogram($("histogram"), tuner.counts.sizes, tuner.classes, classesOf(data.scudo));
+  fillTable("curve-table", ["Classes", filled(`${kind}.curve.column`)], least.map((bytes, i) => [i + 1, cell(grouped(bytes))]));
+  drawHistogram($("histogram"), counts.sizes, classes, classesOf(data.scudo));
 }
 
 const PARTS = 120;
@@ -250,18 +244,12 @@ function showLayers() {
 
 /** For each class: its block, its sizes, what it serves, and what it loses or takes. */
 function showClasses() {
-  const served = tuner.counts.servedBy(tuner.classes);
-  let least = 0;
-  const rows = tuner.classes.map((c, i) => {
-    const most = GRANULE * c - GRANULE;
-    const cost = tuner.counts.costOf(c, least, served[i]);
-    const sizes = `${grouped(least)}–${grouped(most)}`;
-    least = most + 1;
-    const cells = [sizes, grouped(served[i]), grouped(cost), percent(cost, tuner.total)].map((text) => `<td>${text}</td>`).join("");
-    return `<tr><th scope="row">${grouped(GRANULE * c)}</th>${cells}</tr>`;
+  const rows = tuner.counts.byClass(tuner.classes).map(({ least, most, served, cost }) => {
+    const cells = [`${grouped(least)}–${grouped(most)}`, grouped(served), grouped(cost), percent(cost, tuner.total)];
+    return [grouped(most + GRANULE), ...cells.map((words) => cell(words))];
   });
   const names = isOverTime(tuner) ? ["Most blocks at once", "Bytes taken"] : ["Requests", "Bytes lost"];
-  $("classes").innerHTML = headings("Block, bytes", "Sizes served", ...names, "Share") + `<tbody>${rows.join("")}</tbody>`;
+  fillTable("classes", ["Block, bytes", "Sizes served", ...names, "Share"], rows);
 }
 
 /** What the engine says of the sheet as it stands, edited or not. One that was made with class 1024 forced is checked over the counts with
@@ -271,7 +259,7 @@ async function judgedSheet() {
   if (sheet === tuner.sheet && bound(tuner.judged) !== null) return tuner.judged;
   const isFit = /^footprint/m.test(sheet);
   if (isFit !== isOverTime(tuner)) return { refused: `This is a ${isFit ? "fit: it wants a history or a timeline" : "sheet: it wants a profile"}.` };
-  const both = [[], ...(forcedFor(tuner).length ? [forcedFor(tuner)] : [])];
+  const both = tuner.counts.hasLargest() ? [[]] : [[], [LARGEST_CLASS]];
   return judge(tuner, sheet, $("largest").checked ? both.reverse() : both);
 }
 
@@ -279,40 +267,22 @@ async function checkSheet() {
   if (!tuner.kind) return null;
   const judged = await judgedSheet();
   const [words, good] = [judged.refused ?? says(judged), judged.verdict === "optimal"];
-  verdict(words, good);
+  tellVerdict("verdict", words, good);
   return { words, good };
-}
-
-function verdict(words, good) {
-  showWords("verdict", words);
-  $("verdict").className = good ? "good" : "bad";
 }
 
 /** A table that the engine took as C++ for LLVM's Scudo, as scripts/scudo_classes prints it, with notes in its comment. */
 function scudoMap(classes, notes = []) {
   const granules = classes.filter((c) => c < LARGEST_CLASS);
-  const lines = wrapped(granules.map((c) => `${c},`), 75, "      ");
-  const comment = notes.map((note) => `${wrapped(note.split(" "), 120, "// ").join("\n")}\n`).join("");
-  const places = { COUNT: String(granules.length), NOTES: comment, GRANULES: lines.join("\n") };
+  const lines = wrapped(granules.map((c) => `${c},`).join(" "), 75, "      ");
+  const comment = notes.map((note) => `${wrapped(note, 120, "// ")}\n`).join("");
+  const places = { COUNT: String(granules.length), NOTES: comment, GRANULES: lines };
   return data.map.text.replace(/COUNT|NOTES|GRANULES/g, (place) => places[place]);
 }
 
 /** Words in lines of at most so many columns, each with a prefix. */
-function wrapped(words, columns, prefix) {
-  const lines = [];
-  for (const word of words) {
-    const last = lines.at(-1);
-    if (last !== undefined && last.length + 1 + word.length <= columns) lines[lines.length - 1] = `${last} ${word}`;
-    else lines.push(prefix + word);
-  }
-  return lines;
-}
-
-/** What the user of a table's map has to know. */
-function mapWarnings(classes) {
-  if (classes.at(-1) === LARGEST_CLASS) return [];
-  return [data.map.nextOwn.replace("{size}", grouped(GRANULE * classes.at(-1) - GRANULE))];
-}
+const wrapped = (words, columns, prefix) =>
+  words.match(new RegExp(`\\S.{0,${columns - prefix.length - 1}}(?= |$)`, "g")).map((line) => prefix + line).join("\n");
 
 /** The map of the sheet, or of the class line, that stands in the editor: {text, told}, or {refused} where the engine does not take it. */
 async function mapOfSheet() {
@@ -325,7 +295,8 @@ async function mapOfSheet() {
   if (judged.refused) return judged;
   const classes = classesOf(line);
   if (!classes.some((c) => c < LARGEST_CLASS)) return { refused: `${data.map.noClass[0].toUpperCase()}${data.map.noClass.slice(1)}` };
-  const warnings = mapWarnings(classes);
+  const largest = grouped(GRANULE * classes.at(-1) - GRANULE);
+  const warnings = classes.at(-1) === LARGEST_CLASS ? [] : [data.map.nextOwn.replace("{size}", largest)];
   const told = isLine ? "No certificate came with this table." : says(judged);
   const notes = judged.verdict === "optimal" ? warnings : [...warnings, told];
   return { text: scudoMap(classes, notes), told: [told, ...warnings].join(" "), good: judged.verdict === "optimal" && !warnings.length };
@@ -333,17 +304,15 @@ async function mapOfSheet() {
 
 async function saveMap() {
   const { refused, text, told, good } = await mapOfSheet();
-  verdict(refused === undefined ? told : `Nothing is saved. ${refused}`, Boolean(good));
+  tellVerdict("verdict", refused === undefined ? told : `Nothing is saved. ${refused}`, good);
   if (refused === undefined) save(text, "tuned_map.inc");
 }
 
-function startTuner() {
-  $("limit").oninput = told(tune);
-  $("step").onchange = told(tune);
-  $("largest").onchange = told(tune);
-  $("own").onchange = told(() => tuner.kind && compare());
-  $("check").onclick = told(checkSheet);
-  $("restore").onclick = showSheet;
-  $("save-sheet").onclick = () => save($("sheet").value, isOverTime(tuner) ? "fitted.fit" : "tuned.sheet");
-  $("save-map").onclick = told(saveMap);
-}
+$("limit").oninput = told(tune);
+$("step").onchange = told(tune);
+$("largest").onchange = told(tune);
+$("own").onchange = told(() => tuner.kind && compare());
+$("check").onclick = told(checkSheet);
+$("restore").onclick = showSheet;
+$("save-sheet").onclick = () => save($("sheet").value, isOverTime(tuner) ? "fitted.fit" : "tuned.sheet");
+$("save-map").onclick = told(saveMap);

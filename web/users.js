@@ -1,8 +1,7 @@
-// What the page itself knows of a replay: its events, who uses each slot, and which slots wait in the quarantine. All else of the heap it asks
-// the proved replay.
+// What the page itself notes of a replay: who used each slot and when, and which slots waited in the quarantine. All else of the heap it asks the
+// proved replay. Nothing that is noted is lost on a way back, so only the replay begins anew then.
 "use strict";
 
-const KINDS = ["slack", "header", "tail", "dead", "live"];
 // how a slot stands, where 0 was never given out, and 3 is released
 const [LIVE, HELD_BACK] = [1, 2];
 
@@ -10,35 +9,20 @@ const chunkGranules = (size) => Math.max(1, Math.ceil(size / GRANULE));
 const tagOf = (address) => Number((address >> 56n) & 15n);
 /** The byte of the region to which an address leads, also before or after it. */
 const placeOf = (address) => Number((address & ((1n << 56n) - 1n)) - REGION);
-const grouped = (number) => number.toLocaleString("en");
-const counted = (number, word) => `${grouped(number)} ${word}${number === 1 ? "" : "s"}`;
 
-/** The event that a line of a trace spells. The engines have read the trace before, so the line is right. */
-function eventOf(line) {
-  const [name, ...words] = line.split(" ");
-  const numbers = words.map(Number);
-  switch (name) {
-    case "load":
-    case "store":
-      return { name, v: numbers[0], off: numbers[1], len: numbers[2], byte: words[3] };
-    case "addg":
-    case "subg":
-      return { name, v: numbers[0], w: numbers[1], up: numbers[2], steps: numbers[3] };
-    default:
-      return { name, v: numbers[0], size: numbers[1] };
-  }
-}
-
-/** The slots' users, the slots of the pointers in the variables, and the quarantine, after the events of a replay so far. */
+/** The notes on the first events of a replay, of which it says what holds after those that the replay has performed. A use of a slot is from the
+ * event that made it to the one that freed it, and then to the one at which the slot left the quarantine; each is 0 until it comes. */
 class Users {
-  constructor(steps) {
-    Object.assign(this, { steps, slots: new Map(), variables: new Map(), queue: [] });
+  constructor() {
+    Object.assign(this, { steps: null, events: 0, uses: new Map(), pointers: new Map(), freed: [], front: 0 });
   }
 
-  /** The slot over a granule, with its user; null for slack and outside of the region. */
+  /** The slot over a granule, with its last use; null for slack and outside of the region. */
   slotAt(granule) {
     const slot = this.steps.slot(granule);
-    return slot && { generation: 0, ...this.slots.get(slot.number), ...slot };
+    if (!slot) return null;
+    const use = this.uses.get(slot.number)?.findLast(({ made }) => made <= this.steps.done);
+    return { generation: 0, ...use, ...slot, freed: use?.freed <= this.steps.done ? use.freed : 0 };
   }
 
   /** The slot into which the pointer in a variable leads. */
@@ -46,41 +30,63 @@ class Users {
     return this.slotAt(Math.floor(placeOf(this.steps.variable(v)) / GRANULE));
   }
 
-  /** Performs the next event, and returns the slot that it is about, and the one from which a block moved. */
-  go({ name, v, w, up, steps }) {
-    const frees = name === "free" || name === "realloc";
-    const before = frees && this.steps.variable(v);
-    const was = before ? this.slotOf(v) : null;
-    this.steps.go();
-    // by 0 and 0 it copies a pointer that was given out
-    if (w !== undefined) this.variables.set(v, up === 0 && steps === 0 ? this.variables.get(w) : undefined);
-    if (name === "free") return { slot: this.release(was) };
-    if (name === "malloc" || name === "calloc" || before === 0n) return { slot: this.give(v) };
-    if (name !== "realloc") return {};
-    if (this.steps.variable(v) === before) return { slot: was && this.slotAt(was.start), inPlace: true };
-    return { from: this.release(was), slot: this.give(v) };
+  /** The use for which the pointer in a variable was given out, or null. */
+  useOf(v) {
+    return this.pointers.get(v)?.findLast(({ event }) => event <= this.steps.done)?.use ?? null;
   }
 
-  /** Notes what a variable was given: its slot, or null. */
+  /** The uses whose slots are in the quarantine, the oldest first. */
+  queue() {
+    const before = (name) => this.freed.findLastIndex((use) => use[name] && use[name] <= this.steps.done) + 1;
+    return this.freed.slice(before("left"), before("freed"));
+  }
+
+  /** The slot that the last event is about, and the one from which it moved a block. */
+  about({ name, v, len, w }) {
+    if (len !== undefined || w !== undefined) return {};
+    const slot = this.slotOf(v);
+    if (name !== "realloc") return { slot };
+    const last = this.freed.findLast(({ freed }) => freed <= this.steps.done);
+    return { slot, from: last?.freed === this.steps.done ? last : null, inPlace: slot?.made !== this.steps.done };
+  }
+
+  /** Performs the next event, and notes it. */
+  go({ name, v, w, up, steps }) {
+    const isRealloc = name === "realloc";
+    const copied = up === 0 && steps === 0 ? this.useOf(w) : null;
+    const before = isRealloc && this.steps.variable(v);
+    const was = isRealloc || name === "free" ? this.slotOf(v) : null;
+    this.steps.go();
+    this.events = this.steps.done;
+    if (w !== undefined) this.point(v, copied);
+    if (was?.state === LIVE && this.steps.slot(was.start).state !== LIVE) this.free(was);
+    if (name === "malloc" || name === "calloc" || (isRealloc && this.steps.variable(v) !== before)) this.give(v);
+  }
+
+  /** Notes of which use a variable has the pointer now, if of any. */
+  point(v, use) {
+    if (!this.pointers.has(v)) this.pointers.set(v, []);
+    this.pointers.get(v).push({ event: this.events, use });
+  }
+
+  /** Notes what a variable was given: a slot, or null. */
   give(v) {
     const slot = this.slotOf(v);
-    if (!slot) {
-      this.variables.delete(v);
-      return null;
-    }
-    const user = { user: v, made: this.steps.done, freed: 0, generation: slot.generation + 1 };
-    this.slots.set(slot.number, user);
-    this.variables.set(v, { slot: slot.number, generation: user.generation });
-    return { ...slot, ...user };
+    if (!slot) return this.point(v, null);
+    const { number, start, granules, generation } = slot;
+    const use = { number, start, bytes: GRANULE * granules, generation: generation + 1, user: v, made: this.events, freed: 0, left: 0 };
+    if (!this.uses.has(number)) this.uses.set(number, []);
+    this.uses.get(number).push(use);
+    return this.point(v, use);
   }
 
-  /** Notes that a slot was freed, if it was, and returns what it is now. */
-  release(was) {
-    const slot = was && this.slotAt(was.start);
-    if (was?.state !== LIVE || slot.state === LIVE) return slot;
-    this.slots.get(slot.number).freed = this.steps.done;
-    this.queue.push({ number: slot.number, bytes: GRANULE * slot.granules, freed: this.steps.done, granule: slot.start });
-    while (this.queue.length && this.steps.slot(this.queue[0].granule).state !== HELD_BACK) this.queue.shift();
-    return slot;
+  /** Notes that a slot was freed, and which ones left the quarantine. */
+  free({ number }) {
+    const use = this.uses.get(number).at(-1);
+    use.freed = this.events;
+    this.freed.push(use);
+    for (; this.front < this.freed.length && this.steps.slot(this.freed[this.front].start).state !== HELD_BACK; this.front++) {
+      this.freed[this.front].left = this.events;
+    }
   }
 }

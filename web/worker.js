@@ -4,149 +4,122 @@
 "use strict";
 
 const KEPT_PICTURES = 64;
-const MOST_KEPT_BYTES = 1 << 26;
 const [NEWLINE, SPACE, DIGIT, NINE, SMALL_D] = [10, 32, 48, 57, 100];
-const [PART_LINES, MOST_TOLD] = [1024, 200];
-/** So many events, or so many bytes of them, make the first picture. */
-const [FIRST_LINES, FIRST_BYTES] = [4096, 1 << 18];
+const MOST_TOLD = 200;
+const FIRST_LINES = 4096; // with which a replay begins
 let engines = null;
 let taken = null;
 let replay = null;
 const held = new Map();
 
-/** The lines of a long text in bytes. A part of them is decoded when one of its lines is asked for. */
-class Lines {
+/** The line that begins at a place of a text in bytes, without its newline. */
+function lineAt(bytes, begin) {
+  const end = bytes.indexOf(NEWLINE, begin);
+  return asText(bytes.subarray(begin, end < 0 ? bytes.length : end));
+}
+
+/** A trace in bytes, and where its lines begin. A line is decoded when it is asked for. */
+class Trace {
   constructor(bytes) {
-    const starts = [];
-    let [length, begin] = [0, 0];
-    for (let at = 0; at < bytes.length; at++) {
-      if (bytes[at] !== NEWLINE && at < bytes.length - 1) continue;
-      if (length % PART_LINES === 0) starts.push(begin);
-      length += 1;
-      begin = at + 1;
-    }
-    Object.assign(this, { bytes, starts, length, decoded: null });
+    const begins = bytes.length ? [0] : [];
+    for (let at = 1; at < bytes.length; at++) if (bytes[at - 1] === NEWLINE) begins.push(at);
+    Object.assign(this, { bytes, begins, length: begins.length });
   }
 
   at(i) {
-    const part = Math.floor(i / PART_LINES);
-    if (this.decoded !== part) {
-      this.lines = asText(this.bytes.subarray(this.starts[part], this.starts[part + 1])).split("\n");
-      this.decoded = part;
-    }
-    return this.lines[i % PART_LINES];
+    return lineAt(this.bytes, this.begins[i]);
   }
 
-  /** The first lines, and how many they are: all of a short text. */
+  /** The first lines, and how many they are: all of a short trace. */
   first() {
-    const part = Math.min(FIRST_LINES / PART_LINES, this.starts.length);
-    if (part === this.starts.length || this.starts[part] > FIRST_BYTES) return { bytes: this.bytes, length: this.length };
-    return { bytes: this.bytes.subarray(0, this.starts[part]), length: part * PART_LINES };
+    if (this.length <= FIRST_LINES) return this;
+    return { bytes: this.bytes.subarray(0, this.begins[FIRST_LINES]), length: FIRST_LINES };
   }
 }
 
-/** A report in bytes: the line of each event that has one, the events with a fault or a refusal, and the totals. */
-class Report {
-  constructor(fields) {
-    Object.assign(this, fields);
+/** The report of a trace, or of the first events of one, in bytes: where the line of each event begins (-1 if it has none) and the totals, and
+ * the events with a fault or a refusal. */
+function reportOf(line, options, { bytes: trace, length }) {
+  const { status, bytes, ended } = engines.answer("replay", options, `${line}\n`, trace);
+  if (status) throw new Error(asText(bytes) || ended);
+  const places = new Int32Array(length + 1).fill(-1);
+  const faults = [];
+  let at = 0;
+  // an event's line begins with its number, and the totals after them with words
+  while (at < bytes.length && bytes[at] <= NINE) {
+    let k = 0;
+    for (; bytes[at] !== SPACE; at++) k = 10 * k + bytes[at] - DIGIT;
+    places[k] = at + 1;
+    if (bytes[at + 1] !== SMALL_D) faults.push(k);
+    at = bytes.indexOf(NEWLINE, at) + 1;
   }
-
-  static read(bytes, events) {
-    const places = new Int32Array(events + 1).fill(-1);
-    const faults = [];
-    let at = 0;
-    // an event's line begins with its number, and the totals after them with words
-    while (at < bytes.length && bytes[at] <= NINE) {
-      let k = 0;
-      for (; bytes[at] !== SPACE; at++) k = 10 * k + bytes[at] - DIGIT;
-      places[k] = at + 1;
-      if (bytes[at + 1] !== SMALL_D) faults.push(k);
-      at = bytes.indexOf(NEWLINE, at) + 1;
-    }
-    return new Report({ bytes, places, faults, events, end: at });
-  }
-
-  get(k) {
-    const at = this.places[k];
-    return at < 0 ? undefined : asText(this.bytes.subarray(at, this.bytes.indexOf(NEWLINE, at)));
-  }
-
-  /** What the page shows: all faults by their events, the first of them in words, and the totals. */
-  told() {
-    const totals = asText(this.bytes.subarray(this.end)).split("\n").filter(Boolean);
-    return { faults: this.faults, told: this.faults.slice(0, MOST_TOLD).map((k) => [k, this.get(k)]), totals };
-  }
+  return { bytes, places, faults, events: length, totals: at };
 }
 
-/** The report of a trace, or of the first events of one. */
-function reportOf(line, options, { bytes, length }) {
-  const answer = engines.answer("replay", options, `${line}\n`, bytes);
-  if (answer.status) throw new Error(asText(answer.bytes) || answer.ended);
-  return Report.read(answer.bytes, length);
+const reported = ({ bytes, places }, k) => (places[k] < 0 ? undefined : lineAt(bytes, places[k]));
+
+/** What the page shows of a report: all faults by their events, the first of them in words, and the totals. */
+function toldOf(report) {
+  const told = report.faults.slice(0, MOST_TOLD).map((k) => [k, reported(report, k)]);
+  return { faults: report.faults, told, totals: asText(report.bytes.subarray(report.totals)).split("\n").filter(Boolean) };
 }
 
 /** A replay with its trace, and who uses its slots. */
 class Replay {
   constructor({ line, options }) {
-    Object.assign(this, { line, options, trace: taken, kept: new Map() });
-    const { bytes, lines } = this.trace;
-    this.parts = [lines.first(), { bytes, length: lines.length }];
-    const [first] = this.parts;
-    this.begin(first);
-    this.report = reportOf(line, options, first);
+    Object.assign(this, { line, options, trace: taken, users: new Users(), kept: new Map() });
+    this.begin(taken.first());
+    this.report = reportOf(line, options, taken.first());
   }
 
   /** Begins anew with so much of the trace. */
   begin({ bytes, length }) {
     this.steps?.free();
     this.steps = null;
-    this.steps = engines.begin(this.line, bytes, this.options);
-    this.users = new Users(this.steps);
+    this.steps = this.users.steps = engines.begin(this.line, bytes, this.options);
     this.reach = length;
   }
 
+  /** Performs the next event, and notes it the first time. */
   go() {
-    this.about = this.users.go(eventOf(this.trace.lines.at(this.steps.done)));
+    if (this.steps.done < this.users.events) this.steps.go();
+    else this.users.go(eventOf(this.trace.at(this.steps.done)));
   }
 
   /** Goes to event k, on the way to the last one, by way of a new beginning where it lies behind. */
   goTo(k, last = k) {
-    if (k < this.steps.done || last > this.reach) this.begin(this.parts.find(({ length }) => last <= length));
+    if (k < this.steps.done || last > this.reach) this.begin(last <= FIRST_LINES ? this.trace.first() : this.trace);
     while (this.steps.done < k) this.go();
   }
 
   /** Everything that the page shows after k events. */
   show(k) {
     if (this.kept.has(k)) return this.kept.get(k);
-    const window = Math.min(KEPT_PICTURES, Math.max(1, Math.floor(MOST_KEPT_BYTES / (2 * this.options.granules))));
-    this.goTo(k < this.steps.done ? Math.max(0, k - window + 1) : k, k);
-    this.keep(window);
-    while (this.steps.done < k) {
-      this.go();
-      this.keep(window);
-    }
+    this.goTo(k < this.steps.done ? Math.max(0, k - KEPT_PICTURES + 1) : k, k);
+    for (this.keep(); this.steps.done < k; this.keep()) this.go();
     return this.kept.get(k);
   }
 
-  keep(window) {
+  /** Keeps what is shown now. */
+  keep() {
     const k = this.steps.done;
-    const { queue } = this.users;
+    const queue = this.users.queue();
     const held = queue.reduce((sum, { bytes }) => sum + bytes, 0);
     const picture = this.steps.draw();
-    const told = k ? { line: this.trace.lines.at(k - 1), ...this.tell(k, picture) } : { line: "", words: [] };
+    const told = k ? { line: this.trace.at(k - 1), ...this.tell(k, picture) } : { line: "", words: [] };
     this.kept.delete(k);
     this.kept.set(k, { k, ...picture, ...told, queue: queue.slice(0, MOST_TOLD), held, limit: this.options.quarantine });
-    while (this.kept.size > 2 * window) this.kept.delete(this.kept.keys().next().value);
+    while (this.kept.size > 2 * KEPT_PICTURES) this.kept.delete(this.kept.keys().next().value);
   }
 
   /** The last event in words: the law that its fault is an instance of, or why its error is let pass; and the granules that it touched. */
   tell(k, { tags }) {
-    const event = eventOf(this.trace.lines.at(k - 1));
-    const pointer = this.users.variables.get(event.v);
-    const report = k > this.report.events ? null : this.report.get(k);
-    if (report === null) return { words: [eventWords(event), "Its line of the report is not there yet."] };
+    const event = eventOf(this.trace.at(k - 1));
+    const pointer = this.users.useOf(event.v);
+    if (k > this.report.events) return { words: [eventWords(event), "Its line of the report is not there yet."] };
+    const report = reported(this.report, k);
     const fault = faultOf(report);
-    const done = report ? reportWords(report) : doneWords(event, this.about, this.steps.variable(event.v), tags);
+    const done = report ? reportWords(report) : doneWords(event, this.users.about(event), this.steps.variable(event.v), tags);
     const law = fault ? lawOf(fault, this.users, pointer) : null;
     const why = fault || event.len === undefined ? undefined : REASONS[passReason(this.touched(event), pointer)];
     return { words: [eventWords(event), done], law, why, marks: this.marks(event, fault) };
@@ -161,26 +134,20 @@ class Replay {
   /** The granules that an event touched, and at a tag fault both tags. Of a slot that was never given out, which has no chunk, it is the one to
    * which the pointer leads. */
   marks(event, fault) {
-    if (fault?.granule !== undefined) return { ...fault, fault: true };
+    if (fault?.granule !== undefined) return { ...fault, last: fault.granule, fault: true };
     if (fault?.report === "fault unmapped" || fault?.report === "refused misplaced") return null;
     if (event.len !== undefined) {
       const { at, to } = this.touched(event);
       return { granule: Math.floor(at / GRANULE), last: Math.floor((to - 1) / GRANULE) };
     }
-    const { slot } = this.about;
+    const { slot } = this.users.about(event);
     return slot ? { granule: slot.start + 1, last: slot.start + chunkGranules(slot.size), fault: Boolean(fault) } : null;
   }
 
-  /** What is known of a granule after k events. */
-  granule(k, g) {
-    const { tags, kinds } = this.show(k);
+  /** The slot over a granule after k events, with its user; null for slack. */
+  slot(k, granule) {
     this.goTo(k);
-    const facts = { granule: g, kind: KINDS[kinds[g]], tag: tags[g] };
-    const slot = this.users.slotAt(g);
-    if (!slot) return facts;
-    const { number, start, granules, generation, user, size, made, freed } = slot;
-    Object.assign(facts, { slot: number, start, block: GRANULE * granules });
-    return generation ? { ...facts, user, size, made, generation, freed } : facts;
+    return this.users.slotAt(granule);
   }
 }
 
@@ -190,22 +157,23 @@ const bytesOf = async (input) => (input instanceof Blob ? new Uint8Array(await i
 const ANSWERS = {
   async start({ tool, steps }) {
     engines = await Engines.load(tool, steps);
-    return true;
   },
-  /** Keeps a text, or what is kept under another name, for calls that name it. */
-  hold({ name, input, of }) {
-    held.set(name, of === undefined ? asBytes(input) : held.get(of));
-    return true;
+  /** Keeps a text for calls that name it. */
+  hold({ name, input }) {
+    held.set(name, asBytes(input));
   },
-  call({ command, options, input, and }) {
-    return engines.call(command, options, ...(and === undefined ? [input] : [input, held.get(and)]));
+  /** Calls an engine on a text and perhaps one that is kept, and keeps a text that it does not refuse under a name. */
+  call({ command, options, input, and, keep }) {
+    const answer = engines.call(command, options, input, ...(and === undefined ? [] : [held.get(and)]));
+    if (keep !== undefined && answer.status < 2) this.hold({ name: keep, input });
+    return answer;
   },
   /** Takes a trace, and returns its profile, or its fault, or why it is no text. */
   async trace({ input }) {
     const bytes = await bytesOf(input);
     if (!isText(bytes)) return { notText: notText(bytes) };
     const answer = engines.call("profile", {}, bytes);
-    if (!answer.status) taken = { bytes, lines: new Lines(bytes) };
+    if (!answer.status) taken = new Trace(bytes);
     return answer;
   },
   /** Begins a replay: the number of its events, and its report where that is there at once. */
@@ -213,25 +181,24 @@ const ANSWERS = {
     replay?.steps?.free();
     replay = null;
     replay = new Replay(words);
-    const events = replay.trace.lines.length;
-    return { events, report: replay.report.events === events ? replay.report.told() : null };
+    const events = replay.trace.length;
+    return { events, report: replay.report.events === events ? toldOf(replay.report) : null };
   },
   /** The report of a whole trace, for the worker that shows it, and what the page shows of it. */
   async report({ input, line, options, events }) {
     const report = reportOf(line, options, { bytes: await bytesOf(input), length: events });
-    return { told: report.told(), report };
+    return { told: toldOf(report), report };
   },
   /** Takes the report of the whole trace. */
   reported({ report }) {
-    replay.report = new Report(report);
+    replay.report = report;
     replay.kept.clear();
-    return true;
   },
   show({ k }) {
-    return replay.show(k);
+    return replay.show(Math.max(0, Math.min(k, replay.trace.length)));
   },
-  granule({ k, g }) {
-    return replay.granule(k, g);
+  slot({ k, granule }) {
+    return replay.slot(k, granule);
   },
 };
 

@@ -350,8 +350,6 @@ def script_of_page():
         *(f'  {name if name.isalpha() else chr(34) + name + chr(34)}: "{text}",' for name, text in causes.items()),
         "};",
         "",
-        'if (typeof module !== "undefined") module.exports = { GRANULE, REGION, LARGEST_SIZE, DEFAULTS, ENDED };',
-        "",
     ])
 
 

@@ -7,9 +7,9 @@
 const fs = require("fs");
 const path = require("path");
 const source = (name) => fs.readFileSync(path.join(__dirname, name), "utf8");
-const OF_WORKER = ["formats", "engine", "users", "words", "worker"].map((name) => `../../web/${name}.js`);
-const { ANSWERS, HeapModel, eventOf, chunkGranules, replayOf } = new Function("onmessage", `${[...OF_WORKER, "page_model.js"].map(source).join("\n")}
-return { ANSWERS, HeapModel, eventOf, chunkGranules, replayOf: () => replay };`)();
+const OF_WORKER = ["formats", "engine", "words", "users", "events", "worker"].map((name) => `../../web/${name}.js`);
+const { ANSWERS, HeapModel, eventOf, chunkGranules, reported, replayOf } = new Function("onmessage", `${[...OF_WORKER, "page_model.js"].map(source).join("\n")}
+return { ANSWERS, HeapModel, eventOf, chunkGranules, reported, replayOf: () => replay };`)();
 
 /** What the page says of a slot, or the model. */
 const words = ({ number, start, granules, state, size, tag, generation, user, made, freed }) =>
@@ -37,7 +37,7 @@ function differenceOf({ steps, users }, model) {
     if (got !== words(slot)) return `a slot, ${got} and not ${words(slot)},`;
   }
   for (const [v, { address }] of model.variables) if (steps.variable(v) !== address) return `variable ${v}`;
-  const queue = users.queue.map(({ number }) => number).join(" ");
+  const queue = users.queue().map(({ number }) => number).join(" ");
   return queue === model.queue.join(" ") ? null : `the quarantine, ${queue} and not ${model.queue.join(" ")},`;
 }
 
@@ -54,9 +54,17 @@ function frameOf(model, { granule, memory, pointer, first, last, slot, report })
 
 /** A frame in words. */
 const framed = (frame) =>
-  frame ? [frame.granule, frame.last ?? frame.granule, ...(frame.fault ? ["fault", frame.memory, frame.pointer] : [])].join(" ").trim() : "none";
+  frame ? [frame.granule, frame.last, ...(frame.fault ? ["fault", frame.memory, frame.pointer] : [])].join(" ").trim() : "none";
 
-/** Where the page's replay, or a line of the report, is another than the model's; or what was compared. */
+/** What the page shows after k events, but the picture, and what it says of each slot, without anything that it kept. */
+function shown(replay, model, k) {
+  replay.kept.clear();
+  const { kinds, tags, queue, ...told } = ANSWERS.show({ k });
+  const waiting = queue.map(({ number, bytes, freed }) => [number, bytes, freed]);
+  return JSON.stringify([told, waiting, Array.from(slotsOf(model), ({ start }) => words(ANSWERS.slot({ k, granule: start })))]);
+}
+
+/** Where the page's replay, or a line of the report, is another than the model's, or another on the way back; or what was compared. */
 async function compare({ line, trace, options }) {
   const lines = trace.split("\n").slice(0, -1);
   await ANSWERS.trace({ input: trace });
@@ -67,19 +75,23 @@ async function compare({ line, trace, options }) {
   for (let g = 0; g < options.granules; g++)
     if (replay.steps.slot(g)?.number !== model.layout.slotAt(g)?.number) return { wrong: `granule ${g} is in another slot` };
   let frame = "none";
+  const onTheWay = [];
   for (let k = 0; ; k++) {
     const difference = differenceOf(replay, model);
     if (difference) return { wrong: `after event ${k} ${difference} differs` };
+    onTheWay.push(shown(replay, model, k));
     if (k === lines.length) break;
     const outcome = model.step(eventOf(lines[k]));
     const { marks } = ANSWERS.show({ k: k + 1 });
-    const report = replay.report.get(k + 1)?.replace(/^data.*/, "") || undefined;
+    const report = reported(replay.report, k + 1)?.replace(/^data.*/, "") || undefined;
     if (outcome.report !== report) return { wrong: `event ${k + 1} is reported as ${report}, the model has ${outcome.report}` };
     frame = framed(frameOf(model, outcome));
     if (framed(marks) !== frame) return { wrong: `event ${k + 1} frames ${framed(marks)}, the model has ${frame}` };
     if (replay.steps.done !== k + 1) return { wrong: `there is no event ${k + 1}` };
   }
-  return replay.steps.go() ? { wrong: "there is an event too many" } : { compared: lines.length, frame };
+  if (replay.steps.go()) return { wrong: "there is an event too many" };
+  for (let k = lines.length; k >= 0; k--) if (shown(replay, model, k) !== onTheWay[k]) return { wrong: `event ${k} is shown otherwise on the way back` };
+  return { compared: lines.length, frame };
 }
 
 (async () => {

@@ -37,8 +37,8 @@ Example:
 WEB = os.path.join(webassembly.ROOT, "web")
 KEPT = "page.wasm"  # the module in the folder `out` of its crate; not NAME.wasm, which rt lib removes
 # in the order in which they use one another
-WORKER = ("formats", "engine", "users", "words", "worker")
-SCRIPT = ("formats", "users", "words", "claims", "counts", "pictures", "tune", "pair", "heap", "link", "main")
+WORKER = ("formats", "engine", "words", "users", "events", "worker")
+SCRIPT = ("formats", "base", "words", "claims", "counts", "pictures", "tune", "pair", "heap", "link", "main")
 # the crate of each module, and how the names of its exported functions begin
 MODULES = {"tool": ("mte_c", "mte_c_"), "steps": ("mte_step", "mte_step_")}
 # what the page's policy lets it do: compile the engines, and start the worker that it makes of its own text
