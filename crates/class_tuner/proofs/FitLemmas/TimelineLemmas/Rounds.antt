@@ -2,6 +2,7 @@
 use Rattle.std.proofs.Common.{◌≡◌, ◌≢◌, ◌≤◌, ℕ, List, [], ◌∷◌, All, length, max, sym, subst, ◌∙◌, arith, refl, inl, inr}
 use Rattle.std.proofs.lemmas.Bool.{cases_lt}
 use Rattle.std.specs.List.{Contains}
+use Rattle.std.specs.List.Sorted.{IsStrictlyIncreasing}
 use Rattle.std.proofs.lemmas.List.{get_or_default}
 use Rattle.std.proofs.lemmas.List.Elements.{All-cons, All-nil}
 use Rattle.class_tuner.specs.Fits.Fitted.{IsFitOf}
@@ -22,6 +23,7 @@ use Rattle.class_tuner.specs.Fits.Timelines.Found.{IsBetween, IsLeastFit, IsLoos
 -- Some moments, with the one that decides what serves.
 pub record AreDeciding (events : List SizeEvent) (numbers : List ℕ) (moment : ℕ) : Type 0 where
   pub are : AreMoments events numbers
+  pub ascending : IsStrictlyIncreasing numbers
   pub kept : Contains numbers moment
 
 -- further moments are those of the timeline
@@ -38,6 +40,7 @@ one-moment events numbers moment within is = rw is (record {
     few = omega arith;
     within = All-cons (λ number. number ≤ length events) moment [] within (All-nil (λ number. number ≤ length events));
   };
+  ascending = λ k lt. absurd (omega (arith, lt));
   kept = (0, omega arith, refl);
 })
 
@@ -45,9 +48,11 @@ some-kept : (numbers : List ℕ) (moment : ℕ) → Contains numbers moment → 
 some-kept numbers moment kept = omega (arith, kept.1)
 
 pub more-moments : (events : List SizeEvent) (numbers : List ℕ) (moment : ℕ) → length numbers ≤ MOST_SNAPSHOTS
-    → All (λ number. number ≤ length events) numbers → Contains numbers moment → AreDeciding events numbers moment
-more-moments events numbers moment few within kept = record {
+    → All (λ number. number ≤ length events) numbers → Contains numbers moment → IsStrictlyIncreasing numbers
+    → AreDeciding events numbers moment
+more-moments events numbers moment few within kept ascending = record {
   are = record { some = some-kept numbers moment kept; few = few; within = within };
+  ascending = ascending;
   kept = kept;
 }
 
@@ -88,6 +93,7 @@ module _ (events : List SizeEvent) (moment step limit : ℕ) (timeline : IsTimel
       let over : footprint_over events fit.table ≡ fit.cost = sym round.taken ∙ tight in
       record {
         are = round.over.are;
+        ascending = round.over.ascending;
         over_moments = round.fitted;
         takes = over;
         fitted = canonical_over events numbers step limit fit.table round.over.are round.fitted.made.canonical

@@ -1,5 +1,6 @@
 -- What a fitter finds over a timeline.
 use Rattle.std.specs.Prelude.{◌≡◌, ℕ, ◌<◌, ◌≤◌, List}
+use Rattle.std.specs.List.Sorted.{IsStrictlyIncreasing}
 use Rattle.class_tuner.specs.Fits.Fitted.{IsFitOf}
 use Rattle.tuner_theory.specs.Best.{IsCandidate}
 use Rattle.tuner_theory.specs.Sheets.{Sheet}
@@ -8,9 +9,11 @@ use Rattle.tuner_theory.specs.Histories.{peaks}
 use Rattle.tuner_theory.specs.Timelines.{AreMoments, footprint_over, history_at, moments}
 use Rattle.tuner_theory.specs.declared.size_event.SizeEvent.{SizeEvent}
 
--- The fit of some moments, whose table takes no more over the whole timeline: the table that is fitted over every moment.
+-- The fit of some moments, whose table takes no more over the whole timeline: the table that is fitted over every moment. The moments' numbers
+-- ascend, as those of a line do.
 pub record IsLeastFit (events : List SizeEvent) (step limit : ℕ) (numbers : List ℕ) (fit : Sheet) : Type 0 where
   pub are : AreMoments events numbers
+  pub ascending : IsStrictlyIncreasing numbers
   pub over_moments : IsFitOf (history_at events numbers) step limit fit
   pub takes : footprint_over events fit.table ≡ fit.cost
   pub fitted : IsFitted (moments events) step limit fit.table

@@ -1,5 +1,6 @@
 //! The moments over which a table is fitted.
-ghost use Rattle.std.specs.Prelude.{◌≡◌, ◌<◌, ◌≤◌, ◌+◌, ◌⊎◌, ℕ, [], ◌∷◌, IfOk, OnOk, All, Contains, length};
+ghost use Rattle.std.specs.Prelude.{◌≡◌, ◌<◌, ◌≤◌, ◌+◌, ◌⊎◌, ℕ, [], ◌∷◌, IfOk, OnOk, All, Contains, length, slice_index};
+ghost use Rattle.std.specs.List.Sorted.{IsStrictlyIncreasing};
 ghost use Rattle.tuner_theory.specs.declared.most_snapshots.TheConstants.{MOST_SNAPSHOTS};
 
 use history_count::MOST_SNAPSHOTS;
@@ -14,7 +15,8 @@ pub(crate) fn one_moment(alloc: Global, moment: usize) -> Result<Vec<usize>, All
     Ok(numbers)
 }
 
-/// The moments with further ones. Where they would be too many, only `kept` and the further ones. The numbers ascend. None is above `most`.
+/// The moments with further ones. Where they would be too many, only `kept` and the further ones. If the moments ascend, these do too. None is
+/// above `most`.
 /// The only error is that the allocator refuses memory.
 pub(crate) fn with_moments(
     alloc: Global,
@@ -30,6 +32,8 @@ pub(crate) fn with_moments(
     ensures few { IfOk result (λ more. length more.items ≤ MOST_SNAPSHOTS) }
     ensures within { IfOk result (λ more. All (λ number. number ≤ most) more.items) }
     ensures kept { IfOk result (λ more. Contains more.items kept) }
+    ensures ascending { IfOk result
+        (λ more. IsStrictlyIncreasing numbers.items → IsStrictlyIncreasing more.items) }
 {
     let mut more = start_with(alloc, numbers, kept, MOST_SNAPSHOTS - further.len())?;
     for i in 0..further.len() {
@@ -62,6 +66,8 @@ fn add_moment(numbers: &mut Vec<usize>, moment: usize, most: usize) -> Result<()
     ensures few { OnOk result (length numbers.new.items ≤ length numbers.old.items + 1) }
     ensures within { OnOk result (All (λ number. number ≤ most) numbers.new.items) }
     ensures kept { OnOk result ((m : ℕ) → Contains numbers.old.items m → Contains numbers.new.items m) }
+    ensures ascending { OnOk result
+        (IsStrictlyIncreasing numbers.old.items → IsStrictlyIncreasing numbers.new.items) }
 {
     let place = place_of(numbers, moment);
     if place < numbers.len() && numbers[place] == moment {
@@ -73,7 +79,10 @@ fn add_moment(numbers: &mut Vec<usize>, moment: usize, most: usize) -> Result<()
 
 // the first place whose number is not below a moment
 fn place_of(numbers: &[usize], moment: usize) -> usize
-    ensures { result ≤ length numbers.now }
+    ensures within { result ≤ length numbers.now }
+    ensures below { IsStrictlyIncreasing numbers.now → (k : ℕ) → k < result → slice_index numbers.now k < moment }
+    ensures above { IsStrictlyIncreasing numbers.now
+        → (k : ℕ) → result ≤ k → k < length numbers.now → moment ≤ slice_index numbers.now k }
 {
     numbers.partition_point(|number| *number < moment)
 }

@@ -44,7 +44,7 @@ loop-round-init c =
     } in
     record {
       over = more-moments events c.in_ok-numbers-2.numbers.items moment c.in_ok-numbers-2.ensures.few c.in_ok-numbers-2.ensures.within
-          c.in_ok-numbers-2.ensures.kept;
+          c.in_ok-numbers-2.ensures.kept (c.in_ok-numbers-2.ensures.ascending round.over.ascending);
       between = between-first events moment c.args.step c.args.limit timeline c.largest_moment-decisive.ensures.decides numbers fit
           c.in_ok-best.best.takes round (λ tight. true≢false (sym (c.is_tight.ensures.1 tight) ∙ c.if-is_tight.false));
     }
@@ -100,7 +100,7 @@ loop-round-preserved c =
     (λ tight. true≢false (sym (c.is_tight-in-loop-round.ensures.1 tight) ∙ c.if-is_tight-2.false)) c.loop-round.invariant.between in
     record {
       over = more-moments events c.in_ok-numbers-3.numbers.items moment c.in_ok-numbers-3.ensures.few c.in_ok-numbers-3.ensures.within
-          c.in_ok-numbers-3.ensures.kept;
+          c.in_ok-numbers-3.ensures.kept (c.in_ok-numbers-3.ensures.ascending c.loop-round.invariant.over.ascending);
       between = elim c.better-best.ensures.given [
         | inl is ↦ rw (is, c.max-least.ensures) (both.0 (rw is at c.better-best.ensures.least.1))
         | inr is ↦ rw (is, c.max-least.ensures) (both.1 (rw is at c.better-best.ensures.least.0))
