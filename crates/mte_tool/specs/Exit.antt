@@ -1,5 +1,5 @@
 -- The exit status of the program.
-use Rattle.std.specs.Prelude.{◌≡◌, ◌⊎◌, ℕ, Bool, true, false, MatchBool, Ok, Err}
+use Rattle.std.specs.Prelude.{◌≡◌, ℕ, Bool, true, false, Ok, Err, ⊤}
 use Rattle.clap.specs.Words.{kind_of}
 use Rattle.clap.specs.declared.error.kind.ErrorKind.{ErrorKind}
 use Rattle.clap.specs.declared.error.kind.ErrorKind.TheVariants.{DisplayHelp, DisplayVersion}
@@ -28,9 +28,14 @@ is_shown DisplayHelp = true
 is_shown DisplayVersion = true
 is_shown kind = false
 
--- How the program may end if it runs no command: it shows the help that was asked for, or can't write it; it refuses the words; or memory
--- ran out.
-abbrev pub IsRefusedEnd : Refusal → End → Type 0
-IsRefusedEnd NoMemory end = end ≡ Ended (Err OutOfMemory)
-IsRefusedEnd (Options fault) end = end ≡ Refused
-IsRefusedEnd (Words error) end = MatchBool (is_shown (kind_of error)) ((end ≡ Shown) ⊎ (end ≡ Ended (Err WriteFault))) (end ≡ Refused)
+-- No command runs, since the words ask for a text: the help or the version.
+abbrev pub AsksForText : Refusal → Type 0
+AsksForText NoMemory = ⊥
+AsksForText (Options fault) = ⊥
+AsksForText (Words error) = is_shown (kind_of error) ≡ true
+
+-- No command runs, since the words are none that the program takes.
+abbrev pub IsMistake : Refusal → Type 0
+IsMistake NoMemory = ⊥
+IsMistake (Options fault) = ⊤
+IsMistake (Words error) = is_shown (kind_of error) ≡ false

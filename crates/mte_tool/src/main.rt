@@ -3,6 +3,8 @@
 #![tactic(auto)]
 
 mod end;
+mod laws;
+mod lines;
 mod program;
 mod running;
 
@@ -11,7 +13,16 @@ use mte_engine::{StreamSink, StreamSource};
 use std::io::{Input, IsTerminal, writer};
 
 fn main(rt: HostRuntime) -> End {
+    let stderr = rt.stderr();
     let mut source = StreamSource::new(rt.reader());
     let mut sink = StreamSink::new(writer(&rt));
-    program::run(&rt, rt.stdin().is_terminal(), &mut source, &mut sink)
+    let mut errors = StreamSink::new(writer(&stderr));
+    program::run(
+        rt.alloc(),
+        program::words(&rt),
+        rt.stdin().is_terminal(),
+        &mut source,
+        &mut sink,
+        &mut errors,
+    )
 }

@@ -1,65 +1,76 @@
-//! The program: its words, its standard input and output, and how it ends.
-ghost use Rattle.std.specs.Prelude.{◌≡◌, List, ℕ, map, string_bytes};
-ghost use Rattle.command_words.specs.Words.{Mean};
+//! The program: its words, its streams, and how it ends.
+ghost use Rattle.std.specs.Prelude.{◌≡◌, ⊤, IfErr, MatchResult, map, string_bytes};
+ghost use Rattle.command_words.specs.Words.{AreRefused, IsNoText, Mean};
+ghost use Rattle.mte_tool.specs.RefusedRun.{EndsWithout, IsToldEnd, IsShown};
 ghost use Rattle.mte_tool.specs.WholeRun.{AreNew, HasRun};
-ghost use Rattle.mte_tool.specs.Exit.{IsRefusedEnd};
 ghost use Rattle.mte_tool.specs.declared.end.End.TheVariants.{Ended};
 
 use crate::end::End;
+use crate::lines::{tell, tell_fault, write_text};
 use crate::running::{CallEnd, run_call_of};
 use clap::error::ErrorKind;
 use command_words::{Refusal, no_text, read_call};
 use mte_engine::{ByteSink, ByteSource, Status, ToolFault};
+use std::alloc::Global;
 use std::io;
 use std::rt::Env;
 
 const WAITS: &str =
-    "mte_tool: reading standard input; Ctrl-D ends it, and `--help` after the command says what it takes";
+    "mte_tool: reading standard input; Ctrl-D ends it, and `--help` after the command says what it takes\n";
 
-const TIP: &str = "tip: the input is standard input, and no file is named: mte_tool COMMAND < FILE";
+const TIP: &str =
+    "\ntip: the input is standard input, and no file is named: mte_tool COMMAND < FILE\n";
 
-/// Runs the program on the words of its command line, from the source to the sink. If it refuses the words or the command fails,
-/// it prints why on standard error. Before it reads the source from a terminal, it says on standard error that it waits.
-pub fn run<R: Env + AllocGlobal + Print + Eprint, S: ByteSource, W: ByteSink>(
-    rt: &R,
+/// Runs the program on the words of its command line, or on why they can't be read, from the source to the sink. If it refuses the words
+/// or the command fails, it tells why on `errors`. Before it reads the source from a terminal, it says there that it waits.
+pub fn run<S: ByteSource, W: ByteSink, E: ByteSink>(
+    alloc: Global,
+    words: Result<Vec<String>, Refusal>,
     at_terminal: bool,
     source: &mut S,
     sink: &mut W,
+    errors: &mut E,
 ) -> End
-    requires { AreNew (S.state source.old) (W.state sink.old) }
-    ensures { HasRun (λ call. (words : List (List ℕ)) × Mean words call)
-        (S.state source.new) (W.state sink.new) result }
+    requires { AreNew (S.state source.old) (W.state sink.old) (E.state errors.old) }
+    ensures { MatchResult words
+        (λ read. HasRun (Mean (map string_bytes read.items)) (AreRefused (map string_bytes read.items))
+        (S.state source.new) (W.state sink.new) (E.state errors.new) result)
+        (λ refusal. HasRun (λ call. ⊥) (λ why. why ≡ refusal) (S.state source.new) (W.state sink.new) (E.state errors.new) result) }
 {
-    match words(rt) {
-        Ok(words) => run_words(rt, at_terminal, words.as_slice(), source, sink),
-        Err(refusal) => refuse(rt, &refusal),
+    match words {
+        Ok(words) => run_words(alloc, words.as_slice(), at_terminal, source, sink, errors),
+        Err(refusal) => refuse(alloc, &refusal, sink, errors),
     }
 }
 
 /// Runs the call that these words mean, from the source to the sink.
-pub fn run_words<R: AllocGlobal + Print + Eprint, S: ByteSource, W: ByteSink>(
-    rt: &R,
-    at_terminal: bool,
+pub fn run_words<S: ByteSource, W: ByteSink, E: ByteSink>(
+    alloc: Global,
     words: &[String],
+    at_terminal: bool,
     source: &mut S,
     sink: &mut W,
+    errors: &mut E,
 ) -> End
-    requires { AreNew (S.state source.old) (W.state sink.old) }
-    ensures { HasRun (Mean (map string_bytes words.now)) (S.state source.new) (W.state sink.new) result }
+    requires { AreNew (S.state source.old) (W.state sink.old) (E.state errors.old) }
+    ensures { HasRun (Mean (map string_bytes words.now)) (AreRefused (map string_bytes words.now))
+        (S.state source.new) (W.state sink.new) (E.state errors.new) result }
 {
     // read here for the hint alone: `run_call_of` reads the words itself, so that its contract covers the whole run
-    if at_terminal && read_call(rt.alloc(), words).is_ok() {
-        let _ = eprintln!(rt; "{WAITS}");
+    if at_terminal && read_call(alloc, words).is_ok() {
+        tell(WAITS, errors);
     }
-    match run_call_of(rt.alloc(), words, source, sink) {
-        CallEnd::Done(status) => finish(rt, Ok(status)),
-        CallEnd::Failed(fault) => finish(rt, Err(fault)),
-        CallEnd::Refused(refusal) => refuse(rt, &refusal),
+    match run_call_of(alloc, words, source, sink) {
+        CallEnd::Done(status) => End::Ended(Ok(status)),
+        CallEnd::Failed(fault) => fail(alloc, fault, errors),
+        CallEnd::Refused(refusal) => refuse(alloc, &refusal, sink, errors),
     }
 }
 
-// the words of the command line; the error is that memory ran out or that a word is no text
-fn words<R: Env + AllocGlobal>(rt: &R) -> Result<Vec<String>, Refusal> {
+/// The words of the command line; the error is that memory ran out or that a word is no text.
+pub fn words<R: Env + AllocGlobal>(rt: &R) -> Result<Vec<String>, Refusal>
+    ensures { IfErr result IsNoText }
+{
     match std::env::args(rt) {
         Ok(words) => Ok(words.collect(rt.alloc())?),
         Err(error) if error.kind() == io::ErrorKind::OutOfMemory => Err(Refusal::OutOfMemory),
@@ -67,36 +78,54 @@ fn words<R: Env + AllocGlobal>(rt: &R) -> Result<Vec<String>, Refusal> {
     }
 }
 
-// prints a command's fault, if it has one
-fn finish<R: Eprint>(rt: &R, end: Result<Status, ToolFault>) -> End
-    ensures { result ≡ Ended end }
+// tells a command's fault
+fn fail<E: ByteSink>(alloc: Global, fault: ToolFault, errors: &mut E) -> End
+    ensures { IsToldEnd fault (E.state errors.old) (E.state errors.new) result }
 {
-    if let Err(fault) = end {
-        let _ = eprintln!(rt; "error {fault}");
-    }
-    End::Ended(end)
+    tell_fault(alloc, fault, errors);
+    End::Ended(Err(fault))
 }
 
-// prints why no command runs, or the help that was asked for
-fn refuse<R: Print + Eprint>(rt: &R, refusal: &Refusal) -> End
-    ensures { IsRefusedEnd refusal.now result }
+// tells why no command runs, or writes the help that was asked for
+fn refuse<W: ByteSink, E: ByteSink>(
+    alloc: Global,
+    refusal: &Refusal,
+    sink: &mut W,
+    errors: &mut E,
+) -> End
+    ensures { EndsWithout refusal.now W.state sink.old sink.new (E.state errors.old) (E.state errors.new) result }
 {
     match refusal {
-        Refusal::OutOfMemory => finish(rt, Err(ToolFault::OutOfMemory)),
+        Refusal::OutOfMemory => fail(alloc, ToolFault::OutOfMemory, errors),
         Refusal::Options(fault) => {
-            let _ = eprintln!(rt; "error {fault}");
-            End::Refused
-        }
-        Refusal::Words(error) if error.use_stderr() => {
-            let _ = error.print(rt);
-            if error.kind() == ErrorKind::UnknownArgument {
-                let _ = eprintln!(rt; "\n{TIP}");
+            match format!(in alloc; "error {fault}\n") {
+                Ok(line) => tell(line.as_str(), errors),
+                Err(_) => tell("error 83 BadOption\n", errors),
             }
             End::Refused
         }
-        Refusal::Words(error) => match error.print(rt) {
-            Ok(()) => End::Shown,
-            Err(_) => finish(rt, Err(ToolFault::WriteFault)),
+        Refusal::Words(error) if error.use_stderr() => {
+            if let Ok(text) = error.to_string(alloc) {
+                tell(text.as_str(), errors);
+            }
+            if error.kind() == ErrorKind::UnknownArgument {
+                tell(TIP, errors);
+            }
+            End::Refused
+        }
+        Refusal::Words(error) => match error.to_string(alloc) {
+            Ok(text) => show(alloc, text.as_str(), sink, errors),
+            Err(_) => fail(alloc, ToolFault::OutOfMemory, errors),
         },
+    }
+}
+
+// writes the help that was asked for
+fn show<W: ByteSink, E: ByteSink>(alloc: Global, text: &str, sink: &mut W, errors: &mut E) -> End
+    ensures { IsShown text.now (W.state sink.old) (W.state sink.new) (E.state errors.old) (E.state errors.new) result }
+{
+    match write_text(text, sink) {
+        Ok(()) => End::Shown,
+        Err(_) => fail(alloc, ToolFault::WriteFault, errors),
     }
 }

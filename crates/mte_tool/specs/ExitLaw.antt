@@ -1,0 +1,83 @@
+-- What the exit status of a whole run tells.
+use Rattle.std.specs.Prelude.{◌≡◌, ◌≤◌, ℕ, List, MatchBool, codes, true, Ok}
+use Rattle.byte_streams.specs.Streams.{SinkState, SourceState}
+use Rattle.clap.specs.Kinds.{IsAmong}
+use Rattle.clap.specs.Words.{Text, fault_of}
+use Rattle.clap.specs.declared.error.kind.ErrorKind.{ErrorKind}
+use Rattle.command_words.specs.AcceptedWords.{program}
+use Rattle.command_words.specs.Words.{AreRefused, Mean}
+use Rattle.history_count.specs.Histories.{History}
+use Rattle.line_text.specs.Lines.{ended, lines}
+use Rattle.mte_engine.specs.Calls.{answers_of}
+use Rattle.mte_engine.specs.Check.{sheet_and_profile}
+use Rattle.mte_engine.specs.CheckFit.{fit_and_history}
+use Rattle.mte_engine.specs.CheckFitOver.{begins_moments, fit_and_timeline}
+use Rattle.mte_engine.specs.declared.engine.Status.{Status}
+use Rattle.mte_tool.specs.Exit.{is_shown, status_of}
+use Rattle.mte_tool.specs.WholeRun.{AnswersAll, HasRun}
+use Rattle.mte_tool.specs.declared.end.End.{End}
+use Rattle.mte_tool.specs.declared.end.End.TheVariants.{Shown, Ended}
+use Rattle.tool_call.specs.declared.call.Call.{Call}
+use Rattle.potential_check.specs.Leading.{lines_after}
+use Rattle.tool_call.specs.declared.call.Call.TheVariants.{Check, CheckFit}
+use Rattle.tuner_theory.specs.Best.{IsBest}
+use Rattle.tuner_theory.specs.Footprint.{IsLeastFootprint}
+use Rattle.tuner_theory.specs.Profiles.{Profile}
+use Rattle.tuner_theory.specs.Sheets.{Sheet}
+use Rattle.tuner_theory.specs.Timelines.{IsLeastOver}
+use Rattle.tuner_theory.specs.declared.size_event.SizeEvent.{SizeEvent}
+
+-- The program ran on these words, and ended so.
+abbrev pub Ran : List Text → SourceState → SinkState → SinkState → End → Type 0
+Ran words source sink errors end = HasRun (Mean words) (AreRefused words) source sink errors end
+
+-- The whole input is a sheet and a profile, the sheet's table wastes least of the tables of its limit and step, and `optimal` is what was
+-- written.
+pub record IsOptimal (source : SourceState) (sink : SinkState) : Type 0 where
+  pub sheet : Sheet
+  pub profile : Profile
+  pub whole : source.at_end ≡ true
+  pub read : sheet_and_profile (lines source.given) ≡ Ok (sheet, profile)
+  pub best : IsBest profile.counts sheet.step sheet.limit sheet.table
+  pub written : sink.written ≡ ended (codes "optimal")
+
+-- The input is a fit and a history, and the fit's table takes least of the tables of its limit and step;
+abbrev pub IsLeastInHistory : List ℕ → Type 0
+IsLeastInHistory input =
+    (fit : Sheet) × (history : History) × (fit_and_history (lines input) ≡ Ok (fit, history))
+    × IsLeastFootprint history.snapshots fit.step fit.limit fit.table
+
+-- or it is a fit with its moments and a timeline, and the table takes least over every moment.
+abbrev pub IsLeastInTimeline : List ℕ → Type 0
+IsLeastInTimeline input =
+    (fit : Sheet) × (parts : List ℕ × List SizeEvent) × (fit_and_timeline (lines input) ≡ Ok (fit, parts))
+    × IsLeastOver parts.1 fit.step fit.limit fit.table
+
+-- This is the whole input, one of the two by whether moments are named, and `optimal` is what was written.
+pub record IsOptimalFit (source : SourceState) (sink : SinkState) : Type 0 where
+  pub whole : source.at_end ≡ true
+  pub least : MatchBool (begins_moments (lines_after (lines source.given))) (IsLeastInTimeline source.given)
+      (IsLeastInHistory source.given)
+  pub written : sink.written ≡ ended (codes "optimal")
+
+-- Status 0 of `check`;
+abbrev pub CheckLaw : Type 0
+CheckLaw = (words : List Text) (source : SourceState) (sink errors : SinkState) (end : End)
+    → Ran words source sink errors end → Mean words Check → status_of end ≡ 0 → IsOptimal source sink
+
+-- and of `check-fit`.
+abbrev pub CheckFitLaw : Type 0
+CheckFitLaw = (words : List Text) (source : SourceState) (sink errors : SinkState) (end : End)
+    → Ran words source sink errors end → Mean words CheckFit → status_of end ≡ 0 → IsOptimalFit source sink
+
+-- Status 0 or 1 of any call: what was written is its answer to the whole input, and 1 is a no.
+abbrev pub AnswerLaw : Type 0
+AnswerLaw = (words : List Text) (call : Call) (source : SourceState) (sink errors : SinkState) (end : End)
+    → Ran words source sink errors end → Mean words call → status_of end ≤ 1
+    → (status : Status) × (end ≡ Ended (Ok status))
+    × AnswersAll (answers_of call) source (Ok (record { text = sink.written; status = status }))
+
+-- Help and the version are shown only to words that ask for them.
+abbrev pub ShownLaw : Type 0
+ShownLaw = (words : List Text) (source : SourceState) (sink errors : SinkState)
+    → Ran words source sink errors Shown → (kind : ErrorKind) × IsAmong kind (fault_of program words) × (is_shown kind ≡ true)
