@@ -29,7 +29,7 @@
 //! What comes first is a class line, a sheet or a fit, and nothing else; its last line may lack the newline:
 //!
 //! ```
-//! assert_eq!(mte_tool::score(b"classes 2 8", b"9 1000\n24 70\n")?.bytes, 13160);
+//! assert_eq!(mte_tool::score(b"classes 2 8", b"9 1000\n24 70\n")?, mte_tool::Cost::Bytes(13160));
 //! assert_eq!(mte_tool::score(b"classes 2 8\n9 1000\n", b"24 70\n").unwrap_err().code, 23);
 //! let rows = b"classes 2 64\nlimit 2\nwaste 18000\nrow 1029000 18000 0 0\nrow 18000 0 0 0\n";
 //! let long = [&rows[..], b"0 1000000000\n"].concat();
