@@ -92,24 +92,31 @@ const char *mte_tool_strerror(int code);
 /* ---- the commands over texts */
 
 /* Each call is the program's command of that name: the input is what that reads from standard input, at most MTE_TOOL_MOST_INPUT bytes in
-   the formats of docs/FORMATS.md, and the output what it writes. `input` may be null if `length` is 0.
+   the formats of docs/FORMATS.md, and the output what it writes. Where the program reads two texts, one after the other, a call takes them
+   apart: `first` is a class line, a sheet or a fit, and nothing else, and `input` what comes after it. Their last lines may lack the newline,
+   the first one's fault comes first, and result->line is a line of the text that the code is of. `input` may be null if `length` is 0, and
+   `first` likewise.
 
    What `output` held before is freed, and the answer takes its place, for the caller to free. For MTE_TOOL_REFUSED that is the first fault
    of the input, as "30 BadLine line 2", without a newline; result->code and result->line have its numbers. For MTE_TOOL_OUT_OF_MEMORY and
-   MTE_TOOL_BAD_OPTION the output is empty. MTE_TOOL_MISUSE leaves it as it was. The input may be the output's own bytes. */
-int mte_tool_score(const mte_tool_options *options, const void *input, size_t length, mte_tool_text *output, mte_tool_result *result);
+   MTE_TOOL_BAD_OPTION the output is empty. MTE_TOOL_MISUSE leaves it as it was. A text may be the output's own bytes. */
+int mte_tool_score(const mte_tool_options *options, const void *first, size_t first_length, const void *input, size_t length,
+                   mte_tool_text *output, mte_tool_result *result);
 int mte_tool_tune(const mte_tool_options *options, const void *input, size_t length, mte_tool_text *output, mte_tool_result *result);
-int mte_tool_check(const mte_tool_options *options, const void *input, size_t length, mte_tool_text *output, mte_tool_result *result);
-int mte_tool_footprint(const mte_tool_options *options, const void *input, size_t length, mte_tool_text *output, mte_tool_result *result);
+int mte_tool_check(const mte_tool_options *options, const void *first, size_t first_length, const void *input, size_t length,
+                   mte_tool_text *output, mte_tool_result *result);
+int mte_tool_footprint(const mte_tool_options *options, const void *first, size_t first_length, const void *input, size_t length,
+                       mte_tool_text *output, mte_tool_result *result);
 int mte_tool_fit(const mte_tool_options *options, const void *input, size_t length, mte_tool_text *output, mte_tool_result *result);
-int mte_tool_check_fit(const mte_tool_options *options, const void *input, size_t length, mte_tool_text *output, mte_tool_result *result);
+int mte_tool_check_fit(const mte_tool_options *options, const void *first, size_t first_length, const void *input, size_t length,
+                       mte_tool_text *output, mte_tool_result *result);
 int mte_tool_profile(const mte_tool_options *options, const void *input, size_t length, mte_tool_text *output, mte_tool_result *result);
-int mte_tool_replay(const mte_tool_options *options, const void *input, size_t length, mte_tool_text *output, mte_tool_result *result);
+int mte_tool_replay(const mte_tool_options *options, const void *first, size_t first_length, const void *input, size_t length,
+                    mte_tool_text *output, mte_tool_result *result);
 int mte_tool_run(const mte_tool_options *options, const void *input, size_t length, mte_tool_text *output, mte_tool_result *result);
 
-/* Appends a piece to a text, such as a profile to the sheet that it is checked with, or an input that comes in pieces. Returns
-   MTE_TOOL_DONE; or MTE_TOOL_OUT_OF_MEMORY or MTE_TOOL_MISUSE, which leave the text as it was. `piece` may be null if `length` is 0, and is
-   no part of the text. */
+/* Appends a piece to a text, such as an input that comes in pieces. Returns MTE_TOOL_DONE; or MTE_TOOL_OUT_OF_MEMORY or MTE_TOOL_MISUSE,
+   which leave the text as it was. `piece` may be null if `length` is 0, and is no part of the text. */
 int mte_tool_append(mte_tool_text *text, const void *piece, size_t length);
 
 /* Frees the memory of a text, and leaves the empty text. Null is let pass. */

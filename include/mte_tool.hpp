@@ -141,14 +141,19 @@ inline bool answered(int end, const mte_tool_result &result, std::string_view sa
 }
 
 using Command = int(const mte_tool_options *, const void *, std::size_t, mte_tool_text *, mte_tool_result *);
+using CommandOn = int(const mte_tool_options *, const void *, std::size_t, const void *, std::size_t, mte_tool_text *, mte_tool_result *);
 
 inline Cost cost(bool serves, const mte_tool_result &result) { return {serves, result.bytes, result.at}; }
 
-/* a call over an input, and what it gave */
+/* a call over a text or two, and what it gave */
 class Called {
   public:
     Called(Command *command, std::string_view input, const mte_tool_options *options) {
         const int end = command(options, input.data(), input.size(), text_.c(), &result_);
+        is_yes_ = answered(end, result_, text_.view());
+    }
+    Called(CommandOn *command, std::string_view first, std::string_view input, const mte_tool_options *options) {
+        const int end = command(options, first.data(), first.size(), input.data(), input.size(), text_.c(), &result_);
         is_yes_ = answered(end, result_, text_.view());
     }
     Text text() { return std::move(text_); }
@@ -161,13 +166,6 @@ class Called {
     mte_tool_result result_ = MTE_TOOL_RESULT;
     bool is_yes_;
 };
-
-/* two texts as one input */
-inline Text joined(std::string_view first, std::string_view second) {
-    Text both;
-    both.append(first).append(second);
-    return both;
-}
 
 inline std::size_t rooms(const Options &options) {
     return options.limit <= MTE_TOOL_MOST_CLASSES ? static_cast<std::size_t>(options.limit) : 1;
@@ -197,12 +195,12 @@ inline void need(bool is_so, const char *what) {
 
 } // namespace detail
 
-/* ---- the commands over texts (docs/FORMATS.md), each at most MTE_TOOL_MOST_INPUT bytes together. An Error has the first fault's code and
+/* ---- the commands over texts (docs/FORMATS.md), each at most MTE_TOOL_MOST_INPUT bytes. An Error has the first fault's code and
    line. */
 
 /* What the table of a class line, such as "classes 2 8", wastes on a profile. */
 inline Cost score(std::string_view classes, std::string_view profile) {
-    return detail::Called(mte_tool_score, detail::joined(classes, profile).view(), nullptr).cost();
+    return detail::Called(mte_tool_score, classes, profile, nullptr).cost();
 }
 
 /* The sheet of the table of least waste on a profile, by options.limit and options.step. */
@@ -212,12 +210,12 @@ inline Text tune(std::string_view profile, const Options &options) {
 
 /* Whether a sheet shows that no table within its limit and step wastes less on a profile. */
 inline Verdict check(std::string_view sheet, std::string_view profile) {
-    return detail::Called(mte_tool_check, detail::joined(sheet, profile).view(), nullptr).verdict();
+    return detail::Called(mte_tool_check, sheet, profile, nullptr).verdict();
 }
 
 /* What the table of a class line takes of memory over a history or a timeline. */
 inline Cost footprint(std::string_view classes, std::string_view history) {
-    return detail::Called(mte_tool_footprint, detail::joined(classes, history).view(), nullptr).cost();
+    return detail::Called(mte_tool_footprint, classes, history, nullptr).cost();
 }
 
 /* The fit of the table of least footprint over a history or a timeline, by options.limit and options.step. */
@@ -227,7 +225,7 @@ inline Fit fit(std::string_view history, const Options &options) {
 
 /* Whether a fit shows that no table within its limit and step takes less over a history or a timeline. */
 inline Verdict check_fit(std::string_view fit, std::string_view history) {
-    return detail::Called(mte_tool_check_fit, detail::joined(fit, history).view(), nullptr).verdict();
+    return detail::Called(mte_tool_check_fit, fit, history, nullptr).verdict();
 }
 
 /* The profile of a trace. */
@@ -237,7 +235,7 @@ inline Text profile(std::string_view trace) {
 
 /* The report of the tagged heap over the table of a class line on a trace, by options.granules, options.quarantine and options.seed. */
 inline Text replay(std::string_view classes, std::string_view trace, const Options &options = Options()) {
-    return detail::Called(mte_tool_replay, detail::joined(classes, trace).view(), &options).text();
+    return detail::Called(mte_tool_replay, classes, trace, &options).text();
 }
 
 /* The sheet of a trace's profile, and then the report with its table, by options.limit, options.step, options.granules, options.quarantine

@@ -83,7 +83,14 @@ int layer_options(const mte_tool_options *options, narrow_options *narrow);
 /* Puts what a call found into the caller's structure, or nowhere if that is null, and returns the end. */
 int layer_give(int end, const mte_tool_result *found, mte_tool_result *result);
 
-/* Makes a call over a text, and puts the answer into an empty text. What it found is set. The input is not null. */
-int layer_call(uint8_t command, narrow_options options, const void *input, size_t length, mte_tool_text *answer, mte_tool_result *found);
+/* A slice of bytes, whose place is not null. */
+typedef struct slice {
+    const void *at;
+    size_t length;
+} slice;
+
+/* Makes a call over a text, or over a first text and another, and puts the answer into an empty text. What it found is set. The first text
+   of a call over one is empty. */
+int layer_call(uint8_t command, narrow_options options, slice first, slice input, mte_tool_text *answer, mte_tool_result *found);
 
 #endif

@@ -67,9 +67,11 @@ static uint64_t number_after(const mte_tool_text *text, const char *word) {
     return text->length > n && !memcmp(text->bytes, word, n) ? strtoull(text->bytes + n, NULL, 10) : 0;
 }
 
-int layer_call(uint8_t command, narrow_options options, const void *input, size_t length, mte_tool_text *answer, mte_tool_result *found) {
-    held_text held = {NULL, 0};
-    ending ended = mte_c_call(command, options, input, length, &held);
+int layer_call(uint8_t command, narrow_options options, slice first, slice input, mte_tool_text *answer, mte_tool_result *found) {
+    held_text held = {NULL, 0}; /* the first text, and then the answer */
+    ending ended;
+    if (first.length > 0 && mte_c_append(first.at, first.length, &held) != MTE_TOOL_DONE) return MTE_TOOL_OUT_OF_MEMORY;
+    ended = mte_c_call(command, options, input.at, input.length, &held);
     if (hand_over(&held, answer) != MTE_TOOL_DONE) return MTE_TOOL_OUT_OF_MEMORY;
     found->code = ended.fault;
     found->line = ended.line;
@@ -82,14 +84,19 @@ int layer_call(uint8_t command, narrow_options options, const void *input, size_
     return (int)ended.end;
 }
 
-static int call(uint8_t command, const mte_tool_options *options, const void *input, size_t length, mte_tool_text *output,
+static slice slice_of(const void *at, size_t length) {
+    slice made = {at ? at : &layer_no_numbers, length};
+    return made;
+}
+
+static int call(uint8_t command, const mte_tool_options *options, slice first, const void *input, size_t length, mte_tool_text *output,
                 mte_tool_result *result) {
     mte_tool_result found = MTE_TOOL_RESULT;
     mte_tool_text answer = MTE_TOOL_TEXT;
     narrow_options narrow;
     int end = layer_options(options, &narrow);
     if (!output || is_missing(input, length) || end == MTE_TOOL_MISUSE || layer_is_wrong(result)) return MTE_TOOL_MISUSE;
-    if (end == MTE_TOOL_DONE) end = layer_call(command, narrow, input ? input : &layer_no_numbers, length, &answer, &found);
+    if (end == MTE_TOOL_DONE) end = layer_call(command, narrow, first, slice_of(input, length), &answer, &found);
     mte_tool_free(output); /* only now, since the input may be in it */
     *output = answer;
     return layer_give(end, &found, result);
@@ -98,17 +105,24 @@ static int call(uint8_t command, const mte_tool_options *options, const void *in
 #define CALL(command, name)                                                                                        \
     int mte_tool_##name(const mte_tool_options *options, const void *input, size_t length, mte_tool_text *output, \
                         mte_tool_result *result) {                                                                \
-        return call(command, options, input, length, output, result);                                              \
+        return call(command, options, slice_of(NULL, 0), input, length, output, result);                           \
     }
 
-CALL(SCORE, score)
+#define CALL_ON(command, name)                                                                                         \
+    int mte_tool_##name(const mte_tool_options *options, const void *first, size_t first_length, const void *input,    \
+                        size_t length, mte_tool_text *output, mte_tool_result *result) {                               \
+        if (is_missing(first, first_length)) return MTE_TOOL_MISUSE;                                                   \
+        return call(command, options, slice_of(first, first_length), input, length, output, result);                   \
+    }
+
+CALL_ON(SCORE, score)
 CALL(TUNE, tune)
-CALL(CHECK, check)
-CALL(FOOTPRINT, footprint)
+CALL_ON(CHECK, check)
+CALL_ON(FOOTPRINT, footprint)
 CALL(FIT, fit)
-CALL(CHECK_FIT, check_fit)
+CALL_ON(CHECK_FIT, check_fit)
 CALL(PROFILE, profile)
-CALL(REPLAY, replay)
+CALL_ON(REPLAY, replay)
 CALL(RUN, run)
 
 int mte_tool_append(mte_tool_text *text, const void *piece, size_t length) {

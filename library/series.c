@@ -1,5 +1,5 @@
-/* The functions of mte_tool.h over histories and timelines in arrays. Each writes its arrays as the text of docs/FORMATS.md, makes the
-   proved call over that, and reads the numbers of the answer. What is in range is decided by the proved reader of that text. Nothing here
+/* The functions of mte_tool.h over histories and timelines in arrays. Each writes its arrays as the texts of docs/FORMATS.md, makes the
+   proved call over these, and reads the numbers of the answer. What is in range is decided by the proved reader of that text. Nothing here
    is proved. */
 #include "layer.h"
 
@@ -8,14 +8,13 @@
 
 /* ---- the text of an input */
 
-/* A text that is written; `lines` is how many there are before its first entry. */
+/* A text that is written. */
 typedef struct input {
     mte_tool_text text;
-    uint64_t lines;
     int is_out_of_memory;
 } input;
 
-static const input no_input = {MTE_TOOL_TEXT, 0, 0};
+static const input no_input = {MTE_TOOL_TEXT, 0};
 
 /* Nothing comes after more bytes than an input may have: the reader refuses that anyway. */
 static void put(input *to, const char *bytes, size_t length) {
@@ -39,7 +38,6 @@ static void put_line(input *to, const char *word, uint64_t number) {
     put_word(to, word);
     put_number(to, number);
     put_word(to, "\n");
-    to->lines++;
 }
 
 /* One class more than a table may have is as good as all. */
@@ -51,7 +49,6 @@ static void put_classes(input *to, const uint16_t *classes, size_t count) {
         put_number(to, classes[i]);
     }
     put_word(to, "\n");
-    to->lines++;
 }
 
 enum { MOST_SNAPSHOTS = 1024 };
@@ -74,7 +71,6 @@ static void put_history(input *to, const mte_tool_history_arrays *history) {
 static void put_timeline(input *to, const mte_tool_timeline_arrays *timeline) {
     size_t i;
     put_word(to, "timeline\n");
-    to->lines++;
     for (i = 0; i < timeline->length && to->text.length <= MTE_TOOL_MOST_INPUT; i++) {
         if (timeline->frees[i]) put_word(to, "-");
         if (timeline->sizes[i] > MTE_TOOL_LARGEST_SIZE) put_word(to, "large");
@@ -99,21 +95,29 @@ static int is_of_entry(uint32_t code) {
     return (code >= 30 && code <= 32) || code == 37 || code == 38;
 }
 
-/* Makes a call over an input, and frees that. The answer is put into an empty text. */
-static int call(uint8_t command, narrow_options options, input *given, mte_tool_text *answer, mte_tool_result *found) {
+static slice slice_of(const input *it) {
+    slice made = {it->text.bytes ? (const void *)it->text.bytes : &layer_no_numbers, it->text.length};
+    return made;
+}
+
+/* Makes a call over what comes before the entries, if its input is two texts, and these, whose text begins with a line of its own; and frees
+   both. The answer is put into an empty text. */
+static int call(uint8_t command, narrow_options options, input *first, input *given, mte_tool_text *answer, mte_tool_result *found) {
     int end = MTE_TOOL_OUT_OF_MEMORY;
-    if (!given->is_out_of_memory) end = layer_call(command, options, given->text.bytes, given->text.length, answer, found);
-    if (is_of_entry(found->code)) found->at = found->line - given->lines - 1;
+    if (!first->is_out_of_memory && !given->is_out_of_memory)
+        end = layer_call(command, options, slice_of(first), slice_of(given), answer, found);
+    if (is_of_entry(found->code)) found->at = found->line - 2;
     found->line = 0;
+    mte_tool_free(&first->text);
     mte_tool_free(&given->text);
     return end;
 }
 
 /* The verdict of a call: its answer has no numbers but those that `found` has. */
-static int judge(uint8_t command, narrow_options options, input *given, mte_tool_result *result) {
+static int judge(uint8_t command, narrow_options options, input *first, input *given, mte_tool_result *result) {
     mte_tool_result found = MTE_TOOL_RESULT;
     mte_tool_text answer = MTE_TOOL_TEXT;
-    int end = call(command, options, given, &answer, &found);
+    int end = call(command, options, first, given, &answer, &found);
     mte_tool_free(&answer);
     return layer_give(end, &found, result);
 }
@@ -164,7 +168,8 @@ static int is_room(const rooms *to) {
 static int fit(narrow_options options, input *given, const rooms *to, mte_tool_result *result) {
     mte_tool_result found = MTE_TOOL_RESULT;
     mte_tool_text answer = MTE_TOOL_TEXT;
-    int end = call(FIT, options, given, &answer, &found);
+    input none = no_input;
+    int end = call(FIT, options, &none, given, &answer, &found);
     if (end == MTE_TOOL_DONE || end == MTE_TOOL_NO) {
         uint64_t numbers = read_fit(answer.bytes, &found, NULL, NULL, NULL);
         int has_room = to->moment_room >= found.moments;
@@ -213,24 +218,21 @@ static void put_claim(input *to, narrow_options options, const claim *it) {
             put_number(to, it->rows[row * places + i]);
         }
         put_word(to, "\n");
-        to->lines++;
     }
     for (i = 0; i < it->moment_count; i++) {
         put_word(to, i == 0 ? "moments " : " ");
         put_number(to, it->moments[i]);
     }
-    if (it->moment_count == 0) return;
-    put_word(to, "\n");
-    to->lines++;
+    if (it->moment_count > 0) put_word(to, "\n");
 }
 
 /* How a call over the classes and nothing else ends: the checker only says that they are no line of a fit. */
 static int end_of_classes(narrow_options options, const claim *it, mte_tool_result *found) {
-    input given = no_input;
+    input first = no_input, none = no_input;
     mte_tool_text answer = MTE_TOOL_TEXT;
     int end;
-    put_classes(&given, it->classes, it->class_count);
-    end = call(SCORE, options, &given, &answer, found);
+    put_classes(&first, it->classes, it->class_count);
+    end = call(SCORE, options, &first, &none, &answer, found);
     mte_tool_free(&answer);
     return end;
 }
@@ -256,23 +258,23 @@ static int begin_check(const mte_tool_options *options, narrow_options *narrow, 
 int mte_tool_footprint_history(const mte_tool_options *options, const uint16_t *classes, size_t class_count,
                                const mte_tool_history_arrays *history, mte_tool_result *result) {
     narrow_options narrow;
-    input given = no_input;
+    input first = no_input, given = no_input;
     int end = begin(options, &narrow, !is_missing(classes, class_count) && is_history(history), result);
     if (end != MTE_TOOL_DONE) return end;
-    put_classes(&given, classes, class_count);
+    put_classes(&first, classes, class_count);
     put_history(&given, history);
-    return judge(FOOTPRINT, narrow, &given, result);
+    return judge(FOOTPRINT, narrow, &first, &given, result);
 }
 
 int mte_tool_footprint_timeline(const mte_tool_options *options, const uint16_t *classes, size_t class_count,
                                 const mte_tool_timeline_arrays *timeline, mte_tool_result *result) {
     narrow_options narrow;
-    input given = no_input;
+    input first = no_input, given = no_input;
     int end = begin(options, &narrow, !is_missing(classes, class_count) && is_timeline(timeline), result);
     if (end != MTE_TOOL_DONE) return end;
-    put_classes(&given, classes, class_count);
+    put_classes(&first, classes, class_count);
     put_timeline(&given, timeline);
-    return judge(FOOTPRINT, narrow, &given, result);
+    return judge(FOOTPRINT, narrow, &first, &given, result);
 }
 
 int mte_tool_fit_history(const mte_tool_options *options, const mte_tool_history_arrays *history, uint16_t *classes, size_t class_room,
@@ -302,24 +304,24 @@ int mte_tool_fit_timeline(const mte_tool_options *options, const mte_tool_timeli
 int mte_tool_check_fit_history(const mte_tool_options *options, const uint16_t *classes, size_t class_count, uint64_t footprint,
                                const uint64_t *rows, size_t row_count, const mte_tool_history_arrays *history, mte_tool_result *result) {
     narrow_options narrow;
-    input given = no_input;
+    input first = no_input, given = no_input;
     claim it = {classes, class_count, footprint, rows, row_count, NULL, 0};
     int end = begin_check(options, &narrow, &it, is_history(history), result);
     if (end != MTE_TOOL_DONE) return end;
-    put_claim(&given, narrow, &it);
+    put_claim(&first, narrow, &it);
     put_history(&given, history);
-    return judge(CHECK_FIT, narrow, &given, result);
+    return judge(CHECK_FIT, narrow, &first, &given, result);
 }
 
 int mte_tool_check_fit_timeline(const mte_tool_options *options, const uint16_t *classes, size_t class_count, uint64_t footprint,
                                 const uint64_t *rows, size_t row_count, const uint32_t *moments, size_t moment_count,
                                 const mte_tool_timeline_arrays *timeline, mte_tool_result *result) {
     narrow_options narrow;
-    input given = no_input;
+    input first = no_input, given = no_input;
     claim it = {classes, class_count, footprint, rows, row_count, moments, moment_count};
     int end = begin_check(options, &narrow, &it, is_timeline(timeline), result);
     if (end != MTE_TOOL_DONE) return end;
-    put_claim(&given, narrow, &it);
+    put_claim(&first, narrow, &it);
     put_timeline(&given, timeline);
-    return judge(CHECK_FIT, narrow, &given, result);
+    return judge(CHECK_FIT, narrow, &first, &given, result);
 }

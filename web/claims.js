@@ -21,7 +21,7 @@ const holds = ({ forced, step, classes }) => forced.every((c) => c % step === 0 
 /** What a `fit` without a certificate says that each table takes of the user's own, or null. */
 function bound({ verdict, forced }) {
   const [word, number] = verdict.split(" ");
-  return word === "between" ? Number(number) - forced.reduce((sum, c) => sum + GRANULE * c, 0) : null;
+  return word === "between" ? exactly(BigInt(number) - BigInt(GRANULE * sumOf(forced))) : null;
 }
 
 /** Among which tables none costs less than this one, and what it costs; or than the bound. */

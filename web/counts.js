@@ -5,6 +5,8 @@
 const sumOf = (numbers) => numbers.reduce((sum, n) => sum + n, 0);
 /** The greatest of numbers, of which there may be more than a call takes. */
 const mostOf = (numbers) => numbers.reduce((most, n) => (n > most ? n : most), 0);
+/** The sum of the products of pairs of whole numbers. */
+const sumOfProducts = (pairs) => exactly(pairs.reduce((sum, [one, other]) => sum + BigInt(one) * BigInt(other), 0n));
 const wordOf = (text) => /^[^ \n]*/.exec(text)[0];
 
 /** What a text is by its first word: a profile, a history, a timeline, or null. */
@@ -28,7 +30,7 @@ class Counts {
   keep(sizes) {
     this.sizes = sizes;
     this.blocks = sumOf(sizes.map(([, count]) => count));
-    this.bytes = sumOf(sizes.map(([size, count]) => size * count));
+    this.bytes = sumOfProducts(sizes);
   }
 
   hasLargest() {
@@ -40,8 +42,8 @@ class Counts {
     const heights = this.heights(classes, 1);
     return spansOf(classes).map(([least, most], i) => {
       const served = mostOf(heights[i]);
-      const losses = this.sizes.filter(([size]) => size >= least && size <= most).map(([size, count]) => count * (most - size));
-      return { least, most, served, cost: this.kind === "profile" ? sumOf(losses) : (most + GRANULE) * served };
+      const losses = this.sizes.filter(([size]) => size >= least && size <= most).map(([size, count]) => [count, most - size]);
+      return { least, most, served, cost: sumOfProducts(this.kind === "profile" ? losses : [[most + GRANULE, served]]) };
     });
   }
 }

@@ -49,18 +49,12 @@ class Module {
     return new DataView(this.exports.memory.buffer).getBigUint64(Number(place), true);
   }
 
-  /** A place with these bytes, one piece after the other, and their number. */
-  put(...inputs) {
-    const pieces = inputs.map(asBytes);
-    const length = pieces.reduce((sum, piece) => sum + piece.length, 0);
-    const place = this.take(length);
-    const room = this.bytes(place, length);
-    let at = 0;
-    for (const piece of pieces) {
-      room.set(piece, at);
-      at += piece.length;
-    }
-    return [place, BigInt(length)];
+  /** A place with these bytes, and their number. */
+  put(input) {
+    const bytes = asBytes(input);
+    const place = this.take(bytes.length);
+    this.bytes(place, bytes.length).set(bytes);
+    return [place, BigInt(bytes.length)];
   }
 
   /** Calls a function. What a trap leaves is half written, so no call comes after it. */
@@ -132,19 +126,22 @@ class Engines {
     return Object.assign(new Engines(), { tool: await Module.load(tool), steps: await Module.load(steps) });
   }
 
-  /** What a command answers: its exit status and its text, of standard output or, for status 2, of standard error. */
-  call(command, options, ...inputs) {
-    const { status, ended, bytes } = this.answer(command, options, ...inputs);
+  /** What a command answers: its exit status and its text, of standard output or, for status 2, of standard error. A command of OF_TWO_TEXTS
+   * takes a class line, a sheet or a fit first, and its input apart from that. */
+  call(command, options, input, first) {
+    const { status, ended, bytes } = this.answer(command, options, input, first);
     return { status, ended, text: status === 2 ? `error ${asText(bytes)}\n` : asText(bytes) };
   }
 
   /** The same in bytes, of a fault without the word before it. */
-  answer(command, options, ...inputs) {
+  answer(command, options, input, first = "") {
     const m = this.tool;
     const words = packed(Object.keys(OPTION_BITS), options);
-    const [from, length] = m.put(...inputs);
+    const [before, many] = m.put(first);
+    const [from, length] = m.put(input);
     const [ending, text] = [m.take(16), m.take(16)];
     m.bytes(text, 16).fill(0);
+    if (m.run("mte_c_append", before, many, text)) throw new RangeError("the page is out of memory");
     m.run("mte_c_call", ending, COMMANDS.indexOf(command), ...words, from, length, text);
     const status = Number(m.word(ending) & 0xffffffffn);
     const size = m.word(text + 8n);
@@ -152,7 +149,7 @@ class Engines {
     m.run("mte_c_read", text, 0n, room, size);
     const bytes = m.bytes(room, size).slice();
     m.run("mte_c_free", text);
-    m.give(from, ending, text, room);
+    m.give(before, from, ending, text, room);
     return { status, ended: ENDED[status], bytes };
   }
 

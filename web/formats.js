@@ -12,6 +12,7 @@ const DEFAULTS = { granules: 65536, quarantine: 65536, seed: 1, limit: 8, step: 
 const OPTION_BITS = { granules: 32, quarantine: 32, seed: 16, limit: 8, step: 8 };
 const HEAP_OPTIONS = ["granules", "quarantine", "seed"];
 const COMMANDS = ["score", "tune", "check", "footprint", "fit", "check-fit", "profile", "replay", "run"];
+const OF_TWO_TEXTS = ["score", "check", "footprint", "check-fit", "replay"];
 const ENDED = ["done", "no", "refused", "out of memory", "bad option", "misuse"];
 const INPUT_CODES = {
   20: "there are more than 32 classes",

@@ -83,7 +83,7 @@ async function replayTrace(more = "") {
     $("line").value = sheet.text.split("\n")[0];
   }
   const line = $("line").value.trim();
-  const table = await ask("call", { command: "score", options: {}, input: `${line}\n` });
+  const table = await ask("call", { command: "score", options: {}, first: line, input: "" });
   if (table.status === 2) {
     $("line").focus();
     return refuseTrace(`The table: ${faultWords(table.text).words}`);

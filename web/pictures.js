@@ -13,7 +13,7 @@ const markOf = (style) => `<svg viewBox="-7 -7 14 14" aria-hidden="true"><polygo
 
 /** A number as a bar of a table, beside that of the most. */
 const barOf = (number, most, style) =>
-  `<svg viewBox="0 0 100 10" preserveAspectRatio="none" aria-hidden="true"><rect width="${short((100 * number) / (most || 1))}" height="10" fill="var(--c${style})"/></svg>`;
+  `<svg viewBox="0 0 100 10" preserveAspectRatio="none" aria-hidden="true"><rect width="${short((100 * Number(number)) / (Number(most) || 1))}" height="10" fill="var(--c${style})"/></svg>`;
 
 function byteText(n) {
   const [unit, name] = [[1 << 30, "GiB"], [1 << 20, "MiB"], [1 << 10, "KiB"], [1, "bytes"]].find(([of]) => n >= of) ?? [1, "bytes"];
@@ -32,8 +32,8 @@ class Picture {
     const width = Math.max(280, Math.min(1000, Math.round(svg.parentElement.clientWidth || 760)));
     Object.assign(this, { svg, width, height, left: 64, right: width - 12, upper: 12, lower: height - 46, parts: [] });
     [this.wide, this.high] = [this.right - this.left, this.lower - this.upper];
-    const unit = of ? of / 100 : 1024 ** Math.floor(Math.log(Math.max(1, most)) / Math.log(1024));
-    this.top = room * most || unit;
+    const unit = of ? Number(of) / 100 : 1024 ** Math.floor(Math.log(Math.max(1, Number(most))) / Math.log(1024));
+    this.top = room * Number(most) || unit;
     const step = roundStep(this.top / unit);
     for (let level = 0; level * unit <= this.top; level += step) {
       const y = this.y(level * unit);
@@ -43,7 +43,7 @@ class Picture {
   }
 
   y(bytes) {
-    return this.lower - (this.high * bytes) / this.top;
+    return this.lower - (this.high * Number(bytes)) / this.top;
   }
 
   text(x, y, words, anchor = "middle") {
@@ -65,7 +65,7 @@ class Picture {
 /** The least total by the number of classes, and each table as a point {name, classes, total, style}. Where OF is given, the levels are its
  * percents, and else bytes. */
 function drawCurve(svg, least, tables, label, of) {
-  const highest = Math.max(least[Math.min(7, least.length - 1)] ?? 0, ...tables.map((t) => t.total));
+  const highest = Math.max(...[least[Math.min(7, least.length - 1)] ?? 0, ...tables.map((t) => t.total)].map(Number));
   const picture = new Picture(svg, 320, highest, 1.15, of);
   const x = (classes) => picture.left + 8 + ((picture.wide - 16) * (classes - 1)) / 31;
   for (const classes of [1, 4, 8, 12, 16, 20, 24, 28, 32]) picture.text(x(classes), picture.lower + 18, classes);

@@ -10,7 +10,8 @@ let tuner = slots[0];
 let comesTo = 0;
 
 const classesOf = (line) => line.split("\n")[0].trim().split(" ").slice(1).map(Number);
-const percent = (part, whole) => (whole ? `${((100 * part) / whole).toFixed(part && part / whole < 0.001 ? 3 : 1)}%` : "–");
+const shareOf = (part, whole) => `${((100 * part) / whole).toFixed(part && part / whole < 0.001 ? 3 : 1)}%`;
+const percent = (part, whole) => (whole ? shareOf(Number(part), Number(whole)) : "–");
 /** Whether what counts is the footprint, over a history or a timeline, and not the waste on a profile. */
 const isOverTime = (slot) => slot.kind !== "profile";
 const options = () => ({ limit: Number($("limit").value), step: Number($("step").value) });
@@ -24,7 +25,7 @@ const refusal = (answer) => (answer.status === 2 ? faultWords(answer.text).words
 async function made(slot, limit, step, forced) {
   const key = `${limit} ${step} ${forced.length}`;
   if (!slot.answers.has(key)) {
-    slot.answers.set(key, await ask("call", { command: finderOf(slot), options: { limit, step }, input: "", and: heldAs(slot, forced) }));
+    slot.answers.set(key, await ask("call", { command: finderOf(slot), options: { limit, step }, of: heldAs(slot, forced) }));
   }
   return slot.answers.get(key);
 }
@@ -59,10 +60,10 @@ const forcedFor = (slot) => (slot.counts.hasLargest() ? [] : [LARGEST_CLASS]);
 /** What a table has over the counts of a slot: {total}, {unserved} or {refused}. */
 async function totalOf(line, slot) {
   const command = isOverTime(slot) ? "footprint" : "score";
-  const answer = await ask("call", { command, options: {}, input: `${line}\n`, and: slot.slot });
+  const answer = await ask("call", { command, options: {}, first: line, of: slot.slot });
   if (answer.status > 1) return { refused: refusal(answer) };
   const [word, second, third] = answer.text.trim().split(" ");
-  return word === "not" ? { unserved: Number(third) } : { total: Number(second) };
+  return word === "not" ? { unserved: Number(third) } : { total: exactly(second) };
 }
 
 /** Tunes what the slots hold. */
@@ -91,7 +92,7 @@ async function lineOf(slot, sheet, step, forced) {
   // a block of each forced class is not the user's own
   const own = isOverTime(slot) ? GRANULE * sumOf(forced) : 0;
   const { text } = slot.kind === "timeline" ? await madeAtMoments(slot, sheet, step, forced) : await made(slot, MOST_CLASSES, step, forced);
-  return text.split("\n").filter((line) => line.startsWith("row")).map((line) => Number(line.split(" ")[1] ?? 0) - own);
+  return text.split("\n").filter((line) => line.startsWith("row")).map((line) => exactly(BigInt(line.split(" ")[1] ?? 0) - BigInt(own)));
 }
 
 /** The fit over the moments that a fit of a timeline names, of as many classes as can be. A fit without a certificate names none. */
@@ -114,7 +115,7 @@ async function judge(slot, sheet, forcedOnes) {
   const command = isOverTime(slot) ? "check-fit" : "check";
   const answers = [];
   for (const forced of forcedOnes) {
-    const answer = await ask("call", { command, options: {}, input: sheet, and: heldAs(slot, forced) });
+    const answer = await ask("call", { command, options: {}, first: sheet, of: heldAs(slot, forced) });
     if (answer.status > 1) return { refused: refusal(answer) };
     answers.push({ verdict: answer.text.trim(), forced });
     if (answer.status === 0) break;
@@ -288,7 +289,7 @@ const wrapped = (words, columns, prefix) =>
 async function mapOfSheet() {
   const text = $("sheet").value;
   const [line, ...rest] = text.split("\n");
-  const table = await ask("call", { command: "score", options: {}, input: `${line}\n` });
+  const table = await ask("call", { command: "score", options: {}, first: line, input: "" });
   if (table.status > 1) return { refused: refusal(table) };
   const isLine = rest.every((it) => it === "");
   const judged = isLine ? {} : await judgedSheet();

@@ -1,6 +1,8 @@
 // What the page says in sentences: numbers, lines of the report, verdicts, errors of inputs.
 "use strict";
 
+/** A whole number, from digits or a BigInt: a BigInt where a Number would be rounded. */
+const exactly = (number) => (Number.isSafeInteger(Number(number)) ? Number(number) : BigInt(number));
 const grouped = (number) => number.toLocaleString("en");
 const counted = (number, word) => `${grouped(number)} ${word}${number === 1 ? "" : "s"}`;
 const bytesText = (n) => counted(n, "byte");

@@ -40,7 +40,7 @@ class Trace {
 /** The report of a trace, or of the first events of one, in bytes: where the line of each event begins (-1 if it has none) and the totals, and
  * the events with a fault or a refusal. */
 function reportOf(line, options, { bytes: trace, length }) {
-  const { status, bytes, ended } = engines.answer("replay", options, `${line}\n`, trace);
+  const { status, bytes, ended } = engines.answer("replay", options, trace, line);
   if (status) throw new Error(asText(bytes) || ended);
   const places = new Int32Array(length + 1).fill(-1);
   const faults = [];
@@ -162,9 +162,10 @@ const ANSWERS = {
   hold({ name, input }) {
     held.set(name, asBytes(input));
   },
-  /** Calls an engine on a text and perhaps one that is kept, and keeps a text that it does not refuse under a name. */
-  call({ command, options, input, and, keep }) {
-    const answer = engines.call(command, options, input, ...(and === undefined ? [] : [held.get(and)]));
+  /** Calls an engine on a text or on one that is kept, after a first one for commands over two, and keeps a text that it does not refuse under
+   * a name. */
+  call({ command, options, first, input, of, keep }) {
+    const answer = engines.call(command, options, of === undefined ? input : held.get(of), first);
     if (keep !== undefined && answer.status < 2) this.hold({ name: keep, input });
     return answer;
   },

@@ -18,22 +18,23 @@ static int append_file(mte_tool_text *text, const char *path) {
 }
 
 int main(int argc, char **argv) {
-    mte_tool_text input = MTE_TOOL_TEXT, verdict = MTE_TOOL_TEXT;
+    mte_tool_text sheet = MTE_TOOL_TEXT, profile = MTE_TOOL_TEXT, verdict = MTE_TOOL_TEXT;
     mte_tool_result result = MTE_TOOL_RESULT;
     int end = MTE_TOOL_REFUSED;
     if (argc != 3) {
         fprintf(stderr, "usage: check_sheet SHEET PROFILE\n");
         return 2;
     }
-    if (append_file(&input, argv[1]) && append_file(&input, argv[2])) {
-        end = mte_tool_check(NULL, input.bytes, input.length, &verdict, &result);
+    if (append_file(&sheet, argv[1]) && append_file(&profile, argv[2])) {
+        end = mte_tool_check(NULL, sheet.bytes, sheet.length, profile.bytes, profile.length, &verdict, &result);
         if (end == MTE_TOOL_DONE) fputs(verdict.bytes, stdout);
         else fprintf(stderr, "%s: %s\n", mte_tool_strerror(end), mte_tool_strerror(result.code ? (int)result.code : end));
-        if (result.line) fprintf(stderr, "line %llu of %s and then %s\n", (unsigned long long)result.line, argv[1], argv[2]);
+        if (result.line) fprintf(stderr, "line %llu of %s\n", (unsigned long long)result.line, argv[result.code == 48 ? 1 : 2]);
     } else {
         perror(argv[0]);
     }
-    mte_tool_free(&input);
+    mte_tool_free(&sheet);
+    mte_tool_free(&profile);
     mte_tool_free(&verdict);
     return end;
 }

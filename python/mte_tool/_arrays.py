@@ -29,7 +29,7 @@ class Table(NamedTuple):
 
 
 def array(kind: Any, numbers: Iterable[int]) -> Any:
-    """An array of C. A number that it can't hold is its largest, which the library refuses."""
+    """An array of C. A number that it can't hold is its largest, which the library refuses: not for rows."""
     most = 2 ** (8 * ctypes.sizeof(kind)) - 1
     taken = [number if 0 <= number <= most else most for number in numbers]
     return (kind * len(taken))(*taken)
@@ -46,7 +46,7 @@ def history_of(history: Mapping[int, Sequence[int]], snapshots: int) -> _c.Histo
         if len(history[size]) != snapshots:
             raise ValueError(f"size {size} has {len(history[size])} counts, and not one for each of {snapshots} snapshots")
     counts = array(c_uint32, [count for size in sizes for count in history[size]])
-    return _c.History(array(c_uint32, sizes), counts, len(sizes), snapshots)
+    return _c.History(array(c_uint32, sizes), counts, len(sizes), _calls.whole(snapshots, "the number of snapshots"))
 
 
 def timeline_of(sizes: Sequence[int], frees: Sequence[bool]) -> _c.Timeline:
@@ -77,9 +77,11 @@ def table_of(name: str, data: Any, limit: int, step: int, most_moments: int = 0)
 
 def verdict_of(name: str, table: Table, data: ctypes.Structure, limit: int, step: int, has_moments: bool = False) -> Verdict:
     options = _calls.options(limit=limit, step=step)
-    classes, rows = array(c_uint16, table.classes), array(c_uint64, [number for row in table.rows for number in row])
-    moments = array(c_uint32, table.moments)
-    claim = [classes, len(classes), table.bytes, rows, len(rows), *([moments, len(moments)] if has_moments else [])]
+    if table.rows and 1 <= limit <= MOST_CLASSES and (len(table.rows) != limit or len(set(map(len, table.rows))) > 1):
+        raise _calls.Error(f"the certificate has to have {limit} rows of one length", _c.MISUSE)
+    numbers = [_calls.whole(number, "a number of a row") for row in table.rows for number in row]
+    classes, rows, moments = array(c_uint16, table.classes), array(c_uint64, numbers), array(c_uint32, table.moments)
+    claim = [classes, len(classes), _calls.whole(table.bytes, "a cost"), rows, len(rows), *([moments, len(moments)] if has_moments else [])]
     function = getattr(_c.library, f"mte_tool_{name}")
     yes, result = _calls.made(lambda to: function(ctypes.byref(options), *claim, ctypes.byref(data), to))
     return Verdict(yes, result.code)

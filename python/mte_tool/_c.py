@@ -76,7 +76,7 @@ def loaded(path: str) -> ctypes.CDLL:
     table, room = [classes, c_size_t], [classes, c_size_t, rows, c_size_t]
     claim = [classes, c_size_t, c_uint64, rows, c_size_t]
     types: "dict[str, list[Any]]" = {
-        **{name: [options, c_char_p, c_size_t, text, result] for name in COMMANDS},
+        **{name: [options, *inputs * [c_char_p, c_size_t], text, result] for name, inputs in COMMANDS.items()},
         "score_profile": [options, *table, profile, result],
         "footprint_history": [options, *table, history, result],
         "footprint_timeline": [options, *table, timeline, result],

@@ -66,7 +66,14 @@ def version() -> str:
 
 def strerror(code: int) -> str:
     """A sentence for how a call ended, or for a code."""
-    return str(_c.library.mte_tool_strerror(code).decode())
+    return str(_c.library.mte_tool_strerror(code if 0 <= code < 2**31 else -1).decode())
+
+
+def whole(number: int, what: str) -> int:
+    """A number that has to fit 64 bits, since no other one stands for it."""
+    if not 0 <= number <= MOST:
+        raise ValueError(f"{what} is from 0 to 2^64 - 1: {number}")
+    return number
 
 
 def options(**given: int) -> _c.Options:

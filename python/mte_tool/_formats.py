@@ -1,4 +1,4 @@
-"""The options in the order of the header's structure, each with its default, and the commands.
+"""The options in the order of the header's structure, each with its default, and the commands, each with the number of its texts.
 
 Written by scripts/tests/formats from scripts/mte_scripts/formats.py.
 """
@@ -11,14 +11,14 @@ OPTIONS = {
     "step": 1,
 }
 
-COMMANDS = (
-    "score",
-    "tune",
-    "check",
-    "footprint",
-    "fit",
-    "check_fit",
-    "profile",
-    "replay",
-    "run",
-)
+COMMANDS = {
+    "score": 2,
+    "tune": 1,
+    "check": 2,
+    "footprint": 2,
+    "fit": 1,
+    "check_fit": 2,
+    "profile": 1,
+    "replay": 2,
+    "run": 1,
+}

@@ -80,25 +80,29 @@ class Heap:
 
     def realloc(self, address: int, size: int) -> Outcome:
         """Another size for the chunk at an address; of 0 it is malloc."""
-        return self._made("realloc", address, _size(size))
+        return self._made("realloc", _address(address), _size(size))
 
     def free(self, address: int) -> Outcome:
         """Frees the chunk at an address; 0 is let pass."""
-        return self._made("free", address)
+        return self._made("free", _address(address))
 
     def load(self, address: int, length: int) -> Outcome:
         """Reads 1 to 64 bytes from an address on."""
         room = ctypes.create_string_buffer(MOST_LOAD)
-        made = self._made("load", address, room, length if 0 <= length <= MOST_LOAD else 0)
+        made = self._made("load", _address(address), room, length if 0 <= length <= MOST_LOAD else 0)
         return made._replace(data=room.raw[:length]) if made.is_done else made
 
     def store(self, address: int, data: bytes) -> Outcome:
         """Writes 1 to 64 bytes from an address on."""
-        return self._made("store", address, data, len(data))
+        return self._made("store", _address(address), data, len(data))
 
     def addg(self, address: int, granules: int, step: int) -> Outcome:
         """The address so many granules (0 to 63) further up, with its tag counted up by so many steps (0 to 15)."""
-        return self._made("addg", address, *(number if 0 <= number <= _calls.MOST else _calls.MOST for number in (granules, step)))
+        return self._made("addg", _address(address), *(number if 0 <= number <= _calls.MOST else _calls.MOST for number in (granules, step)))
+
+
+def _address(address: int) -> int:
+    return _calls.whole(address, "an address")
 
 
 def _size(size: int) -> int:

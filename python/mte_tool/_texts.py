@@ -31,11 +31,11 @@ def as_bytes(text: Bytes) -> bytes:
 
 
 def called(name: str, *inputs: Bytes, **given: int) -> Answer:
-    """Makes a call over texts, one after the other."""
-    data = b"".join(map(as_bytes, inputs))
+    """Makes a call over a text, or over a first text and another."""
+    data = [part for text in map(as_bytes, inputs) for part in (text, len(text))]
     options, text, result = _calls.options(**given), _c.Text(), _c.Result()
     function = getattr(_c.library, f"mte_tool_{name}")
-    end = function(ctypes.byref(options), data, len(data), ctypes.byref(text), ctypes.byref(result))
+    end = function(ctypes.byref(options), *data, ctypes.byref(text), ctypes.byref(result))
     try:
         answer = ctypes.string_at(text.bytes, text.length) if text.length else b""
     finally:

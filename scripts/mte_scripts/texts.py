@@ -39,6 +39,11 @@ OTHER_TOOLS = re.compile(
     rb"|<malloc |Stats: SizeClassAllocator"
 )
 EVENT_WORDS = (b"malloc", b"calloc", b"realloc", b"free", b"load", b"store", b"addg", b"subg")
+NUMBER = rb" (?:0|[1-9][0-9]{0,19})"
+CERTIFICATE = re.compile(
+    rb"classes(?:%(n)s)*\nlimit%(n)s\n(?:step%(n)s\n)?"
+    rb"(?:waste%(n)s\n(?:row(?:%(n)s)*\n)*|footprint%(n)s\n(?:row(?:%(n)s)*\n)*(?:moments(?:%(n)s)+\n)?)" % {b"n": NUMBER}
+)
 SHEET_WORDS = (b"classes", b"limit", b"step", b"waste", b"footprint", b"row", b"moments")
 
 Sheet = namedtuple("Sheet", "classes limit step waste rows")
@@ -454,6 +459,21 @@ def parts_of(text: "str | bytes", name: str, kind: str, cost: bytes) -> tuple:
     if b"limit" not in numbers or cost not in numbers:
         raise Refused(2, f"{name}: it is no whole {kind}: a line `limit` or `{cost.decode()}` is missing")
     return classes, numbers[b"limit"], numbers[b"step"], numbers[cost], rows
+
+
+def joined(first: "str | bytes", second: "str | bytes", name: str = "the first text") -> bytes:
+    """A class line, a sheet or a fit, and what comes after it, as the one text that the program reads. Where one ends and the other begins is
+    what both are read by, so the first has to be whole and nothing else, and the second may not go on with it. They are joined nowhere else."""
+    lines, second = lines_of(os.fsencode(first)), os.fsencode(second)
+    if len(lines) < 2:
+        parse_class_line(lines[0] if lines else None, name)
+    elif not CERTIFICATE.fullmatch(b"".join(line + b"\n" for line in lines)):
+        parse = parse_fit if any(line.startswith(b"footprint ") for line in lines) else parse_sheet
+        parse(b"\n".join(lines), name)
+        raise Refused(2, f"{name}: its lines are not in the order of a sheet or a fit")
+    if second.split(b"\n", 1)[0].split(b" ", 1)[0] in (b"row", b"moments"):
+        raise Refused(2, f"what comes after {name} begins with a line of a sheet: {shown(lines_of(second)[0])}")
+    return b"".join(line + b"\n" for line in lines) + second
 
 
 def output_of(words: "Sequence[Any]", **how: Any) -> bytes:

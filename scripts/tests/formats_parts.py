@@ -122,8 +122,18 @@ def options_of_c():
 
 
 def commands_of_c():
-    takes = "const mte_tool_options *options, const void *input, size_t length, mte_tool_text *output, mte_tool_result *result"
-    return "".join(f"int mte_tool_{name}({takes});\n" for name in COMMANDS)
+    made = []
+    for name, it in COMMANDS.items():
+        head = f"int mte_tool_{name}("
+        first = "const void *first, size_t first_length, " if len(it.inputs) > 1 else ""
+        line = f"{head}const mte_tool_options *options, {first}const void *input, size_t length,"
+        rest = "mte_tool_text *output, mte_tool_result *result);\n"
+        made.append(f"{line}\n{' ' * len(head)}{rest}" if first else f"{line} {rest}")
+    return "".join(made)
+
+
+def calls_of_pointers():
+    return "".join(f"CALL{'_ON' if len(it.inputs) > 1 else ''}({name.upper()}, {name})\n" for name, it in COMMANDS.items())
 
 
 def options_of_proved():
@@ -159,12 +169,11 @@ def commands_of_cpp():
     made = []
     for name, command in COMMANDS.items():
         takes = [f"std::string_view {text}" for text in command.inputs]
-        given = f"detail::joined({', '.join(command.inputs)}).view()" if len(command.inputs) > 1 else command.inputs[0]
         if command.options:
             has_default = all(OPTIONS[option].default is not None for option in command.options)
             takes.append("const Options &options" + (" = Options()" if has_default else ""))
         words = f"{command.words}{by_options(command, before='options.')}.".replace("`", '"')
-        called = f"detail::Called(mte_tool_{name}, {given}, {'&options' if command.options else 'nullptr'})"
+        called = f"detail::Called(mte_tool_{name}, {', '.join(command.inputs)}, {'&options' if command.options else 'nullptr'})"
         made.append(
             f"{comment(words, 140, ' ')}\ninline {capital(command.gives)} {name}({', '.join(takes)}) {{\n    return {called}.{command.gives}();\n}}\n"
         )
@@ -183,11 +192,9 @@ POSITIONAL = formats.TUNER  # the options that need no name
 
 def options_of_python():
     lines = "".join(f'    "{name}": {option.default or 0:_},\n' for name, option in OPTIONS.items())
-    commands = "".join(f'    "{name}",\n' for name in COMMANDS)
-    return (
-        f'"""The options in the order of the header\'s structure, each with its default, and the commands.\n\n{WRITTEN}\n"""\n\n'
-        f"OPTIONS = {{\n{lines}}}\n\nCOMMANDS = (\n{commands})\n"
-    )
+    commands = "".join(f'    "{name}": {len(it.inputs)},\n' for name, it in COMMANDS.items())
+    words = "The options in the order of the header's structure, each with its default, and the commands, each with the number of its texts."
+    return f'"""{words}\n\n{WRITTEN}\n"""\n\nOPTIONS = {{\n{lines}}}\n\nCOMMANDS = {{\n{commands}}}\n'
 
 
 def commands_of_python():
@@ -210,7 +217,7 @@ def commands_of_python():
             f"    return called({given}).{command.gives}{'' if command.gives == 'text' else '()'}\n"
         )
     return "\n\n".join([
-        f'"""The commands over texts. A text is bytes, or a str of ASCII; the input of a call has at most {formats.MOST_INPUT:,} bytes.\n\n'
+        f'"""The commands over texts. A text is bytes, or a str of ASCII, and has at most {formats.MOST_INPUT:,} bytes.\n\n'
         f'{WRITTEN}\n"""\n\nfrom mte_tool._calls import Cost, Fit, Verdict\nfrom mte_tool._texts import Bytes, called\n',
         *made,
     ])
@@ -250,29 +257,30 @@ def members_of_rust():
 
 
 def externs_of_rust():
-    takes = (
-        "options: *const mte_tool_options", "input: *const c_void", "length: usize", "output: *mut mte_tool_text",
-        "result: *mut mte_tool_result",
-    )
-    lines = "".join(f"        {argument},\n" for argument in takes)
-    return "".join(f"    pub fn mte_tool_{name}(\n{lines}    ) -> c_int;\n" for name in COMMANDS)
+    made = []
+    for name, it in COMMANDS.items():
+        first = ("first: *const c_void", "first_length: usize") if len(it.inputs) > 1 else ()
+        takes = ("options: *const mte_tool_options", *first, "input: *const c_void", "length: usize", "output: *mut mte_tool_text",
+                 "result: *mut mte_tool_result")
+        made.append(f"    pub fn mte_tool_{name}(\n{''.join(f'        {argument},{chr(10)}' for argument in takes)}    ) -> c_int;\n")
+    return "".join(made)
 
 
 def commands_of_rust():
     made = []
     for name, command in COMMANDS.items():
         takes = [f"{text}: &[u8]" for text in command.inputs] + (["options: &Options"] if command.options else [])
-        given = f"c::mte_tool_{name}, &[{', '.join(command.inputs)}], {'options' if command.options else '&Options::new(0)'}"
+        given = f"c::mte_tool_{name}, {', '.join(command.inputs)}, {'options' if command.options else '&Options::new(0)'}"
         answer = ".text" if command.gives == "text" else f".{command.gives}()"
         made.append(
             f"/// {command.words}{by_options(command, mark='`')}.\n"
             f"pub fn {name}({', '.join(takes)}) -> Result<{capital(command.gives)}, Error> {{\n"
-            f"    Ok(call({given})?{answer})\n}}\n"
+            f"    Ok({'call_on' if len(command.inputs) > 1 else 'call'}({given})?{answer})\n}}\n"
         )
     return "\n".join([
         f"//! The commands over texts, each of at most {formats.MOST_INPUT:,} bytes. An [`Error`] has the first fault's code and line.\n"
         f"//! {WRITTEN}\n"
-        "use crate::calls::{Cost, Error, Verdict};\nuse crate::options::Options;\nuse crate::texts::{call, Fit, Text};\n"
+        "use crate::calls::{Cost, Error, Verdict};\nuse crate::options::Options;\nuse crate::texts::{call, call_on, Fit, Text};\n"
         "use mte_tool_sys as c;\n",
         *made,
     ])
@@ -342,6 +350,7 @@ def script_of_page():
         f"const OPTION_BITS = {{ {', '.join(f'{name}: {it.bits}' for name, it in OPTIONS.items())} }};",
         f"const HEAP_OPTIONS = [{quoted(formats.HEAP)}];",
         f"const COMMANDS = [{quoted(map(hyphenated, COMMANDS))}];",
+        f"const OF_TWO_TEXTS = [{quoted(hyphenated(name) for name, it in COMMANDS.items() if len(it.inputs) > 1)}];",
         f"const ENDED = [{ended}];",
         "const INPUT_CODES = {",
         *(f'  {code}: "{text}",' for code, text in words.items()),
@@ -369,12 +378,12 @@ PARTS = {
         (r"#define MTE_TOOL_VERSION .*\n#define MTE_TOOL_VERSION_NUMBER .*\n", version_of_c()),
         (r"(#define MTE_TOOL_(?!VERSION)\w+ \d+.*\n)+", limits_of_c()),
         (r"(?s)   Each call reads its own options.*?#define MTE_TOOL_OPTIONS\(limit\)[^\n]*", options_of_c()),
-        (r"(int mte_tool_\w+\(const mte_tool_options \*options, const void \*input.*\n)+", commands_of_c()),
+        (r"(?s)int mte_tool_score\(.*?(?=\n/\* Appends)", commands_of_c()),
     ],
     "include/mte_tool.hpp": [(r"(?s)(?<=   line\. \*/\n\n).*?(?=\n/\* ---- the same over arrays)", commands_of_cpp())],
     "library/options.h": [(r"(?s).*", options_of_proved())],
     "library/layer.h": [(r"enum \{ SCORE,.*\};", f"enum {{ {', '.join(name.upper() for name in COMMANDS)} }};")],
-    "library/pointers.c": [(r"(CALL\(\w+, \w+\)\n)+", "".join(f"CALL({name.upper()}, {name})\n" for name in COMMANDS))],
+    "library/pointers.c": [(r"(CALL(_ON)?\(\w+, \w+\)\n)+", calls_of_pointers())],
     "crates/tool_call/src/options.rt": [(r"(?s)(?<=    // written by scripts/tests/formats\n).*?(?=\})", options_of_proved_rust())],
     "python/mte_tool/_formats.py": [(r"(?s).*", options_of_python())],
     "python/mte_tool/_commands.py": [(r"(?s).*", commands_of_python())],

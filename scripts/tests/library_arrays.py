@@ -62,7 +62,7 @@ class Series:
     def compare(self, what, tables, limits):
         score, tune, check, cost = self.commands
         for classes in tables:
-            end, text = program(score, {}, class_line(classes) + self.text)
+            end, text = program(score, {}, (class_line(classes), self.text))
             number = int(text.split()[-1])
             want = (end == DONE, number if end == DONE else 0, number if end == NO else 0)
             expect(f"{what}: {score} by {classes}", self.score(classes, *self.data) == want)
@@ -75,7 +75,7 @@ class Series:
                 self.compare_check(f"{what}: {check} for {limit} and {step}, table {number}", check, each, limit, step, cost)
 
     def compare_check(self, what, check, table, limit, step, cost):
-        end, said = program(check, {}, claimed(table, cost, limit, step) + self.text)
+        end, said = program(check, {}, (claimed(table, cost, limit, step), self.text))
         try:
             got = (DONE if (verdict := self.check(table, *self.data, limit=limit, step=step)).is_optimal else NO, verdict.code, 0)
         except Exception as error:

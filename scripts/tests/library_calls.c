@@ -5,7 +5,7 @@
    library_calls refuse FOLDER COUNT   each call with each growth of memory refused in turn; then the calls over arrays, a text that is
                                        appended to, and a new heap
 
-   A call N has the files N.call (the command, the options in the order of mte_tool_options, and end, fault and line), N.input and N.want, the
+   A call N has the files N.call (the command, the options in the order of mte_tool_options, and end, fault and line), N.first, N.input and N.want, the
    text that it has to leave. The first call that goes wrong ends the run with status 1. */
 #include <mte_tool.h>
 
@@ -24,8 +24,8 @@ typedef struct {
     char command[16];
     mte_tool_options options;
     ending want_ending;
-    uint8_t *input, *want;
-    size_t length, want_length;
+    uint8_t *first, *input, *want;
+    size_t first_length, length, want_length;
 } call;
 
 /* the growth of memory that is refused, and how many blocks live; for one thread */
@@ -85,6 +85,7 @@ static call read_call(const char *folder, int number) {
     for (i = 1; i < sizeof options / sizeof *options; i++) options[i] = strtoull(rest, &rest, 10);
     memcpy(&c.options, options, sizeof options);
     if (sscanf(rest, "%d %u %lu", &c.want_ending.end, &c.want_ending.code, &c.want_ending.line) != 3) exit(2);
+    c.first = read_file(folder, number, "first", &c.first_length);
     c.input = read_file(folder, number, "input", &c.length);
     c.want = read_file(folder, number, "want", &c.want_length);
     __real_free(words);
@@ -95,14 +96,16 @@ static ending make(const call *c, const void *input, size_t length, mte_tool_tex
     static const struct {
         const char *name;
         int (*call)(const mte_tool_options *, const void *, size_t, mte_tool_text *, mte_tool_result *);
-    } commands[] = {{"score", mte_tool_score}, {"tune", mte_tool_tune}, {"check", mte_tool_check}, {"footprint", mte_tool_footprint},
-                    {"fit", mte_tool_fit}, {"check-fit", mte_tool_check_fit}, {"profile", mte_tool_profile}, {"replay", mte_tool_replay},
-                    {"run", mte_tool_run}};
+        int (*call_on)(const mte_tool_options *, const void *, size_t, const void *, size_t, mte_tool_text *, mte_tool_result *);
+    } commands[] = {{"score", NULL, mte_tool_score}, {"tune", mte_tool_tune, NULL}, {"check", NULL, mte_tool_check},
+                    {"footprint", NULL, mte_tool_footprint}, {"fit", mte_tool_fit, NULL}, {"check-fit", NULL, mte_tool_check_fit},
+                    {"profile", mte_tool_profile, NULL}, {"replay", NULL, mte_tool_replay}, {"run", mte_tool_run, NULL}};
     mte_tool_result result = MTE_TOOL_RESULT;
     size_t i;
     for (i = 0; i < sizeof commands / sizeof *commands; i++)
         if (!strcmp(c->command, commands[i].name)) {
-            int end = commands[i].call(&c->options, input, length, output, &result);
+            int end = commands[i].call ? commands[i].call(&c->options, input, length, output, &result)
+                                       : commands[i].call_on(&c->options, c->first, c->first_length, input, length, output, &result);
             return (ending){end, result.code, result.line};
         }
     exit(2);
@@ -269,7 +272,7 @@ int main(int argc, char **argv) {
             else test(&calls[i], i, (size_t)atol(argv[1]));
         if (!strcmp(argv[1], "refuse")) refuse_others();
     }
-    for (i = 0; i < count; i++) __real_free(calls[i].input), __real_free(calls[i].want);
+    for (i = 0; i < count; i++) __real_free(calls[i].first), __real_free(calls[i].input), __real_free(calls[i].want);
     __real_free(calls);
     return 0;
 }

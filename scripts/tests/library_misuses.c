@@ -18,8 +18,9 @@ static const char profile[] = "16 1\n";
 enum { LENGTH = sizeof profile - 1 };
 
 typedef int command(const mte_tool_options *, const void *, size_t, mte_tool_text *, mte_tool_result *);
-static command *const commands[] = {mte_tool_score, mte_tool_tune,    mte_tool_check,  mte_tool_footprint, mte_tool_fit,
-                                    mte_tool_check_fit, mte_tool_profile, mte_tool_replay, mte_tool_run};
+typedef int command_on(const mte_tool_options *, const void *, size_t, const void *, size_t, mte_tool_text *, mte_tool_result *);
+static command *const commands[] = {mte_tool_tune, mte_tool_fit, mte_tool_profile, mte_tool_run};
+static command_on *const commands_on[] = {mte_tool_score, mte_tool_check, mte_tool_footprint, mte_tool_check_fit, mte_tool_replay};
 
 static void nulls(void) {
     mte_tool_options options = MTE_TOOL_OPTIONS(2);
@@ -28,6 +29,13 @@ static void nulls(void) {
     for (i = 0; i < sizeof commands / sizeof *commands; i++) {
         WANT(commands[i](&options, NULL, 1, &text, NULL) == MTE_TOOL_MISUSE && !text.bytes);
         WANT(commands[i](&options, profile, LENGTH, NULL, NULL) == MTE_TOOL_MISUSE);
+    }
+    for (i = 0; i < sizeof commands_on / sizeof *commands_on; i++) {
+        WANT(commands_on[i](&options, NULL, 1, profile, LENGTH, &text, NULL) == MTE_TOOL_MISUSE && !text.bytes);
+        WANT(commands_on[i](&options, profile, LENGTH, NULL, 1, &text, NULL) == MTE_TOOL_MISUSE && !text.bytes);
+        WANT(commands_on[i](&options, profile, LENGTH, profile, LENGTH, NULL, NULL) == MTE_TOOL_MISUSE);
+        WANT(commands_on[i](&options, NULL, 0, NULL, 0, &text, NULL) == MTE_TOOL_REFUSED);
+        mte_tool_free(&text);
     }
     WANT(mte_tool_tune(&options, NULL, 0, &text, NULL) == MTE_TOOL_DONE && text.length > 0 && !memcmp(text.bytes, "classes", 7));
     WANT(mte_tool_tune(&options, NULL, 1, &text, NULL) == MTE_TOOL_MISUSE && text.length > 0); /* it stays */
@@ -52,16 +60,15 @@ static void apart(void) {
     mte_tool_result result = MTE_TOOL_RESULT;
     WANT(mte_tool_append(&text, "x\n", 2) == MTE_TOOL_DONE);
     WANT(mte_tool_tune(&options, profile, LENGTH, &text, NULL) == MTE_TOOL_DONE && !strncmp(text.bytes, "classes 2\n", 10));
-    /* the sheet and the profile that it was made for; then its verdict takes their place */
-    WANT(mte_tool_append(&text, profile, LENGTH) == MTE_TOOL_DONE);
-    WANT(mte_tool_check(NULL, text.bytes, text.length, &text, &result) == MTE_TOOL_DONE && !strcmp(text.bytes, "optimal\n"));
+    /* the verdict on a sheet takes its place */
+    WANT(mte_tool_check(NULL, text.bytes, text.length, profile, LENGTH, &text, &result) == MTE_TOOL_DONE && !strcmp(text.bytes, "optimal\n"));
     WANT(mte_tool_tune(&options, "x\n", 2, &text, &result) == MTE_TOOL_REFUSED && !strcmp(text.bytes, "30 BadLine line 1"));
     WANT(result.code == 30 && result.line == 1);
     options.limit = 0;
     WANT(mte_tool_tune(&options, profile, LENGTH, &text, &result) == MTE_TOOL_BAD_OPTION && !text.bytes);
     WANT(result.code == 0 && result.line == 0);
-    WANT(mte_tool_score(NULL, "classes 2\n32 1\n", 15, &text, &result) == MTE_TOOL_NO && result.at == 32 && result.bytes == 0);
-    WANT(mte_tool_score(NULL, "classes 4\n32 1\n", 15, &text, &result) == MTE_TOOL_DONE && result.bytes == 16 && result.at == 0);
+    WANT(mte_tool_score(NULL, "classes 2", 9, "32 1\n", 5, &text, &result) == MTE_TOOL_NO && result.at == 32 && result.bytes == 0);
+    WANT(mte_tool_score(NULL, "classes 4\n", 10, "32 1\n", 5, &text, &result) == MTE_TOOL_DONE && result.bytes == 16 && result.at == 0);
     mte_tool_free(&text);
 }
 
@@ -71,17 +78,18 @@ static void option_sizes(void) {
         mte_tool_options known;
         uint64_t new_one, newer_one;
     } newer = {MTE_TOOL_OPTIONS(2), 0, 0};
-    static const char trace[] = "classes 4\nmalloc 1 16\nload 1 0 1\n";
+    static const char table[] = "classes 4\n", trace[] = "malloc 1 16\nload 1 0 1\n";
+    enum { LINE = sizeof table - 1, EVENTS = sizeof trace - 1 };
     mte_tool_text plain = MTE_TOOL_TEXT, text = MTE_TOOL_TEXT;
     mte_tool_options *options = &newer.known;
     size_t size;
-    WANT(mte_tool_replay(options, trace, sizeof trace - 1, &plain, NULL) == MTE_TOOL_DONE);
-    WANT(mte_tool_replay(NULL, trace, sizeof trace - 1, &text, NULL) == MTE_TOOL_DONE && !strcmp(plain.bytes, text.bytes));
+    WANT(mte_tool_replay(options, table, LINE, trace, EVENTS, &plain, NULL) == MTE_TOOL_DONE);
+    WANT(mte_tool_replay(NULL, table, LINE, trace, EVENTS, &text, NULL) == MTE_TOOL_DONE && !strcmp(plain.bytes, text.bytes));
     WANT(mte_tool_tune(NULL, profile, LENGTH, &text, NULL) == MTE_TOOL_BAD_OPTION); /* a limit has no default */
     /* what an older caller lacks has its default: here all that is not within the size is wrong */
     memset((char *)options + sizeof(size_t), 0xee, sizeof *options - sizeof(size_t));
     options->size = sizeof(size_t);
-    WANT(mte_tool_replay(options, trace, sizeof trace - 1, &text, NULL) == MTE_TOOL_DONE && !strcmp(plain.bytes, text.bytes));
+    WANT(mte_tool_replay(options, table, LINE, trace, EVENTS, &text, NULL) == MTE_TOOL_DONE && !strcmp(plain.bytes, text.bytes));
     WANT(mte_tool_tune(options, profile, LENGTH, &text, NULL) == MTE_TOOL_BAD_OPTION);
     options->size = offsetof(mte_tool_options, step);
     options->limit = 2;
@@ -94,7 +102,7 @@ static void option_sizes(void) {
     WANT(mte_tool_tune(options, profile, LENGTH, &text, NULL) == MTE_TOOL_DONE);
     newer.newer_one = (uint64_t)1 << 63;
     WANT(mte_tool_tune(options, profile, LENGTH, &text, NULL) == MTE_TOOL_BAD_OPTION);
-    WANT(mte_tool_score(options, "classes 2\n16 1\n", 15, &text, NULL) == MTE_TOOL_BAD_OPTION); /* which reads none */
+    WANT(mte_tool_score(options, "classes 2", 9, profile, LENGTH, &text, NULL) == MTE_TOOL_BAD_OPTION); /* which reads none */
     options->size -= sizeof newer.newer_one;
     WANT(mte_tool_tune(options, profile, LENGTH, &text, NULL) == MTE_TOOL_DONE);
     /* sizes that nobody set */
@@ -207,7 +215,7 @@ static void wide(void) {
             if (bit % 16 == 0) WANT(mte_tool_run(&good, NULL, 0, &text, NULL) == MTE_TOOL_DONE);
             WANT(mte_tool_run(&bad, NULL, 0, &text, NULL) == MTE_TOOL_BAD_OPTION && text.length == 0);
             if (field < 3) {
-                WANT(mte_tool_replay(&bad, "classes 2\n", 10, &text, NULL) == MTE_TOOL_BAD_OPTION);
+                WANT(mte_tool_replay(&bad, "classes 2", 9, NULL, 0, &text, NULL) == MTE_TOOL_BAD_OPTION);
                 WANT(mte_tool_heap_new(&heap, &bad, classes, 2, NULL) == MTE_TOOL_BAD_OPTION && !heap.live);
             } else {
                 WANT(mte_tool_tune(&bad, profile, LENGTH, &text, NULL) == MTE_TOOL_BAD_OPTION);

@@ -34,7 +34,14 @@ static void texts() {
     WANT(check(sheet.view(), profile_text));
     WANT(check(sheet.view(), "16 9\n").code == 42 && *check(sheet.view(), "16 9\n").sentence());
     WANT(score("classes 2 4\n", profile_text).bytes == 16 && score("classes 2\n", profile_text).least_size == 32);
-    WANT(!score("classes 2\n", profile_text).serves);
+    WANT(!score("classes 2\n", profile_text).serves && score("classes 2 8", "9 1000\n24 70\n").bytes == 13160);
+    WANT(throws(MTE_TOOL_REFUSED, 23, 1, [] { score("classes 2 8\n9 1000\n", "24 70\n"); }));
+    /* the sheets of scripts/tests/library_cases.py: what the first text lacks or has too much moves no border */
+    WANT(!check("classes 64 1001\nlimit 2\nwaste 10009790\nrow 10234670 10075000 10000000\nrow 10009790 1",
+                "16 1000000\n33 10\n1000 5\n15990 1000000\n"));
+    WANT(throws(MTE_TOOL_REFUSED, 48, 6, [] {
+        check("classes 2 64\nlimit 2\nwaste 18000\nrow 1029000 18000 0 0\nrow 18000 0 0 0\n0 1000000000\n", "33 1000\n1000 1000\n");
+    }));
     Fit fitted = fit(history, Options(2));
     WANT(fitted.is_least && check_fit(fitted.text.view(), history) && footprint("classes 2 4\n", history).bytes == 160);
     WANT(fit(timeline, Options(2)).is_least && footprint("classes 4\n", timeline).bytes == 128);

@@ -25,7 +25,7 @@ use Rattle.trace_reader.specs.TraceText.{trace_from}
 use Rattle.trace_reader.specs.declared.fault.TraceFault.{TraceFault}
 use Rattle.tuner_theory.specs.Sheets.{Sheet}
 use Rattle.tuner_theory.specs.Profiles.{Profile as Counted}
-use Rattle.mte_engine.specs.Check.{sheet_and_profile}
+use Rattle.mte_engine.specs.Check.{CheckAnswers}
 use Rattle.mte_engine.specs.FaultLines.{IsAtFirstFault, SpellsLeadingAnd, SpellsSheetAndProfile, SpellsTableAnd, line_of_fault}
 use Rattle.mte_engine.specs.Outcome.{Answer}
 use Rattle.mte_engine.specs.Parts.{profile_part, table_and}
@@ -289,7 +289,7 @@ after_sheet text sheet m read refused =
     let is_profile : SpellsProfile (text_of (take (m - 1) rest)) before.0 = rw rest_lines at before.1 in
     after_leading SpellsSheet SpellsProfile text sheet before.0 m is_sheet there is_profile first
 
-pub check_profile_at_first : (text : List ℕ) (n : ℕ) (fault : ProfileFault) → sheet_and_profile (lines text) ≡ Err (Profile n fault)
+pub check_profile_at_first : (text : List ℕ) (n : ℕ) (fault : ProfileFault) → CheckAnswers text (Err (Profile n fault))
     → IsFirstFault SpellsSheetAndProfile text n
 unfolding lines_after
 check_profile_at_first text n fault e = go (sheet_of_lines (leading_lines (lines text))) refl

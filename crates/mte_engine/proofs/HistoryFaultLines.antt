@@ -17,7 +17,7 @@ use Rattle.potential_check.specs.declared.cost.Cost.TheVariants.{Footprint}
 use Rattle.potential_check.specs.Leading.{head_size, is_row_line, leading_lines, lines_after}
 use Rattle.potential_check.proofs.LawLemmas.{read_is_spelled}
 use Rattle.tuner_theory.specs.Sheets.{Sheet}
-use Rattle.mte_engine.specs.CheckFit.{fit_and_history}
+use Rattle.mte_engine.specs.CheckFit.{CheckFitAnswers}
 use Rattle.mte_engine.specs.FaultLines.{SpellsFitAndHistory}
 use Rattle.mte_engine.specs.Parts.{history_part}
 use Rattle.mte_engine.specs.declared.fault.InputFault.TheVariants.{History}
@@ -170,7 +170,7 @@ after_fit text fit m read refused =
           rw one (first_after_fit text fit read is_fit first_one)
     ]
 
-pub check_fit_history_at_first : (text : List ℕ) (n : ℕ) (fault : HistoryFault) → fit_and_history (lines text) ≡ Err (History n fault)
+pub check_fit_history_at_first : (text : List ℕ) (n : ℕ) (fault : HistoryFault) → CheckFitAnswers text (Err (History n fault))
     → IsFirstFault SpellsFitAndHistory text n
 unfolding lines_after
 check_fit_history_at_first text n fault e = go (fit_of_lines (leading_lines (lines text))) refl

@@ -1,13 +1,11 @@
 pub mod CountedLines
 pub mod Counting
-pub mod EitherFit
 pub mod FaultLines
 pub mod Headline
 pub mod HistoryFaultLines
 pub mod InFront
 pub mod KnownInput
 pub mod LawLemmas
-pub mod LeadingAnd
 pub mod LineAndTrace
 pub mod OneAnswer
 pub mod Outcomes
@@ -15,6 +13,6 @@ pub mod Reporting
 pub mod RowLines
 pub mod RunAnswers
 pub mod SheetLinesSettled
-pub mod TableAnd
 pub mod TimelineFaultLines
 pub mod TracePieces
+pub mod TwoParts

@@ -1,5 +1,5 @@
 -- From a class line and a trace to the answer of `replay`.
-use Rattle.std.proofs.Common.{◌≡◌, ℕ, Bool, true, false, List, [], ◌∷◌, ◌++◌, drop, Ok, Err, refl, sym, ap, ◌∙◌, arith, slice_index_or}
+use Rattle.std.proofs.Common.{◌≡◌, ℕ, Bool, true, false, List, [], ◌∷◌, ◌++◌, drop, Result, Ok, Err, refl, sym, ap, ◌∙◌, arith, slice_index_or, subst}
 use Rattle.std.proofs.lemmas.List.Elements.{All-nil}
 use Rattle.line_text.specs.Lines.{lines, words, IsLine}
 use Rattle.line_text.proofs.LawLemmas.{cut_lines_are_read, line_in_front_is_read}
@@ -8,13 +8,15 @@ use Rattle.heap_theory.specs.declared.config.Config.{Config}
 use Rattle.trace_reader.specs.Reading.{Reading, finished, whole_reading}
 use Rattle.trace_reader.specs.TraceText.{trace_of}
 use Rattle.trace_reader.proofs.LawLemmas.{one_piece_is_the_text}
-use Rattle.mte_engine.specs.Outcome.{GivesFault}
-use Rattle.mte_engine.specs.Parts.{GivesPart, table_part}
-use Rattle.mte_engine.specs.Replay.{ReplayAnswers, replay_answer, replay_of_lines, report_on}
-use Rattle.mte_engine.specs.Traces.{HasEnded, IsLineAndTrace, KeepsLineAndEvents}
+use Rattle.mte_engine.specs.Outcome.{Answer, GivesAnswer, GivesFault}
+use Rattle.mte_engine.specs.Parts.{GivesPart, class_part, table_part}
+use Rattle.mte_engine.specs.Replay.{ReplayAnswers, replay_answer, replay_of_lines, replay_of_parts, replay_over, report_on}
+use Rattle.mte_engine.specs.Traces.{HasEnded, IsLineAndTrace, KeepsEvents, KeepsLineAndEvents}
+use Rattle.mte_engine.specs.declared.engine.Status.{Status}
 use Rattle.mte_engine.specs.declared.engine.Status.TheVariants.{Done}
 use Rattle.mte_engine.specs.declared.fault.AnswerError.{AnswerError}
 use Rattle.mte_engine.specs.declared.fault.AnswerError.TheVariants.{OutOfMemory, Input}
+use Rattle.mte_engine.specs.declared.fault.InputFault.{InputFault}
 use Rattle.mte_engine.proofs.TracePieces.{nothing_fed, trace_ends, trace_refused}
 
 -- an empty line spells no table, so an input without lines is answered as one of an empty line
@@ -39,33 +41,56 @@ line_and_trace true line reading bytes keeps =
     let whole : lines bytes ≡ line ∷ lines keeps.0 = ap lines keeps.1 ∙ line_in_front_is_read line keeps.0 keeps.2 in
     (keeps.0, record { line_is = sym (ap first whole); others = sym (ap (drop 1) whole); keeps = keeps.3 })
 
+-- ---- over a table, a trace whose events wait in the reader
+
+module _ (config : Config) (table : List ℕ) (before : ℕ) (trace : List ℕ) (reading : Reading) (keeps : KeepsEvents reading trace) where
+  finished_is : finished reading ≡ whole_reading (trace_of trace)
+  finished_is = ap finished keeps ∙ one_piece_is_the_text trace
+
+  pub trace_is_refused : (error : AnswerError) → HasEnded before (finished reading).state (Err error)
+      → GivesFault (λ answer. replay_over config table before (lines trace) ≡ answer) error
+  trace_is_refused OutOfMemory ended = tt
+  trace_is_refused (Input refused) ended =
+      let part = trace_refused before (trace_of trace) (finished reading).state refused (ap (λ (r : Reading). r.state) finished_is) ended in
+      rw part refl
+
+  pub report_written : (reading' : Reading) (text : List ℕ) → HasEnded before (finished reading).state (Ok tt)
+      → reading' ≡ finished reading → text ≡ [] ++ report_on config table reading'.events
+      → replay_over config table before (lines trace) ≡ Ok (record { text = text; status = Done })
+  report_written reading' text ended same is_text =
+      let part = trace_ends before (trace_of trace) (finished reading).state (ap (λ (r : Reading). r.state) finished_is) ended in
+      let events : reading'.events ≡ (trace_of trace).events = ap (λ (r : Reading). r.events) (same ∙ finished_is) in
+      rw (part, is_text, events) refl
+
+-- ---- a class line and a trace
+
+module _ (config : Config) (class : List (List ℕ)) (before : ℕ) (ls : List (List ℕ)) where
+  pub class_refused : (error : AnswerError) → GivesPart {A = List ℕ} (Err error) (class_part class)
+      → GivesFault (λ answer. replay_of_parts config class before ls ≡ answer) error
+  class_refused OutOfMemory gives = tt
+  class_refused (Input fault) gives = rw gives refl
+
+  pub class_replayed : {O : Type 0} (left : O → List ℕ) (table : List ℕ) → class_part class ≡ Ok table
+      → (result : Result (O × Status) AnswerError) → GivesAnswer left (λ answer. replay_over config table before ls ≡ answer) result
+      → GivesAnswer left (λ answer. replay_of_parts config class before ls ≡ answer) result
+  class_replayed left table read (Ok answered) gives = rw read gives
+  class_replayed left table read (Err OutOfMemory) gives = tt
+  class_replayed left table read (Err (Input fault)) gives = rw read gives
+
 module _ (config : Config) (bytes line trace : List ℕ) (reading : Reading) (is : IsLineAndTrace bytes line trace reading) where
-  answer_is : replay_answer config bytes ≡ replay_of_lines config (line ∷ lines trace)
+  parts_answer : replay_answer config bytes ≡ replay_of_parts config (line ∷ []) 1 (lines trace)
   unfolding replay_answer
-  answer_is = answer_by_lines config (lines bytes) ∙ rw (is.line_is, is.others) refl
+  parts_answer = answer_by_lines config (lines bytes) ∙ rw (is.line_is, is.others) refl
 
-  pub table_refused : (error : AnswerError) → GivesPart {A = List ℕ} (Err error) (table_part (table_of_line line)) →
-      GivesFault (ReplayAnswers config bytes) error
-  unfolding replay_answer
-  table_refused OutOfMemory gives = tt
-  table_refused (Input fault) gives = answer_is ∙ rw gives refl
+  pub line_refused : (error : AnswerError) → GivesPart {A = List ℕ} (Err error) (table_part (table_of_line line))
+      → GivesFault (ReplayAnswers config bytes) error
+  line_refused error gives =
+      subst (λ (r : Result Answer InputFault). GivesFault (λ answer. r ≡ answer) error) (sym parts_answer)
+      (class_refused config (line ∷ []) 1 (lines trace) error gives)
 
-  module _ (table : List ℕ) (read : table_part (table_of_line line) ≡ Ok table) where
-    finished_is : finished reading ≡ whole_reading (trace_of trace)
-    finished_is = ap finished is.keeps ∙ one_piece_is_the_text trace
-
-    pub replay_refused : (error : AnswerError) → HasEnded 1 (finished reading).state (Err error) →
-        GivesFault (ReplayAnswers config bytes) error
-    unfolding replay_answer
-    replay_refused OutOfMemory ended = tt
-    replay_refused (Input refused) ended =
-        let part = trace_refused 1 (trace_of trace) (finished reading).state refused (ap (λ (r : Reading). r.state) finished_is) ended in
-        answer_is ∙ rw (read, part) refl
-
-    pub replay_written : (reading' : Reading) (text : List ℕ) → HasEnded 1 (finished reading).state (Ok tt) → reading' ≡ finished reading
-        → text ≡ [] ++ report_on config table reading'.events → ReplayAnswers config bytes (Ok (record { text = text; status = Done }))
-    unfolding replay_answer
-    replay_written reading' text ended same is_text =
-        let part = trace_ends 1 (trace_of trace) (finished reading).state (ap (λ (r : Reading). r.state) finished_is) ended in
-        let events : reading'.events ≡ (trace_of trace).events = ap (λ (r : Reading). r.events) (same ∙ finished_is) in
-        answer_is ∙ rw (read, part, is_text, events) refl
+  pub line_replayed : {O : Type 0} (left : O → List ℕ) (table : List ℕ) → table_part (table_of_line line) ≡ Ok table
+      → (result : Result (O × Status) AnswerError) → GivesAnswer left (λ answer. replay_over config table 1 (lines trace) ≡ answer) result
+      → GivesAnswer left (ReplayAnswers config bytes) result
+  line_replayed left table read result gives =
+      subst (λ (r : Result Answer InputFault). GivesAnswer left (λ answer. r ≡ answer) result) (sym parts_answer)
+      (class_replayed config (line ∷ []) 1 (lines trace) left table read result gives)

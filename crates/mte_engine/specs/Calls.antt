@@ -1,4 +1,4 @@
--- The answers of each call's engine.
+-- The answers of each call's engine, to one text and to two.
 use Rattle.std.specs.Prelude.{ℕ, List, Result}
 use Rattle.mte_engine.specs.Check.{CheckAnswers}
 use Rattle.mte_engine.specs.CheckFitOver.{CheckFitEitherAnswers}
@@ -6,11 +6,13 @@ use Rattle.mte_engine.specs.FitOver.{FitEitherAnswers}
 use Rattle.mte_engine.specs.FootprintOver.{FootprintEitherAnswers}
 use Rattle.mte_engine.specs.Outcome.{Answer}
 use Rattle.mte_engine.specs.Profile.{ProfileAnswers}
-use Rattle.mte_engine.specs.Replay.{ReplayAnswers}
+use Rattle.mte_engine.specs.Replay.{ReplayAnswers, ReplayOnAnswers}
 use Rattle.mte_engine.specs.Run.{RunAnswers}
 use Rattle.mte_engine.specs.Score.{ScoreAnswers}
 use Rattle.mte_engine.specs.Tune.{TuneAnswers}
+use Rattle.mte_engine.specs.TwoTexts.{answers_beside}
 use Rattle.mte_engine.specs.declared.fault.InputFault.{InputFault}
+use Rattle.mte_engine.specs.declared.two_texts.CountsCommand.TheVariants as counts
 use Rattle.tool_call.specs.declared.call.Call.{Call}
 use Rattle.tool_call.specs.declared.call.Call.TheVariants.{Score, Tune, Check, Footprint, Fit, CheckFit, Profile, Replay, Run}
 
@@ -24,3 +26,13 @@ answers_of CheckFit = CheckFitEitherAnswers
 answers_of Profile = ProfileAnswers
 answers_of (Replay config) = ReplayAnswers config
 answers_of (Run limits config) = RunAnswers limits.limit limits.step config
+
+-- The answers of a call whose input is two texts (`has_two_texts`): a class line, a sheet or a fit, and nothing else; and what comes after
+-- it in one text. The lines of a fault are counted in its own text.
+abbrev pub answers_on : Call → List ℕ → List ℕ → Result Answer InputFault → Type 0
+answers_on Score first = answers_beside counts.Score first
+answers_on Check first = answers_beside counts.Check first
+answers_on Footprint first = answers_beside counts.Footprint first
+answers_on CheckFit first = answers_beside counts.CheckFit first
+answers_on (Replay config) first = ReplayOnAnswers config first
+answers_on call first = answers_of call

@@ -1,9 +1,8 @@
 -- The answers of `check`: the verdict on the sheet at the start of its input, for the profile after it.
-use Rattle.std.specs.Prelude.{◌≡◌, ℕ, List, ◌++◌, codes, length, Result, Ok, Err}
+use Rattle.std.specs.Prelude.{◌≡◌, ℕ, List, [], ◌++◌, codes, length, Result}
 use Rattle.line_text.specs.Lines.{lines, ended}
 use Rattle.potential_check.specs.declared.cost.Cost.TheVariants.{Waste}
 use Rattle.potential_check.specs.Leading.{leading_lines, lines_after}
-use Rattle.potential_check.specs.SheetText.{sheet_of_lines}
 use Rattle.profile_count.specs.ProfileText.{profile_of_lines}
 use Rattle.tuner_theory.specs.Best.{IsBest}
 use Rattle.tuner_theory.specs.Sheets.{IsVerdict, Sheet}
@@ -13,7 +12,7 @@ use Rattle.tuner_theory.specs.declared.verdict.Refusal.{Refusal}
 use Rattle.tuner_theory.specs.declared.verdict.Verdict.{Verdict}
 use Rattle.tuner_theory.specs.declared.verdict.Verdict.TheVariants.{Optimal, Refused}
 use Rattle.mte_engine.specs.Outcome.{Answer}
-use Rattle.mte_engine.specs.Parts.{both_parts, profile_part, sheet_part}
+use Rattle.mte_engine.specs.Parts.{AnswersPart, both_parts, profile_part, whole_sheet_part}
 use Rattle.mte_engine.specs.declared.engine.Status.TheVariants.{Done, No}
 use Rattle.mte_engine.specs.declared.fault.InputFault.{InputFault}
 
@@ -26,12 +25,6 @@ verdict_text_by shown (Refused refusal) = record { text = ended (codes "refused 
 abbrev pub verdict_text : Verdict → Answer
 verdict_text verdict = verdict_text_by shown_refusal verdict
 
--- The sheet at the start of these lines, and the profile after it.
-abbrev pub sheet_and_profile : List (List ℕ) → Result (Sheet × Counted) InputFault
-sheet_and_profile ls =
-    both_parts (sheet_part Waste (sheet_of_lines (leading_lines ls)))
-    (profile_part (length (leading_lines ls)) (profile_of_lines (lines_after ls)))
-
 -- The verdict on a sheet for a profile. `optimal` is written only where the sheet's table is a best one.
 pub record IsChecked (sheet : Sheet) (profile : Counted) (answer : Answer) : Type 0 where
   pub verdict : Verdict
@@ -39,8 +32,14 @@ pub record IsChecked (sheet : Sheet) (profile : Counted) (answer : Answer) : Typ
   pub best : verdict ≡ Optimal → IsBest profile.counts sheet.step sheet.limit sheet.table
   pub written : answer ≡ verdict_text verdict
 
--- A sheet and then a profile. The answer is the verdict, or the first fault of the two.
+-- The lines of a sheet and those that are left of its text, and the lines of a profile, which come after this many of their input. The
+-- answer is the verdict, or the first fault of the two.
+abbrev pub ChecksParts : (sheet others : List (List ℕ)) → ℕ → List (List ℕ) → Result Answer InputFault → Type 0
+ChecksParts sheet others before ls answer =
+    AnswersPart (both_parts (whole_sheet_part Waste sheet others) (profile_part before (profile_of_lines ls)))
+    (λ parts text. IsChecked parts.0 parts.1 text) answer
+
+-- One text: a sheet, which is its leading lines, and then a profile.
 abbrev pub CheckAnswers : List ℕ → Result Answer InputFault → Type 0
-CheckAnswers text (Ok answer) =
-    (parts : Sheet × Counted) × (sheet_and_profile (lines text) ≡ Ok parts) × IsChecked parts.0 parts.1 answer
-CheckAnswers text (Err fault) = sheet_and_profile (lines text) ≡ Err fault
+CheckAnswers text answer =
+    ChecksParts (leading_lines (lines text)) [] (length (leading_lines (lines text))) (lines_after (lines text)) answer

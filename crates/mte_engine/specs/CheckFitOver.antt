@@ -1,6 +1,6 @@
 -- The answers of `check-fit` to an input with a timeline: the verdict on the fit at the start of its input, with the moments that it names,
 -- for the timeline after it.
-use Rattle.std.specs.Prelude.{◌≡◌, ℕ, ◌+◌, Bool, false, List, [], ◌∷◌, ◌++◌, codes, length, MatchBool, Option, Some, None, Result, Ok, Err}
+use Rattle.std.specs.Prelude.{◌≡◌, ℕ, ◌+◌, Bool, false, List, [], ◌∷◌, ◌++◌, codes, drop, length, take, MatchBool, Option, Some, None, Result, Ok, Err}
 use Rattle.line_text.specs.Lines.{ended, lines}
 use Rattle.potential_check.specs.SheetText.{fit_of_lines}
 use Rattle.potential_check.specs.declared.cost.Cost.TheVariants.{Footprint}
@@ -14,9 +14,9 @@ use Rattle.history_count.specs.Timelines.TimelineText.{timeline_of_lines}
 use Rattle.tuner_theory.specs.Sheets.{Sheet}
 use Rattle.tuner_theory.specs.Timelines.{IsLeastOver}
 use Rattle.tuner_theory.specs.declared.size_event.SizeEvent.{SizeEvent}
-use Rattle.mte_engine.specs.CheckFit.{CheckFitAnswers}
+use Rattle.mte_engine.specs.CheckFit.{CheckFitAnswers, ChecksFitParts}
 use Rattle.mte_engine.specs.Outcome.{Answer}
-use Rattle.mte_engine.specs.Parts.{both_parts, sheet_part, timeline_part}
+use Rattle.mte_engine.specs.Parts.{AnswersPart, alone, both_parts, sheet_part, timeline_part}
 use Rattle.mte_engine.specs.declared.engine.Status.TheVariants.{Done, No}
 use Rattle.mte_engine.specs.declared.fault.InputFault.{InputFault}
 use Rattle.mte_engine.specs.declared.fault.InputFault.TheVariants.{BadFit}
@@ -35,16 +35,10 @@ abbrev pub moments_part : ℕ → Option (List ℕ) → Result (List ℕ) InputF
 moments_part number (Some numbers) = Ok numbers
 moments_part number None = Err (BadFit number)
 
--- What follows this many lines of the input: the line of the moments, and then the timeline.
-abbrev pub moments_and_timeline : ℕ → List (List ℕ) → Result (List ℕ × List SizeEvent) InputFault
-moments_and_timeline count [] = Err (BadFit (count + 1))
-moments_and_timeline count (line ∷ ls) =
-    both_parts (moments_part (count + 1) (moments_of line)) (timeline_part (count + 1) (timeline_of_lines ls))
-
--- The fit at the start of these lines, and what follows it.
-abbrev pub fit_and_timeline : List (List ℕ) → Result (Sheet × (List ℕ × List SizeEvent)) InputFault
-fit_and_timeline ls =
-    both_parts (sheet_part Footprint (fit_of_lines (leading_lines ls))) (moments_and_timeline (length (leading_lines ls)) (lines_after ls))
+-- The line of the moments that these lines are, after this many lines of the fit.
+abbrev pub whole_moments_part : ℕ → List (List ℕ) → Result (List ℕ) InputFault
+whole_moments_part count [] = Err (BadFit (count + 1))
+whole_moments_part count (line ∷ ls) = alone (moments_part (count + 1) (moments_of line)) ls (BadFit (count + 2))
 
 -- The verdict on a fit over a timeline. `optimal` is written only where no table in question takes less over every moment.
 pub record IsCheckedOver (fit : Sheet) (numbers : List ℕ) (events : List SizeEvent) (answer : Answer) : Type 0 where
@@ -53,14 +47,26 @@ pub record IsCheckedOver (fit : Sheet) (numbers : List ℕ) (events : List SizeE
   pub least : verdict ≡ Optimal → IsLeastOver events fit.step fit.limit fit.table
   pub written : answer ≡ over_verdict_text verdict
 
--- The answer is the verdict, or the first fault of the three.
-abbrev pub CheckFitOverAnswers : List ℕ → Result Answer InputFault → Type 0
-CheckFitOverAnswers text (Ok answer) =
-    (parts : Sheet × (List ℕ × List SizeEvent)) × (fit_and_timeline (lines text) ≡ Ok parts)
-    × IsCheckedOver parts.0 parts.1.0 parts.1.1 answer
-CheckFitOverAnswers text (Err fault) = fit_and_timeline (lines text) ≡ Err fault
+-- The lines of a fit, those of its moments, and those of a timeline, which come after this many of their input. The answer is the verdict,
+-- or the first fault of the three.
+abbrev pub ChecksOverParts : (fit moments : List (List ℕ)) → ℕ → List (List ℕ) → Result Answer InputFault → Type 0
+ChecksOverParts fit moments before ls answer =
+    AnswersPart (both_parts (sheet_part Footprint (fit_of_lines fit))
+    (both_parts (whole_moments_part (length fit) moments) (timeline_part before (timeline_of_lines ls))))
+    (λ parts text. IsCheckedOver parts.0 parts.1.0 parts.1.1 text) answer
 
--- The answers to any input: after the fit its moments and a timeline, or else a history.
+-- One text: a fit, which is its leading lines, then the line of its moments, and then a timeline.
+abbrev pub CheckFitOverAnswers : List ℕ → Result Answer InputFault → Type 0
+CheckFitOverAnswers text answer =
+    ChecksOverParts (leading_lines (lines text)) (take 1 (lines_after (lines text))) (length (leading_lines (lines text)) + 1)
+    (drop 1 (lines_after (lines text))) answer
+
+-- One text: after the fit its moments and a timeline, or else a history.
 abbrev pub CheckFitEitherAnswers : List ℕ → Result Answer InputFault → Type 0
 CheckFitEitherAnswers text answer =
     MatchBool (begins_moments (lines_after (lines text))) (CheckFitOverAnswers text answer) (CheckFitAnswers text answer)
+
+-- The lines of a fit and those that are left of its text, the moments if they begin so, and the lines of a timeline, or else of a history.
+abbrev pub ChecksEitherParts : (fit others : List (List ℕ)) → ℕ → List (List ℕ) → Result Answer InputFault → Type 0
+ChecksEitherParts fit others before ls answer =
+    MatchBool (begins_moments others) (ChecksOverParts fit others before ls answer) (ChecksFitParts fit others before ls answer)

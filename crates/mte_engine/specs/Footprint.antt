@@ -1,5 +1,5 @@
 -- The answers of `footprint`: what a table takes over a history, or the least counted size that the table doesn't serve.
-use Rattle.std.specs.Prelude.{◌≡◌, ℕ, List, codes, Result, Ok, Err}
+use Rattle.std.specs.Prelude.{◌≡◌, ℕ, List, codes, drop, take, Result}
 use Rattle.history_count.specs.Histories.{History}
 use Rattle.history_count.specs.HistoryText.{history_of_lines}
 use Rattle.line_text.specs.Lines.{lines}
@@ -7,7 +7,7 @@ use Rattle.profile_count.specs.Counts.{unserved_of}
 use Rattle.tuner_theory.specs.Footprint.{footprint_of}
 use Rattle.tuner_theory.specs.Histories.{peaks}
 use Rattle.mte_engine.specs.Outcome.{Answer}
-use Rattle.mte_engine.specs.Parts.{history_part, table_and}
+use Rattle.mte_engine.specs.Parts.{AnswersPart, both_parts, class_part, history_part}
 use Rattle.mte_engine.specs.Score.{named_or_unserved}
 use Rattle.mte_engine.specs.declared.fault.InputFault.{InputFault}
 
@@ -15,15 +15,13 @@ abbrev pub measured : List ℕ → History → Answer
 measured table history =
     named_or_unserved (codes "footprint") (unserved_of (peaks history.snapshots) table) (footprint_of history.snapshots table)
 
-abbrev pub history_after_line : List (List ℕ) → Result History InputFault
-history_after_line ls = history_part 1 (history_of_lines ls)
+-- The lines of a class line, and those of a history, which come after this many of their input. The answer is the footprint, or the first
+-- fault of the two.
+abbrev pub MeasuresParts : List (List ℕ) → ℕ → List (List ℕ) → Result Answer InputFault → Type 0
+MeasuresParts class before ls answer =
+    AnswersPart (both_parts (class_part class) (history_part before (history_of_lines ls))) (λ parts text. text ≡ measured parts.0 parts.1)
+    answer
 
--- A class line, and then a history.
-abbrev pub table_and_history : List (List ℕ) → Result (List ℕ × History) InputFault
-table_and_history ls = table_and history_after_line ls
-
--- The answer is the footprint, or the first fault of the two.
+-- One text: a class line, and then a history.
 abbrev pub FootprintAnswers : List ℕ → Result Answer InputFault → Type 0
-FootprintAnswers text (Ok answer) =
-    (parts : List ℕ × History) × (table_and_history (lines text) ≡ Ok parts) × (answer ≡ measured parts.0 parts.1)
-FootprintAnswers text (Err fault) = table_and_history (lines text) ≡ Err fault
+FootprintAnswers text answer = MeasuresParts (take 1 (lines text)) 1 (drop 1 (lines text)) answer

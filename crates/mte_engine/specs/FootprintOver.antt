@@ -1,17 +1,18 @@
 -- The answers of `footprint` to an input with a timeline: what a table takes over every moment of it, or the least requested size that the
 -- table does not serve.
-use Rattle.std.specs.Prelude.{◌≡◌, ◌⊎◌, ℕ, List, [], ◌∷◌, codes, drop, MatchBool, Result, Ok, Err}
+use Rattle.std.specs.Prelude.{◌≡◌, ◌⊎◌, ℕ, List, [], ◌∷◌, codes, drop, take, MatchBool, Result}
 use Rattle.class_table.specs.NamedLines.{named_line}
 use Rattle.line_text.specs.Lines.{ended, lines}
+use Rattle.history_count.specs.HistoryText.{history_of_lines}
 use Rattle.history_count.specs.Timelines.Requests.{IsLeastUnserved}
 use Rattle.history_count.specs.Timelines.TimelineText.{timeline_of_lines}
 use Rattle.tuner_theory.specs.Histories.{peaks}
 use Rattle.tuner_theory.specs.Timelines.{footprint_over, moments}
 use Rattle.tuner_theory.specs.Waste.{Serves}
 use Rattle.tuner_theory.specs.declared.size_event.SizeEvent.{SizeEvent}
-use Rattle.mte_engine.specs.Footprint.{FootprintAnswers}
+use Rattle.mte_engine.specs.Footprint.{MeasuresParts, measured}
 use Rattle.mte_engine.specs.Outcome.{Answer}
-use Rattle.mte_engine.specs.Parts.{table_and, timeline_part}
+use Rattle.mte_engine.specs.Parts.{AnswersPart, both_parts, class_part, history_part, timeline_part}
 use Rattle.mte_engine.specs.Timelines.{begins_timeline}
 use Rattle.mte_engine.specs.declared.engine.Status.TheVariants.{Done, No}
 use Rattle.mte_engine.specs.declared.fault.InputFault.{InputFault}
@@ -29,20 +30,28 @@ pub record IsUnservedText (table : List ℕ) (events : List SizeEvent) (answer :
 abbrev pub IsMeasuredOver : List ℕ → List SizeEvent → Answer → Type 0
 IsMeasuredOver table events answer = IsTakenText table events answer ⊎ IsUnservedText table events answer
 
-abbrev pub timeline_after_line : List (List ℕ) → Result (List SizeEvent) InputFault
-timeline_after_line ls = timeline_part 1 (timeline_of_lines ls)
+-- The lines of a class line, and those of a timeline, which come after this many of their input. The answer is the footprint, or the first
+-- fault of the two.
+abbrev pub MeasuresOverParts : List (List ℕ) → ℕ → List (List ℕ) → Result Answer InputFault → Type 0
+MeasuresOverParts class before ls answer =
+    AnswersPart (both_parts (class_part class) (timeline_part before (timeline_of_lines ls)))
+    (λ parts text. IsMeasuredOver parts.0 parts.1 text) answer
 
--- A class line, and then a timeline.
-abbrev pub table_and_timeline : List (List ℕ) → Result (List ℕ × List SizeEvent) InputFault
-table_and_timeline ls = table_and timeline_after_line ls
+-- The same for a timeline, or else a history.
+abbrev pub MeasuresEitherParts : List (List ℕ) → ℕ → List (List ℕ) → Result Answer InputFault → Type 0
+MeasuresEitherParts class before ls answer =
+    MatchBool (begins_timeline ls) (MeasuresOverParts class before ls answer) (MeasuresParts class before ls answer)
 
--- The answer is the footprint, or the first fault of the two.
+-- The answers to a table, for the lines of a timeline, or else of a history, which come after this many of their input.
+abbrev pub MeasuresCounts : List ℕ → ℕ → List (List ℕ) → Result Answer InputFault → Type 0
+MeasuresCounts table before ls answer =
+    MatchBool (begins_timeline ls) (AnswersPart (timeline_part before (timeline_of_lines ls)) (IsMeasuredOver table) answer)
+    (AnswersPart (history_part before (history_of_lines ls)) (λ history text. text ≡ measured table history) answer)
+
+-- One text: a class line, and then a timeline.
 abbrev pub FootprintOverAnswers : List ℕ → Result Answer InputFault → Type 0
-FootprintOverAnswers text (Ok answer) =
-    (parts : List ℕ × List SizeEvent) × (table_and_timeline (lines text) ≡ Ok parts) × IsMeasuredOver parts.0 parts.1 answer
-FootprintOverAnswers text (Err fault) = table_and_timeline (lines text) ≡ Err fault
+FootprintOverAnswers text answer = MeasuresOverParts (take 1 (lines text)) 1 (drop 1 (lines text)) answer
 
--- The answers to any input: after its first line a timeline, or else a history.
+-- One text: a class line, and then a timeline, or else a history.
 abbrev pub FootprintEitherAnswers : List ℕ → Result Answer InputFault → Type 0
-FootprintEitherAnswers text answer =
-    MatchBool (begins_timeline (drop 1 (lines text))) (FootprintOverAnswers text answer) (FootprintAnswers text answer)
+FootprintEitherAnswers text answer = MeasuresEitherParts (take 1 (lines text)) 1 (drop 1 (lines text)) answer

@@ -21,3 +21,4 @@ pub mod SheetLeft
 pub mod Timelines
 pub mod Traces
 pub mod Tune
+pub mod TwoTexts

@@ -1,9 +1,10 @@
 -- The parts of an input but a trace, which Traces.antt has. A fault has the number of its line in the whole input, counted from 1.
-use Rattle.std.specs.Prelude.{◌≡◌, ℕ, ◌+◌, ◌<◌, ◌^◌, List, [], ◌∷◌, Result, Ok, Err, ⊤}
+use Rattle.std.specs.Prelude.{◌≡◌, ◌≢◌, ℕ, ◌+◌, ◌<◌, ◌^◌, List, [], ◌∷◌, drop, length, take, Result, Ok, Err, ⊤}
 use Rattle.line_text.specs.FirstFault.{◌>>=◌}
 use Rattle.class_table.specs.ClassLine.{table_of_line}
 use Rattle.class_table.specs.declared.fault.TableError.{TableError}
 use Rattle.class_table.specs.declared.fault.TableError.TheVariants.{BadLine}
+use Rattle.potential_check.specs.SheetText.{read_by}
 use Rattle.potential_check.specs.declared.cost.Cost.{Cost}
 use Rattle.potential_check.specs.declared.cost.Cost.TheVariants.{Waste, Footprint}
 use Rattle.history_count.specs.Histories.{History as CountedHistory}
@@ -23,10 +24,22 @@ use Rattle.mte_engine.specs.declared.fault.AnswerError.TheVariants.{OutOfMemory,
 abbrev pub AreFewLines : ℕ → Type 0
 AreFewLines lines = lines < 2 ^ 63
 
+-- A part after which its text has no other lines, or the fault of the first of these.
+abbrev pub alone : {A : Type 0} → Result A InputFault → List (List ℕ) → InputFault → Result A InputFault
+alone part [] fault = part
+alone part (line ∷ ls) fault = do
+  x ← part
+  Err fault
+
 -- A class line, which is the first line of its input.
 abbrev pub table_part : Result (List ℕ) TableError → Result (List ℕ) InputFault
 table_part (Ok table) = Ok table
 table_part (Err fault) = Err (Table fault)
+
+-- The class line that these lines are.
+abbrev pub class_part : List (List ℕ) → Result (List ℕ) InputFault
+class_part [] = Err (Table BadLine)
+class_part (line ∷ ls) = alone (table_part (table_of_line line)) ls (Table BadLine)
 
 -- The fault of a line of a certificate.
 abbrev pub bad_line : Cost → ℕ → InputFault
@@ -37,6 +50,10 @@ bad_line Footprint number = BadFit number
 abbrev pub sheet_part : Cost → Result Sheet ℕ → Result Sheet InputFault
 sheet_part cost (Ok s) = Ok s
 sheet_part cost (Err number) = Err (bad_line cost number)
+
+-- A certificate that is these lines, where no others are left of its text.
+abbrev pub whole_sheet_part : Cost → List (List ℕ) → List (List ℕ) → Result Sheet InputFault
+whole_sheet_part cost ls others = alone (sheet_part cost (read_by cost ls)) others (bad_line cost (length ls + 1))
 
 -- A profile that follows this many lines of its input.
 abbrev pub profile_part : ℕ → Result Counted (ℕ × ProfileFault) → Result Counted InputFault
@@ -53,14 +70,6 @@ abbrev pub timeline_part : ℕ → Result (List SizeEvent) (ℕ × TimelineFault
 timeline_part lines (Ok events) = Ok events
 timeline_part lines (Err fault) = Err (Timeline (lines + fault.0) fault.1)
 
--- A class line, and what is read of the lines after it.
-abbrev pub table_and : {A : Type 0} → (List (List ℕ) → Result A InputFault) → List (List ℕ) → Result (List ℕ × A) InputFault
-table_and after [] = Err (Table BadLine)
-table_and after (line ∷ ls) = do
-  table ← table_part (table_of_line line)
-  rest ← after ls
-  Ok (table, rest)
-
 -- Two parts, of which the first one's fault comes first.
 abbrev pub both_parts : {A B : Type 0} → Result A InputFault → Result B InputFault → Result (A × B) InputFault
 both_parts first second = do
@@ -68,10 +77,19 @@ both_parts first second = do
   y ← second
   Ok (x, y)
 
+-- A class line, and what is read of the lines after it.
+abbrev pub table_and : {A : Type 0} → (List (List ℕ) → Result A InputFault) → List (List ℕ) → Result (List ℕ × A) InputFault
+table_and after ls = both_parts (class_part (take 1 ls)) (after (drop 1 ls))
+
 -- The answers to what follows a part: what is said of it, or its fault.
 abbrev pub AnswersPart : {A : Type 0} → Result A InputFault → (A → Answer → Type 0) → Result Answer InputFault → Type 0
 AnswersPart {A} part says (Ok answer) = (x : A) × (part ≡ Ok x) × says x answer
 AnswersPart part says (Err fault) = part ≡ Err fault
+
+-- These lines, which are left of a text after a part of it, are none; or this fault says that there are some.
+abbrev pub EndsPart : List (List ℕ) → InputFault → Result (Unit {0}) AnswerError → Type 0
+EndsPart others fault (Ok done) = others ≡ []
+EndsPart others fault (Err error) = (others ≢ []) × (error ≡ Input fault)
 
 -- What the code read is this part, unless memory ran out.
 abbrev pub GivesPart : {A : Type 0} → Result A AnswerError → Result A InputFault → Type 0

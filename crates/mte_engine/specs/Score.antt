@@ -1,5 +1,5 @@
 -- The answers of `score`: the waste of a table on a profile, or the least counted size that the table doesn't serve.
-use Rattle.std.specs.Prelude.{◌≡◌, ℕ, List, [], ◌∷◌, codes, Option, Some, None, Result, Ok, Err}
+use Rattle.std.specs.Prelude.{◌≡◌, ℕ, List, [], ◌∷◌, codes, drop, take, Option, Some, None, Result}
 use Rattle.line_text.specs.Lines.{lines, ended}
 use Rattle.class_table.specs.NamedLines.{named_line}
 use Rattle.profile_count.specs.Counts.{unserved_of}
@@ -7,7 +7,7 @@ use Rattle.profile_count.specs.ProfileText.{profile_of_lines}
 use Rattle.tuner_theory.specs.Profiles.{Profile as Counted}
 use Rattle.tuner_theory.specs.Waste.{waste_of}
 use Rattle.mte_engine.specs.Outcome.{Answer}
-use Rattle.mte_engine.specs.Parts.{profile_part, table_and}
+use Rattle.mte_engine.specs.Parts.{AnswersPart, both_parts, class_part, profile_part}
 use Rattle.mte_engine.specs.declared.engine.Status.TheVariants.{Done, No}
 use Rattle.mte_engine.specs.declared.fault.InputFault.{InputFault}
 
@@ -23,15 +23,13 @@ score_text unserved waste = named_or_unserved (codes "waste") unserved waste
 abbrev pub scored : List ℕ → Counted → Answer
 scored table profile = score_text (unserved_of profile.counts table) (waste_of profile.counts table)
 
-abbrev pub profile_after_line : List (List ℕ) → Result Counted InputFault
-profile_after_line ls = profile_part 1 (profile_of_lines ls)
+-- The lines of a class line, and those of a profile, which come after this many of their input. The answer is the waste, or the first fault
+-- of the two.
+abbrev pub ScoresParts : List (List ℕ) → ℕ → List (List ℕ) → Result Answer InputFault → Type 0
+ScoresParts class before ls answer =
+    AnswersPart (both_parts (class_part class) (profile_part before (profile_of_lines ls))) (λ parts text. text ≡ scored parts.0 parts.1)
+    answer
 
--- A class line, and then a profile.
-abbrev pub table_and_profile : List (List ℕ) → Result (List ℕ × Counted) InputFault
-table_and_profile ls = table_and profile_after_line ls
-
--- The answer is the waste, or the first fault of the two.
+-- One text: a class line, and then a profile.
 abbrev pub ScoreAnswers : List ℕ → Result Answer InputFault → Type 0
-ScoreAnswers text (Ok answer) =
-    (parts : List ℕ × Counted) × (table_and_profile (lines text) ≡ Ok parts) × (answer ≡ scored parts.0 parts.1)
-ScoreAnswers text (Err fault) = table_and_profile (lines text) ≡ Err fault
+ScoreAnswers text answer = ScoresParts (take 1 (lines text)) 1 (drop 1 (lines text)) answer

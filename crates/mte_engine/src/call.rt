@@ -1,10 +1,11 @@
-//! The one door to all engines.
-ghost use Rattle.mte_engine.specs.Calls.{answers_of};
+//! The one door to all engines, over one text and over two.
+ghost use Rattle.std.specs.Prelude.{◌≡◌, true};
+ghost use Rattle.mte_engine.specs.Calls.{answers_of, answers_on};
 ghost use Rattle.mte_engine.specs.Outcome.{Runs};
-ghost use Rattle.tool_call.specs.Options.{IsValid};
+ghost use Rattle.tool_call.specs.Options.{IsValid, has_two_texts};
 
 use crate::checking::check;
-use crate::engine::Status;
+use crate::engine::{Status, run_engine};
 use crate::fault::ToolFault;
 use crate::fit_checking::check_fit;
 use crate::fitting::fit;
@@ -14,6 +15,7 @@ use crate::replaying::replay;
 use crate::running::run;
 use crate::scoring::score;
 use crate::tuning::tune;
+use crate::two_texts::{BesideCounts, BesideTrace, CountsCommand};
 use byte_streams::{ByteSink, ByteSource};
 use std::alloc::Global;
 use tool_call::{Call, Limits};
@@ -39,4 +41,35 @@ pub fn run_call<R: ByteSource, W: ByteSink>(
         Call::Replay(config) => replay(alloc, config, source, sink),
         Call::Run(Limits { limit, step }, config) => run(alloc, limit, step, config, source, sink),
     }
+}
+
+/// Runs the engine of a call over two texts, with the call's options: what the source gives is read as what comes after the first text, which
+/// is a class line, a sheet or a fit and nothing else. The last line of either may lack its newline. A fault of the first text comes before
+/// those of the second, but for that the second is too long; and its line is counted in its own text.
+pub fn run_call_on<R: ByteSource, W: ByteSink>(
+    call: Call,
+    alloc: Global,
+    first: &[u8],
+    source: &mut R,
+    sink: &mut W,
+) -> Result<Status, ToolFault>
+    requires valid { IsValid call }
+    requires two { has_two_texts call ≡ true }
+    ensures { Runs (answers_on call first.now) (R.state source.old) (R.state source.new) W.state sink.old sink.new result }
+{
+    let command = match call {
+        Call::Score => CountsCommand::Score,
+        Call::Check => CountsCommand::Check,
+        Call::Footprint => CountsCommand::Footprint,
+        Call::CheckFit => CountsCommand::CheckFit,
+        Call::Replay(config) => {
+            let engine = BesideTrace {
+                config,
+                class: first,
+            };
+            return run_engine(alloc, &engine, source, sink);
+        }
+        _ => return run_call(call, alloc, source, sink),
+    };
+    run_engine(alloc, &BesideCounts { command, first }, source, sink)
 }

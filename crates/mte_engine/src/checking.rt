@@ -1,14 +1,19 @@
 //! `check`: the verdict on a sheet, whoever wrote it.
 ghost use Rattle.std.specs.Prelude.{◌≡◌, IfOk};
-ghost use Rattle.mte_engine.specs.Check.{CheckAnswers, verdict_text};
+ghost use Rattle.line_text.specs.Lines.{lines};
+ghost use Rattle.mte_engine.specs.Check.{CheckAnswers, ChecksParts, IsChecked, verdict_text};
 ghost use Rattle.mte_engine.specs.Outcome.{GivesAnswer, Runs};
+ghost use Rattle.mte_engine.specs.Parts.{AnswersPart, AreFewLines, profile_part};
+ghost use Rattle.potential_check.specs.Certificates.SheetView.{sheet_of};
+ghost use Rattle.potential_check.specs.Leading.{leading_lines, lines_after};
+ghost use Rattle.profile_count.specs.ProfileText.{profile_of};
 ghost use Rattle.byte_streams.specs.TextLeft.{text_left};
 
 use crate::engine::{Engine, Status, run_engine};
-use crate::fault::{AnswerError, ToolFault};
-use crate::input_parts::{read_leading, read_profile};
+use crate::fault::{AnswerError, InputFault, ToolFault};
+use crate::input_parts::{end_text, read_leading, read_profile};
 use byte_streams::{ByteSink, ByteSource, Text, WholeText};
-use potential_check::{Verdict, check as verdict_on};
+use potential_check::{Sheet, Verdict, check as verdict_on};
 use std::alloc::{AllocError, Global};
 
 /// Reads a sheet and then a profile. It writes `optimal`, or `refused CODE NAME` with the status of a no: the first refusal (39 to 47) of
@@ -51,8 +56,36 @@ fn check_text(alloc: Global, text: &[u8]) -> Result<(Text, Status), AnswerError>
     ensures { GivesAnswer text_left (CheckAnswers text.now) result }
 {
     let leading = read_leading(alloc, text)?;
-    let profile = read_profile(alloc, leading.rest, leading.lines)?;
-    let verdict = verdict_on(alloc, &profile, &leading.sheet)?;
+    check_profile(alloc, &leading.sheet, leading.rest, leading.lines)
+}
+
+/// The answer to a sheet's text and a profile's.
+pub(crate) fn check_texts(
+    alloc: Global,
+    sheet: &[u8],
+    text: &[u8],
+) -> Result<(Text, Status), AnswerError>
+    ensures { GivesAnswer text_left
+        (ChecksParts (leading_lines (lines sheet.now)) (lines_after (lines sheet.now)) 0 (lines text.now)) result }
+{
+    let leading = read_leading(alloc, sheet)?;
+    end_text(leading.rest, InputFault::BadSheet(leading.lines + 1))?;
+    check_profile(alloc, &leading.sheet, text, 0)
+}
+
+// the answer to a sheet and the profile's text that follows this many lines
+fn check_profile(
+    alloc: Global,
+    sheet: &Sheet,
+    text: &[u8],
+    before: u64,
+) -> Result<(Text, Status), AnswerError>
+    requires { AreFewLines before }
+    ensures { GivesAnswer text_left (AnswersPart (profile_part before (profile_of text.now))
+        (λ profile answer. IsChecked (sheet_of sheet.now) profile answer)) result }
+{
+    let profile = read_profile(alloc, text, before)?;
+    let verdict = verdict_on(alloc, &profile, sheet)?;
     Ok(answer_for(alloc, verdict)?)
 }
 

@@ -3,17 +3,19 @@ ghost use Rattle.std.specs.Prelude.{◌≡◌, IfOk};
 ghost use Rattle.byte_streams.specs.TextLeft.{text_left};
 ghost use Rattle.potential_check.specs.Certificates.SheetView.{sheet_of};
 ghost use Rattle.history_count.specs.HistoryText.{history_of};
+ghost use Rattle.line_text.specs.Lines.{lines};
+ghost use Rattle.potential_check.specs.Leading.{leading_lines, lines_after};
 ghost use Rattle.mte_engine.specs.Check.{verdict_text_by};
 ghost use Rattle.mte_engine.specs.CheckFit.{IsFitChecked};
-ghost use Rattle.mte_engine.specs.CheckFitOver.{CheckFitEitherAnswers};
+ghost use Rattle.mte_engine.specs.CheckFitOver.{CheckFitEitherAnswers, ChecksEitherParts};
 ghost use Rattle.mte_engine.specs.Outcome.{GivesAnswer, Runs};
 ghost use Rattle.mte_engine.specs.Parts.{AnswersPart, AreFewLines, history_part};
 ghost use Rattle.tuner_theory.specs.RefusalText.{shown_fit_refusal};
 
 use crate::engine::{Engine, Status, run_engine};
-use crate::fault::{AnswerError, ToolFault};
-use crate::fit_checking_over::{begins_moments, check_timeline};
-use crate::input_parts::{read_history, read_leading};
+use crate::fault::{AnswerError, InputFault, ToolFault};
+use crate::fit_checking_over::{begins_moments, check_after_moments, check_beside_moments};
+use crate::input_parts::{end_text, read_history, read_leading};
 use byte_streams::{ByteSink, ByteSource, Text, WholeText};
 use potential_check::{Fit, Verdict, check_fit as verdict_on};
 use std::alloc::{AllocError, Global};
@@ -60,9 +62,26 @@ fn check_fit_text(alloc: Global, text: &[u8]) -> Result<(Text, Status), AnswerEr
 {
     let leading = read_leading(alloc, text)?;
     if begins_moments(leading.rest) {
-        return check_timeline(alloc, &leading.sheet, leading.rest, leading.lines);
+        return check_after_moments(alloc, &leading.sheet, leading.rest, leading.lines);
     }
     check_history(alloc, &leading.sheet, leading.rest, leading.lines)
+}
+
+/// The answer to a fit's text and that of a history or a timeline, by the line after the fit in its text.
+pub(crate) fn check_fit_texts(
+    alloc: Global,
+    fit: &[u8],
+    text: &[u8],
+) -> Result<(Text, Status), AnswerError>
+    ensures { GivesAnswer text_left
+        (ChecksEitherParts (leading_lines (lines fit.now)) (lines_after (lines fit.now)) 0 (lines text.now)) result }
+{
+    let leading = read_leading(alloc, fit)?;
+    if begins_moments(leading.rest) {
+        return check_beside_moments(alloc, &leading.sheet, leading.rest, leading.lines, text);
+    }
+    end_text(leading.rest, InputFault::BadFit(leading.lines + 1))?;
+    check_history(alloc, &leading.sheet, text, 0)
 }
 
 // the answer to a fit and the history's text that follows this many lines

@@ -1,16 +1,17 @@
 //! `check-fit` over a timeline: the verdict on a fit with the moments that it names.
-ghost use Rattle.std.specs.Prelude.{◌≡◌, ◌+◌, Ok, Err, IfOk, MatchResult, ℕ, List};
+ghost use Rattle.std.specs.Prelude.{◌≡◌, ◌+◌, Ok, Err, IfOk, MatchResult, ℕ, List, drop, take};
 ghost use Rattle.byte_streams.specs.TextLeft.{text_left};
 ghost use Rattle.potential_check.specs.Certificates.SheetView.{sheet_of};
 ghost use Rattle.line_text.specs.Lines.{lines};
-ghost use Rattle.mte_engine.specs.CheckFitOver.{IsCheckedOver, begins_moments, moments_and_timeline, moments_part, over_verdict_text};
+ghost use Rattle.history_count.specs.Timelines.TimelineText.{timeline_of, timeline_of_lines};
+ghost use Rattle.mte_engine.specs.CheckFitOver.{IsCheckedOver, begins_moments, moments_part, over_verdict_text, whole_moments_part};
 ghost use Rattle.mte_engine.specs.Outcome.{GivesAnswer};
-ghost use Rattle.mte_engine.specs.Parts.{AnswersPart, AreFewLines, GivesPart};
+ghost use Rattle.mte_engine.specs.Parts.{AnswersPart, AreFewLines, GivesPart, both_parts, timeline_part};
 ghost use Rattle.potential_check.specs.Footprints.Timelines.MomentsLine.{moments_of};
 
 use crate::engine::Status;
 use crate::fault::{AnswerError, InputFault};
-use crate::input_parts::read_timeline;
+use crate::input_parts::{end_text, read_timeline};
 use byte_streams::Text;
 use line_text::lines_in;
 use potential_check::{Fit, OverVerdict, check_over, moments_in, names_moments};
@@ -27,25 +28,74 @@ pub(crate) fn begins_moments(text: &[u8]) -> bool
 }
 
 /// The answer to a fit and the text that follows this many lines: the line of the fit's moments, and then a timeline.
-pub(crate) fn check_timeline(
+pub(crate) fn check_after_moments(
     alloc: Global,
     fit: &Fit,
     text: &[u8],
     before: u64,
 ) -> Result<(Text, Status), AnswerError>
     requires { AreFewLines (before + 1) }
-    ensures { GivesAnswer text_left (AnswersPart (moments_and_timeline before (lines text.now))
+    ensures { GivesAnswer text_left (AnswersPart (both_parts (whole_moments_part before (take 1 (lines text.now)))
+        (timeline_part (before + 1) (timeline_of_lines (drop 1 (lines text.now)))))
         (λ parts answer. IsCheckedOver (sheet_of fit.now) parts.0 parts.1 answer)) result }
 {
     let number = before + 1;
-    let mut rest = lines_in(text);
-    let Some(line) = rest.next() else {
+    let mut lines = lines_in(text);
+    let Some(line) = lines.next() else {
         return Err(AnswerError::Input(InputFault::BadFit(number)));
     };
     let numbers = read_moments(alloc, line, number)?;
-    let timeline = read_timeline(alloc, rest.rest(), number)?;
-    let verdict = check_over(alloc, &timeline, &numbers, fit)?;
+    check_timeline(alloc, fit, &numbers, lines.rest(), number)
+}
+
+/// The answer to a fit with the rest of its text, which follows this many lines and is the line of the fit's moments, and a timeline's text.
+pub(crate) fn check_beside_moments(
+    alloc: Global,
+    fit: &Fit,
+    rest: &[u8],
+    before: u64,
+    text: &[u8],
+) -> Result<(Text, Status), AnswerError>
+    requires { AreFewLines (before + 1) }
+    ensures { GivesAnswer text_left (AnswersPart (both_parts (whole_moments_part before (lines rest.now))
+        (timeline_part 0 (timeline_of text.now)))
+        (λ parts answer. IsCheckedOver (sheet_of fit.now) parts.0 parts.1 answer)) result }
+{
+    let numbers = read_whole_moments(alloc, rest, before)?;
+    check_timeline(alloc, fit, &numbers, text, 0)
+}
+
+// the answer to a fit with its moments and the timeline's text that follows this many lines
+fn check_timeline(
+    alloc: Global,
+    fit: &Fit,
+    numbers: &[usize],
+    text: &[u8],
+    before: u64,
+) -> Result<(Text, Status), AnswerError>
+    requires { AreFewLines before }
+    ensures { GivesAnswer text_left (AnswersPart (timeline_part before (timeline_of text.now))
+        (λ events answer. IsCheckedOver (sheet_of fit.now) numbers.now events answer)) result }
+{
+    let timeline = read_timeline(alloc, text, before)?;
+    let verdict = check_over(alloc, &timeline, numbers, fit)?;
     Ok(answer_for(alloc, verdict)?)
+}
+
+// the numbers of the moments that a text names, which is one line and follows this many lines of the fit
+fn read_whole_moments(alloc: Global, text: &[u8], before: u64) -> Result<Vec<usize>, AnswerError>
+    requires { AreFewLines (before + 1) }
+    ensures { MatchResult result (λ numbers. whole_moments_part before (lines text.now) ≡ Ok numbers.items)
+        (λ fault. GivesPart {A = List ℕ} (Err fault) (whole_moments_part before (lines text.now))) }
+{
+    let number = before + 1;
+    let mut lines = lines_in(text);
+    let Some(line) = lines.next() else {
+        return Err(AnswerError::Input(InputFault::BadFit(number)));
+    };
+    let numbers = read_moments(alloc, line, number)?;
+    end_text(lines.rest(), InputFault::BadFit(number + 1))?;
+    Ok(numbers)
 }
 
 // the numbers of the moments that a line names, which has this number in the input

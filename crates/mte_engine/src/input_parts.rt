@@ -9,11 +9,12 @@ ghost use Rattle.potential_check.specs.Leading.{leading_lines, lines_after};
 ghost use Rattle.potential_check.specs.SheetText.{read_by};
 ghost use Rattle.tuner_theory.specs.Sheets.{Sheet};
 ghost use Rattle.history_count.specs.Timelines.TimelineText.{timeline_of};
-ghost use Rattle.mte_engine.specs.Parts.{AreFewLines, GivesPart, history_part, table_part, sheet_part, profile_part, timeline_part};
+ghost use Rattle.mte_engine.specs.Parts.{AreFewLines, EndsPart, GivesPart, class_part, history_part, table_part, sheet_part};
+ghost use Rattle.mte_engine.specs.Parts.{profile_part, timeline_part};
 ghost use Rattle.mte_engine.specs.Timelines.{begins_timeline};
 
 use crate::fault::{AnswerError, InputFault};
-use class_table::ClassTable;
+use class_table::{ClassTable, TableError};
 use history_count::{History, HistoryError, TIMELINE, Timeline, TimelineError};
 use line_text::lines_in;
 use potential_check::{CostKind, LeadingSheet, SheetError, read_leading_sheet};
@@ -27,6 +28,29 @@ pub fn read_table(line: &[u8]) -> Result<ClassTable, AnswerError>
     match ClassTable::from_line(line) {
         Ok(table) => Ok(table),
         Err(fault) => Err(AnswerError::Input(InputFault::Table(fault))),
+    }
+}
+
+/// The table that a text spells, which is a class line and nothing else. A further line is `BadLine`.
+pub fn read_class_text(text: &[u8]) -> Result<ClassTable, AnswerError>
+    ensures { GivesPart result (class_part (lines text.now)) }
+{
+    let mut lines = lines_in(text);
+    let Some(line) = lines.next() else {
+        return Err(AnswerError::Input(InputFault::Table(TableError::BadLine)));
+    };
+    let table = read_table(line)?;
+    end_text(lines.rest(), InputFault::Table(TableError::BadLine))?;
+    Ok(table)
+}
+
+/// Refuses what is left of a text after a part of it by this fault, if a line is left.
+pub fn end_text(rest: &[u8], fault: InputFault) -> Result<(), AnswerError>
+    ensures { EndsPart (lines rest.now) fault result }
+{
+    match lines_in(rest).next() {
+        None => Ok(()),
+        Some(_line) => Err(AnswerError::Input(fault)),
     }
 }
 

@@ -26,12 +26,13 @@ mod sheet_writing;
 mod trace_counting;
 mod trace_feeding;
 mod tuning;
+mod two_texts;
 
 pub use byte_streams::{
     ByteSink, ByteSource, Failure, History, MOST_INPUT, MemorySink, MemorySource, StreamSink,
     StreamSource,
 };
-pub use call::run_call;
+pub use call::{run_call, run_call_on};
 pub use checking::check;
 pub use engine::Status;
 pub use fault::{InputFault, ToolFault};

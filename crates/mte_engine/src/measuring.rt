@@ -1,15 +1,15 @@
 //! `footprint`: what a table takes of memory over a history, or over every moment of a timeline.
-ghost use Rattle.std.specs.Prelude.{◌≡◌, IfOk, drop};
+ghost use Rattle.std.specs.Prelude.{◌≡◌, IfOk};
 ghost use Rattle.line_text.specs.Lines.{lines};
-ghost use Rattle.mte_engine.specs.Timelines.{begins_timeline};
-ghost use Rattle.mte_engine.specs.Footprint.{FootprintAnswers, measured};
-ghost use Rattle.mte_engine.specs.FootprintOver.{FootprintEitherAnswers};
+ghost use Rattle.mte_engine.specs.Footprint.{measured};
+ghost use Rattle.mte_engine.specs.FootprintOver.{FootprintEitherAnswers, MeasuresCounts, MeasuresEitherParts};
+ghost use Rattle.mte_engine.specs.Parts.{AreFewLines};
 ghost use Rattle.mte_engine.specs.Outcome.{GivesAnswer, Runs};
 ghost use Rattle.byte_streams.specs.TextLeft.{text_left};
 
 use crate::engine::{Engine, Status, run_engine};
 use crate::fault::{AnswerError, InputFault, ToolFault};
-use crate::input_parts::{begins_timeline, read_history, read_table};
+use crate::input_parts::{begins_timeline, read_class_text, read_history, read_table};
 use crate::measuring_over::footprint_over_text;
 use crate::scoring::numbered_line;
 use byte_streams::{ByteSink, ByteSource, Text, WholeText};
@@ -47,42 +47,49 @@ impl Engine for FootprintEngine {
     }
 
     fn answer(&self, alloc: Global, input: WholeText) -> Result<(Text, Status), AnswerError> {
-        footprint_of_either(alloc, &input.text)
+        footprint_of_text(alloc, &input.text)
     }
 }
 
-// the answer to a text, by the line after the class line
-fn footprint_of_either(alloc: Global, text: &[u8]) -> Result<(Text, Status), AnswerError>
-    ensures { GivesAnswer text_left (FootprintEitherAnswers text.now) result }
-{
-    if has_timeline(text) {
-        return footprint_over_text(alloc, text);
-    }
-    footprint_of_text(alloc, text)
-}
-
-// whether the line after the class line begins a timeline
-fn has_timeline(text: &[u8]) -> bool
-    ensures { result ≡ begins_timeline (drop 1 (lines text.now)) }
-{
-    let mut lines = lines_in(text);
-    match lines.next() {
-        Some(_line) => begins_timeline(lines.rest()),
-        None => false,
-    }
-}
-
-// the answer to a text with a history
+// the answer to a text
 fn footprint_of_text(alloc: Global, text: &[u8]) -> Result<(Text, Status), AnswerError>
-    ensures { GivesAnswer text_left (FootprintAnswers text.now) result }
+    ensures { GivesAnswer text_left (FootprintEitherAnswers text.now) result }
 {
     let mut lines = lines_in(text);
     let Some(line) = lines.next() else {
         return Err(AnswerError::Input(InputFault::Table(TableError::BadLine)));
     };
     let table = read_table(line)?;
-    let history = read_history(alloc, lines.rest(), 1)?;
-    Ok(footprint_of_history(alloc, &table, &history)?)
+    footprint_of_either(alloc, &table, lines.rest(), 1)
+}
+
+/// The answer to a class line and the text of a history or a timeline.
+pub(crate) fn footprint_of_texts(
+    alloc: Global,
+    class: &[u8],
+    text: &[u8],
+) -> Result<(Text, Status), AnswerError>
+    ensures { GivesAnswer text_left (MeasuresEitherParts (lines class.now) 0 (lines text.now)) result }
+{
+    let table = read_class_text(class)?;
+    footprint_of_either(alloc, &table, text, 0)
+}
+
+// the answer to a table and the text that follows this many lines, by its first line
+fn footprint_of_either(
+    alloc: Global,
+    table: &ClassTable,
+    text: &[u8],
+    before: u64,
+) -> Result<(Text, Status), AnswerError>
+    requires { AreFewLines before }
+    ensures { GivesAnswer text_left (MeasuresCounts table.now before (lines text.now)) result }
+{
+    if begins_timeline(text) {
+        return footprint_over_text(alloc, table, text, before);
+    }
+    let history = read_history(alloc, text, before)?;
+    Ok(footprint_of_history(alloc, table, &history)?)
 }
 
 // the answer to a table and a history

@@ -1,18 +1,21 @@
 //! `replay`: the report on a trace, replayed on the tagged heap over a class table.
 ghost use Rattle.mte_engine.specs.Outcome.{GivesAnswer, Runs};
-ghost use Rattle.mte_engine.specs.Replay.{ReplayAnswers};
+ghost use Rattle.mte_engine.specs.Parts.{AreFewLines};
+ghost use Rattle.mte_engine.specs.Replay.{ReplayAnswers, ReplayOnAnswers, replay_over};
 ghost use Rattle.heap_theory.specs.Config.{IsConfig};
+ghost use Rattle.line_text.specs.Lines.{lines};
 ghost use Rattle.mte_engine.specs.ReportLeft.{report_left};
-ghost use Rattle.mte_engine.specs.Traces.{IsLineAndTrace, KeepsLineAndEvents};
+ghost use Rattle.mte_engine.specs.Traces.{IsLineAndTrace, KeepsEvents, KeepsLineAndEvents};
 ghost use Rattle.std.specs.Prelude.{◌≡◌, List, ℕ, false};
 ghost use Rattle.trace_reader.specs.Reading.{is_finished};
 
 use crate::engine::{Engine, Status, run_engine};
 use crate::fault::{AnswerError, ToolFault};
-use crate::input_parts::read_table;
+use crate::input_parts::{read_class_text, read_table};
 use crate::report::Report;
 use crate::trace_feeding::{end, feed};
 use byte_streams::{ByteSink, ByteSource, Input};
+use class_table::ClassTable;
 use line_text::first_line;
 use replay_core::Config;
 use std::alloc::{AllocError, Global};
@@ -108,12 +111,28 @@ fn answer_to(
     answer_to_parts(alloc, config, &line, reader)
 }
 
+/// The answer to a class line, and the trace of another text whose events wait in the reader.
+pub(crate) fn answer_to_texts(
+    alloc: Global,
+    config: Config,
+    class: &[u8],
+    reader: TraceReader,
+) -> Result<(Report, Status), AnswerError>
+    requires config { IsConfig config }
+    requires open { is_finished reader ≡ false }
+    ensures { (trace : List ℕ) → KeepsEvents reader trace
+        → GivesAnswer report_left (ReplayOnAnswers config class.now trace) result }
+{
+    let table = read_class_text(class)?;
+    report_over(alloc, config, &table, reader, 0)
+}
+
 // the answer to a class line, which is empty if the input is, and the trace after it
 fn answer_to_parts(
     alloc: Global,
     config: Config,
     line: &[u8],
-    mut reader: TraceReader,
+    reader: TraceReader,
 ) -> Result<(Report, Status), AnswerError>
     requires config { IsConfig config }
     requires open { is_finished reader ≡ false }
@@ -121,7 +140,24 @@ fn answer_to_parts(
         → GivesAnswer report_left (ReplayAnswers config bytes) result }
 {
     let table = read_table(line)?;
-    end(&mut reader, 1, &mut Unobserved)?;
-    let report = Report::new(alloc, &table, config, reader, Vec::new(alloc))?;
+    report_over(alloc, config, &table, reader, 1)
+}
+
+// the answer to a table, and the trace that follows this many lines of its input
+fn report_over(
+    alloc: Global,
+    config: Config,
+    table: &ClassTable,
+    mut reader: TraceReader,
+    before: u64,
+) -> Result<(Report, Status), AnswerError>
+    requires config { IsConfig config }
+    requires open { is_finished reader ≡ false }
+    requires few { AreFewLines before }
+    ensures { (trace : List ℕ) → KeepsEvents reader trace
+        → GivesAnswer report_left (λ answer. replay_over config table.now before (lines trace) ≡ answer) result }
+{
+    end(&mut reader, before, &mut Unobserved)?;
+    let report = Report::new(alloc, table, config, reader, Vec::new(alloc))?;
     Ok((report, Status::Done))
 }

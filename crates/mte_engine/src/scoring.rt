@@ -1,13 +1,16 @@
 //! `score`: what a table wastes on a profile.
 ghost use Rattle.std.specs.Prelude.{◌≡◌, ◌++◌, ◌∷◌, [], IfOk};
 ghost use Rattle.std.specs.Fmt.{decimal};
+ghost use Rattle.line_text.specs.Lines.{lines};
 ghost use Rattle.mte_engine.specs.Outcome.{GivesAnswer, Runs};
-ghost use Rattle.mte_engine.specs.Score.{ScoreAnswers, scored};
+ghost use Rattle.mte_engine.specs.Parts.{AnswersPart, AreFewLines, profile_part};
+ghost use Rattle.mte_engine.specs.Score.{ScoreAnswers, ScoresParts, scored};
+ghost use Rattle.profile_count.specs.ProfileText.{profile_of};
 ghost use Rattle.byte_streams.specs.TextLeft.{text_left};
 
 use crate::engine::{Engine, Status, run_engine};
 use crate::fault::{AnswerError, InputFault, ToolFault};
-use crate::input_parts::{read_profile, read_table};
+use crate::input_parts::{read_class_text, read_profile, read_table};
 use byte_streams::{ByteSink, ByteSource, Text, WholeText};
 use class_table::{ClassTable, TableError};
 use itoa::Buffer;
@@ -57,8 +60,34 @@ fn score_of_text(alloc: Global, text: &[u8]) -> Result<(Text, Status), AnswerErr
         return Err(AnswerError::Input(InputFault::Table(TableError::BadLine)));
     };
     let table = read_table(line)?;
-    let profile = read_profile(alloc, lines.rest(), 1)?;
-    Ok(score_of_profile(alloc, &table, &profile)?)
+    score_of_counts(alloc, &table, lines.rest(), 1)
+}
+
+/// The answer to a class line and a profile's text.
+pub(crate) fn score_of_texts(
+    alloc: Global,
+    class: &[u8],
+    text: &[u8],
+) -> Result<(Text, Status), AnswerError>
+    ensures { GivesAnswer text_left (ScoresParts (lines class.now) 0 (lines text.now)) result }
+{
+    let table = read_class_text(class)?;
+    score_of_counts(alloc, &table, text, 0)
+}
+
+// the answer to a table and the profile's text that follows this many lines
+fn score_of_counts(
+    alloc: Global,
+    table: &ClassTable,
+    text: &[u8],
+    before: u64,
+) -> Result<(Text, Status), AnswerError>
+    requires { AreFewLines before }
+    ensures { GivesAnswer text_left (AnswersPart (profile_part before (profile_of text.now))
+        (λ profile answer. answer ≡ scored table.now profile)) result }
+{
+    let profile = read_profile(alloc, text, before)?;
+    Ok(score_of_profile(alloc, table, &profile)?)
 }
 
 // the answer to a table and a profile

@@ -1,5 +1,5 @@
 -- The calls, each with the options that are its own, and their ranges.
-use Rattle.std.specs.Prelude.{ℕ, ◌≤◌, ⊤}
+use Rattle.std.specs.Prelude.{ℕ, ◌≤◌, Bool, true, false, ⊤}
 use Rattle.class_table.specs.Steps.{IsStep}
 use Rattle.class_table.specs.declared.table.TheConstants.{MOST_CLASSES}
 use Rattle.heap_theory.specs.Config.{IsConfig}
@@ -28,6 +28,18 @@ call_of name.CheckFit options = CheckFit
 call_of name.Profile options = Profile
 call_of name.Replay options = Replay (config_of options)
 call_of name.Run options = Run (limits_of options) (config_of options)
+
+-- Whether the input is two texts: a class line, a sheet or a fit, and what comes after it in one text.
+abbrev pub has_two_texts : Call → Bool
+has_two_texts Score = true
+has_two_texts (Tune limits) = false
+has_two_texts Check = true
+has_two_texts Footprint = true
+has_two_texts (Fit limits) = false
+has_two_texts CheckFit = true
+has_two_texts Profile = false
+has_two_texts (Replay config) = true
+has_two_texts (Run limits config) = false
 
 -- The most classes of a table, 1 to 32, and the step.
 pub record AreTuneOptions (limit step : ℕ) : Type 0 where

@@ -46,7 +46,7 @@ pub enum Call {
 }
 
 impl Call {
-    ghost use Rattle.tool_call.specs.Options.{IsValid, call_of};
+    ghost use Rattle.tool_call.specs.Options.{IsValid, call_of, has_two_texts};
 
     /// The call of a command with those of the options that are its own.
     pub fn of(command: CommandName, options: Options) -> Call
@@ -63,6 +63,16 @@ impl Call {
             CommandName::Replay => Call::Replay(options.config()),
             CommandName::Run => Call::Run(options.limits(), options.config()),
         }
+    }
+
+    /// Whether the input is two texts: a class line, a sheet or a fit, and what comes after it in one text.
+    pub fn has_two_texts(self) -> bool
+        ensures { result ≡ has_two_texts self }
+    {
+        matches!(
+            self,
+            Call::Score | Call::Check | Call::Footprint | Call::CheckFit | Call::Replay(_)
+        )
     }
 
     /// Whether the options are in their ranges.

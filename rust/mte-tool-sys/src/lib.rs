@@ -125,12 +125,25 @@ pub struct mte_tool_outcome {
 /// A command over a text.
 pub type Command = unsafe extern "C" fn(*const mte_tool_options, *const c_void, usize, *mut mte_tool_text, *mut mte_tool_result) -> c_int;
 
+/// A command over a first text and another.
+pub type CommandOn = unsafe extern "C" fn(
+    *const mte_tool_options,
+    *const c_void,
+    usize,
+    *const c_void,
+    usize,
+    *mut mte_tool_text,
+    *mut mte_tool_result,
+) -> c_int;
+
 #[allow(missing_docs)]
 extern "C" {
     pub fn mte_tool_version() -> *const c_char;
     pub fn mte_tool_strerror(code: c_int) -> *const c_char;
     pub fn mte_tool_score(
         options: *const mte_tool_options,
+        first: *const c_void,
+        first_length: usize,
         input: *const c_void,
         length: usize,
         output: *mut mte_tool_text,
@@ -145,6 +158,8 @@ extern "C" {
     ) -> c_int;
     pub fn mte_tool_check(
         options: *const mte_tool_options,
+        first: *const c_void,
+        first_length: usize,
         input: *const c_void,
         length: usize,
         output: *mut mte_tool_text,
@@ -152,6 +167,8 @@ extern "C" {
     ) -> c_int;
     pub fn mte_tool_footprint(
         options: *const mte_tool_options,
+        first: *const c_void,
+        first_length: usize,
         input: *const c_void,
         length: usize,
         output: *mut mte_tool_text,
@@ -166,6 +183,8 @@ extern "C" {
     ) -> c_int;
     pub fn mte_tool_check_fit(
         options: *const mte_tool_options,
+        first: *const c_void,
+        first_length: usize,
         input: *const c_void,
         length: usize,
         output: *mut mte_tool_text,
@@ -180,6 +199,8 @@ extern "C" {
     ) -> c_int;
     pub fn mte_tool_replay(
         options: *const mte_tool_options,
+        first: *const c_void,
+        first_length: usize,
         input: *const c_void,
         length: usize,
         output: *mut mte_tool_text,

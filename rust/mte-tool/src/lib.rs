@@ -25,6 +25,19 @@
 //! let error = mte_tool::tune(b"16 500\n16 1\n", &mte_tool::Options::new(2)).unwrap_err();
 //! assert_eq!((error.code, error.line, &error.to_string()[..]), (31, 2, "31 NotAscending line 2"));
 //! ```
+//!
+//! What comes first is a class line, a sheet or a fit, and nothing else; its last line may lack the newline:
+//!
+//! ```
+//! assert_eq!(mte_tool::score(b"classes 2 8", b"9 1000\n24 70\n")?, mte_tool::Cost::Bytes(13160));
+//! assert_eq!(mte_tool::score(b"classes 2 8\n9 1000\n", b"24 70\n").unwrap_err().code, 23);
+//! let rows = b"classes 2 64\nlimit 2\nwaste 18000\nrow 1029000 18000 0 0\nrow 18000 0 0 0\n";
+//! let long = [&rows[..], b"0 1000000000\n"].concat();
+//! assert_eq!(mte_tool::check(&long, b"33 1000\n1000 1000\n").unwrap_err().line, 6);
+//! let fused = b"classes 64 1001\nlimit 2\nwaste 10009790\nrow 10234670 10075000 10000000\nrow 10009790 1";
+//! assert!(!mte_tool::check(fused, b"16 1000000\n33 10\n1000 5\n15990 1000000\n")?.is_optimal());
+//! # Ok::<(), mte_tool::Error>(())
+//! ```
 #![warn(missing_docs)]
 
 mod arrays;

@@ -4,6 +4,7 @@ use crate::options::Options;
 use mte_tool_sys as c;
 use std::fmt;
 use std::ops::Deref;
+use std::os::raw::c_int;
 
 /// A text of the library's memory: its bytes.
 pub struct Text(c::mte_tool_text);
@@ -58,7 +59,7 @@ pub struct Fit {
     pub is_least: bool,
 }
 
-/// What a call over an input gave.
+/// What a call over texts gave.
 pub(crate) struct Answer {
     is_yes: bool,
     pub(crate) text: Text,
@@ -79,18 +80,22 @@ impl Answer {
     }
 }
 
-/// Makes a call over texts, one after the other.
-pub(crate) fn call(command: c::Command, inputs: &[&[u8]], options: &Options) -> Result<Answer, Error> {
-    let joined;
-    let input = match inputs {
-        [one] => *one,
-        _ => {
-            joined = inputs.concat();
-            &joined[..]
-        }
-    };
-    let (mut text, mut result) = (Text::new(), no_result());
+/// Makes a call over one text.
+pub(crate) fn call(command: c::Command, input: &[u8], options: &Options) -> Result<Answer, Error> {
     // SAFETY: all that is pointed to is there during the call, and begins with its size
-    let end = unsafe { command(&options.to_c(), input.as_ptr().cast(), input.len(), &mut text.0, &mut result) };
+    answer(|text, result| unsafe { command(&options.to_c(), input.as_ptr().cast(), input.len(), text, result) })
+}
+
+/// Makes a call over a first text and another.
+pub(crate) fn call_on(command: c::CommandOn, first: &[u8], input: &[u8], options: &Options) -> Result<Answer, Error> {
+    // SAFETY: as in `call`
+    answer(|text, result| unsafe {
+        command(&options.to_c(), first.as_ptr().cast(), first.len(), input.as_ptr().cast(), input.len(), text, result)
+    })
+}
+
+fn answer(call: impl FnOnce(&mut c::mte_tool_text, &mut c::mte_tool_result) -> c_int) -> Result<Answer, Error> {
+    let (mut text, mut result) = (Text::new(), no_result());
+    let end = call(&mut text.0, &mut result);
     Ok(Answer { is_yes: is_yes(end, &result, &text)?, text, result })
 }

@@ -174,7 +174,7 @@ def replayed(options: argparse.Namespace, log: Log) -> tuple[Trace, Trace, list[
     trace = Trace(log, slots(), Choice(log, slots()))
     whole = Trace(log, slots(), Everything(log), is_asked=False) if log.errors and trace.choice.left_out else trace
     events = "".join(line + "\n" for line in trace.lines).encode()
-    given = sheet.split(b"\n", 1)[0] + b"\n" + events
+    given = texts.joined(sheet.split(b"\n", 1)[0], events)
     reports, output = [], b""
     differing: list[str] = []
     for seed in spread(options.seeds) if options.seeds else [options.seed]:

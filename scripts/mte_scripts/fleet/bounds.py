@@ -84,7 +84,7 @@ def of(load: Load, among: Among) -> Bound:
 
 def checked(found: Certified) -> Certified:
     """The same with the verdict."""
-    return found._replace(verdict=figures.run([found.command], found.certificate + found.counts)[1])
+    return found._replace(verdict=figures.run([found.command], texts.joined(found.certificate, found.counts))[1])
 
 
 def judged_of(kind: str, found: Certified, among: Among, name: str, cost: int) -> claims.Judged:

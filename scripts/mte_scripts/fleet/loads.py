@@ -50,7 +50,7 @@ class Member:
     def footprint(self, classes: list) -> int:
         """Of a table that serves it: at each class the block times the most of its blocks at a moment."""
         if self.timeline is not None:
-            status, answer = figures.run(["footprint"], figures.class_text(classes).encode() + b"\n" + self.timeline)
+            status, answer = figures.run(["footprint"], texts.joined(figures.class_text(classes), self.timeline))
             return int(answer.split()[-1])
         return self.at_moments(classes)
 

@@ -131,26 +131,26 @@ def make_inputs(folder: Path, seed: int, plain: Path) -> None:
         return f"{size} {chance.randint(1, 10**9)}\n"
 
     sizes = "".join(line(size) for size in range(1, formats.LARGEST_SIZE + 1))
-    (folder / "score.in").write_text(SCORED + sizes)
+    (folder / "score.in").write_bytes(texts.joined(SCORED, sizes))
     needs = "".join(line(chance.randint(16 * need - 31, 16 * need - 16)) for need in range(2, 1025))
     (folder / "tune.in").write_text(needs)
     sheet = output_of([plain, "tune", "--limit", "32"], folder / "tune.in")
-    (folder / "check.in").write_bytes(sheet + needs.encode())
+    (folder / "check.in").write_bytes(texts.joined(sheet, needs))
     counts = ("".join(f" {chance.randint(0, 10**6)}" for _ in range(63)) + f" {chance.randint(1, 10**6)}" for _ in range(formats.LARGEST_SIZE))
     history = "snapshots 64\n" + "".join(f"{size}{numbers}\n" for size, numbers in enumerate(counts, 1))
-    (folder / "footprint.in").write_text(SCORED + history)
+    (folder / "footprint.in").write_bytes(texts.joined(SCORED, history))
     (folder / "fit.in").write_text(history)
     fit = output_of([plain, "fit", "--limit", "32"], folder / "fit.in")
-    (folder / "check-fit.in").write_bytes(fit + history.encode())
+    (folder / "check-fit.in").write_bytes(texts.joined(fit, history))
     events = texts.output_of([plain, "events", "--seed", str(seed)])
     (folder / "events.trace").write_bytes(events)
-    (folder / "replay.in").write_bytes(growth.TABLE.encode() + events)
+    (folder / "replay.in").write_bytes(texts.joined(growth.TABLE, events))
     make_traces(folder, chance)
     timeline = timeline_of(chance)
     (folder / "run.timeline").write_text(timeline)
-    (folder / "footprint-over.in").write_text(SCORED + timeline)
+    (folder / "footprint-over.in").write_bytes(texts.joined(SCORED, timeline))
     fit = output_of([plain, "fit", "--limit", "32"], folder / "run.timeline")
-    (folder / "check-fit-over.in").write_bytes(fit + timeline.encode())
+    (folder / "check-fit-over.in").write_bytes(texts.joined(fit, timeline))
 
 
 def timeline_of(chance: random.Random) -> str:

@@ -114,7 +114,7 @@ def judged(pools: PoolSet, runs: list[Run]) -> Verdict:
         raise Refused(2, f"the pools are of {kinds[not moments]}, and these runs are {kinds[runs[0].is_sampled]}")
     fit = texts.parse_fit(rows, "the fit of the pools")
     given = pools.given or pool_runs.joined(runs, pools.block)
-    _, verdict = figures.run(["check-fit"], pools.fit.encode() + given.text)
+    _, verdict = figures.run(["check-fit"], texts.joined(pools.fit, given.text, "the fit of the pools"))
     names = claims.listed(run.name for run in runs)
     judged = claims.Pools(verdict, fit.limit, pools.block.unit, pools.block.overhead, names, pools.bytes, runs[0].is_sampled)
     return Verdict(judged, claims.pools_refusal(judged) if verdict != "optimal" else difference(pools, runs, given, fit))

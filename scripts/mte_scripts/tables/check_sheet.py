@@ -52,7 +52,7 @@ def check(words: list[str]) -> int:
         of = "history" if sheet.moments is None else "timeline"
         raise texts.Refused(1, f"{names[0]} is the fit of a {of}, and {names[1]} is a {kind}: fit again")
     meets_options(names[0], sheet, options)
-    status, answer, error = texts.mte_tool(["check-fit" if is_fit else "check"], sheet_bytes.removesuffix(b"\n") + b"\n" + counts_bytes)
+    status, answer, error = texts.mte_tool(["check-fit" if is_fit else "check"], texts.joined(sheet_bytes, counts_bytes, names[0]))
     if status not in (0, 1):
         raise texts.Refused(status if status in (2, 3) else 3, whose_fault(error, len(texts.lines_of(sheet_bytes)), names, kind))
     cost = sheet.footprint if is_fit else sheet.waste

@@ -46,7 +46,7 @@ class Curve:
         if not requested:
             raise Refused(2, f"{path} counts no bytes")
         sheet = texts.parse_sheet(answer(path, ["tune", "--limit", str(LIMIT)], given))
-        scudo = answer(path, ["score"], texts.read(os.path.join(texts.EXAMPLES, "scudo.classes")) + given)
+        scudo = answer(path, ["score"], texts.joined(texts.read(os.path.join(texts.EXAMPLES, "scudo.classes")), given))
         self.shares = [100.0 * row[0] / requested for row in sheet.rows]
         self.scudo = 100.0 * int(scudo.split()[1]) / requested
 

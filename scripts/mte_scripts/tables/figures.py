@@ -59,7 +59,7 @@ def run(words: list[str], given: "str | bytes") -> tuple[int, str]:
 
 def refuse_timeline(data: bytes, name: str) -> None:
     """Refuses a timeline at its first faulty line, which the program finds."""
-    status, _, error = texts.mte_tool(["footprint"], class_text([texts.LARGEST_CLASS]).encode() + b"\n" + data)
+    status, _, error = texts.mte_tool(["footprint"], texts.joined(class_text([texts.LARGEST_CLASS]), data))
     if match := re.fullmatch(r"error (\d+) (\w+) line (\d+)", error):
         at = int(match[3]) - 1
         line = texts.lines_of(data)[at - 1]
@@ -92,7 +92,7 @@ def over_time(kind: str, text: bytes, largest: bool, limit: int, step: int) -> O
         moments, verdict = timelines.peaks_of(text, fit.classes), f"between {bound.split()[-1]}"
     else:
         fit = texts.parse_fit(answer)
-        _, verdict = run(["check-fit"], answer.encode() + b"\n" + fitted)
+        _, verdict = run(["check-fit"], texts.joined(answer, fitted))
         moments = [at - bool(forced) for at in fit.moments or () if at > bool(forced)]
     history = texts.parse_history(text) if kind == "history" else timelines.history_at(text, moments)
     return OverTime(kind, text, forced, fit, answer + "\n", verdict, history)
@@ -111,13 +111,13 @@ class Table:
     def __init__(self, name: str, classes: list[int], profile: dict) -> None:
         self.name = name
         self.classes = classes
-        status, answer = run(["score"], class_text(classes) + "\n" + profile_text(profile))
+        status, answer = run(["score"], texts.joined(class_text(classes), profile_text(profile)))
         number = int(answer.split()[-1])
         self.waste, self.unserved = (number, None) if status == 0 else (None, number)
         self.footprint: Optional[int] = None  # over a history or a timeline whose sizes it serves
 
     def over(self, text: bytes) -> None:
-        status, answer = run(["footprint"], class_text(self.classes).encode() + b"\n" + text)
+        status, answer = run(["footprint"], texts.joined(class_text(self.classes), text))
         self.footprint = int(answer.split()[-1]) if status == 0 else None
 
 
@@ -169,10 +169,10 @@ class Figures:
     @staticmethod
     def checked(profile: dict, sheet: str) -> tuple[dict, str]:
         """The profile that the sheet is of, which may be the one with class 1024 forced, and what `check` says."""
-        _, verdict = run(["check"], sheet + profile_text(profile))
+        _, verdict = run(["check"], texts.joined(sheet, profile_text(profile), "the sheet"))
         if verdict != "optimal":
             forced = with_largest(profile)
-            if run(["check"], sheet + profile_text(forced))[1] == "optimal":
+            if run(["check"], texts.joined(sheet, profile_text(forced)))[1] == "optimal":
                 return forced, "optimal"
         return profile, verdict
 

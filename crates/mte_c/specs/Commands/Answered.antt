@@ -1,7 +1,8 @@
 -- How a call over an input ends, and the text that it leaves.
-use Rattle.std.specs.Prelude.{◌≡◌, ◌⊎◌, ℕ, true, false, List, [], Result, Ok, Err}
+use Rattle.std.specs.Prelude.{◌≡◌, ◌⊎◌, ℕ, true, false, MatchBool, List, [], ◌++◌, Result, Ok, Err}
 use Rattle.handed_text.specs.Bytes.{IsLeft, bytes_of, is_answer_of}
 use Rattle.handed_text.specs.declared.text.HandedText.{HandedText}
+use Rattle.mte_engine.specs.Calls.{answers_of, answers_on}
 use Rattle.mte_engine.specs.FaultText.{shown_input_fault}
 use Rattle.mte_engine.specs.Outcome.{Answer, AnswersInput}
 use Rattle.mte_engine.specs.declared.engine.Status.{Status}
@@ -9,6 +10,8 @@ use Rattle.mte_engine.specs.declared.engine.Status.TheVariants.{Done as IsDone, 
 use Rattle.mte_engine.specs.declared.fault.InputFault.{InputFault}
 use Rattle.mte_engine.specs.declared.fault.ToolFault.{ToolFault}
 use Rattle.mte_engine.specs.declared.fault.ToolFault.TheVariants.{Input}
+use Rattle.tool_call.specs.Options.{has_two_texts}
+use Rattle.tool_call.specs.declared.call.Call.{Call}
 use Rattle.mte_c.specs.declared.commands.ended.Ended.{Ended}
 use Rattle.mte_c.specs.declared.commands.ended.Ended.TheVariants.{Done, No, Refused, OutOfMemory, BadOption, Misuse}
 
@@ -23,10 +26,16 @@ IsAnswered answers input OutOfMemory text = text ≡ []
 IsAnswered answers input BadOption text = ⊥
 IsAnswered answers input Misuse text = ⊥
 
--- The same for a call that tests its options first. If they are out of their ranges, it says so, and leaves no text.
-pub record IsAnsweredIf (options : Type 0) (answers : List ℕ → Result Answer InputFault → Type 0) (input : List ℕ) (ended : Ended)
-    (text : List ℕ) : Type 0 where
-  pub ran : options → IsAnswered answers input ended text
+-- The end and the text of a call to what a text held and then an input: where the call's input is two texts, these are the two; else they
+-- are the pieces of one.
+abbrev pub IsAnsweredTo : Call → List ℕ → List ℕ → Ended → List ℕ → Type 0
+IsAnsweredTo call held input ended text =
+    MatchBool (has_two_texts call) (IsAnswered (answers_on call held) input ended text)
+    (IsAnswered (answers_of call) (held ++ input) ended text)
+
+-- A call that tests its options first. If they are out of their ranges, it says so, and leaves no text.
+pub record IsAnsweredIf (options answered : Type 0) (ended : Ended) (text : List ℕ) : Type 0 where
+  pub ran : options → answered
   pub refused : (options → ⊥) → (ended ≡ BadOption) × (text ≡ [])
 
 -- A call on a text that C holds. An answer that nobody made an input is refused, and stays as it is. Else the call ends as it is said to,

@@ -1,14 +1,13 @@
 -- What C is told of the end of a call.
-use Rattle.std.specs.Prelude.{◌≡◌, ℕ, List, ◌++◌, Option, Some, None, unwrap_or}
+use Rattle.std.specs.Prelude.{◌≡◌, ℕ, List, Option, Some, None, unwrap_or}
 use Rattle.handed_text.specs.Bytes.{bytes_of}
 use Rattle.handed_text.specs.declared.ends.TheConstants.{BAD_OPTION, DONE, MISUSE, NO, OUT_OF_MEMORY, REFUSED}
 use Rattle.handed_text.specs.declared.text.HandedText.{HandedText}
 use Rattle.line_text.specs.Numbers.{leading_number_of}
-use Rattle.mte_c.specs.Commands.Answered.{IsAnsweredIf, IsCalled}
+use Rattle.mte_c.specs.Commands.Answered.{IsAnsweredIf, IsAnsweredTo, IsCalled}
 use Rattle.mte_c.specs.declared.commands.ended.Ended.{Ended}
 use Rattle.mte_c.specs.declared.commands.ended.Ended.TheVariants.{Done as HasDone, No as HasNo, Refused as IsRefused, OutOfMemory as RanOut, BadOption as HasBadOption, Misuse as IsMisuse}
 use Rattle.mte_c.specs.declared.commands.structures.Ending.{Ending}
-use Rattle.mte_engine.specs.Calls.{answers_of}
 use Rattle.mte_engine.specs.FaultLines.{line_of_fault}
 use Rattle.mte_engine.specs.FaultText.{shown_input_fault}
 use Rattle.tool_call.specs.Options.{IsValid}
@@ -34,11 +33,11 @@ pub record Shows (ended : Ended) (ending : Ending) : Type 0 where
   pub number : ending.end ≡ number_of_end ended
   pub fault : ShowsFault ended ending.fault ending.line
 
--- What a call from C leaves of a text: the end, and what the text holds then. Its input is what the text held, and after it these bytes.
+-- What a call from C leaves of a text: the end, and what the text holds then. Its input is what the text held, and these bytes.
 pub record Answers (call : Call) (old : HandedText) (input : List ℕ) (new : HandedText) (ending : Ending) : Type 0 where
   pub ended : Ended
   pub shown : Shows ended ending
-  pub called : IsCalled old new ended (IsAnsweredIf (IsValid call) (answers_of call) (bytes_of old ++ input) ended (bytes_of new))
+  pub called : IsCalled old new ended (IsAnsweredIf (IsValid call) (IsAnsweredTo call (bytes_of old) input ended (bytes_of new)) ended (bytes_of new))
 
 -- The same for the number of a command. One that no command has is a misuse, and the text stays as it is.
 abbrev pub AnswersIfCall : Option Call → HandedText → List ℕ → HandedText → Ending → Type 0

@@ -1,26 +1,70 @@
-use Rattle.std.proofs.Common.{sym, ◌∙◌}
+use Rattle.std.proofs.Common.{◌≡◌, List, ℕ, ◌+◌, [], drop, take, length, sym, ◌∙◌, refl, Result}
 use Rattle.std.proofs.lemmas.Result.{err_from_is_err_and}
 use Rattle.byte_streams.specs.TextLeft.{text_left}
-use Rattle.potential_check.specs.Certificates.SheetView.{sheet_of}
+use Rattle.history_count.specs.Histories.{History}
+use Rattle.history_count.specs.HistoryText.{history_of_lines}
+use Rattle.history_count.specs.Timelines.TimelineText.{timeline_of_lines}
 use Rattle.line_text.specs.Lines.{lines}
-use Rattle.mte_engine.proofs.EitherFit.{fit_refused, history_answers, over_answers}
+use Rattle.potential_check.specs.Certificates.SheetView.{sheet_of}
+use Rattle.potential_check.specs.Leading.{leading_lines, lines_after}
+use Rattle.potential_check.specs.SheetText.{fit_of_lines}
+use Rattle.potential_check.specs.declared.cost.Cost.TheVariants.{Footprint}
+use Rattle.tuner_theory.specs.Sheets.{Sheet}
+use Rattle.tuner_theory.specs.declared.size_event.SizeEvent.{SizeEvent}
+use Rattle.mte_engine.specs.CheckFit.{CheckFitAnswers, IsFitChecked}
+use Rattle.mte_engine.specs.CheckFitOver.{CheckFitOverAnswers, IsCheckedOver, begins_moments, whole_moments_part}
+use Rattle.mte_engine.specs.Outcome.{Answer}
+use Rattle.mte_engine.specs.Parts.{both_parts, history_part, sheet_part, timeline_part}
+use Rattle.mte_engine.specs.declared.fault.InputFault.{InputFault}
+use Rattle.mte_engine.proofs.TwoParts.{either_refused, first_refused, other_answers, then_answered, one_answers}
 use Rattle.mte_engine.proofs.fit_checking.check_fit_text.Goals as goal
+
+abbrev over : Sheet × (List ℕ × List SizeEvent) → Answer → Type 0
+over parts answer = IsCheckedOver parts.0 parts.1.0 parts.1.1 answer
+
+abbrev checked : Sheet × History → Answer → Type 0
+checked parts answer = IsFitChecked parts.0 parts.1 answer
+
+abbrev part : List (List ℕ) → Result Sheet InputFault
+part ls = sheet_part Footprint (fit_of_lines (leading_lines ls))
+
+abbrev moments_and_timeline : List (List ℕ) → Result (List ℕ × List SizeEvent) InputFault
+moments_and_timeline ls =
+    both_parts (whole_moments_part (length (leading_lines ls)) (take 1 (lines_after ls)))
+    (timeline_part (length (leading_lines ls) + 1) (timeline_of_lines (drop 1 (lines_after ls))))
+
+abbrev history : List (List ℕ) → Result History InputFault
+history ls = history_part (length (leading_lines ls)) (history_of_lines (lines_after ls))
 
 pub returns-in_err-leading : goal.returns-in_err-leading
 returns-in_err-leading c =
     let error = err_from_is_err_and c.from_residual.result c.from_residual.ensures.1 in
-    rw (error.1, error.2) (fit_refused c.args.text.now c.in_err-leading.field-0.0 c.in_err-leading.ensures.sheet)
+    let fault = c.in_err-leading.field-0.0 in
+    let text = c.args.text.now in
+    let ls = lines text in
+    rw (error.1, error.2)
+    (either_refused (CheckFitOverAnswers text) (CheckFitAnswers text) (begins_moments (lines_after ls)) fault
+    (first_refused (part ls) (moments_and_timeline ls) over fault c.in_err-leading.ensures.sheet)
+    (first_refused (part ls) (history ls) checked fault c.in_err-leading.ensures.sheet))
 
 pub returns-then-begins_moments : goal.returns-then-begins_moments
 returns-then-begins_moments c =
-    let leading = c.in_ok-leading.leading in
-    over_answers text_left c.args.text.now (sheet_of leading.sheet) c.in_ok-leading.ensures.sheet leading.lines (lines leading.rest.now)
-    c.in_ok-leading.ensures.lines.0 c.in_ok-leading.ensures.rest c.check_timeline.result
-    (sym c.begins_moments.ensures ∙ c.if-begins_moments.true) c.check_timeline.ensures
+    let leading = c.in_ok-leading.ensures in
+    let text = c.args.text.now in
+    let ls = lines text in
+    let begins = sym c.begins_moments.ensures ∙ c.if-begins_moments.true in
+    one_answers text_left (CheckFitOverAnswers text) (CheckFitAnswers text) (begins_moments (lines_after ls)) (rw leading.rest at begins)
+    c.check_after_moments.result
+    (then_answered (part ls) (moments_and_timeline ls) over text_left (sheet_of c.in_ok-leading.leading.sheet) leading.sheet
+    c.check_after_moments.result (rw (leading.lines.0, leading.rest) at c.check_after_moments.ensures))
 
 pub returns : goal.returns
 returns c =
-    let leading = c.in_ok-leading.leading in
-    history_answers text_left c.args.text.now (sheet_of leading.sheet) c.in_ok-leading.ensures.sheet leading.lines (lines leading.rest.now)
-    c.in_ok-leading.ensures.lines.0 c.in_ok-leading.ensures.rest c.check_history.result
-    (sym c.begins_moments.ensures ∙ c.if-begins_moments.false) c.check_history.ensures
+    let leading = c.in_ok-leading.ensures in
+    let text = c.args.text.now in
+    let ls = lines text in
+    let begins = sym c.begins_moments.ensures ∙ c.if-begins_moments.false in
+    other_answers text_left (CheckFitOverAnswers text) (CheckFitAnswers text) (begins_moments (lines_after ls)) (rw leading.rest at begins)
+    c.check_history.result
+    (then_answered (part ls) (history ls) checked text_left (sheet_of c.in_ok-leading.leading.sheet) leading.sheet c.check_history.result
+    (rw (leading.lines.0, leading.rest) at c.check_history.ensures))

@@ -1,32 +1,33 @@
-use Rattle.std.proofs.Common.{sym, ◌∙◌}
+use Rattle.std.proofs.Common.{◌≡◌, sym, ◌∙◌, List, ℕ, Result}
 use Rattle.std.proofs.lemmas.Result.{err_from_is_err_and}
-use Rattle.mte_engine.specs.Score.{ScoreAnswers, profile_after_line}
-use Rattle.mte_engine.proofs.TableAnd.{both_read, no_line, rest_refused, table_refused}
+use Rattle.byte_streams.specs.TextLeft.{text_left}
+use Rattle.tuner_theory.specs.Profiles.{Profile as Counted}
+use Rattle.profile_count.specs.ProfileText.{profile_of_lines}
+use Rattle.mte_engine.specs.Outcome.{Answer}
+use Rattle.mte_engine.specs.Parts.{profile_part}
+use Rattle.mte_engine.specs.Score.{scored}
+use Rattle.mte_engine.specs.declared.fault.InputFault.{InputFault}
+use Rattle.mte_engine.proofs.TwoParts.{no_line, table_refused, table_then}
 use Rattle.mte_engine.proofs.scoring.score_of_text.Goals as goal
 
+abbrev after : List (List ℕ) → Result Counted InputFault
+after ls = profile_part 1 (profile_of_lines ls)
+
+abbrev says : List ℕ × Counted → Answer → Type 0
+says parts answer = answer ≡ scored parts.0 parts.1
+
 pub returns-in_default : goal.returns-in_default
-returns-in_default c = no_line profile_after_line c.args.text.now (sym c.lines_in-lines.ensures ∙ c.in_default.ensures.steps.0)
+returns-in_default c = no_line after says c.args.text.now (sym c.lines_in-lines.ensures ∙ c.in_default.ensures.steps.0)
 
 pub returns-in_err-table : goal.returns-in_err-table
 returns-in_err-table c =
-    let p = err_from_is_err_and c.from_residual.result c.from_residual.ensures.1 in
+    let error = err_from_is_err_and c.from_residual.result c.from_residual.ensures.1 in
     let parts = sym c.lines_in-lines.ensures ∙ c.in-Some.ensures.steps in
-    rw (p.1, p.2) (table_refused profile_after_line c.args.text.now c.in-Some.line.now c.next.new.self parts (ScoreAnswers c.args.text.now)
-    (λ fault e. e) c.in_err-table.field-0.0 c.in_err-table.ensures)
-
-pub returns-in_err-profile : goal.returns-in_err-profile
-returns-in_err-profile c =
-    let p = err_from_is_err_and c.from_residual-in_err-profile.result c.from_residual-in_err-profile.ensures.1 in
-    let parts = sym c.lines_in-lines.ensures ∙ c.in-Some.ensures.steps in
-    rw (p.1, p.2) (rest_refused profile_after_line c.args.text.now c.in-Some.line.now c.next.new.self parts (ScoreAnswers c.args.text.now)
-    (λ fault e. e) c.in_ok-table.table c.rest.result.now c.in_ok-table.ensures c.rest.ensures c.in_err-profile.field-0.0
-    c.in_err-profile.ensures)
+    rw (error.1, error.2)
+    (table_refused after says c.args.text.now c.in-Some.line.now c.next.new.self parts c.in_err-table.field-0.0 c.in_err-table.ensures)
 
 pub returns : goal.returns
 returns c =
-    let parts = sym c.lines_in-lines.ensures ∙ c.in-Some.ensures.steps in (
-      (c.in_ok-table.table, c.in_ok-profile.profile),
-      both_read profile_after_line c.args.text.now c.in-Some.line.now c.in_ok-table.table c.rest.result.now c.next.new.self
-          c.in_ok-profile.profile parts c.in_ok-table.ensures c.rest.ensures c.in_ok-profile.ensures,
-      c.in_ok-score_of_profile.ensures,
-    )
+    let parts = sym c.lines_in-lines.ensures ∙ c.in-Some.ensures.steps in
+    table_then after says c.args.text.now c.in-Some.line.now c.next.new.self parts text_left c.in_ok-table.table c.rest.result.now
+    c.in_ok-table.ensures c.rest.ensures c.score_of_counts.result c.score_of_counts.ensures

@@ -1,0 +1,19 @@
+-- The answers of a command over counts to two texts: a class line, a sheet or a fit, and nothing else; and the counts. The lines of a fault
+-- are counted in its own text.
+use Rattle.std.specs.Prelude.{ℕ, List, Result}
+use Rattle.line_text.specs.Lines.{lines}
+use Rattle.potential_check.specs.Leading.{leading_lines, lines_after}
+use Rattle.mte_engine.specs.Check.{ChecksParts}
+use Rattle.mte_engine.specs.CheckFitOver.{ChecksEitherParts}
+use Rattle.mte_engine.specs.FootprintOver.{MeasuresEitherParts}
+use Rattle.mte_engine.specs.Outcome.{Answer}
+use Rattle.mte_engine.specs.Score.{ScoresParts}
+use Rattle.mte_engine.specs.declared.fault.InputFault.{InputFault}
+use Rattle.mte_engine.specs.declared.two_texts.CountsCommand.{CountsCommand}
+use Rattle.mte_engine.specs.declared.two_texts.CountsCommand.TheVariants.{Score, Check, Footprint, CheckFit}
+
+abbrev pub answers_beside : CountsCommand → List ℕ → List ℕ → Result Answer InputFault → Type 0
+answers_beside Score first text = ScoresParts (lines first) 0 (lines text)
+answers_beside Check first text = ChecksParts (leading_lines (lines first)) (lines_after (lines first)) 0 (lines text)
+answers_beside Footprint first text = MeasuresEitherParts (lines first) 0 (lines text)
+answers_beside CheckFit first text = ChecksEitherParts (leading_lines (lines first)) (lines_after (lines first)) 0 (lines text)

@@ -1,0 +1,99 @@
+//! The calls over two texts: a class line, a sheet or a fit, which is in memory, and what is read from a source.
+ghost use Rattle.std.specs.Prelude.{◌≡◌, false};
+ghost use Rattle.heap_theory.specs.Config.{IsConfig};
+ghost use Rattle.mte_engine.specs.Replay.{ReplayOnAnswers};
+ghost use Rattle.mte_engine.specs.Traces.{KeepsEvents};
+ghost use Rattle.mte_engine.specs.TwoTexts.{answers_beside};
+ghost use Rattle.trace_reader.specs.Reading.{is_finished};
+
+use crate::checking::check_texts;
+use crate::engine::{Engine, Status};
+use crate::fault::AnswerError;
+use crate::fit_checking::check_fit_texts;
+use crate::measuring::footprint_of_texts;
+use crate::replaying::answer_to_texts;
+use crate::report::Report;
+use crate::scoring::score_of_texts;
+use crate::trace_feeding::feed;
+use byte_streams::{Input, Text, WholeText};
+use replay_core::Config;
+use std::alloc::{AllocError, Global};
+use trace_reader::{TraceReader, Unobserved};
+
+/// A command over counts, which come after a first text.
+#[derive(Clone, Copy)]
+pub(crate) enum CountsCommand {
+    Score,
+    Check,
+    Footprint,
+    CheckFit,
+}
+
+/// Such a command with its first text.
+#[derive(Drop)]
+pub(crate) struct BesideCounts<'a> {
+    pub(crate) command: CountsCommand,
+    pub(crate) first: &'a [u8],
+}
+
+impl<'a> Engine for BesideCounts<'a> {
+    type Input = WholeText;
+
+    type Output = Text;
+
+    ghost answers = { λ e. answers_beside e.command e.first.now };
+
+    fn input(&self, alloc: Global) -> Result<WholeText, AllocError> {
+        Ok(WholeText::new(alloc))
+    }
+
+    fn answer(&self, alloc: Global, input: WholeText) -> Result<(Text, Status), AnswerError> {
+        match self.command {
+            CountsCommand::Score => score_of_texts(alloc, self.first, &input.text),
+            CountsCommand::Check => check_texts(alloc, self.first, &input.text),
+            CountsCommand::Footprint => footprint_of_texts(alloc, self.first, &input.text),
+            CountsCommand::CheckFit => check_fit_texts(alloc, self.first, &input.text),
+        }
+    }
+}
+
+/// `replay` over a class line and a trace.
+#[derive(Drop)]
+pub(crate) struct BesideTrace<'a> {
+    pub(crate) config: Config,
+    pub(crate) class: &'a [u8],
+    ghost is_config: { IsConfig config },
+}
+
+impl<'a> Engine for BesideTrace<'a> {
+    type Input = TraceEvents;
+
+    type Output = Report;
+
+    ghost answers = { λ e. ReplayOnAnswers e.config e.class.now };
+
+    fn input(&self, alloc: Global) -> Result<TraceEvents, AllocError> {
+        Ok(TraceEvents {
+            reader: TraceReader::new(alloc),
+        })
+    }
+
+    fn answer(&self, alloc: Global, input: TraceEvents) -> Result<(Report, Status), AnswerError> {
+        answer_to_texts(alloc, self.config, self.class, input.reader)
+    }
+}
+
+/// The events of a trace.
+#[derive(Drop)]
+pub(crate) struct TraceEvents {
+    reader: TraceReader,
+    ghost open: { is_finished reader ≡ false },
+}
+
+impl Input for TraceEvents {
+    ghost has_taken = { λ input bytes. KeepsEvents input.reader bytes };
+
+    fn take(&mut self, piece: &[u8]) -> Result<(), AllocError> {
+        feed(&mut self.reader, piece, &mut Unobserved)
+    }
+}
