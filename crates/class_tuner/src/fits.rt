@@ -8,4 +8,4 @@ mod timelines;
 
 pub use filling::fill_places;
 pub use fitting::{Fitted, fit};
-pub use timelines::{Found, MOST_ROUNDS, fit_over};
+pub use timelines::{FittedOver, Found, MOST_ROUNDS, fit_over};

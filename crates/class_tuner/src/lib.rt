@@ -16,6 +16,6 @@ mod tuning;
 pub use cost_source::CostSource;
 pub use costs::Costs;
 pub use filling::{Filled, fill_rows};
-pub use fits::{Fitted, Found, MOST_ROUNDS, fill_places, fit, fit_over};
+pub use fits::{Fitted, FittedOver, Found, MOST_ROUNDS, fill_places, fit, fit_over};
 pub use made::Made;
 pub use tuning::{Tuned, tune};

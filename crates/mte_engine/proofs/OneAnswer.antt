@@ -1,9 +1,11 @@
 -- One answer of `tune`, `fit` and `run` to an input, since there is one certificate for what it spells, a step and a limit.
-use Rattle.std.proofs.Common.{◌≡◌, ℕ, List, ◌++◌, Result, Ok, Err, ap, sym, subst, ◌∙◌}
-use Rattle.class_tuner.proofs.LawLemmas.{one_fit, one_sheet}
+use Rattle.std.proofs.Common.{◌≡◌, ℕ, Bool, true, false, List, ◌++◌, MatchBool, Result, Ok, Err, ap, sym, subst, inl, inr, refl, ◌∙◌}
+use Rattle.class_tuner.proofs.LawLemmas.{least-or_between, one-between, one-least, one_fit, one_sheet}
 use Rattle.heap_theory.specs.declared.config.Config.{Config}
 use Rattle.history_count.specs.Histories.{History}
 use Rattle.history_count.specs.HistoryText.{history_of}
+use Rattle.history_count.specs.Timelines.TimelineText.{timeline_of}
+use Rattle.line_text.specs.Lines.{lines, text_of}
 use Rattle.potential_check.specs.SheetText.{fit_text, sheet_text}
 use Rattle.profile_count.specs.ProfileText.{profile_of}
 use Rattle.replay_theory.specs.Report.{report}
@@ -11,15 +13,18 @@ use Rattle.trace_event.specs.declared.event.Event.{Event}
 use Rattle.trace_reader.specs.TraceText.{trace_of}
 use Rattle.tuner_theory.specs.Profiles.{Profile as Counted}
 use Rattle.tuner_theory.specs.Sheets.{Sheet}
+use Rattle.tuner_theory.specs.declared.size_event.SizeEvent.{SizeEvent}
 use Rattle.mte_engine.specs.Fit.{FitAnswers, IsFitText}
-use Rattle.mte_engine.specs.Parts.{AnswersPart, history_part, profile_part}
+use Rattle.mte_engine.specs.FitOver.{FitEitherAnswers, FitOverAnswers, IsFoundText, between_lines, least_text}
+use Rattle.mte_engine.specs.Parts.{AnswersPart, history_part, profile_part, timeline_part}
 use Rattle.mte_engine.specs.Replay.{report_on}
 use Rattle.mte_engine.specs.Run.{IsTunedRun, RunAnswers}
+use Rattle.mte_engine.specs.Timelines.{begins_timeline}
 use Rattle.mte_engine.specs.Traces.{profile_of_events, trace_part}
 use Rattle.mte_engine.specs.Tune.{IsTunedText, TuneAnswers}
 use Rattle.mte_engine.specs.declared.fault.InputFault.{InputFault}
 use Rattle.mte_engine.specs.Outcome.{Answer}
-use Rattle.mte_engine.specs.declared.engine.Status.TheVariants.{Done}
+use Rattle.mte_engine.specs.declared.engine.Status.TheVariants.{Done, No}
 
 -- what is read is one, and what is said of it is one
 one_answer : {A : Type 0} (part : Result A InputFault) (says : A → Answer → Type 0) → ((x : A) (a b : Answer) → says x a → says x b → a ≡ b)
@@ -59,6 +64,37 @@ module _ (limit step : ℕ) (text : List ℕ) where
   pub one_fitted : (a b : Result Answer InputFault) → FitAnswers limit step text a → FitAnswers limit step text b → a ≡ b
   one_fitted a b first second =
       one_answer (history_part 0 (history_of text)) (IsFitText limit step) fit_written a b (fitted a first) (fitted b second)
+
+  over_written : (events : List SizeEvent) (a b : Answer) → IsFoundText limit step events a → IsFoundText limit step events b → a ≡ b
+  over_written events a b (inl first) (inl second) =
+      let same = one-least events step limit first.made second.made first.numbers second.numbers first.fit second.fit first.least
+          second.least in
+      first.written ∙ (rw (same.0, same.1) refl ∙ sym second.written)
+  over_written events a b (inl first) (inr second) =
+      absurd (least-or_between events step limit first.made 1024 first.numbers second.table first.fit second.takes second.least first.few
+      first.least second.between)
+  over_written events a b (inr first) (inl second) =
+      absurd (least-or_between events step limit second.made 1024 second.numbers first.table second.fit first.takes first.least second.few
+      second.least first.between)
+  over_written events a b (inr first) (inr second) =
+      let same = one-between events step limit 1024 first.table second.table first.takes second.takes first.least second.least first.between
+          second.between in
+      first.written ∙ (rw (same.0, same.1, same.2) refl ∙ sym second.written)
+
+  fitted_over : (a : Result Answer InputFault) → FitOverAnswers limit step text a
+      → AnswersPart (timeline_part 0 (timeline_of text)) (IsFoundText limit step) a
+  fitted_over (Ok a) answers = answers
+  fitted_over (Err fault) answers = answers
+
+  by_first_line : (over : Bool) (a b : Result Answer InputFault)
+      → MatchBool over (FitOverAnswers limit step text a) (FitAnswers limit step text a)
+      → MatchBool over (FitOverAnswers limit step text b) (FitAnswers limit step text b) → a ≡ b
+  by_first_line true a b first second =
+      one_answer (timeline_part 0 (timeline_of text)) (IsFoundText limit step) over_written a b (fitted_over a first) (fitted_over b second)
+  by_first_line false a b first second = one_fitted a b first second
+
+  pub one_either : (a b : Result Answer InputFault) → FitEitherAnswers limit step text a → FitEitherAnswers limit step text b → a ≡ b
+  one_either = by_first_line (begins_timeline (lines text))
 
 module _ (limit step : ℕ) (config : Config) (text : List ℕ) where
   run_written : (events : List Event) (a b : Answer) → IsTunedRun limit step config events a → IsTunedRun limit step config events b → a ≡ b

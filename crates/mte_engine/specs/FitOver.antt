@@ -1,5 +1,5 @@
 -- The answers of `fit` to a timeline: the table of least footprint over every moment, with its certificate; or a table and a bound.
-use Rattle.std.specs.Prelude.{◌≡◌, ◌⊎◌, ℕ, List, [], ◌∷◌, ◌++◌, codes, MatchBool, Result, Ok, Err}
+use Rattle.std.specs.Prelude.{◌≡◌, ◌⊎◌, ◌≤◌, ℕ, List, [], ◌∷◌, ◌++◌, codes, MatchBool, Result, Ok, Err}
 use Rattle.class_table.specs.ClassLine.{class_line}
 use Rattle.class_table.specs.NamedLines.{named_line}
 use Rattle.line_text.specs.Lines.{ended, lines, text_of}
@@ -26,19 +26,21 @@ between_lines table takes least =
     class_line table ∷ named_line (codes "footprint") (takes ∷ [])
     ∷ named_line (codes "not shown least: no table takes less than") (least ∷ []) ∷ []
 
--- No table takes less over every moment.
+-- No table takes less over every moment, and a round shows that, the last of those that were made.
 pub record IsLeastText (limit step : ℕ) (events : List SizeEvent) (answer : Answer) : Type 0 where
+  pub made : ℕ
+  pub few : made ≤ 1024
   pub numbers : List ℕ
   pub fit : Sheet
-  pub least : IsLeastFit events step limit numbers fit
+  pub least : IsLeastFit events step limit made numbers fit
   pub written : answer ≡ record { text = least_text fit numbers; status = Done }
 
--- That is not shown.
+-- None of 1,024 rounds shows that.
 pub record IsBetweenText (limit step : ℕ) (events : List SizeEvent) (answer : Answer) : Type 0 where
   pub table : List ℕ
   pub takes : ℕ
   pub least : ℕ
-  pub between : IsBetween events step limit table takes least
+  pub between : IsBetween events step limit 1024 table takes least
   pub written : answer ≡ record { text = text_of (between_lines table takes least); status = No }
 
 abbrev pub IsFoundText : ℕ → ℕ → List SizeEvent → Answer → Type 0

@@ -27,7 +27,8 @@ pub(crate) fn fit_over_text(
     ensures { GivesAnswer sheet_left (FitOverAnswers limit step text.now) result }
 {
     let timeline = read_timeline(alloc, text, 0)?;
-    match fit_over(alloc, &timeline, limit, step, MOST_ROUNDS)? {
+    let fitted = fit_over(alloc, &timeline, limit, step, MOST_ROUNDS)?;
+    match fitted.found {
         Found::Least { fit, numbers } => {
             let text = text_of_least(alloc, &fit, &numbers)?;
             Ok((SheetText::of_text(alloc, text)?, Status::Done))

@@ -32,7 +32,7 @@ ghost use Rattle.mte_engine.specs.FaultLines.{IsAtFirstFault, SpellsFitAndHistor
 ghost use Rattle.mte_engine.specs.FaultLines.{SpellsTableAndHistory, SpellsTableAndProfile, SpellsTableAndTimeline, line_of_fault};
 ghost use Rattle.mte_engine.specs.FaultText.{in_line, shown_input_fault};
 ghost use Rattle.mte_engine.specs.Fit.{FitAnswers};
-ghost use Rattle.mte_engine.specs.FitOver.{FitOverAnswers};
+ghost use Rattle.mte_engine.specs.FitOver.{FitEitherAnswers, FitOverAnswers};
 ghost use Rattle.mte_engine.specs.Footprint.{FootprintAnswers};
 ghost use Rattle.mte_engine.specs.FootprintOver.{FootprintOverAnswers};
 ghost use Rattle.history_count.specs.Timelines.TimelineText.{SpellsTimeline};
@@ -53,12 +53,14 @@ pub fn law_headline()
         IsTunedRun limit step config events (record { text = text; status = Done }) }
 {}
 
-/// What `tune`, `fit` and `run` write is one function of their input and options.
+/// What `tune`, `fit` and `run` write is one function of their input and options; so of `fit`, whether the input is a history or a timeline.
 pub fn law_one_answer()
     ensures tune { (limit step : ℕ) (text : List ℕ) (a b : Result Answer InputFault)
         → TuneAnswers limit step text a → TuneAnswers limit step text b → a ≡ b }
     ensures fit { (limit step : ℕ) (text : List ℕ) (a b : Result Answer InputFault)
         → FitAnswers limit step text a → FitAnswers limit step text b → a ≡ b }
+    ensures fit_either { (limit step : ℕ) (text : List ℕ) (a b : Result Answer InputFault)
+        → FitEitherAnswers limit step text a → FitEitherAnswers limit step text b → a ≡ b }
     ensures run { (limit step : ℕ) (config : Config) (text : List ℕ) (a b : Result Answer InputFault)
         → RunAnswers limit step config text a → RunAnswers limit step config text b → a ≡ b }
 {}

@@ -1,2 +1,4 @@
 pub mod Ascending
+pub mod OneRound
 pub mod Rounds
+pub mod Unions

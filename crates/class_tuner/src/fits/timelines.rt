@@ -4,4 +4,4 @@ mod fitting;
 mod moments;
 mod round;
 
-pub use fitting::{Found, MOST_ROUNDS, fit_over};
+pub use fitting::{FittedOver, Found, MOST_ROUNDS, fit_over};

@@ -1,5 +1,6 @@
 -- What a round shows, and what is kept of all of them.
-use Rattle.std.proofs.Common.{◌≡◌, ◌≢◌, ◌≤◌, ℕ, List, [], ◌∷◌, All, length, max, sym, subst, ◌∙◌, arith, refl, inl, inr}
+use Rattle.std.proofs.Common.{◌≡◌, ◌≢◌, ◌+◌, ◌*◌, ◌<◌, ◌≤◌, ℕ, List, [], ◌∷◌, All, length, max, sym, subst, ◌∙◌, add-one, arith, refl, inl, inr}
+use Rattle.std.proofs.Math.Nat.{mul-le-mul}
 use Rattle.std.proofs.lemmas.Bool.{cases_lt}
 use Rattle.std.specs.List.{Contains}
 use Rattle.std.specs.List.Sorted.{IsStrictlyIncreasing}
@@ -16,9 +17,15 @@ use Rattle.tuner_theory.specs.Timelines.{AreMoments, IsTimeline, footprint_over,
 use Rattle.tuner_theory.specs.Waste.{Serves}
 use Rattle.tuner_theory.specs.declared.most_snapshots.TheConstants.{MOST_SNAPSHOTS}
 use Rattle.tuner_theory.specs.declared.size_event.SizeEvent.{SizeEvent}
+use Rattle.tuner_theory.proofs.LawLemmas.{few_places}
 use Rattle.tuner_theory.proofs.TimelineCanonical.{canonical_over}
 use Rattle.tuner_theory.proofs.Timelines.{fit_bounds_timeline}
-use Rattle.class_tuner.specs.Fits.Timelines.Found.{IsBetween, IsLeastFit, IsLooseFit}
+use Rattle.class_table.specs.declared.sizes.TheConstants.{MOST_NEEDS}
+use Rattle.class_tuner.specs.Fits.Timelines.Found.{IsBetween, IsLeastFit}
+use Rattle.class_tuner.specs.Fits.Timelines.Rounds.{AreLoose, AreRoundCosts, AreRoundMoments, IsDecisive, IsGreatestOfRounds, IsRound, IsUnion, moments_left}
+use Rattle.class_tuner.proofs.FitLemmas.TimelineLemmas.OneRound.{same-round}
+use Rattle.potential_check.specs.Footprints.CallCounts.{span_count}
+use Rattle.tuner_theory.specs.Spans.{places}
 
 -- Some moments, with the one that decides what serves.
 pub record AreDeciding (events : List SizeEvent) (numbers : List ℕ) (moment : ℕ) : Type 0 where
@@ -57,105 +64,346 @@ more-moments events numbers moment few within kept ascending = record {
 }
 
 -- What a round over such moments has.
-pub record IsRound (events : List SizeEvent) (numbers : List ℕ) (moment step limit : ℕ) (fit : Sheet) (takes : ℕ) : Type 0 where
+pub record IsFittedRound (events : List SizeEvent) (numbers : List ℕ) (moment step limit earlier : ℕ) (fit : Sheet) (takes : ℕ) : Type 0 where
   pub over : AreDeciding events numbers moment
-  pub fitted : IsFitOf (history_at events numbers) step limit fit
+  pub round : IsRound events step limit earlier numbers fit
   pub legal : IsLegalTable 1 fit.table
   pub taken : takes ≡ footprint_over events fit.table
 
 module _ (events : List SizeEvent) (moment step limit : ℕ) (timeline : IsTimeline events) (decides : Decides events moment) where
-  pub round-serves : (numbers : List ℕ) (fit : Sheet) (takes : ℕ) → IsRound events numbers moment step limit fit takes
+  pub round-serves : (earlier : ℕ) (numbers : List ℕ) (fit : Sheet) (takes : ℕ) → IsFittedRound events numbers moment step limit earlier fit takes
       → Serves (peaks (moments events)) fit.table
-  round-serves numbers fit takes round =
+  round-serves earlier numbers fit takes round =
       let kept = round.over.kept in
       decides numbers fit.table kept.0 kept.1 (get_or_default numbers kept.0 0 moment kept.1 ∙ kept.2)
-      round.fitted.made.canonical.best.candidate.serving
+      round.round.fitted.made.canonical.best.candidate.serving
 
-  pub round-candidate : (numbers : List ℕ) (fit : Sheet) (takes : ℕ) → IsRound events numbers moment step limit fit takes
+  pub round-candidate : (earlier : ℕ) (numbers : List ℕ) (fit : Sheet) (takes : ℕ)
+      → IsFittedRound events numbers moment step limit earlier fit takes
       → IsCandidate (peaks (moments events)) step limit fit.table
-  round-candidate numbers fit takes round = record {
-    legal = round.fitted.made.canonical.best.candidate.legal;
-    few = round.fitted.made.canonical.best.candidate.few;
-    serving = round-serves numbers fit takes round;
+  round-candidate earlier numbers fit takes round = record {
+    legal = round.round.fitted.made.canonical.best.candidate.legal;
+    few = round.round.fitted.made.canonical.best.candidate.few;
+    serving = round-serves earlier numbers fit takes round;
   }
 
-  pub round-bounds : (numbers : List ℕ) (fit : Sheet) (takes : ℕ) → IsRound events numbers moment step limit fit takes → (other : List ℕ)
-      → IsCandidate (peaks (moments events)) step limit other → fit.cost ≤ footprint_over events other
-  round-bounds numbers fit takes round other candidate =
-      let of_step = subst (λ (s : ℕ). IsCandidate (peaks (moments events)) s limit other) (sym round.fitted.made.for_step) candidate in
-      let of_limit = subst (λ (l : ℕ). IsCandidate (peaks (moments events)) fit.step l other) (sym round.fitted.made.for_limit) of_step in
-      fit_bounds_timeline events numbers fit other timeline round.over.are round.legal round.fitted.made.optimal of_limit
+  pub round-bounds : (earlier : ℕ) (numbers : List ℕ) (fit : Sheet) (takes : ℕ) → IsFittedRound events numbers moment step limit earlier fit takes
+      → (other : List ℕ) → IsCandidate (peaks (moments events)) step limit other → fit.cost ≤ footprint_over events other
+  round-bounds earlier numbers fit takes round other candidate =
+      let made = round.round.fitted.made in
+      let of_step = subst (λ (s : ℕ). IsCandidate (peaks (moments events)) s limit other) (sym made.for_step) candidate in
+      let of_limit = subst (λ (l : ℕ). IsCandidate (peaks (moments events)) fit.step l other) (sym made.for_limit) of_step in
+      fit_bounds_timeline events numbers fit other timeline round.over.are round.legal made.optimal of_limit
 
   -- a round whose table takes no more over the whole timeline
-  pub round-least : (numbers : List ℕ) (fit : Sheet) (takes : ℕ) → IsRound events numbers moment step limit fit takes
-      → takes ≡ fit.cost → IsLeastFit events step limit numbers fit
-  round-least numbers fit takes round tight =
+  pub round-least : (earlier : ℕ) (numbers : List ℕ) (fit : Sheet) (takes : ℕ) → IsFittedRound events numbers moment step limit earlier fit takes
+      → takes ≡ fit.cost → AreLoose events step limit earlier → IsLeastFit events step limit (earlier + 1) numbers fit
+  round-least earlier numbers fit takes round tight loose =
       let over : footprint_over events fit.table ≡ fit.cost = sym round.taken ∙ tight in
       record {
+        earlier = earlier;
+        last = omega arith;
+        round = round.round;
+        loose = loose;
         are = round.over.are;
         ascending = round.over.ascending;
-        over_moments = round.fitted;
         takes = over;
-        fitted = canonical_over events numbers step limit fit.table round.over.are round.fitted.made.canonical
-            (round-serves numbers fit takes round) (over ∙ round.fitted.made.costs);
+        fitted = canonical_over events numbers step limit fit.table round.over.are round.round.fitted.made.canonical
+            (round-serves earlier numbers fit takes round) (over ∙ round.round.fitted.made.costs);
       }
 
-  loose : (numbers : List ℕ) (fit : Sheet) (takes : ℕ) → IsRound events numbers moment step limit fit takes → takes ≢ fit.cost
-      → IsLooseFit events step limit fit
-  loose numbers fit takes round differs = record {
-    numbers = numbers;
-    are = round.over.are;
-    over_moments = round.fitted;
-    takes_more = elim (cases_lt fit.cost takes) [
-      | inl more ↦ omega (arith, round.taken)
-      | inr none ↦ absurd (differs (omega (
-        arith,
-        round.taken,
-        round-bounds numbers fit takes round fit.table (round-candidate numbers fit takes round),
-      )))
-    ];
-  }
+  takes-more : (earlier : ℕ) (numbers : List ℕ) (fit : Sheet) (takes : ℕ) → IsFittedRound events numbers moment step limit earlier fit takes
+      → takes ≢ fit.cost → fit.cost < footprint_over events fit.table
+  takes-more earlier numbers fit takes round differs =
+      elim (cases_lt fit.cost takes) [
+        | inl more ↦ omega (arith, round.taken)
+        | inr none ↦ absurd (differs (omega (
+          arith,
+          round.taken,
+          round-bounds earlier numbers fit takes round fit.table (round-candidate earlier numbers fit takes round),
+        )))
+      ]
+
+  -- the moments of the round after a round
+  pub moments-next : (earlier : ℕ) (numbers next firsts : List ℕ) (fit : Sheet) → IsDecisive events moment
+      → IsRound events step limit earlier numbers fit → AreFirsts events fit.table firsts
+      → IsUnion (moments_left numbers moment (length firsts)) firsts next → AreRoundMoments events step limit (earlier + 1) next
+  unfolding AreRoundMoments
+  moments-next earlier numbers next firsts fit decisive round are union =
+      rw add-one (
+        numbers,
+        fit,
+        round.moments,
+        round.fitted,
+        record {
+          decisive = moment;
+          decides = decisive;
+          firsts = firsts;
+          are_firsts = are;
+          union = union;
+        },
+      )
+
+  -- what holds of the fits of so many rounds holds of one more
+  of-one_more : (P : Sheet → Type 0) (made : ℕ) (numbers : List ℕ) (fit : Sheet) → IsRound events step limit made numbers fit → P fit
+      → ((k : ℕ) (others : List ℕ) (other : Sheet) → k < made → IsRound events step limit k others other → P other)
+      → (k : ℕ) (others : List ℕ) (other : Sheet) → k < made + 1 → IsRound events step limit k others other → P other
+  of-one_more P made numbers fit round holds before k others other lt its =
+      elim (cases_lt k made) [
+        | inl earlier ↦ before k others other earlier its
+        | inr not ↦ subst P (same-round events step limit made k numbers others fit other (omega arith) round its).1 holds
+      ]
 
   -- the first round
-  pub between-first : (numbers : List ℕ) (fit : Sheet) (takes : ℕ) → IsRound events numbers moment step limit fit takes → takes ≢ fit.cost
-      → IsBetween events step limit fit.table takes fit.cost
-  between-first numbers fit takes round differs = record {
-    candidate = round-candidate numbers fit takes round;
+  pub between-first : (numbers next : List ℕ) (fit : Sheet) (takes : ℕ) → IsFittedRound events numbers moment step limit 0 fit takes
+      → takes ≢ fit.cost → AreRoundMoments events step limit 1 next → IsBetween events step limit 1 fit.table takes fit.cost
+  between-first numbers next fit takes round differs more = record {
+    next = (next, more);
+    loose = of-one_more (λ other. other.cost < footprint_over events other.table) 0 numbers fit round.round
+        (takes-more 0 numbers fit takes round differs) (λ k others other lt its. absurd (omega arith));
+    best = record {
+      earlier = 0;
+      numbers = numbers;
+      fit = fit;
+      among = omega arith;
+      round = round.round;
+      table_of = refl;
+      least = of-one_more (λ other. footprint_over events fit.table ≤ footprint_over events other.table) 0 numbers fit round.round
+          (omega arith) (λ k others other lt its. absurd (omega arith));
+      first = λ k others other lt its. absurd (omega arith);
+    };
     taken = round.taken;
-    bound = round-bounds numbers fit takes round;
-    table_of = (fit, loose numbers fit takes round differs, refl);
-    least_of = (fit, loose numbers fit takes round differs, refl, omega (arith, round.taken));
+    greatest = record {
+      earlier = 0;
+      numbers = numbers;
+      fit = fit;
+      among = omega arith;
+      round = round.round;
+      cost_of = refl;
+      most = of-one_more (λ other. other.cost ≤ fit.cost) 0 numbers fit round.round (omega arith)
+          (λ k others other lt its. absurd (omega arith));
+    };
+    candidate = round-candidate 0 numbers fit takes round;
+    bound = round-bounds 0 numbers fit takes round;
   }
 
   -- one round more: the better table of its own and of the one before it, and the greater bound
-  pub between-more : (numbers : List ℕ) (fit : Sheet) (takes : ℕ) (table : List ℕ) (best least : ℕ)
-      → IsRound events numbers moment step limit fit takes → takes ≢ fit.cost → IsBetween events step limit table best least
-      → (best ≤ takes → IsBetween events step limit table best (max least fit.cost))
-      × (takes ≤ best → IsBetween events step limit fit.table takes (max least fit.cost))
-  between-more numbers fit takes table best least round differs before = (
-    λ le. record {
-      candidate = before.candidate;
-      taken = before.taken;
-      bound = bound;
-      table_of = before.table_of;
-      least_of = greater best (omega arith) le;
-    },
-    λ le. record {
-      candidate = round-candidate numbers fit takes round;
-      taken = round.taken;
-      bound = bound;
-      table_of = (fit, loose numbers fit takes round differs, refl);
-      least_of = greater takes le (omega arith);
-    },
-  )
-    where
-      bound : (other : List ℕ) → IsCandidate (peaks (moments events)) step limit other → max least fit.cost ≤ footprint_over events other
-      bound other candidate = omega (arith, before.bound other candidate, round-bounds numbers fit takes round other candidate)
+  module _ (made : ℕ) (numbers next : List ℕ) (fit : Sheet) (takes : ℕ) (table : List ℕ) (best least : ℕ)
+      (round : IsFittedRound events numbers moment step limit made fit takes) (differs : takes ≢ fit.cost)
+      (more : AreRoundMoments events step limit (made + 1) next) (before : IsBetween events step limit made table best least) where
+    loose-more : AreLoose events step limit (made + 1)
+    loose-more = of-one_more (λ other. other.cost < footprint_over events other.table) made numbers fit round.round
+        (takes-more made numbers fit takes round differs) before.loose
 
-      greater : (n : ℕ) → n ≤ best → n ≤ takes → (it : Sheet) × IsLooseFit events step limit it × (max least fit.cost ≡ it.cost)
-          × (n ≤ footprint_over events it.table)
-      greater n of-best of-own =
-          elim (cases_lt least fit.cost) [
-            | inl more ↦ (fit, loose numbers fit takes round differs, omega arith, omega (arith, round.taken))
-            | inr kept ↦ let it = before.least_of in (it.0, it.1, omega (arith, it.2), omega (arith, it.3))
-          ]
+    bound-more : (other : List ℕ) → IsCandidate (peaks (moments events)) step limit other → max least fit.cost ≤ footprint_over events other
+    bound-more other candidate = omega (arith, before.bound other candidate, round-bounds made numbers fit takes round other candidate)
+
+    greatest-more : IsGreatestOfRounds events step limit (made + 1) (max least fit.cost)
+    greatest-more =
+        elim (cases_lt least fit.cost) [
+          | inl above ↦ record {
+            earlier = made;
+            numbers = numbers;
+            fit = fit;
+            among = omega arith;
+            round = round.round;
+            cost_of = omega arith;
+            most = of-one_more (λ other. other.cost ≤ max least fit.cost) made numbers fit round.round (omega arith)
+                (λ k others other lt its. omega (arith, before.greatest.most k others other lt its));
+          }
+          | inr kept ↦ record {
+            earlier = before.greatest.earlier;
+            numbers = before.greatest.numbers;
+            fit = before.greatest.fit;
+            among = omega (arith, before.greatest.among);
+            round = before.greatest.round;
+            cost_of = omega (arith, before.greatest.cost_of);
+            most = of-one_more (λ other. other.cost ≤ max least fit.cost) made numbers fit round.round (omega arith)
+                (λ k others other lt its. omega (arith, before.greatest.most k others other lt its));
+          }
+        ]
+
+    pub between-kept : best ≤ takes → IsBetween events step limit (made + 1) table best (max least fit.cost)
+    between-kept le = record {
+      next = (next, more);
+      loose = loose-more;
+      best = record {
+        earlier = before.best.earlier;
+        numbers = before.best.numbers;
+        fit = before.best.fit;
+        among = omega (arith, before.best.among);
+        round = before.best.round;
+        table_of = before.best.table_of;
+        least = of-one_more (λ other. footprint_over events table ≤ footprint_over events other.table) made numbers fit round.round
+            (omega (arith, le, before.taken, round.taken)) before.best.least;
+        first = before.best.first;
+      };
+      taken = before.taken;
+      greatest = greatest-more;
+      candidate = before.candidate;
+      bound = bound-more;
+    }
+
+    pub between-better : takes < best → IsBetween events step limit (made + 1) fit.table takes (max least fit.cost)
+    between-better lt = record {
+      next = (next, more);
+      loose = loose-more;
+      best = record {
+        earlier = made;
+        numbers = numbers;
+        fit = fit;
+        among = omega arith;
+        round = round.round;
+        table_of = refl;
+        least = of-one_more (λ other. footprint_over events fit.table ≤ footprint_over events other.table) made numbers fit round.round
+            (omega arith)
+            (λ k others other less its. omega (arith, lt, before.taken, round.taken, before.best.least k others other less its));
+        first = λ k others other less its. omega (arith, lt, before.taken, round.taken, before.best.least k others other less its);
+      };
+      taken = round.taken;
+      greatest = greatest-more;
+      candidate = round-candidate made numbers fit takes round;
+      bound = bound-more;
+    }
+
+-- ---- from round to round
+
+-- a fit asks for at most so many
+pub few-costs : (snapshots : List (List ℕ)) (step limit : ℕ) (fit : Sheet) → IsFitOf snapshots step limit fit
+    → span_count (places (peaks snapshots) step) ≤ span_count MOST_NEEDS
+few-costs snapshots step limit fit fitted =
+    let d : ℕ = places (peaks snapshots) step in
+    let few : d ≤ MOST_NEEDS = few_places (peaks snapshots) step fitted.made.least.is_step fitted.made.least.are_counts in
+    let product : d * (d + 1) ≤ 1023 * 1024 = mul-le-mul {n₁ = d} {m₁ = d + 1} {n₂ = 1023} {m₂ = 1024} (omega arith) (omega arith) in
+    omega (arith, product)
+
+module _ (events : List SizeEvent) (step limit : ℕ) where
+  costs-first : (numbers : List ℕ) (costs : ℕ) → AreRoundMoments events step limit 0 numbers
+      → costs ≡ span_count (places (peaks (history_at events numbers)) step) → AreRoundCosts events step limit 1 costs
+  unfolding AreRoundCosts
+  costs-first numbers costs over is = (0, numbers, refl, over, omega (arith, is))
+
+  costs-more : (made : ℕ) (numbers : List ℕ) (costs its : ℕ) → AreRoundCosts events step limit made costs
+      → AreRoundMoments events step limit made numbers
+      → its ≡ span_count (places (peaks (history_at events numbers)) step) → AreRoundCosts events step limit (made + 1) (costs + its)
+  unfolding AreRoundCosts
+  costs-more made numbers costs its before over is = rw (add-one, is) (costs, numbers, before, over, refl)
+
+-- A timeline, and its decisive moment.
+pub record IsSetting (events : List SizeEvent) (moment : ℕ) : Type 0 where
+  pub timeline : IsTimeline events
+  pub within : moment ≤ length events
+  pub decides : Decides events moment
+  pub decisive : IsDecisive events moment
+
+-- What a round over these moments makes.
+pub record IsMade (events : List SizeEvent) (step limit : ℕ) (numbers : List ℕ) (fit : Sheet) (takes : ℕ) (firsts : List ℕ) (evaluations : ℕ) :
+    Type 0 where
+  pub fitted : IsFitOf (history_at events numbers) step limit fit
+  pub taken : takes ≡ footprint_over events fit.table
+  pub firsts_are : AreFirsts events fit.table firsts
+  pub legal : IsLegalTable 1 fit.table
+  pub exact : evaluations ≡ span_count (places (peaks (history_at events numbers)) step)
+
+-- The moments of the round before which so many were made.
+pub record AreReady (events : List SizeEvent) (moment step limit earlier : ℕ) (numbers : List ℕ) : Type 0 where
+  pub over : AreDeciding events numbers moment
+  pub round_moments : AreRoundMoments events step limit earlier numbers
+
+-- What the rounds so far leave, none of which is tight.
+pub record AreSoFar (events : List SizeEvent) (moment step limit made : ℕ) (numbers table : List ℕ) (takes least evaluations : ℕ) : Type 0 where
+  pub ready : AreReady events moment step limit made numbers
+  pub between : IsBetween events step limit made table takes least
+  pub costs : AreRoundCosts events step limit made evaluations
+  pub few : evaluations ≤ made * span_count MOST_NEEDS
+
+module _ (events : List SizeEvent) (moment step limit : ℕ) (set : IsSetting events moment) where
+  pub ready-first : (numbers : List ℕ) → numbers ≡ moment ∷ [] → AreReady events moment step limit 0 numbers
+  unfolding AreRoundMoments
+  ready-first numbers is = record {
+    over = one-moment events numbers moment set.within is;
+    round_moments = (moment, set.decisive, is);
+  }
+
+  as-fitted : (earlier : ℕ) (numbers : List ℕ) (fit : Sheet) (takes : ℕ) (firsts : List ℕ) (its : ℕ)
+      → AreReady events moment step limit earlier numbers → IsMade events step limit numbers fit takes firsts its
+      → IsFittedRound events numbers moment step limit earlier fit takes
+  as-fitted earlier numbers fit takes firsts its ready made = record {
+    over = ready.over;
+    round = record { moments = ready.round_moments; fitted = made.fitted };
+    legal = made.legal;
+    taken = made.taken;
+  }
+
+  pub ready-next : (earlier : ℕ) (numbers next : List ℕ) (fit : Sheet) (takes : ℕ) (firsts : List ℕ) (its : ℕ)
+      → AreReady events moment step limit earlier numbers → IsMade events step limit numbers fit takes firsts its
+      → length next ≤ MOST_SNAPSHOTS → All (λ number. number ≤ length events) next → Contains next moment
+      → IsUnion (moments_left numbers moment (length firsts)) firsts next → AreReady events moment step limit (earlier + 1) next
+  ready-next earlier numbers next fit takes firsts its ready made few within kept union = record {
+    over = more-moments events next moment few within kept union.ascending;
+    round_moments = moments-next events moment step limit set.timeline set.decides earlier numbers next firsts fit set.decisive
+        (as-fitted earlier numbers fit takes firsts its ready made).round made.firsts_are union;
+  }
+
+  -- the first round
+  pub tight-first : (numbers : List ℕ) (fit : Sheet) (takes : ℕ) (firsts : List ℕ) (its : ℕ)
+      → AreReady events moment step limit 0 numbers → IsMade events step limit numbers fit takes firsts its → takes ≡ fit.cost
+      → IsLeastFit events step limit 1 numbers fit
+  tight-first numbers fit takes firsts its ready made tight =
+      round-least events moment step limit set.timeline set.decides 0 numbers fit takes (as-fitted 0 numbers fit takes firsts its ready made) tight
+      (λ k others other lt round. absurd (omega arith))
+
+  pub so_far-first : (numbers next : List ℕ) (fit : Sheet) (takes : ℕ) (firsts : List ℕ) (its : ℕ)
+      → AreReady events moment step limit 0 numbers → IsMade events step limit numbers fit takes firsts its → takes ≢ fit.cost
+      → AreReady events moment step limit 1 next → AreSoFar events moment step limit 1 next fit.table takes fit.cost its
+  so_far-first numbers next fit takes firsts its ready made differs more = record {
+    ready = more;
+    between = between-first events moment step limit set.timeline set.decides numbers next fit takes
+        (as-fitted 0 numbers fit takes firsts its ready made) differs more.round_moments;
+    costs = costs-first events step limit numbers its ready.round_moments made.exact;
+    few = omega (arith, made.exact, few-costs (history_at events numbers) step limit fit made.fitted);
+  }
+
+  pub costs-of_first : (numbers : List ℕ) (fit : Sheet) (takes : ℕ) (firsts : List ℕ) (its : ℕ)
+      → AreReady events moment step limit 0 numbers → IsMade events step limit numbers fit takes firsts its
+      → AreRoundCosts events step limit 1 its × (its ≤ 1 * span_count MOST_NEEDS)
+  costs-of_first numbers fit takes firsts its ready made = (
+    costs-first events step limit numbers its ready.round_moments made.exact,
+    omega (arith, made.exact, few-costs (history_at events numbers) step limit fit made.fitted),
+  )
+
+  -- one round more
+  module _ (count : ℕ) (numbers table : List ℕ) (best least evaluations : ℕ) (fit : Sheet) (takes : ℕ) (firsts : List ℕ) (its : ℕ)
+      (before : AreSoFar events moment step limit count numbers table best least evaluations)
+      (made : IsMade events step limit numbers fit takes firsts its) where
+    pub tight-more : takes ≡ fit.cost → IsLeastFit events step limit (count + 1) numbers fit
+    tight-more tight =
+        round-least events moment step limit set.timeline set.decides count numbers fit takes
+        (as-fitted count numbers fit takes firsts its before.ready made) tight before.between.loose
+
+    pub costs-of_more : AreRoundCosts events step limit (count + 1) (evaluations + its)
+        × (evaluations + its ≤ (count + 1) * span_count MOST_NEEDS)
+    costs-of_more = (
+      costs-more events step limit count numbers evaluations its before.costs before.ready.round_moments made.exact,
+      omega (arith, before.few, made.exact, few-costs (history_at events numbers) step limit fit made.fitted),
+    )
+
+    pub so_far-kept : (next : List ℕ) → takes ≢ fit.cost → AreReady events moment step limit (count + 1) next → best ≤ takes
+        → AreSoFar events moment step limit (count + 1) next table best (max least fit.cost) (evaluations + its)
+    so_far-kept next differs more le = record {
+      ready = more;
+      between = between-kept events moment step limit set.timeline set.decides count numbers next fit takes table best least
+          (as-fitted count numbers fit takes firsts its before.ready made) differs more.round_moments before.between le;
+      costs = costs-of_more.0;
+      few = costs-of_more.1;
+    }
+
+    pub so_far-better : (next : List ℕ) → takes ≢ fit.cost → AreReady events moment step limit (count + 1) next → takes < best
+        → AreSoFar events moment step limit (count + 1) next fit.table takes (max least fit.cost) (evaluations + its)
+    so_far-better next differs more lt = record {
+      ready = more;
+      between = between-better events moment step limit set.timeline set.decides count numbers next fit takes table best least
+          (as-fitted count numbers fit takes firsts its before.ready made) differs more.round_moments before.between lt;
+      costs = costs-of_more.0;
+      few = costs-of_more.1;
+    }

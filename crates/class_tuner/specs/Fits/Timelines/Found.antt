@@ -1,35 +1,33 @@
 -- What a fitter finds over a timeline.
-use Rattle.std.specs.Prelude.{◌≡◌, ℕ, ◌<◌, ◌≤◌, List}
+use Rattle.std.specs.Prelude.{◌≡◌, ℕ, suc, ◌≤◌, List}
 use Rattle.std.specs.List.Sorted.{IsStrictlyIncreasing}
-use Rattle.class_tuner.specs.Fits.Fitted.{IsFitOf}
+use Rattle.class_tuner.specs.Fits.Timelines.Rounds.{AreLoose, AreRoundMoments, IsGreatestOfRounds, IsLeastOfRounds, IsRound}
 use Rattle.tuner_theory.specs.Best.{IsCandidate}
 use Rattle.tuner_theory.specs.Sheets.{Sheet}
 use Rattle.tuner_theory.specs.Footprint.{IsFitted}
 use Rattle.tuner_theory.specs.Histories.{peaks}
-use Rattle.tuner_theory.specs.Timelines.{AreMoments, footprint_over, history_at, moments}
+use Rattle.tuner_theory.specs.Timelines.{AreMoments, footprint_over, moments}
 use Rattle.tuner_theory.specs.declared.size_event.SizeEvent.{SizeEvent}
 
--- The fit of some moments, whose table takes no more over the whole timeline: the table that is fitted over every moment. The moments' numbers
--- ascend, as those of a line do.
-pub record IsLeastFit (events : List SizeEvent) (step limit : ℕ) (numbers : List ℕ) (fit : Sheet) : Type 0 where
+-- The fit and the moments of the last of `made` rounds, the first whose table takes no more over the whole timeline: the table that is fitted
+-- over every moment. The moments' numbers ascend, as those of a line do.
+pub record IsLeastFit (events : List SizeEvent) (step limit made : ℕ) (numbers : List ℕ) (fit : Sheet) : Type 0 where
+  pub earlier : ℕ
+  pub last : made ≡ suc earlier
+  pub round : IsRound events step limit earlier numbers fit
+  pub loose : AreLoose events step limit earlier
   pub are : AreMoments events numbers
   pub ascending : IsStrictlyIncreasing numbers
-  pub over_moments : IsFitOf (history_at events numbers) step limit fit
   pub takes : footprint_over events fit.table ≡ fit.cost
   pub fitted : IsFitted (moments events) step limit fit.table
 
--- The fit of some moments, whose table takes more over the whole timeline: that does not show it to be a least one.
-pub record IsLooseFit (events : List SizeEvent) (step limit : ℕ) (fit : Sheet) : Type 0 where
-  pub numbers : List ℕ
-  pub are : AreMoments events numbers
-  pub over_moments : IsFitOf (history_at events numbers) step limit fit
-  pub takes_more : fit.cost < footprint_over events fit.table
-
--- A table in question with what it takes over the timeline, and what no table in question takes less than. The table is that of such a fit.
--- The bound is what such a fit takes over its moments, and the table of that fit takes no less over all.
-pub record IsBetween (events : List SizeEvent) (step limit : ℕ) (table : List ℕ) (takes least : ℕ) : Type 0 where
-  pub candidate : IsCandidate (peaks (moments events)) step limit table
+-- After `made` rounds, whose tables all take more over the whole timeline than over their moments: of these tables the first that takes least,
+-- what it takes, and the greatest of what the rounds' fits take over their moments. No table in question takes less than that.
+pub record IsBetween (events : List SizeEvent) (step limit made : ℕ) (table : List ℕ) (takes least : ℕ) : Type 0 where
+  pub next : (numbers : List ℕ) × AreRoundMoments events step limit made numbers
+  pub loose : AreLoose events step limit made
+  pub best : IsLeastOfRounds events step limit made table
   pub taken : takes ≡ footprint_over events table
+  pub greatest : IsGreatestOfRounds events step limit made least
+  pub candidate : IsCandidate (peaks (moments events)) step limit table
   pub bound : (other : List ℕ) → IsCandidate (peaks (moments events)) step limit other → least ≤ footprint_over events other
-  pub table_of : (fit : Sheet) × IsLooseFit events step limit fit × (table ≡ fit.table)
-  pub least_of : (fit : Sheet) × IsLooseFit events step limit fit × (least ≡ fit.cost) × (takes ≤ footprint_over events fit.table)

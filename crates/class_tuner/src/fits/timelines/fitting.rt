@@ -1,7 +1,10 @@
-ghost use Rattle.std.specs.Prelude.{◌≡◌, ◌≤◌, IfOk};
+ghost use Rattle.std.specs.Prelude.{◌≡◌, ◌≤◌, ◌*◌, IfOk};
 ghost use Rattle.class_table.specs.Steps.{IsStep};
+ghost use Rattle.class_table.specs.declared.sizes.TheConstants.{MOST_NEEDS};
 ghost use Rattle.class_tuner.specs.Fits.Timelines.Results.{IsFound};
+ghost use Rattle.class_tuner.specs.Fits.Timelines.Rounds.{AreRoundCosts};
 ghost use Rattle.class_tuner.specs.declared.fits.timelines.fitting.Found.TheVariants.{Between, Least};
+ghost use Rattle.potential_check.specs.Footprints.CallCounts.{span_count};
 
 use crate::fits::timelines::moments::{one_moment, with_moments};
 use crate::fits::timelines::round::{Round, better, round_over};
@@ -11,7 +14,7 @@ use potential_check::{Certificate, Fit};
 use std::alloc::{AllocError, Global};
 
 /// The most rounds that the program makes.
-pub const MOST_ROUNDS: usize = 1024;
+pub const MOST_ROUNDS: u32 = 1024;
 
 /// What was found over a timeline.
 #[derive(Debug, Drop)]
@@ -25,13 +28,24 @@ pub enum Found {
     },
     /// The rounds ended before that was shown.
     Between {
-        /// The table that took least of those that were tried.
+        /// The table that took least of those that were tried, the first of them.
         table: ClassTable,
         /// What it takes over the timeline, in bytes.
         takes: u64,
-        /// What a fit of some moments takes over them, in bytes: no table takes less over the timeline.
+        /// The most that a round's fit takes over its moments, in bytes: no table takes less over the timeline.
         least: u64,
     },
+}
+
+/// The result of `fit_over`.
+#[derive(Debug, Drop)]
+pub struct FittedOver {
+    /// What was found.
+    pub found: Found,
+    /// How many rounds were made.
+    pub rounds: u32,
+    /// How many costs of spans were computed in them. This is for callers of the library; the program does not print it.
+    pub evaluations: u64,
 }
 
 /// The class table of least footprint over every moment of a timeline, of at most `limit` (1 to 32) classes that are multiples of `step` (1,
@@ -42,54 +56,71 @@ pub fn fit_over(
     timeline: &Timeline,
     limit: u8,
     step: u8,
-    rounds: usize,
-) -> Result<Found, AllocError>
+    rounds: u32,
+) -> Result<FittedOver, AllocError>
     requires some { 1 ≤ limit }
     requires few { limit ≤ MOST_CLASSES }
     requires step { IsStep step }
-    ensures { IfOk result (λ found. IsFound timeline.now step limit found) }
+
+    // the first round that shows a fit, or what all rounds give where none does
+    ensures found { IfOk result (λ fitted. IsFound timeline.now step limit rounds fitted.rounds fitted.found) }
+    // the footprint of each span of each round was asked for once
+    ensures exact { IfOk result (λ fitted. AreRoundCosts timeline.now step limit fitted.rounds fitted.evaluations) }
+    ensures bounded { IfOk result (λ fitted. fitted.evaluations ≤ fitted.rounds * span_count MOST_NEEDS) }
 {
     let events = timeline.events();
     let decisive = largest_moment(events);
     let mut numbers = one_moment(alloc, decisive)?;
     let mut best = round_over(alloc, events, &numbers, limit, step)?;
+    let mut evaluations = best.evaluations;
     if best.is_tight() {
-        return Ok(least_of(best, numbers));
+        return Ok(least_of(best, numbers, 1, evaluations));
     }
     numbers = with_moments(alloc, numbers, decisive, &best.firsts, events.len())?;
     let mut least = best.fit.cost;
-    for _round in 1..rounds {
+    for made in 1..rounds {
         let next = round_over(alloc, events, &numbers, limit, step)?;
+        evaluations += next.evaluations;
         if next.is_tight() {
-            return Ok(least_of(next, numbers));
+            return Ok(least_of(next, numbers, made + 1, evaluations));
         }
         numbers = with_moments(alloc, numbers, decisive, &next.firsts, events.len())?;
         least = least.max(next.fit.cost);
         best = better(best, next);
     }
-    Ok(between_of(best, least))
+    Ok(between_of(best, least, rounds.max(1), evaluations))
 }
 
-// the fit of a round
-fn least_of(round: Round, numbers: Vec<usize>) -> Found
-    ensures { result ≡ Least round.fit numbers }
+// the fit of the last of so many rounds
+fn least_of(round: Round, numbers: Vec<usize>, rounds: u32, evaluations: u64) -> FittedOver
+    ensures { result ≡ record { found = Least round.fit numbers; rounds = rounds; evaluations = evaluations } }
 {
     let Round {
         fit,
         takes: _takes,
         firsts: _firsts,
+        evaluations: _evaluations,
     } = round;
-    Found::Least { fit, numbers }
+    FittedOver {
+        found: Found::Least { fit, numbers },
+        rounds,
+        evaluations,
+    }
 }
 
-// the table of a round, with a bound
-fn between_of(round: Round, least: u64) -> Found
-    ensures { result ≡ Between round.fit.table round.takes least }
+// the table of a round, with a bound, after so many rounds
+fn between_of(round: Round, least: u64, rounds: u32, evaluations: u64) -> FittedOver
+    ensures { result ≡ record {
+      found = Between round.fit.table round.takes least;
+      rounds = rounds;
+      evaluations = evaluations;
+    } }
 {
     let Round {
         fit,
         takes,
         firsts: _firsts,
+        evaluations: _evaluations,
     } = round;
     let Certificate {
         table,
@@ -99,9 +130,13 @@ fn between_of(round: Round, least: u64) -> Found
         rows: _rows,
         of: _of,
     } = fit;
-    Found::Between {
-        table,
-        takes,
-        least,
+    FittedOver {
+        found: Found::Between {
+            table,
+            takes,
+            least,
+        },
+        rounds,
+        evaluations,
     }
 }

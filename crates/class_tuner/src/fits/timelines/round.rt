@@ -1,10 +1,13 @@
 //! One round: a fit over some moments, and what its table takes over the whole timeline.
-ghost use Rattle.std.specs.Prelude.{◌≡◌, ◌≤◌, ◌⊎◌, IfOk, IsTrue, ◌↔◌, length, All};
+ghost use Rattle.std.specs.Prelude.{◌≡◌, ◌<◌, ◌≤◌, ◌⊎◌, IfOk, IsTrue, ◌↔◌, length, All};
 ghost use Rattle.potential_check.specs.Certificates.SheetView.{sheet_of};
+ghost use Rattle.potential_check.specs.Footprints.CallCounts.{span_count};
 ghost use Rattle.class_tuner.specs.Fits.Fitted.{IsFitOf};
 ghost use Rattle.class_table.specs.Steps.{IsStep};
 ghost use Rattle.class_table.specs.Tables.{IsLegalTable};
 ghost use Rattle.history_count.specs.Timelines.LiveBlocks.{AreFirsts};
+ghost use Rattle.tuner_theory.specs.Histories.{peaks};
+ghost use Rattle.tuner_theory.specs.Spans.{places};
 ghost use Rattle.tuner_theory.specs.Timelines.{AreMoments, IsTimeline, footprint_over, history_at};
 
 use crate::fits::fit;
@@ -23,6 +26,8 @@ pub(crate) struct Round {
     pub(crate) takes: u64,
     /// For each of its classes the first moment at which most of its blocks are live.
     pub(crate) firsts: Vec<usize>,
+    /// How many costs of spans the fit asked for.
+    pub(crate) evaluations: u64,
 }
 
 impl Round {
@@ -52,22 +57,26 @@ pub(crate) fn round_over(
     ensures takes { IfOk result (λ round. round.takes ≡ footprint_over events.now round.fit.table) }
     ensures firsts { IfOk result (λ round. AreFirsts events.now round.fit.table round.firsts.items) }
     ensures legal { IfOk result (λ round. IsLegalTable 1 round.fit.table) }
+    ensures exact { IfOk result
+        (λ round. round.evaluations ≡ span_count (places (peaks (history_at events.now numbers.now)) step)) }
 {
     let history = history_over(alloc, events, numbers)?;
-    let fit = fit(alloc, &history, limit, step)?.into_sheet();
+    let fitted = fit(alloc, &history, limit, step)?;
+    let evaluations = fitted.evaluations();
+    let fit = fitted.into_sheet();
     let _classes = fit.table.len();
     let taken = footprint_over(alloc, events, &fit.table)?;
     Ok(Round {
         fit,
         takes: taken.bytes,
         firsts: taken.firsts,
+        evaluations,
     })
 }
 
-/// The one of two rounds whose table takes less.
+/// The one of two rounds whose table takes less, and the first if they take the same.
 pub(crate) fn better(one: Round, other: Round) -> Round
-    ensures given { (result ≡ one) ⊎ (result ≡ other) }
-    ensures least { (result.takes ≤ one.takes) × (result.takes ≤ other.takes) }
+    ensures { ((result ≡ one) × (one.takes ≤ other.takes)) ⊎ ((result ≡ other) × (other.takes < one.takes)) }
 {
     if other.takes < one.takes { other } else { one }
 }

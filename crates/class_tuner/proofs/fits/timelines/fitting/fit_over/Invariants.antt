@@ -1,9 +1,9 @@
-use Rattle.class_tuner.specs.Fits.Timelines.Found.{IsBetween}
-use Rattle.class_tuner.proofs.FitLemmas.TimelineLemmas.Rounds.{AreDeciding}
+use Rattle.std.proofs.Common.{◌≤◌, max}
+use Rattle.class_tuner.proofs.FitLemmas.TimelineLemmas.Rounds.{AreSoFar}
 use Rattle.class_tuner.proofs.fits.timelines.fitting.fit_over.Given as goal
 
-abbrev pub invariant-loop-round : goal.invariant-loop-round
-invariant-loop-round l = record {
-  over : AreDeciding l.events l.numbers.items l.decisive;
-  between : IsBetween l.events l.step l.limit l.best.fit.table l.best.takes l.least;
+abbrev pub invariant-loop-made : goal.invariant-loop-made
+invariant-loop-made l = record {
+  so_far : AreSoFar l.events l.decisive l.step l.limit l.made l.numbers.items l.best.fit.table l.best.takes l.least l.evaluations;
+  within : l.made ≤ max l.rounds 1;
 }

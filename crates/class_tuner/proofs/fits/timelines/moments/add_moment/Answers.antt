@@ -4,11 +4,13 @@ use Rattle.std.proofs.lemmas.Bool.{cases_lt}
 use Rattle.std.proofs.lemmas.List.{get_or_default}
 use Rattle.std.proofs.lemmas.List.Kept.{AllPairs-from_increasing}
 use Rattle.class_tuner.proofs.FitLemmas.TimelineLemmas.Ascending.{insert-ascends}
+use Rattle.class_tuner.proofs.FitLemmas.TimelineLemmas.Unions.{insert-union}
 use Rattle.class_tuner.proofs.fits.timelines.moments.add_moment.Goals as goal
 use Rattle.class_tuner.proofs.fits.timelines.moments.add_moment.Goals.{else-place-len-via-then-place-len+else-index-moment, else-place-len-via-else-place-len}
 
-pub returns-clause-ascending : goal.returns-clause-ascending
-returns-clause-ascending c up =
+pub returns-clause-union : goal.returns-clause-union
+returns-clause-union c =
+    let up = c.requires.ascending in
     let xs : List ℕ = c.args.numbers.now.items in
     let place : ℕ = c.place_of-place.result in
     let rises : IsStrictlyIncreasing c.deref.result.now = rw c.deref.ensures.value up in
@@ -29,8 +31,8 @@ returns-clause-ascending c up =
       | else-place-len-via-else-place-len w ↦ absurd (omega (arith, lt, w.if-place-len.false, c.len.ensures))
     ] in
     rw c.in_ok-insert.ensures.items
-    (insert-ascends xs place c.args.moment up within (rw c.deref.ensures.value at (c.place_of-place.ensures.below rises)) (λ k le lt.
+    (insert-union xs place c.args.moment (insert-ascends xs place c.args.moment up within (rw c.deref.ensures.value at (c.place_of-place.ensures.below rises)) (λ k le lt.
     elim (cases_lt place k) [
       | inl past ↦ omega (arith, next (omega arith), AllPairs-from_increasing xs up place k 0 past lt)
       | inr here ↦ (let same : k ≡ place = omega arith in rw same (next (omega arith)))
-    ]))
+    ])))

@@ -1,8 +1,8 @@
-use Rattle.std.proofs.Common.{arith}
+use Rattle.std.proofs.Common.{inl, inr, refl}
 use Rattle.class_tuner.proofs.fits.timelines.round.better.Goals as goal
 
-pub returns-then-other-one-clause-least : goal.returns-then-other-one-clause-least
-returns-then-other-one-clause-least c = (omega (arith, c.if-other-one.true), omega arith)
+pub returns-then-other-one : goal.returns-then-other-one
+returns-then-other-one c = inr (refl, c.if-other-one.true)
 
-pub returns-else-other-one-clause-least : goal.returns-else-other-one-clause-least
-returns-else-other-one-clause-least c = (omega arith, omega (arith, c.if-other-one.false))
+pub returns-else-other-one : goal.returns-else-other-one
+returns-else-other-one c = inl (refl, c.if-other-one.false)
