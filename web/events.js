@@ -14,7 +14,7 @@ const LAWS = {
 };
 // The law of a tag fault that no other law promises.
 const BY_ITS_TAG =
-  "An access is a tag fault exactly if it touches a granule whose tag differs from the pointer's. " +
+  "An access is a tag fault exactly if it is mapped and touches a granule whose tag differs from the pointer's. " +
   "No further law promised that they differ here.";
 const REASONS = {
   last: "It is inside the last granule of its chunk, after the bytes that were requested. The unit of tags is a granule of 16 bytes.",

@@ -4,7 +4,8 @@
 //! line by line, for the first faulty line and its code.
 
 use crate::history::MOST_SNAPSHOTS;
-use crate::profile::LARGEST;
+use crate::profile::{GREATEST_COUNT, LARGEST};
+use crate::sheet::{MOST_IN_ROW, MOST_ROWS};
 use crate::timeline::TIMELINE;
 use std::fmt::{Display, Formatter, Result as Written};
 
@@ -16,6 +17,7 @@ pub enum Fault {
     InLine(u8, &'static str, usize),
 }
 
+pub const OUT_OF_MEMORY: Fault = Fault::Plain(1, "OutOfMemory");
 pub const INPUT_TOO_LONG: Fault = Fault::Plain(80, "InputTooLong");
 pub const READ_FAULT: Fault = Fault::Plain(81, "ReadFault");
 pub const WRITE_FAULT: Fault = Fault::Plain(82, "WriteFault");
@@ -24,7 +26,7 @@ pub const BAD_OPTION: Fault = Fault::Plain(83, "BadOption");
 impl Fault {
     pub fn status(&self) -> u8 {
         match self {
-            Fault::Plain(81..=82, _) => 3,
+            Fault::Plain(1 | 81..=82, _) => 3,
             _ => 2,
         }
     }
@@ -42,48 +44,48 @@ impl Display for Fault {
 
 /// The first fault of a class line and the profile after it.
 pub fn in_scored(text: &[u8]) -> Fault {
-    let lines = lines_of(text);
-    in_class_line(lines.first().copied()).unwrap_or_else(|| in_counts(&lines[1..], 1))
+    let mut lines = Lines::new(text);
+    in_class_line(lines.next()).unwrap_or_else(|| in_counts(lines))
 }
 
 /// The first fault of a class line and the history or timeline after it.
 pub fn in_footprint(text: &[u8]) -> Fault {
-    let lines = lines_of(text);
-    in_class_line(lines.first().copied()).unwrap_or_else(|| in_moments(&lines[1..], 1))
+    let mut lines = Lines::new(text);
+    in_class_line(lines.next()).unwrap_or_else(|| in_moments(lines))
 }
 
 /// The first fault of a profile.
 pub fn in_profile(text: &[u8]) -> Fault {
-    in_counts(&lines_of(text), 0)
+    in_counts(Lines::new(text))
 }
 
 /// The first fault of a history or a timeline.
 pub fn in_history(text: &[u8]) -> Fault {
-    in_moments(&lines_of(text), 0)
+    in_moments(Lines::new(text))
 }
 
 /// The first fault of a sheet and the profile after it.
 pub fn in_checked(text: &[u8]) -> Fault {
-    let lines = lines_of(text);
-    match sheet_lines(&lines, "waste") {
-        Ok(count) => in_counts(&lines[count..], count),
-        Err(line) => Fault::InLine(48, "BadSheet", line),
+    let mut lines = Lines::new(text);
+    match pass_sheet(&mut lines, b"waste") {
+        Some(()) => in_counts(lines),
+        None => lines.fault(48, "BadSheet"),
     }
 }
 
 /// The first fault of a fit and the history, or the moments and the timeline, after it.
 pub fn in_checked_fit(text: &[u8]) -> Fault {
-    let lines = lines_of(text);
-    match sheet_lines(&lines, "footprint") {
-        Ok(count) if first_word(lines.get(count)) == b"moments" => {
-            if are_moments(lines[count]) {
-                in_events(&lines[count + 1..], count + 1)
+    let mut lines = Lines::new(text);
+    match pass_sheet(&mut lines, b"footprint") {
+        Some(()) if lines.are_at(b"moments") => {
+            if lines.next().map_or(false, are_moments) {
+                in_events(lines)
             } else {
-                Fault::InLine(36, "BadFit", count + 1)
+                lines.fault(36, "BadFit")
             }
         }
-        Ok(count) => in_snapshots(&lines[count..], count),
-        Err(line) => Fault::InLine(36, "BadFit", line),
+        Some(()) => in_snapshots(lines),
+        None => lines.fault(36, "BadFit"),
     }
 }
 
@@ -117,17 +119,15 @@ pub fn in_trace(line: &[u8], number: usize, before: usize) -> Fault {
 /// The fault of a class line, if it has one. None stands for a missing line.
 pub fn in_class_line(line: Option<&[u8]>) -> Option<Fault> {
     let fault = |code, name| Some(Fault::InLine(code, name, 1));
-    let mut words = line.unwrap_or(b"").split(|byte| *byte == b' ');
-    let named = words.next() == Some(b"classes");
-    let classes = match words.map(number_of).collect::<Option<Vec<_>>>() {
-        Some(classes) if named => classes,
-        _ => return fault(23, "BadLine"),
-    };
-    if classes.len() > 32 {
+    let line = line.unwrap_or(b"");
+    if first_word(line) != b"classes" || numbers_after(line).any(|number| number.is_none()) {
+        return fault(23, "BadLine");
+    }
+    if numbers_after(line).count() > 32 {
         return fault(20, "TooMany");
     }
     let mut below = 0;
-    for class in classes {
+    for class in numbers_after(line).flatten() {
         if !(2..=1024).contains(&class) {
             return fault(21, "OutOfRange");
         }
@@ -142,40 +142,36 @@ pub fn in_class_line(line: Option<&[u8]>) -> Option<Fault> {
 // where the line `large` is among the sizes
 const AFTER_SIZES: u128 = LARGEST as u128 + 1;
 
-// the first fault of a profile's lines, after so many other lines
-fn in_counts(lines: &[&[u8]], before: usize) -> Fault {
-    in_lines(lines, before, 1, (30, "BadLine"))
+// the first fault of a profile's lines
+fn in_counts(lines: Lines) -> Fault {
+    in_lines(lines, 1, (30, "BadLine"))
 }
 
 // the first fault of the lines of a history or a timeline
-fn in_moments(lines: &[&[u8]], before: usize) -> Fault {
-    if lines.first() == Some(&TIMELINE) {
-        return in_events(lines, before);
+fn in_moments(lines: Lines) -> Fault {
+    if lines.peek() == Some(TIMELINE) {
+        return in_events(lines);
     }
-    in_snapshots(lines, before)
+    in_snapshots(lines)
 }
 
 // the first fault of a timeline's lines
-fn in_events(lines: &[&[u8]], before: usize) -> Fault {
-    if lines.first() != Some(&TIMELINE) {
-        return Fault::InLine(37, "BadTimeline", before + 1);
+fn in_events(mut lines: Lines) -> Fault {
+    if lines.next() != Some(TIMELINE) {
+        return lines.fault(37, "BadTimeline");
     }
     let mut live = vec![0_u32; AFTER_SIZES as usize + 1];
-    for (at, line) in lines.iter().enumerate().skip(1) {
-        let fault = |code, name| Fault::InLine(code, name, before + at + 1);
+    while let Some(line) = lines.next() {
         let word = line.strip_prefix(b"-").unwrap_or(line);
-        let size = match word {
-            b"large" => Some(AFTER_SIZES),
-            word => number_of(word).filter(|size| *size < AFTER_SIZES),
-        };
-        let Some(size) = size else {
-            return fault(37, "BadTimeline");
+        let size = match size_of(word) {
+            Some(size) => size,
+            None => return lines.fault(37, "BadTimeline"),
         };
         let blocks = &mut live[size as usize];
         if word.len() == line.len() {
             *blocks += 1;
         } else if *blocks == 0 {
-            return fault(38, "NotLive");
+            return lines.fault(38, "NotLive");
         } else {
             *blocks -= 1;
         }
@@ -185,105 +181,78 @@ fn in_events(lines: &[&[u8]], before: usize) -> Fault {
 
 // whether a line names moments: 1 to 1,024 ascending numbers up to 1,000,000,000
 fn are_moments(line: &[u8]) -> bool {
-    let words = line.split(|byte| *byte == b' ').skip(1);
-    let Some(numbers) = words.map(number_of).collect::<Option<Vec<u128>>>() else {
-        return false;
-    };
-    let ascends = numbers.windows(2).all(|pair| pair[0] < pair[1]);
-    let few = (1..=MOST_SNAPSHOTS as usize).contains(&numbers.len());
-    ascends && few && numbers.last() <= Some(&1_000_000_000)
-}
-
-fn first_word<'a>(line: Option<&&'a [u8]>) -> &'a [u8] {
-    let line = line.copied().unwrap_or(b"");
-    line.split(|byte| *byte == b' ').next().unwrap_or(line)
+    let most = u128::from(GREATEST_COUNT);
+    let mut next = 0;
+    let ascends = numbers_after(line).all(|number| {
+        let ascends = number.map_or(false, |n| n >= next && n <= most);
+        next = number.map_or(0, |n| n + 1);
+        ascends
+    });
+    ascends && (1..=MOST_SNAPSHOTS as usize).contains(&numbers_after(line).count())
 }
 
 // the first fault of a history's lines
-fn in_snapshots(lines: &[&[u8]], before: usize) -> Fault {
-    let words = |line: &&[u8]| line.strip_prefix(b"snapshots ").and_then(number_of);
-    match lines.first().and_then(words) {
-        Some(snapshots) if (1..=u128::from(MOST_SNAPSHOTS)).contains(&snapshots) => {
-            let wrong_length = (35, "WrongLength");
-            in_lines(&lines[1..], before + 1, snapshots as usize, wrong_length)
+fn in_snapshots(mut lines: Lines) -> Fault {
+    let most = u128::from(MOST_SNAPSHOTS);
+    let line = lines.next().unwrap_or(b"");
+    match line.strip_prefix(b"snapshots ").and_then(number_of) {
+        Some(snapshots) if (1..=most).contains(&snapshots) => {
+            in_lines(lines, snapshots as usize, (35, "WrongLength"))
         }
-        _ => Fault::InLine(34, "BadSnapshots", before + 1),
+        _ => lines.fault(34, "BadSnapshots"),
     }
 }
 
 // the first fault of lines of a size and so many counts
-fn in_lines(
-    lines: &[&[u8]],
-    before: usize,
-    counts: usize,
-    wrong_length: (u8, &'static str),
-) -> Fault {
+fn in_lines(mut lines: Lines, counts: usize, wrong_length: (u8, &'static str)) -> Fault {
     let mut next = 0;
-    for (at, line) in lines.iter().enumerate() {
-        let fault = |code, name| Fault::InLine(code, name, before + at + 1);
-        let mut words = line.split(|byte| *byte == b' ');
-        let size = match words.next() {
-            Some(b"large") => Some(AFTER_SIZES),
-            word => word.and_then(number_of).filter(|size| *size < AFTER_SIZES),
+    while let Some(line) = lines.next() {
+        let are_numbers = || numbers_after(line).all(|number| number.is_some());
+        let size = match size_of(first_word(line)) {
+            Some(size) if next <= AFTER_SIZES && are_numbers() => size,
+            _ => return lines.fault(30, "BadLine"),
         };
-        let numbers: Option<Vec<u128>> = words.map(number_of).collect();
-        let (size, numbers) = match (size, numbers) {
-            (Some(size), Some(numbers)) if next <= AFTER_SIZES => (size, numbers),
-            _ => return fault(30, "BadLine"),
-        };
-        if numbers.len() != counts {
-            return fault(wrong_length.0, wrong_length.1);
+        if numbers_after(line).count() != counts {
+            return lines.fault(wrong_length.0, wrong_length.1);
         }
         if size < next {
-            return fault(31, "NotAscending");
+            return lines.fault(31, "NotAscending");
         }
-        let most = numbers.iter().max().unwrap_or(&0);
-        if !(1..=1_000_000_000).contains(most) {
-            return fault(32, "CountOutOfRange");
+        let most = numbers_after(line).flatten().max().unwrap_or(0);
+        if !(1..=u128::from(GREATEST_COUNT)).contains(&most) {
+            return lines.fault(32, "CountOutOfRange");
         }
         next = size + 1;
     }
     unreachable!("a profile or a history that was refused is faulty")
 }
 
-// how many lines are the sheet's, or the fit's by the word of its cost, or its first faulty line
-fn sheet_lines(lines: &[&[u8]], cost_word: &str) -> Result<usize, usize> {
-    let numbers = |line: &[u8], name: &str| {
-        let mut words = line.split(|byte| *byte == b' ');
-        let named = words.next() == Some(name.as_bytes());
-        let numbers: Option<Vec<u128>> = words.map(number_of).collect();
-        numbers.filter(|numbers| named && numbers.iter().all(|n| *n < 1 << 64))
+// passes over the lines of a sheet, or of a fit by the word of its cost, or up to the first faulty one
+fn pass_sheet(lines: &mut Lines, cost_word: &[u8]) -> Option<()> {
+    let fits = |number: Option<u128>| number.map_or(false, |n| n < 1 << 64);
+    let one = |line: &[u8], name: &[u8]| {
+        let word = line.strip_prefix(name)?.strip_prefix(b" ")?;
+        number_of(word).filter(|n| fits(Some(*n)))
     };
-    let one = |at: usize, name: &str| match numbers(lines.get(at).copied()?, name)?[..] {
-        [n] => Some(n),
-        _ => None,
-    };
-    let first_is = |at: usize, name: &str| {
-        let line = lines.get(at).copied().unwrap_or(b"");
-        line.split(|byte| *byte == b' ').next() == Some(name.as_bytes())
-    };
-    if in_class_line(lines.first().copied()).is_some() {
-        return Err(1);
+    if in_class_line(lines.next()).is_some() {
+        return None;
     }
-    one(1, "limit")
-        .filter(|limit| (1..=32).contains(limit))
-        .ok_or(2_usize)?;
-    let mut at = 2;
-    if first_is(at, "step") {
-        one(at, "step")
-            .filter(|step| matches!(step, 2 | 4 | 8))
-            .ok_or(3_usize)?;
-        at = 3;
+    one(lines.next()?, b"limit").filter(|limit| (1..=32).contains(limit))?;
+    if lines.are_at(b"step") {
+        one(lines.next()?, b"step").filter(|step| matches!(step, 2 | 4 | 8))?;
     }
-    one(at, cost_word).ok_or(at + 1)?;
-    at += 1;
-    let rows = at;
-    while first_is(at, "row") {
-        let row = numbers(lines[at], "row").filter(|row| row.len() <= 1023);
-        row.filter(|_| at - rows < 32).ok_or(at + 1)?;
-        at += 1;
+    one(lines.next()?, cost_word)?;
+    for number in 1.. {
+        if !lines.are_at(b"row") {
+            break;
+        }
+        let row = lines.next()?;
+        let is_short = numbers_after(row).count() <= MOST_IN_ROW;
+        if number > MOST_ROWS || !is_short || !numbers_after(row).all(fits) {
+            return None;
+        }
     }
-    Ok(at)
+    Some(())
 }
 
 // what a word of an event has to be: a number up to this, the same with a sign, from 1 on, a byte
@@ -342,11 +311,62 @@ fn number_of(word: &[u8]) -> Option<u128> {
     }
 }
 
-// the lines of a text; the last may lack its newline
-fn lines_of(text: &[u8]) -> Vec<&[u8]> {
-    let mut lines: Vec<&[u8]> = text.split(|byte| *byte == b'\n').collect();
-    if lines.last() == Some(&&b""[..]) {
-        lines.pop();
+// the size that a word names, with `large` after all others
+fn size_of(word: &[u8]) -> Option<u128> {
+    match word {
+        b"large" => Some(AFTER_SIZES),
+        word => number_of(word).filter(|size| *size < AFTER_SIZES),
     }
-    lines
+}
+
+fn first_word(line: &[u8]) -> &[u8] {
+    line.split(|byte| *byte == b' ').next().unwrap_or(line)
+}
+
+// the words after the first one, each with the number that it spells
+fn numbers_after(line: &[u8]) -> impl Iterator<Item = Option<u128>> + '_ {
+    line.split(|byte| *byte == b' ').skip(1).map(number_of)
+}
+
+// the lines of a text, one by one; the last may lack its newline
+struct Lines<'a> {
+    rest: &'a [u8],
+    passed: usize,
+    // whether the last call of `next` found one
+    has_line: bool,
+}
+
+impl<'a> Lines<'a> {
+    fn new(text: &'a [u8]) -> Lines<'a> {
+        Lines {
+            rest: text,
+            passed: 0,
+            has_line: true,
+        }
+    }
+
+    // the next line, which is not passed over
+    fn peek(&self) -> Option<&'a [u8]> {
+        let line = self.rest.split(|byte| *byte == b'\n').next();
+        line.filter(|_| !self.rest.is_empty())
+    }
+
+    fn next(&mut self) -> Option<&'a [u8]> {
+        let line = self.peek();
+        self.has_line = line.is_some();
+        self.passed += usize::from(self.has_line);
+        let len = line.map_or(0, <[u8]>::len);
+        self.rest = self.rest.get(len + 1..).unwrap_or(b"");
+        line
+    }
+
+    // whether the next line has this first word
+    fn are_at(&self, word: &[u8]) -> bool {
+        self.peek().map(first_word) == Some(word)
+    }
+
+    // the fault of the last line, or of the one that is missing
+    fn fault(&self, code: u8, name: &'static str) -> Fault {
+        Fault::InLine(code, name, self.passed + usize::from(!self.has_line))
+    }
 }

@@ -9,6 +9,7 @@
 //!     ./plain events --seed 1 > million.trace
 //!     ./plain run --limit 8 < million.trace
 
+mod allocator;
 mod checker;
 mod faults;
 mod fitter;
@@ -45,6 +46,9 @@ use std::process::ExitCode;
 use text::{push_number, read_all, Scanner, PIECE};
 use timeline::{is_timeline, read_moments, Found, Timeline};
 use trace::Event;
+
+#[global_allocator]
+static ALLOCATOR: allocator::OrEnds = allocator::OrEnds;
 
 const EVENTS: usize = 1_000_000;
 

@@ -9,6 +9,12 @@ pub const WASTE: &[u8] = b"waste";
 /// The word of that line in a fit.
 pub const FOOTPRINT: &[u8] = b"footprint";
 
+/// The most rows of a sheet.
+pub const MOST_ROWS: usize = 32;
+
+/// The most numbers of a row.
+pub const MOST_IN_ROW: usize = 1023;
+
 pub struct Sheet {
     pub classes: Vec<u32>,
     pub limit: usize,
@@ -37,9 +43,12 @@ impl Sheet {
         text.end_line()?;
         let mut rows = Vec::new();
         while text.skip(b"row") {
+            if rows.len() == MOST_ROWS {
+                return None;
+            }
             rows.push(read_row(text)?);
         }
-        (rows.len() <= 32).then_some(Sheet {
+        Some(Sheet {
             classes,
             limit,
             step,
@@ -65,15 +74,18 @@ impl Sheet {
     }
 }
 
-// the numbers of a row, at most 1,023, and the 0 of the last place
+// the numbers of a row, and the 0 of the last place
 fn read_row(text: &mut Scanner) -> Option<Vec<u64>> {
-    let mut row = Vec::with_capacity(1024);
+    let mut row = Vec::with_capacity(MOST_IN_ROW + 1);
     while text.skip(b" ") {
+        if row.len() == MOST_IN_ROW {
+            return None;
+        }
         row.push(text.number()?);
     }
     text.end_line()?;
     row.push(0);
-    (row.len() <= 1024).then_some(row)
+    Some(row)
 }
 
 /// Appends a line of a word and numbers.

@@ -102,7 +102,8 @@ impl<'a> Scanner<'a> {
         u64::from_le_bytes(bytes)
     }
 
-    /// The number that comes next: digits with no 0 in front of others.
+    /// The number that comes next: digits with no 0 in front of others, and below 2^64. What is no such
+    /// number is not passed over.
     #[inline]
     pub fn number(&mut self) -> Option<u64> {
         let word = self.word();
@@ -128,8 +129,9 @@ impl<'a> Scanner<'a> {
         if digits.is_empty() || digits[0] == b'0' {
             return None;
         }
+        let n = std::str::from_utf8(digits).ok()?.parse().ok()?;
         self.at += len;
-        std::str::from_utf8(digits).ok()?.parse().ok()
+        Some(n)
     }
 
     /// The number that comes next, which is at most `most`.

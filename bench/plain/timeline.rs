@@ -193,13 +193,14 @@ pub fn read_moments(text: &mut Scanner) -> Option<Option<Vec<usize>>> {
     }
     let mut moments = Vec::new();
     let mut next = 0;
-    loop {
+    while moments.len() < MOST_SNAPSHOTS as usize {
         let number = text.number_to(GREATEST_COUNT).filter(|n| *n >= next)?;
         moments.push(number as usize);
         next = number + 1;
         if !text.skip(b" ") {
             text.end_line()?;
-            return (moments.len() <= MOST_SNAPSHOTS as usize).then_some(Some(moments));
+            return Some(Some(moments));
         }
     }
+    None
 }

@@ -117,6 +117,11 @@ def any_program(place: str) -> Optional[str]:
         return None
     if not shutil.which("rustc"):
         return ""
+    return compiled_plain(place)
+
+
+def compiled_plain(place: str) -> str:
+    """The plain program of bench, compiled in PLACE."""
     plain = os.path.join(place, "plain")
     subprocess.run(["rustc", "-O", "--edition", "2021", os.path.join(ROOT, "bench/plain/main.rs"), "-o", plain], check=True)
     return plain

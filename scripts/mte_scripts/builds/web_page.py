@@ -21,7 +21,8 @@ Usage: page [--profile FILE] [--trace FILE] > page.html
   --trace FILE    the trace that the page begins with; a use after free where it is left out. Without --profile its profile is tuned
 
 The page is one file. It loads nothing from elsewhere, and opens from the disk: take other files by dropping them on it. The engines are
-in it as WebAssembly. They are proved up to LLVM's module; the last step to WebAssembly is tested and not proved.
+in it as WebAssembly. They are proved as MIR, which is what the compiler makes LLVM's module from; the steps from there to WebAssembly
+are tested and not proved.
 
 It needs the Rattle kit and wasm-opt (Debian: binaryen), and proves and compiles the engines where that was not done yet.
 
