@@ -9,6 +9,7 @@ from mte_tool import _c, _calls
 from mte_tool._calls import Cost, Verdict
 
 MOST_CLASSES, MOST_NEEDS, MOST_MOMENTS = 32, 1023, 1024
+STEPS = (1, 2, 4, 8)
 
 
 class Table(NamedTuple):
@@ -77,7 +78,8 @@ def table_of(name: str, data: Any, limit: int, step: int, most_moments: int = 0)
 
 def verdict_of(name: str, table: Table, data: ctypes.Structure, limit: int, step: int, has_moments: bool = False) -> Verdict:
     options = _calls.options(limit=limit, step=step)
-    if table.rows and 1 <= limit <= MOST_CLASSES and (len(table.rows) != limit or len(set(map(len, table.rows))) > 1):
+    are_options = 1 <= limit <= MOST_CLASSES and step in STEPS
+    if table.rows and are_options and (len(table.rows) != limit or len(set(map(len, table.rows))) > 1):
         raise _calls.Error(f"the certificate has to have {limit} rows of one length", _c.MISUSE)
     numbers = [_calls.whole(number, "a number of a row") for row in table.rows for number in row]
     classes, rows, moments = array(c_uint16, table.classes), array(c_uint64, numbers), array(c_uint32, table.moments)

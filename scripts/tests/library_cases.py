@@ -134,7 +134,7 @@ def checked(calls):
         if end == DONE and command in ("tune", "fit"):
             check = {"tune": "check", "fit": "check-fit"}[command]
             lines = text.split(b"\n")
-            spoiled = b"\n".join([*lines[:-2], lines[-2] + b"1", b""])
+            spoiled = b"\n".join([*lines[:-2], lines[-2] + (b"1" if lines[-2][-1:].isdigit() else b" 1"), b""])
             more += [(check, {}, (text, data)), (check, {}, (spoiled, data))]
     return calls + with_answers(more)
 

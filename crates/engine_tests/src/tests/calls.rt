@@ -1,7 +1,7 @@
 //! Calls of the engines, so that one table runs them all.
 use super::streams::{sink, source};
 use super::support::{ended, same};
-use mte_engine::{ByteSink, ByteSource, Call, Status, ToolFault, run_call};
+use mte_engine::{ByteSink, ByteSource, Call, Status, ToolFault, run_call, run_call_on};
 use std::process::Abort;
 use std::test::Fail;
 
@@ -30,6 +30,29 @@ pub fn answers(
     let ends = ended(rt.alloc(), end)?;
     same(rt, &ends.as_str(), &wanted, &input);
     same(rt, &to.text.as_slice(), &written.as_bytes(), &input);
+    Ok(())
+}
+
+/// Calls the engine on a first text and another: this is written for them, and it ends so.
+pub fn answers_on(
+    rt: &(impl Abort + AllocGlobal),
+    call: Call,
+    (first, input): (&[u8], &[u8]),
+    written: &str,
+    wanted: &str,
+) -> Result<(), Fail> {
+    assert!(rt; call.is_valid());
+    assert!(rt; call.has_two_texts());
+    let mut to = sink(rt.alloc())?;
+    let end = run_call_on(call, rt.alloc(), first, &mut source(input), &mut to);
+    let ends = ended(rt.alloc(), end)?;
+    same(rt, &ends.as_str(), &wanted, &(first, input));
+    same(
+        rt,
+        &to.text.as_slice(),
+        &written.as_bytes(),
+        &(first, input),
+    );
     Ok(())
 }
 

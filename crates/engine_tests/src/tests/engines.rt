@@ -11,3 +11,4 @@ mod streams_failing;
 mod support;
 mod trace_faults;
 mod tune_texts;
+mod two_texts;
