@@ -1,6 +1,7 @@
 """How each Python script begins and ends. A script imports this alone, and has it import what it runs:
 
     sys.dont_write_bytecode = True
+    sys.path.insert(0, os.path.dirname(os.path.realpath(__file__)))
     from mte_scripts import running
     running.run("merge_profiles", "recording.merge_profiles.merge")    # it raises Refused(2, "what is wrong, and how to mend it")
 
@@ -117,7 +118,9 @@ def quit_quietly(number: int, frame: object) -> None:
 
 
 def unforeseen(kind: type, error: BaseException, trace: object) -> None:
-    """In place of a traceback while modules are imported."""
+    """In place of a traceback while modules are imported. `python3 -i` shows an end by this too."""
+    if isinstance(error, SystemExit):
+        os._exit(error.code if isinstance(error.code, int) else FAILED)
     os._exit(INTERRUPTED if kind is KeyboardInterrupt else fail(os.path.basename(sys.argv[0]), error))
 
 

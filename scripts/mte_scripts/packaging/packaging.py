@@ -140,7 +140,7 @@ def put_scripts(tree: Tree) -> None:
     for name in ["mte_tool", *COMMANDS]:
         first, rest = Path(source(f"scripts/{name}")).read_text(encoding="utf-8").split("\n", 1)
         # Debian's interpreters, and not the first ones on the path
-        shell = {"#!/usr/bin/env bash": "#!/bin/bash", "#!/usr/bin/env python3": "#!/usr/bin/python3"}[first]
+        shell = {"#!/bin/sh -": "#!/bin/bash -", "#!/usr/bin/env -S python3 -ISXutf8 --": "#!/usr/bin/python3 -ISXutf8"}[first]
         tree.write(f"{PRIVATE}/scripts/{name}", f"{shell}\n{rest}", 0o755)
         if name != "mte_tool":
             tree.link(f"usr/bin/mte_{name}", f"{PRIVATE}/scripts/{name}")
