@@ -35,31 +35,32 @@ pub enum Found {
 }
 
 /// The class table of least footprint over every moment of a timeline, of at most `limit` (1 to 32) classes that are multiples of `step` (1,
-/// 2, 4 or 8 granules). It is fitted over some moments, in at least one round and at most `rounds`. If the last table then still takes more
+/// 2, 4 or 8 granules), and if `forced` have the largest class. It is fitted over some moments, in at least one round and at most `rounds`. If the last table then still takes more
 /// over the whole timeline, the result is an interval. The only error is that the allocator refuses memory.
 pub fn fit_over(
     alloc: Global,
     timeline: &Timeline,
     limit: u8,
     step: u8,
+    forced: bool,
     rounds: usize,
 ) -> Result<Found, AllocError>
     requires some { 1 ≤ limit }
     requires few { limit ≤ MOST_CLASSES }
     requires step { IsStep step }
-    ensures { IfOk result (λ found. IsFound timeline.now step limit found) }
+    ensures { IfOk result (λ found. IsFound timeline.now step limit forced found) }
 {
     let events = timeline.events();
     let decisive = largest_moment(events);
     let mut numbers = one_moment(alloc, decisive)?;
-    let mut best = round_over(alloc, events, &numbers, limit, step)?;
+    let mut best = round_over(alloc, events, &numbers, limit, step, forced)?;
     if best.is_tight() {
         return Ok(least_of(best, numbers));
     }
     numbers = with_moments(alloc, numbers, decisive, &best.firsts, events.len())?;
     let mut least = best.fit.cost;
     for _round in 1..rounds {
-        let next = round_over(alloc, events, &numbers, limit, step)?;
+        let next = round_over(alloc, events, &numbers, limit, step, forced)?;
         if next.is_tight() {
             return Ok(least_of(next, numbers));
         }
@@ -95,6 +96,7 @@ fn between_of(round: Round, least: u64) -> Found
         table,
         limit: _limit,
         step: _step,
+        forced: _forced,
         cost: _cost,
         rows: _rows,
         of: _of,

@@ -41,6 +41,7 @@ pub(crate) fn round_over(
     numbers: &[usize],
     limit: u8,
     step: u8,
+    forced: bool,
 ) -> Result<Round, AllocError>
     requires some { 1 ≤ limit }
     requires few { limit ≤ MOST_CLASSES }
@@ -48,13 +49,13 @@ pub(crate) fn round_over(
     requires timeline { IsTimeline events.now }
     requires moments { AreMoments events.now numbers.now }
     ensures fitted { IfOk result (λ round.
-        IsFitOf (history_at events.now numbers.now) step limit (sheet_of round.fit)) }
+        IsFitOf (history_at events.now numbers.now) step limit forced (sheet_of round.fit)) }
     ensures takes { IfOk result (λ round. round.takes ≡ footprint_over events.now round.fit.table) }
     ensures firsts { IfOk result (λ round. AreFirsts events.now round.fit.table round.firsts.items) }
     ensures legal { IfOk result (λ round. IsLegalTable 1 round.fit.table) }
 {
     let history = history_over(alloc, events, numbers)?;
-    let fit = fit(alloc, &history, limit, step)?.into_sheet();
+    let fit = fit(alloc, &history, limit, step, forced)?.into_sheet();
     let _classes = fit.table.len();
     let taken = footprint_over(alloc, events, &fit.table)?;
     Ok(Round {

@@ -12,7 +12,7 @@ returns-then-is_tight c =
     let timeline : IsTimeline events = rw c.events-events.ensures.events c.events-events.ensures.timeline in
     let numbers = c.in_ok-numbers.numbers.items in
     let fit = sheet_of c.in_ok-best.best.fit in
-    let round : IsRound events numbers moment c.args.step c.args.limit fit c.in_ok-best.best.takes =
+    let round : IsRound events numbers moment c.args.step c.args.limit c.args.forced fit c.in_ok-best.best.takes =
     record {
       over = one-moment events numbers moment c.largest_moment-decisive.ensures.within c.in_ok-numbers.ensures;
       fitted = rw c.deref.ensures.value at c.in_ok-best.ensures.fitted;
@@ -20,7 +20,7 @@ returns-then-is_tight c =
       taken = c.in_ok-best.ensures.takes;
     } in
     rw (c.least_of.ensures, ← c.events-events.ensures.events)
-    (round-least events moment c.args.step c.args.limit timeline c.largest_moment-decisive.ensures.decides numbers fit c.in_ok-best.best.takes
+    (round-least events moment c.args.step c.args.limit c.args.forced timeline c.largest_moment-decisive.ensures.decides numbers fit c.in_ok-best.best.takes
     round (c.is_tight.ensures.0 c.if-is_tight.true))
 
 pub with_moments-requires-clause-further : goal.with_moments-requires-clause-further
@@ -35,7 +35,7 @@ loop-round-init c =
     let timeline : IsTimeline events = rw c.events-events.ensures.events c.events-events.ensures.timeline in
     let numbers = c.in_ok-numbers.numbers.items in
     let fit = sheet_of c.in_ok-best.best.fit in
-    let round : IsRound events numbers moment c.args.step c.args.limit fit c.in_ok-best.best.takes =
+    let round : IsRound events numbers moment c.args.step c.args.limit c.args.forced fit c.in_ok-best.best.takes =
     record {
       over = one-moment events numbers moment c.largest_moment-decisive.ensures.within c.in_ok-numbers.ensures;
       fitted = rw c.deref.ensures.value at c.in_ok-best.ensures.fitted;
@@ -45,7 +45,7 @@ loop-round-init c =
     record {
       over = more-moments events c.in_ok-numbers-2.numbers.items moment c.in_ok-numbers-2.ensures.few c.in_ok-numbers-2.ensures.within
           c.in_ok-numbers-2.ensures.kept (c.in_ok-numbers-2.ensures.ascending round.over.ascending);
-      between = between-first events moment c.args.step c.args.limit timeline c.largest_moment-decisive.ensures.decides numbers fit
+      between = between-first events moment c.args.step c.args.limit c.args.forced timeline c.largest_moment-decisive.ensures.decides numbers fit
           c.in_ok-best.best.takes round (λ tight. true≢false (sym (c.is_tight.ensures.1 tight) ∙ c.if-is_tight.false));
     }
 
@@ -59,7 +59,7 @@ returns-then-is_tight-2 c =
     let timeline : IsTimeline events = rw c.events-events.ensures.events c.events-events.ensures.timeline in
     let numbers = c.loop-round.numbers.items in
     let fit = sheet_of c.in_ok-next.next.fit in
-    let round : IsRound events numbers moment c.args.step c.args.limit fit c.in_ok-next.next.takes =
+    let round : IsRound events numbers moment c.args.step c.args.limit c.args.forced fit c.in_ok-next.next.takes =
     record {
       over = c.loop-round.invariant.over;
       fitted = rw c.deref-in-loop-round.ensures.value at c.in_ok-next.ensures.fitted;
@@ -67,7 +67,7 @@ returns-then-is_tight-2 c =
       taken = c.in_ok-next.ensures.takes;
     } in
     rw (c.least_of-then-is_tight-2.ensures, ← c.events-events.ensures.events)
-    (round-least events moment c.args.step c.args.limit timeline c.largest_moment-decisive.ensures.decides numbers fit c.in_ok-next.next.takes
+    (round-least events moment c.args.step c.args.limit c.args.forced timeline c.largest_moment-decisive.ensures.decides numbers fit c.in_ok-next.next.takes
     round (c.is_tight-in-loop-round.ensures.0 c.if-is_tight-2.true))
 
 pub with_moments-requires-in-loop-round-clause-numbers : goal.with_moments-requires-in-loop-round-clause-numbers
@@ -88,14 +88,14 @@ loop-round-preserved c =
     let timeline : IsTimeline events = rw c.events-events.ensures.events c.events-events.ensures.timeline in
     let numbers = c.loop-round.numbers.items in
     let fit = sheet_of c.in_ok-next.next.fit in
-    let round : IsRound events numbers moment c.args.step c.args.limit fit c.in_ok-next.next.takes =
+    let round : IsRound events numbers moment c.args.step c.args.limit c.args.forced fit c.in_ok-next.next.takes =
     record {
       over = c.loop-round.invariant.over;
       fitted = rw c.deref-in-loop-round.ensures.value at c.in_ok-next.ensures.fitted;
       legal = c.in_ok-next.ensures.legal;
       taken = c.in_ok-next.ensures.takes;
     } in
-    let both = between-more events moment c.args.step c.args.limit timeline c.largest_moment-decisive.ensures.decides numbers fit
+    let both = between-more events moment c.args.step c.args.limit c.args.forced timeline c.largest_moment-decisive.ensures.decides numbers fit
     c.in_ok-next.next.takes c.loop-round.best.fit.table c.loop-round.best.takes c.loop-round.least round
     (λ tight. true≢false (sym (c.is_tight-in-loop-round.ensures.1 tight) ∙ c.if-is_tight-2.false)) c.loop-round.invariant.between in
     record {
