@@ -205,7 +205,7 @@ inline Cost score(std::string_view classes, std::string_view profile) {
     return detail::Called(mte_tool_score, detail::joined(classes, profile).view(), nullptr).cost();
 }
 
-/* The sheet of the table of least waste on a profile, by options.limit and options.step. */
+/* The sheet of the table of least waste on a profile, by options.limit, options.step and options.largest_class. */
 inline Text tune(std::string_view profile, const Options &options) {
     return detail::Called(mte_tool_tune, profile, &options).text();
 }
@@ -220,7 +220,7 @@ inline Cost footprint(std::string_view classes, std::string_view history) {
     return detail::Called(mte_tool_footprint, detail::joined(classes, history).view(), nullptr).cost();
 }
 
-/* The fit of the table of least footprint over a history or a timeline, by options.limit and options.step. */
+/* The fit of the table of least footprint over a history or a timeline, by options.limit, options.step and options.largest_class. */
 inline Fit fit(std::string_view history, const Options &options) {
     return detail::Called(mte_tool_fit, history, &options).fit();
 }

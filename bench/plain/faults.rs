@@ -275,6 +275,12 @@ fn sheet_lines(lines: &[&[u8]], cost_word: &str) -> Result<usize, usize> {
             .ok_or(3_usize)?;
         at = 3;
     }
+    if first_is(at, "forced") {
+        one(at, "forced")
+            .filter(|class| *class == 1024)
+            .ok_or(at + 1)?;
+        at += 1;
+    }
     one(at, cost_word).ok_or(at + 1)?;
     at += 1;
     let rows = at;

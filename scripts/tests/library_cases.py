@@ -79,7 +79,7 @@ def large():
 
 def program(command, options, data):
     """How the program ends with these options, and the text that it writes; a refusal without its word `error`."""
-    words = [f"--{name}={options.get(name, OPTIONS[name])}" for name in OPTIONS_OF.get(command, [])]
+    words = [f"--{name.replace('_', '-')}={options.get(name, OPTIONS[name])}" for name in OPTIONS_OF.get(command, [])]
     run = ran([checks.PROGRAM, command, *words], input=data)
     if run.returncode == REFUSED:
         return REFUSED, run.stderr.removeprefix(b"error ").removesuffix(b"\n")

@@ -1,5 +1,5 @@
 -- One answer of `tune`, `fit` and `run` to an input, since there is one certificate for what it spells, a step and a limit.
-use Rattle.std.proofs.Common.{◌≡◌, ℕ, List, ◌++◌, Result, Ok, Err, ap, sym, subst, ◌∙◌}
+use Rattle.std.proofs.Common.{◌≡◌, ℕ, Bool, false, List, ◌++◌, Result, Ok, Err, ap, sym, subst, ◌∙◌}
 use Rattle.class_tuner.proofs.LawLemmas.{one_fit, one_sheet}
 use Rattle.heap_theory.specs.declared.config.Config.{Config}
 use Rattle.history_count.specs.Histories.{History}
@@ -31,40 +31,40 @@ one_answer part says one (Ok a) (Err fault) first second = let read = sym first.
 one_answer part says one (Err fault) (Ok b) first second = let read = sym first ∙ second.1 in cc
 one_answer part says one (Err fault) (Err other) first second = let read = sym first ∙ second in cc
 
-module _ (limit step : ℕ) (text : List ℕ) where
-  tune_written : (p : Counted) (a b : Answer) → IsTunedText limit step p a → IsTunedText limit step p b → a ≡ b
+module _ (limit step : ℕ) (forced : Bool) (text : List ℕ) where
+  tune_written : (p : Counted) (a b : Answer) → IsTunedText limit step forced p a → IsTunedText limit step forced p b → a ≡ b
   tune_written p a b first second =
-      let same = one_sheet p.counts step limit first.sheet second.sheet first.tuned second.tuned in
+      let same = one_sheet p.counts step limit forced first.sheet second.sheet first.tuned second.tuned in
       first.written ∙ ap (λ (s : Sheet). record { text = sheet_text s; status = Done }) same ∙ sym second.written
 
-  tuned : (a : Result Answer InputFault) → TuneAnswers limit step text a
-      → AnswersPart (profile_part 0 (profile_of text)) (IsTunedText limit step) a
+  tuned : (a : Result Answer InputFault) → TuneAnswers limit step forced text a
+      → AnswersPart (profile_part 0 (profile_of text)) (IsTunedText limit step forced) a
   tuned (Ok a) answers = answers
   tuned (Err fault) answers = answers
 
-  pub one_tune : (a b : Result Answer InputFault) → TuneAnswers limit step text a → TuneAnswers limit step text b → a ≡ b
+  pub one_tune : (a b : Result Answer InputFault) → TuneAnswers limit step forced text a → TuneAnswers limit step forced text b → a ≡ b
   one_tune a b first second =
-      one_answer (profile_part 0 (profile_of text)) (IsTunedText limit step) tune_written a b (tuned a first) (tuned b second)
+      one_answer (profile_part 0 (profile_of text)) (IsTunedText limit step forced) tune_written a b (tuned a first) (tuned b second)
 
-  fit_written : (h : History) (a b : Answer) → IsFitText limit step h a → IsFitText limit step h b → a ≡ b
+  fit_written : (h : History) (a b : Answer) → IsFitText limit step forced h a → IsFitText limit step forced h b → a ≡ b
   fit_written h a b first second =
-      let same = one_fit h.snapshots step limit first.fit second.fit first.fitted second.fitted in
+      let same = one_fit h.snapshots step limit forced first.fit second.fit first.fitted second.fitted in
       first.written ∙ ap (λ (s : Sheet). record { text = fit_text s; status = Done }) same ∙ sym second.written
 
-  fitted : (a : Result Answer InputFault) → FitAnswers limit step text a
-      → AnswersPart (history_part 0 (history_of text)) (IsFitText limit step) a
+  fitted : (a : Result Answer InputFault) → FitAnswers limit step forced text a
+      → AnswersPart (history_part 0 (history_of text)) (IsFitText limit step forced) a
   fitted (Ok a) answers = answers
   fitted (Err fault) answers = answers
 
-  pub one_fitted : (a b : Result Answer InputFault) → FitAnswers limit step text a → FitAnswers limit step text b → a ≡ b
+  pub one_fitted : (a b : Result Answer InputFault) → FitAnswers limit step forced text a → FitAnswers limit step forced text b → a ≡ b
   one_fitted a b first second =
-      one_answer (history_part 0 (history_of text)) (IsFitText limit step) fit_written a b (fitted a first) (fitted b second)
+      one_answer (history_part 0 (history_of text)) (IsFitText limit step forced) fit_written a b (fitted a first) (fitted b second)
 
 module _ (limit step : ℕ) (config : Config) (text : List ℕ) where
   run_written : (events : List Event) (a b : Answer) → IsTunedRun limit step config events a → IsTunedRun limit step config events b → a ≡ b
   unfolding report
   run_written events a b first second =
-      let same = one_sheet (profile_of_events events).counts step limit first.sheet second.sheet first.tuned second.tuned in
+      let same = one_sheet (profile_of_events events).counts step limit false first.sheet second.sheet first.tuned second.tuned in
       first.written ∙ ap (λ (s : Sheet). record { text = sheet_text s ++ report_on config s.table events; status = Done }) same
       ∙ sym second.written
 

@@ -6,6 +6,7 @@ use Rattle.potential_check.specs.Leading.{leading_lines, lines_after}
 use Rattle.potential_check.specs.SheetText.{sheet_of_lines}
 use Rattle.profile_count.specs.ProfileText.{profile_of_lines}
 use Rattle.tuner_theory.specs.Best.{IsBest}
+use Rattle.tuner_theory.specs.Served.{served}
 use Rattle.tuner_theory.specs.Sheets.{IsVerdict, Sheet}
 use Rattle.tuner_theory.specs.RefusalText.{shown_refusal}
 use Rattle.tuner_theory.specs.Profiles.{Profile as Counted}
@@ -36,7 +37,7 @@ sheet_and_profile ls =
 pub record IsChecked (sheet : Sheet) (profile : Counted) (answer : Answer) : Type 0 where
   pub verdict : Verdict
   pub is_verdict : IsVerdict profile.counts sheet verdict
-  pub best : verdict ≡ Optimal → IsBest profile.counts sheet.step sheet.limit sheet.table
+  pub best : verdict ≡ Optimal → IsBest (served sheet.forced profile.counts) sheet.step sheet.limit sheet.table
   pub written : answer ≡ verdict_text verdict
 
 -- A sheet and then a profile. The answer is the verdict, or the first fault of the two.

@@ -26,7 +26,7 @@ fit_and_history ls =
 pub record IsFitChecked (fit : Sheet) (history : History) (answer : Answer) : Type 0 where
   pub verdict : Verdict
   pub is_verdict : IsFitVerdict history.snapshots fit verdict
-  pub least : verdict ≡ Optimal → IsLeastFootprint history.snapshots fit.step fit.limit fit.table
+  pub least : verdict ≡ Optimal → IsLeastFootprint fit.forced history.snapshots fit.step fit.limit fit.table
   pub written : answer ≡ verdict_text_by shown_fit_refusal verdict
 
 -- A fit and then a history. The answer is the verdict, or the first fault of the two.

@@ -50,7 +50,7 @@ fit_and_timeline ls =
 pub record IsCheckedOver (fit : Sheet) (numbers : List ℕ) (events : List SizeEvent) (answer : Answer) : Type 0 where
   pub verdict : OverVerdict
   pub is_verdict : IsOverVerdict events numbers fit verdict
-  pub least : verdict ≡ Optimal → IsLeastOver events fit.step fit.limit fit.table
+  pub least : verdict ≡ Optimal → IsLeastOver fit.forced events fit.step fit.limit fit.table
   pub written : answer ≡ over_verdict_text verdict
 
 -- The answer is the verdict, or the first fault of the three.
