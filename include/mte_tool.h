@@ -42,20 +42,21 @@ enum {
    is its default, or the call ends with MTE_TOOL_BAD_OPTION. Null stands for a structure without any member. Each option has 64 bits, so
    that a number out of its range stays one: it is MTE_TOOL_BAD_OPTION.
 
-   Each call reads its own options, and the others may have any value: tune and fit read limit and step; replay and mte_tool_heap_new read
-   granules, quarantine and seed; run reads limit, step, granules, quarantine and seed. */
+   Each call reads its own options, and the others may have any value: tune and fit read limit, step and largest_class; replay and
+   mte_tool_heap_new read granules, quarantine and seed; run reads limit, step, granules, quarantine and seed. */
 typedef struct mte_tool_options {
-    size_t size;         /* sizeof (mte_tool_options) */
-    uint64_t granules;   /* the granules of the heap, 64 to 262144 */
-    uint64_t quarantine; /* the bytes of freed blocks that the heap holds back, 0 to 4194304 */
-    uint64_t seed;       /* the seed of the random tags, 1 to 65535 */
-    uint64_t limit;      /* the most classes of the table, 1 to 32; it has no default */
-    uint64_t step;       /* the granules that each class is a multiple of: 1, 2, 4 or 8 */
+    size_t size;            /* sizeof (mte_tool_options) */
+    uint64_t granules;      /* the granules of the heap, 64 to 262144 */
+    uint64_t quarantine;    /* the bytes of freed blocks that the heap holds back, 0 to 4194304 */
+    uint64_t seed;          /* the seed of the random tags, 1 to 65535 */
+    uint64_t limit;         /* the most classes of the table, 1 to 32; it has no default */
+    uint64_t step;          /* the granules that each class is a multiple of: 1, 2, 4 or 8 */
+    uint64_t largest_class; /* whether the table must have class 1024: 0 or 1 */
 } mte_tool_options;
 
 /* The program's own defaults, with this limit; for a call that reads no limit, any number. In C++ a `limit` that is no constant
    has to be unsigned. */
-#define MTE_TOOL_OPTIONS(limit) {sizeof(mte_tool_options), 65536, 65536, 1, (limit), 1}
+#define MTE_TOOL_OPTIONS(limit) {sizeof(mte_tool_options), 65536, 65536, 1, (limit), 1, 0}
 
 /* What a call found, beside how it ended. A caller sets `size`, as MTE_TOOL_RESULT does; a member that this library does not know is set to
    0, as is each that the call does not give. */

@@ -203,7 +203,7 @@ inline Cost score(std::string_view classes, std::string_view profile) {
     return detail::Called(mte_tool_score, classes, profile, nullptr).cost();
 }
 
-/* The sheet of the table of least waste on a profile, by options.limit and options.step. */
+/* The sheet of the table of least waste on a profile, by options.limit, options.step and options.largest_class. */
 inline Text tune(std::string_view profile, const Options &options) {
     return detail::Called(mte_tool_tune, profile, &options).text();
 }
@@ -218,7 +218,7 @@ inline Cost footprint(std::string_view classes, std::string_view history) {
     return detail::Called(mte_tool_footprint, classes, history, nullptr).cost();
 }
 
-/* The fit of the table of least footprint over a history or a timeline, by options.limit and options.step. */
+/* The fit of the table of least footprint over a history or a timeline, by options.limit, options.step and options.largest_class. */
 inline Fit fit(std::string_view history, const Options &options) {
     return detail::Called(mte_tool_fit, history, &options).fit();
 }

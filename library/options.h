@@ -5,6 +5,7 @@ typedef struct narrow_options {
     uint16_t seed;
     uint8_t limit;
     uint8_t step;
+    uint8_t largest_class;
 } narrow_options;
 
 /* A number that is too large for its place becomes one that is out of the option's range too. */
@@ -15,5 +16,6 @@ static inline narrow_options narrowed(const mte_tool_options *wide) {
     narrow.seed = wide->seed > UINT16_MAX ? 0 : (uint16_t)wide->seed;
     narrow.limit = wide->limit > UINT8_MAX ? 0 : (uint8_t)wide->limit;
     narrow.step = wide->step > UINT8_MAX ? 0 : (uint8_t)wide->step;
+    narrow.largest_class = wide->largest_class > UINT8_MAX ? UINT8_MAX : (uint8_t)wide->largest_class;
     return narrow;
 }

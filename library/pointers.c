@@ -211,7 +211,8 @@ int mte_tool_tune_profile(const mte_tool_options *options, const mte_tool_profil
     if (!classes || is_missing(rows, row_room) || !is_whole(profile) || layer_is_wrong(result)) return MTE_TOOL_MISUSE;
     if (end != MTE_TOOL_DONE) return refuse_options(end, result);
     return give_numbers(
-        mte_arrays_tune(narrow.limit, narrow.step, SLICES(profile), classes, class_room, rows ? rows : &no_row, row_room), result);
+        mte_arrays_tune(narrow.limit, narrow.step, narrow.largest_class, SLICES(profile), classes, class_room, rows ? rows : &no_row, row_room),
+        result);
 }
 
 int mte_tool_check_profile(const mte_tool_options *options, const uint16_t *classes, size_t class_count, uint64_t waste,
@@ -221,7 +222,7 @@ int mte_tool_check_profile(const mte_tool_options *options, const uint16_t *clas
     if (is_missing(classes, class_count) || is_missing(rows, row_count) || !is_whole(profile) || layer_is_wrong(result))
         return MTE_TOOL_MISUSE;
     if (end != MTE_TOOL_DONE) return refuse_options(end, result);
-    return give_numbers(mte_arrays_check(narrow.limit, narrow.step, waste, classes_or_none(classes), class_count,
+    return give_numbers(mte_arrays_check(narrow.limit, narrow.step, narrow.largest_class, waste, classes_or_none(classes), class_count,
                                          rows ? rows : &layer_no_numbers, row_count, SLICES(profile)),
                         result);
 }

@@ -200,7 +200,7 @@ static int is_claim(const claim *it) {
 
 static int are_limits(narrow_options options) {
     return options.limit >= 1 && options.limit <= MTE_TOOL_MOST_CLASSES &&
-           (options.step == 1 || options.step == 2 || options.step == 4 || options.step == 8);
+           (options.step == 1 || options.step == 2 || options.step == 4 || options.step == 8) && options.largest_class <= 1;
 }
 
 /* The line `moments` is there only if there are some. */
@@ -210,6 +210,7 @@ static void put_claim(input *to, narrow_options options, const claim *it) {
     put_classes(to, it->classes, it->class_count);
     put_line(to, "limit ", options.limit);
     if (options.step > 1) put_line(to, "step ", options.step);
+    if (options.largest_class) put_line(to, "forced ", MTE_TOOL_LARGEST_CLASS);
     put_line(to, "footprint ", it->footprint);
     for (row = 0; row < options.limit; row++) {
         put_word(to, "row");

@@ -16,8 +16,9 @@ pub fn refusal(profile: &Profile, sheet: &Sheet) -> Option<&'static str> {
     }
     match waste(&sheet.classes, profile) {
         Err(_) => Some("41 NotServing"),
+        Ok(_) if sheet.lacks_class() => Some("41 NotServing"),
         Ok(waste) if waste != sheet.cost => Some("42 WasteWrong"),
-        Ok(_) => rows_refusal(&Spans::new(profile, sheet.step), sheet),
+        Ok(_) => rows_refusal(&Spans::new(profile, sheet.step, sheet.forced), sheet),
     }
 }
 

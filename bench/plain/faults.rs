@@ -241,6 +241,9 @@ fn pass_sheet(lines: &mut Lines, cost_word: &[u8]) -> Option<()> {
     if lines.are_at(b"step") {
         one(lines.next()?, b"step").filter(|step| matches!(step, 2 | 4 | 8))?;
     }
+    if lines.are_at(b"forced") {
+        one(lines.next()?, b"forced").filter(|class| *class == 1024)?;
+    }
     one(lines.next()?, cost_word)?;
     for number in 1.. {
         if !lines.are_at(b"row") {

@@ -5,10 +5,11 @@ use crate::history_spans::HistorySpans;
 use crate::sheet::Sheet;
 use crate::tuner::{table, Row};
 
-/// The fit of a history for at most `limit` classes that are multiples of the step. The rows are
-/// filled place by place, from the last one on, with the footprints from one place kept at a time.
-pub fn fit(history: &History, limit: usize, step: u32) -> Sheet {
-    let spans = HistorySpans::new(history, step);
+/// The fit of a history for at most `limit` classes that are multiples of the step, with class 1024
+/// if it is forced. The rows are filled place by place, from the last one on, with the footprints
+/// from one place kept at a time.
+pub fn fit(history: &History, limit: usize, step: u32, forced: bool) -> Sheet {
+    let spans = HistorySpans::new(history, step, forced);
     let last = spans.last();
     let mut rows: Vec<Row> = (0..limit).map(|_| Row::new(last)).collect();
     let mut costs = vec![0; last + 1];
@@ -25,6 +26,7 @@ pub fn fit(history: &History, limit: usize, step: u32) -> Sheet {
         classes: table(last, |place| spans.need(place), &rows),
         limit,
         step,
+        forced,
         cost: rows[limit - 1].rests[0],
         rows: rows.into_iter().map(|row| row.rests).collect(),
     }
@@ -52,8 +54,9 @@ pub fn refusal(history: &History, fit: &Sheet) -> Option<&'static str> {
     }
     match history.footprint(&fit.classes) {
         Err(_) => Some("41 NotServing"),
+        Ok(_) if fit.lacks_class() => Some("41 NotServing"),
         Ok(footprint) if footprint != fit.cost => Some("49 FootprintWrong"),
-        Ok(_) => rows_refusal(&HistorySpans::new(history, fit.step), fit),
+        Ok(_) => rows_refusal(&HistorySpans::new(history, fit.step, fit.forced), fit),
     }
 }
 

@@ -8,7 +8,7 @@ pub struct Number {
     pub default: Option<u64>,
 }
 
-pub const NUMBERS: [Number; 5] = [
+pub const NUMBERS: [Number; 6] = [
     Number {
         name: "--granules",
         least: 64,
@@ -39,13 +39,19 @@ pub const NUMBERS: [Number; 5] = [
         most: 8,
         default: Some(1),
     },
+    Number {
+        name: "--largest-class",
+        least: 0,
+        most: 1,
+        default: Some(0),
+    },
 ];
 
 /// The names of the options of a command.
 pub fn options_of(command: &str) -> &'static [&'static str] {
     match command {
         "score" | "check" | "footprint" | "check-fit" | "profile" => &[],
-        "tune" | "fit" => &["--limit", "--step"],
+        "tune" | "fit" => &["--limit", "--step", "--largest-class"],
         "replay" => &["--granules", "--quarantine", "--seed"],
         "run" => &["--limit", "--step", "--granules", "--quarantine", "--seed"],
         _ => &[],

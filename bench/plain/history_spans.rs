@@ -2,6 +2,7 @@
 //! that each place keeps.
 
 use crate::history::{add, History};
+use crate::sheet::LARGEST_CLASS;
 
 /// The places of a history from place 0, which is below all needs, to the largest need.
 pub struct HistorySpans {
@@ -11,7 +12,8 @@ pub struct HistorySpans {
 }
 
 impl HistorySpans {
-    pub fn new(history: &History, step: u32) -> HistorySpans {
+    /// A need for each size, and for class 1024 if it is forced.
+    pub fn new(history: &History, step: u32, forced: bool) -> HistorySpans {
         let mut spans = HistorySpans {
             needs: vec![0],
             sums: vec![vec![0]; history.snapshots],
@@ -24,6 +26,9 @@ impl HistorySpans {
             }
             add(&mut blocks, counts);
             spans.set_last(&blocks);
+        }
+        if forced && spans.needs[spans.last()] < LARGEST_CLASS {
+            spans.push(LARGEST_CLASS, &blocks);
         }
         spans
     }

@@ -60,7 +60,8 @@ The commands of mte_tool in plain Rust: the same outputs, and nothing is proved 
 Usage: plain COMMAND [--NAME N ..] < INPUT
 
   score      a class line and a profile: how many bytes the table wastes
-  tune       a profile: the best table, as a sheet; --limit K (1 to 32), --step S (1, 2, 4 or 8)
+  tune       a profile: the best table, as a sheet; --limit K (1 to 32), --step S (1, 2, 4 or 8),
+             --largest-class L (1: with class 1024)
   check      a sheet and a profile: whether the sheet proves its table a best one
   footprint  a class line and a history or a timeline: how many bytes the table takes at its most
   fit        a history or a timeline: the table of least footprint, as a fit; the options of tune
@@ -68,7 +69,7 @@ Usage: plain COMMAND [--NAME N ..] < INPUT
              footprint
   profile    a trace: its profile
   replay     a class line and a trace: the tagged heap's report; --granules, --seed, --quarantine
-  run        a trace: its best table, and the report with it; the options of tune and of replay
+  run        a trace: its best table, and the report with it; --limit, --step, those of replay
   events     a million events, from no input; --seed
 
 Exit status: 0 done; 1 the verdict is no; 2 words or input are refused; 3 a read or a write failed.
@@ -185,26 +186,28 @@ fn write_cost(
 
 fn tune(options: &Options, out: &mut impl Write) -> Result<ExitCode, Fault> {
     let (limit, step) = (options.limit()?, options.step()?);
+    let forced = options.largest_class()?;
     let input = read_all()?;
     let profile = Profile::read(&mut Scanner::new(&input));
     let profile = profile.ok_or_else(|| faults::in_profile(&input))?;
     let mut text = Vec::new();
-    tuner::tune(&profile, limit, step).write(&mut text, WASTE);
+    tuner::tune(&profile, limit, step, forced).write(&mut text, WASTE);
     written(out, &text)
 }
 
 fn fit(options: &Options, out: &mut impl Write) -> Result<ExitCode, Fault> {
     let (limit, step) = (options.limit()?, options.step()?);
+    let forced = options.largest_class()?;
     let input = read_all()?;
     if is_timeline(&input) {
         let timeline = Timeline::read(&mut Scanner::new(&input));
         let timeline = timeline.ok_or_else(|| faults::in_history(&input))?;
-        return write_found(timeline.fit(limit, step), out);
+        return write_found(timeline.fit(limit, step, forced), out);
     }
     let history = History::read(&mut Scanner::new(&input));
     let history = history.ok_or_else(|| faults::in_history(&input))?;
     let mut text = Vec::new();
-    fitter::fit(&history, limit, step).write(&mut text, FOOTPRINT);
+    fitter::fit(&history, limit, step, forced).write(&mut text, FOOTPRINT);
     written(out, &text)
 }
 
@@ -311,7 +314,7 @@ fn run(options: &Options, out: &mut impl Write) -> Result<ExitCode, Fault> {
     for n in events.iter().filter_map(Event::request) {
         profile.add(n);
     }
-    let sheet = tuner::tune(&profile, limit, step);
+    let sheet = tuner::tune(&profile, limit, step, false);
     let mut text = Vec::new();
     sheet.write(&mut text, WASTE);
     write(out, &text)?;

@@ -45,6 +45,11 @@ impl Options {
         }
     }
 
+    /// Whether the table must have class 1024.
+    pub fn largest_class(&self) -> Result<bool, Fault> {
+        Ok(self.number_of("--largest-class")? == 1)
+    }
+
     /// The seed of the events.
     pub fn seed(&self) -> Result<u64, Fault> {
         self.number("--seed", 1..=u64::MAX, Some(1))

@@ -15,10 +15,15 @@ pub const MOST_ROWS: usize = 32;
 /// The most numbers of a row.
 pub const MOST_IN_ROW: usize = 1023;
 
+/// The largest class, in granules.
+pub const LARGEST_CLASS: u32 = 1024;
+
 pub struct Sheet {
     pub classes: Vec<u32>,
     pub limit: usize,
     pub step: u32,
+    /// Whether the table has to have class 1024.
+    pub forced: bool,
     /// The waste of a sheet, the footprint of a fit.
     pub cost: u64,
     /// A number for each place but the last, and then a 0 for the last one.
@@ -37,6 +42,11 @@ impl Sheet {
             step = text.number().filter(|step| matches!(step, 2 | 4 | 8))? as u32;
             text.end_line()?;
         }
+        let forced = text.skip(b"forced ");
+        if forced {
+            text.number().filter(|class| *class == u64::from(LARGEST_CLASS))?;
+            text.end_line()?;
+        }
         text.expect(cost_word)?;
         text.expect(b" ")?;
         let cost = text.number()?;
@@ -52,9 +62,15 @@ impl Sheet {
             classes,
             limit,
             step,
+            forced,
             cost,
             rows,
         })
+    }
+
+    /// Whether the table lacks a class that it has to have.
+    pub fn lacks_class(&self) -> bool {
+        self.forced && self.classes.last() != Some(&LARGEST_CLASS)
     }
 
     pub fn write(&self, text: &mut Vec<u8>, cost_word: &[u8]) {
@@ -66,6 +82,9 @@ impl Sheet {
         push_line(text, b"\nlimit", &[self.limit as u64]);
         if self.step > 1 {
             push_line(text, b"step", &[u64::from(self.step)]);
+        }
+        if self.forced {
+            push_line(text, b"forced", &[u64::from(LARGEST_CLASS)]);
         }
         push_line(text, cost_word, &[self.cost]);
         for row in &self.rows {

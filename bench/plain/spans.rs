@@ -2,6 +2,7 @@
 //! each place keeps.
 
 use crate::profile::Profile;
+use crate::sheet::LARGEST_CLASS;
 use std::ops::Range;
 
 /// A need with requests, and the sums up to it.
@@ -19,8 +20,8 @@ pub struct Spans {
 
 impl Spans {
     /// Each multiple of the step up to 1024 granules is a need; it is one of the profile where a
-    /// request needs it.
-    pub fn new(profile: &Profile, step: u32) -> Spans {
+    /// request needs it, and so is the last if its class is forced.
+    pub fn new(profile: &Profile, step: u32, forced: bool) -> Spans {
         let mut places = vec![Place {
             need: 0,
             payload: 0,
@@ -29,14 +30,14 @@ impl Spans {
         }];
         let (mut requests, mut bytes) = (0, 0);
         let mut start = 0;
-        for need in (step.max(2)..=1024).step_by(step as usize) {
+        for need in (step.max(2)..=LARGEST_CLASS).step_by(step as usize) {
             let end = 16 * need as usize - 15;
             let before = requests;
             for (n, count) in (start..end).zip(&profile.counts[start..end]) {
                 requests += u64::from(*count);
                 bytes += u64::from(*count) * n as u64;
             }
-            if requests > before {
+            if requests > before || (forced && need == LARGEST_CLASS) {
                 places.push(Place {
                     need,
                     payload: 16 * u64::from(need) - 16,

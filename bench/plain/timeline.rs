@@ -148,13 +148,13 @@ impl Timeline {
 
     /// The table of least footprint over every moment. It is fitted over some moments, to which those
     /// are added at which it takes more.
-    pub fn fit(&self, limit: usize, step: u32) -> Found {
+    pub fn fit(&self, limit: usize, step: u32, forced: bool) -> Found {
         let kept = self.largest_moment();
         let mut moments = vec![kept];
         let mut best: Option<(Vec<u32>, u64)> = None;
         let mut bound = 0;
         for _ in 0..ROUNDS {
-            let fit = fitter::fit(&self.history(&moments), limit, step);
+            let fit = fitter::fit(&self.history(&moments), limit, step, forced);
             let (takes, firsts) = self.peaks(&fit.classes);
             if takes == fit.cost {
                 return Found::Least(fit, moments);

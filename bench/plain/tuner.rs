@@ -5,9 +5,10 @@ use crate::sheet::Sheet;
 use crate::spans::Spans;
 use std::ops::Range;
 
-/// The sheet of a profile for at most `limit` classes that are multiples of the step.
-pub fn tune(profile: &Profile, limit: usize, step: u32) -> Sheet {
-    let spans = Spans::new(profile, step);
+/// The sheet of a profile for at most `limit` classes that are multiples of the step, with class 1024
+/// if it is forced.
+pub fn tune(profile: &Profile, limit: usize, step: u32, forced: bool) -> Sheet {
+    let spans = Spans::new(profile, step, forced);
     let mut rows = vec![Row::first(&spans)];
     for k in 1..limit {
         rows.push(Row::after(&spans, &rows[k - 1]));
@@ -16,6 +17,7 @@ pub fn tune(profile: &Profile, limit: usize, step: u32) -> Sheet {
         classes: table(spans.last(), |place| spans.need(place), &rows),
         limit,
         step,
+        forced,
         cost: rows[limit - 1].rests[0],
         rows: rows.into_iter().map(|row| row.rests).collect(),
     }

@@ -12,13 +12,14 @@ def score(classes: Bytes, profile: Bytes) -> Cost:
     return called("score", classes, profile).cost()
 
 
-def tune(profile: Bytes, limit: int, step: int = 1) -> bytes:
+def tune(profile: Bytes, limit: int, step: int = 1, largest_class: int = 0) -> bytes:
     """The sheet of the table of least waste on a profile.
 
     limit: the most classes of the table, 1 to 32
     step: the granules that each class is a multiple of: 1, 2, 4 or 8
+    largest_class: whether the table must have class 1024: 0 or 1
     """
-    return called("tune", profile, limit=limit, step=step).text
+    return called("tune", profile, limit=limit, step=step, largest_class=largest_class).text
 
 
 def check(sheet: Bytes, profile: Bytes) -> Verdict:
@@ -31,13 +32,14 @@ def footprint(classes: Bytes, history: Bytes) -> Cost:
     return called("footprint", classes, history).cost()
 
 
-def fit(history: Bytes, limit: int, step: int = 1) -> Fit:
+def fit(history: Bytes, limit: int, step: int = 1, largest_class: int = 0) -> Fit:
     """The fit of the table of least footprint over a history or a timeline.
 
     limit: the most classes of the table, 1 to 32
     step: the granules that each class is a multiple of: 1, 2, 4 or 8
+    largest_class: whether the table must have class 1024: 0 or 1
     """
-    return called("fit", history, limit=limit, step=step).fit()
+    return called("fit", history, limit=limit, step=step, largest_class=largest_class).fit()
 
 
 def check_fit(fit: Bytes, history: Bytes) -> Verdict:

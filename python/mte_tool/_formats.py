@@ -9,6 +9,7 @@ OPTIONS = {
     "seed": 1,
     "limit": 0,
     "step": 1,
+    "largest_class": 0,
 }
 
 COMMANDS = {

@@ -70,6 +70,7 @@ OPTIONS = {
     "seed": Option(1, 65_535, 1, 16, "the seed of the random tags"),
     "limit": Option(1, MOST_CLASSES, None, 8, "the most classes of the table"),
     "step": Option(1, 8, 1, 8, "the granules that each class is a multiple of", "1, 2, 4 or 8"),
+    "largest_class": Option(0, 1, 0, 8, f"whether the table must have class {LARGEST_CLASS}", "0 or 1"),
 }
 
 
@@ -83,7 +84,8 @@ class Command(NamedTuple):
     words: str
 
 
-TUNER = ("limit", "step")
+LIMITS = ("limit", "step")
+TUNER = (*LIMITS, "largest_class")
 HEAP = ("granules", "quarantine", "seed")
 
 # in the order of their numbers in C
@@ -96,7 +98,7 @@ COMMANDS = {
     "check_fit": Command(("fit", "history"), (), "verdict", claims.GIVEN["check_fit"]),
     "profile": Command(("trace",), (), "text", "The profile of a trace"),
     "replay": Command(("classes", "trace"), HEAP, "text", "The report of the tagged heap over the table of a class line on a trace"),
-    "run": Command(("trace",), (*TUNER, *HEAP), "text", "The sheet of a trace's profile, and then the report with its table"),
+    "run": Command(("trace",), (*LIMITS, *HEAP), "text", "The sheet of a trace's profile, and then the report with its table"),
 }
 
 

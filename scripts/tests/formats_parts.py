@@ -290,14 +290,14 @@ def commands_of_rust():
 
 def options_of_plain():
     numbers = "".join(
-        f'    Number {{\n        name: "--{name}",\n        least: {rust_number(it.least)},\n        most: {rust_number(it.most)},\n'
+        f'    Number {{\n        name: "--{hyphenated(name)}",\n        least: {rust_number(it.least)},\n        most: {rust_number(it.most)},\n'
         f"        default: {'None' if it.default is None else f'Some({rust_number(it.default)})'},\n    }},\n"
         for name, it in OPTIONS.items()
     )
     arms = {}
     for name, command in COMMANDS.items():
         arms.setdefault(command.options, []).append(f'"{hyphenated(name)}"')
-    names = "".join(f"        {' | '.join(said)} => &[{quoted(f'--{option}' for option in options)}],\n" for options, said in arms.items())
+    names = "".join(f"        {' | '.join(said)} => &[{quoted(f'--{hyphenated(option)}' for option in options)}],\n" for options, said in arms.items())
     return (
         f"//! The options of the commands. {WRITTEN}\n\n"
         "/// An option: its name, its range, and its number where it is left out.\n"
@@ -336,7 +336,7 @@ def inputs_of_page():
 def script_of_page():
     numbers = {"GRANULE": formats.GRANULE_BYTES, "LARGEST_CLASS": formats.LARGEST_CLASS, "LARGEST_SIZE": formats.LARGEST_SIZE,
                "MOST_CLASSES": formats.MOST_CLASSES, "MOST_INPUT": formats.MOST_INPUT}
-    options = {name: option.default or LIMIT for name, option in OPTIONS.items()}
+    options = {name: LIMIT if option.default is None else option.default for name, option in OPTIONS.items()}
     ended = quoted(name.lower().replace("_", " ") for name in ENDS)
     words = {code: on_page(it.words) for code, it in CODES.items() if it.status == 2}
     causes = {kebab(it.name): on_page(it.words) for code, it in CODES.items() if code in range(60, 66)}

@@ -102,7 +102,7 @@ def large():
 def program(command, options, data):
     """How the program ends with these options, and the text that it writes; a refusal without its word `error`. The program reads two texts as
     one: where the second one is faulty, the lines of the first are counted off."""
-    words = [f"--{name}={options.get(name, OPTIONS[name])}" for name in OPTIONS_OF.get(command, [])]
+    words = [f"--{name.replace('_', '-')}={options.get(name, OPTIONS[name])}" for name in OPTIONS_OF.get(command, [])]
     first, second = data if isinstance(data, tuple) else (b"", data)
     first += b"\n" if first and not first.endswith(b"\n") else b""
     run = ran([checks.PROGRAM, command, *words], input=first + second)

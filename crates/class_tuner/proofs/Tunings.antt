@@ -1,10 +1,10 @@
 -- What least rows over the places of a profile make, by any measure.
-use Rattle.std.proofs.Common.{◌≡◌, ℕ, ◌≤◌, List, refl, sym, arith}
+use Rattle.std.proofs.Common.{◌≡◌, ℕ, ◌≤◌, Bool, List, refl, sym, arith}
 use Rattle.class_table.specs.Steps.{IsStep}
 use Rattle.class_table.specs.Tables.{IsLegalTable}
 use Rattle.class_table.specs.declared.table.TheConstants.{MOST_CLASSES}
 use Rattle.class_tuner.specs.Fits.Fitted.{IsFitOf}
-use Rattle.class_tuner.specs.Tuned.{IsMadeFor, IsTuned, sheet_of_rows}
+use Rattle.class_tuner.specs.Tuned.{IsMadeFor, IsTunedOver, sheet_of_rows}
 use Rattle.tuner_theory.specs.Best.{IsCanonicalBy}
 use Rattle.tuner_theory.specs.Histories.{AreSnapshots}
 use Rattle.tuner_theory.specs.Intervals.{span_cost}
@@ -21,7 +21,7 @@ use Rattle.tuner_theory.proofs.LawLemmas.{ends_are_later, least_rows_are_valid, 
 legal-for_one : (step : ℕ) (classes : List ℕ) → IsLegalTable step classes → IsLegalTable 1 classes
 legal-for_one step classes legal = grind arith
 
-module _ (m : Measure) (sums : AreSums m) (step limit : ℕ) (rows ends : List (List ℕ)) (is_step : IsStep step) (are_counts : AreCounts m.counts)
+module _ (m : Measure) (sums : AreSums m) (step limit : ℕ) (forced : Bool) (rows ends : List (List ℕ)) (is_step : IsStep step) (are_counts : AreCounts m.counts)
     (some : 1 ≤ limit) (few : limit ≤ MOST_CLASSES)
     (filled : IsFilled (span_cost (m.between step) m.counts step) (places m.counts step) limit rows ends) where
   least-rows : AreRowsBy (m.between step) m.counts step limit (number_at rows) (number_at ends)
@@ -37,33 +37,34 @@ module _ (m : Measure) (sums : AreSums m) (step limit : ℕ) (rows ends : List (
   pub read-legal : IsLegalTable 1 (tuned_table m.counts step limit (number_at ends))
   read-legal = legal-for_one step (tuned_table m.counts step limit (number_at ends)) made.0.best.candidate.legal
 
-  pub read-made : IsMadeFor m step limit (sheet_of_rows m.counts step limit rows ends)
+  pub read-made : IsMadeFor m step limit forced (sheet_of_rows m.counts step limit forced rows ends)
   read-made =
       rw (sym made.1) (record {
         canonical = made.0;
         for_limit = refl;
         for_step = refl;
+        for_forced = refl;
         costs = refl;
         shape = filled.rows_shape;
         ends = number_at ends;
         least = least-rows;
-        optimal = rows-optimal_by m step limit rows (number_at ends) (sums step (step-positive step is_step)) least-rows
+        optimal = rows-optimal_by m step limit forced rows (number_at ends) (sums step (step-positive step is_step)) least-rows
             filled.rows_shape;
       })
 
 -- Where the measure is the waste, the rows are the least rests;
-pub made-tuned : (counts : List ℕ) (step limit : ℕ) (sheet : Sheet) → IsMadeFor (waste_on counts) step limit sheet
-    → IsTuned counts step limit sheet
-made-tuned counts step limit sheet made = record {
+pub made-tuned : (counts : List ℕ) (step limit : ℕ) (forced : Bool) (sheet : Sheet) → IsMadeFor (waste_on counts) step limit forced sheet
+    → IsTunedOver counts step limit forced sheet
+made-tuned counts step limit forced sheet made = record {
   made = made;
   rests = λ k i one le lt. tuned_rows_are_rests counts step limit (number_at sheet.rows) made.ends made.least k i one le lt;
   valid = least_rows_are_valid (span_waste counts step) (places counts step) limit (number_at sheet.rows) made.ends made.least.least;
 }
 
 -- and so where it is the footprint.
-pub made-fit : (snapshots : List (List ℕ)) (step limit : ℕ) (fit : Sheet) → AreSnapshots snapshots
-    → IsMadeFor (footprint_on snapshots) step limit fit → IsFitOf snapshots step limit fit
-made-fit snapshots step limit fit are made = record {
+pub made-fit : (forced : Bool) (snapshots : List (List ℕ)) (step limit : ℕ) (fit : Sheet) → AreSnapshots snapshots
+    → IsMadeFor (footprint_on forced snapshots) step limit forced fit → IsFitOf snapshots step limit forced fit
+made-fit forced snapshots step limit fit are made = record {
   made = made;
-  rests = fitted_rows_are_rests snapshots step limit (number_at fit.rows) made.ends are made.least;
+  rests = fitted_rows_are_rests forced snapshots step limit (number_at fit.rows) made.ends are made.least;
 }

@@ -14,15 +14,21 @@ use potential_check::{Certificate, Rows, Spans};
 use std::marker::PhantomData;
 
 /// The certificate that filled rows give: the table of their ends, with the first number of the last row as what it costs.
-pub(crate) fn certificate_of_rows<C>(spans: &Spans<'_>, filled: Filled, limit: u8) -> Certificate<C>
+/// `forced` is whether the largest class is.
+pub(crate) fn certificate_of_rows<C>(
+    spans: &Spans<'_>,
+    filled: Filled,
+    limit: u8,
+    forced: bool,
+) -> Certificate<C>
     requires some { 1 ≤ limit }
     requires few { limit ≤ MOST_CLASSES }
     requires later { AreLaterEnds (places spans.now.counts spans.now.step) limit
         (number_at (lists_of filled.ends.items)) }
     requires legal { IsLegalTable 1
         (tuned_table spans.now.counts spans.now.step limit (number_at (lists_of filled.ends.items))) }
-    ensures read { sheet_of result ≡ sheet_of_rows spans.now.counts spans.now.step limit (lists_of filled.rows.items)
-        (lists_of filled.ends.items) }
+    ensures read { sheet_of result ≡ sheet_of_rows spans.now.counts spans.now.step limit forced
+        (lists_of filled.rows.items) (lists_of filled.ends.items) }
 {
     let table = tuned_table(spans, &filled.ends, limit);
     let rows = Rows::new(filled.rows);
@@ -31,6 +37,7 @@ pub(crate) fn certificate_of_rows<C>(spans: &Spans<'_>, filled: Filled, limit: u
         table,
         limit,
         step: spans.step(),
+        forced,
         cost,
         rows,
         of: PhantomData,

@@ -28,6 +28,9 @@ limit_facts = record { name = codes "limit"; least = 1; most = 32; default = Non
 abbrev pub step_facts : OptionFacts
 step_facts = record { name = codes "step"; least = 1; most = 8; default = Some (codes "1") }
 
+abbrev pub largest_class_facts : OptionFacts
+largest_class_facts = record { name = codes "largest-class"; least = 0; most = 1; default = Some (codes "0") }
+
 abbrev pub granules_facts : OptionFacts
 granules_facts = record { name = codes "granules"; least = 64; most = 262144; default = Some (codes "65536") }
 
@@ -90,11 +93,18 @@ with_option a option = with_rule a (option_rule (facts_of option))
 abbrev pub with_limits : App → App
 with_limits a = with_rule (with_rule a (option_rule limit_facts)) (option_rule step_facts)
 
+-- The same and --largest-class, which `run` lacks.
+abbrev pub with_tuner : App → App
+with_tuner a = with_rule (with_limits a) (option_rule largest_class_facts)
+
 abbrev pub HasStep : List Row → ℕ → Type 0
 HasStep rows n = Has rows step_facts n × IsStep n
 
 abbrev pub HasLimits : List Row → Limits → Type 0
 HasLimits rows limits = Has rows limit_facts limits.limit × HasStep rows limits.step
+
+abbrev pub HasTuner : List Row → Limits → ℕ → Type 0
+HasTuner rows limits largest_class = HasLimits rows limits × Has rows largest_class_facts largest_class
 
 abbrev pub with_config : App → App
 with_config a =
@@ -107,10 +117,10 @@ HasConfig rows config =
 -- The words `a` with the options of a command; and what it is that words give these.
 abbrev pub with_options : CommandName → App → App
 with_options Score a = a
-with_options Tune a = with_limits a
+with_options Tune a = with_tuner a
 with_options Check a = a
 with_options Footprint a = a
-with_options Fit a = with_limits a
+with_options Fit a = with_tuner a
 with_options CheckFit a = a
 with_options Profile a = a
 with_options Replay a = with_config a
@@ -118,10 +128,10 @@ with_options Run a = with_config (with_limits a)
 
 abbrev pub HasOptions : CommandName → List Row → Options → Type 0
 HasOptions Score rows options = ⊤
-HasOptions Tune rows options = HasLimits rows (limits_of options)
+HasOptions Tune rows options = HasTuner rows (limits_of options) options.largest_class
 HasOptions Check rows options = ⊤
 HasOptions Footprint rows options = ⊤
-HasOptions Fit rows options = HasLimits rows (limits_of options)
+HasOptions Fit rows options = HasTuner rows (limits_of options) options.largest_class
 HasOptions CheckFit rows options = ⊤
 HasOptions Profile rows options = ⊤
 HasOptions Replay rows options = HasConfig rows (config_of options)

@@ -1,8 +1,8 @@
 //! The options: the words of each, which of them a command has, and what the words of a command line give them.
 ghost use Rattle.std.specs.Prelude.{◌≡◌, ℕ, ◌<◌, ◌^◌, MatchOption, MatchResult, fold};
 ghost use Rattle.clap.specs.Words.{App, found_of, rows_of, with_rule};
-ghost use Rattle.command_words.specs.Options.{AreRead, Has, HasConfig, HasLimits, HasNumber, HasStep, IsOption, IsRead};
-ghost use Rattle.command_words.specs.Options.{facts_of, limit_facts, number_rule, option_rule, seed_facts, with_option, with_options};
+ghost use Rattle.command_words.specs.Options.{AreRead, Has, HasConfig, HasLimits, HasNumber, HasStep, HasTuner, IsOption, IsRead};
+ghost use Rattle.command_words.specs.Options.{facts_of, largest_class_facts, limit_facts, number_rule, option_rule, seed_facts, with_option, with_options};
 ghost use Rattle.tool_call.specs.Options.{config_of as heap_of, limits_of as tuner_of};
 
 use crate::refusal::OptionFault;
@@ -42,6 +42,15 @@ const STEP: NumberOption = NumberOption {
     help: "Each class is a multiple of S granules: 1, 2, 4 or 8",
 };
 
+const LARGEST_CLASS: NumberOption = NumberOption {
+    name: "largest-class",
+    value_name: "L",
+    least: 0,
+    most: 1,
+    default: Some("0"),
+    help: "Whether the table must have class 1024: 0 or 1",
+};
+
 const GRANULES: NumberOption = NumberOption {
     name: "granules",
     value_name: "R",
@@ -69,7 +78,7 @@ const QUARANTINE: NumberOption = NumberOption {
     help: "Bytes of freed blocks held back from reuse, 0 to 4194304",
 };
 
-const LIMITS: &[NumberOption] = &[LIMIT, STEP];
+const TUNER: &[NumberOption] = &[LIMIT, STEP, LARGEST_CLASS];
 
 const CONFIG: &[NumberOption] = &[GRANULES, SEED, QUARANTINE];
 
@@ -85,7 +94,7 @@ pub fn options_of(command: CommandName) -> &'static [NumberOption]
         | CommandName::Footprint
         | CommandName::CheckFit
         | CommandName::Profile => &[],
-        CommandName::Tune | CommandName::Fit => LIMITS,
+        CommandName::Tune | CommandName::Fit => TUNER,
         CommandName::Replay => CONFIG,
         CommandName::Run => LIMITS_AND_CONFIG,
     }
@@ -101,18 +110,15 @@ pub fn given_options(command: CommandName, words: &ArgMatches<'_>) -> Result<Opt
         | CommandName::Check
         | CommandName::Footprint
         | CommandName::CheckFit
-        | CommandName::Profile => Ok(options_from(NO_LIMITS, NO_CONFIG)),
-        CommandName::Tune | CommandName::Fit => match limits_of(words) {
-            Ok(limits) => Ok(options_from(limits, NO_CONFIG)),
-            Err(fault) => Err(fault),
-        },
+        | CommandName::Profile => Ok(options_from(NO_LIMITS, 0, NO_CONFIG)),
+        CommandName::Tune | CommandName::Fit => tuner_options(words),
         CommandName::Replay => match config_of(words) {
-            Ok(config) => Ok(options_from(NO_LIMITS, config)),
+            Ok(config) => Ok(options_from(NO_LIMITS, 0, config)),
             Err(fault) => Err(fault),
         },
         CommandName::Run => match limits_of(words) {
             Ok(limits) => match config_of(words) {
-                Ok(config) => Ok(options_from(limits, config)),
+                Ok(config) => Ok(options_from(limits, 0, config)),
                 Err(fault) => Err(fault),
             },
             Err(fault) => Err(fault),
@@ -129,8 +135,9 @@ const NO_CONFIG: Config = Config {
     quarantine: 0,
 };
 
-fn options_from(limits: Limits, config: Config) -> Options
+fn options_from(limits: Limits, largest_class: u8, config: Config) -> Options
     ensures limits { tuner_of result ≡ limits }
+    ensures largest_class { result.largest_class ≡ largest_class }
     ensures config { heap_of result ≡ config }
 {
     Options {
@@ -139,6 +146,28 @@ fn options_from(limits: Limits, config: Config) -> Options
         seed: config.seed,
         limit: limits.limit,
         step: limits.step,
+        largest_class,
+    }
+}
+
+// `--limit`, `--step` and `--largest-class`
+fn tuner_options(words: &ArgMatches<'_>) -> Result<Options, OptionFault>
+    ensures { MatchResult result
+        (λ options. HasTuner (rows_of (found_of words.now)) (tuner_of options) options.largest_class)
+        (λ _. (options : Options) → HasTuner (rows_of (found_of words.now)) (tuner_of options) options.largest_class → ⊥) }
+{
+    let limits = limits_of(words)?;
+    let largest_class = largest_class_of(words)?;
+    Ok(options_from(limits, largest_class, NO_CONFIG))
+}
+
+// whether the options want the largest class
+fn largest_class_of(options: &ArgMatches<'_>) -> Result<u8, OptionFault>
+    ensures { IsRead (Has (rows_of (found_of options.now)) largest_class_facts) result }
+{
+    match LARGEST_CLASS.number_in(options) {
+        Ok(wanted) => Ok(wanted as u8),
+        Err(fault) => Err(fault),
     }
 }
 

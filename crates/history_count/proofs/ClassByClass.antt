@@ -1,5 +1,5 @@
 -- What a table takes, a class at a time: each class serves the sizes from where the one before it ends.
-use Rattle.std.proofs.Common.{◌≡◌, ℕ, zero, suc, ◌+◌, ◌-◌, ◌*◌, ◌^◌, ◌<◌, ◌≤◌, ◌&&◌, List, [], ◌∷◌, length, get_or, drop, cond, leb, ltb, refl, sym, ap, ◌∙◌, arith, add-one, All, slice_index}
+use Rattle.std.proofs.Common.{◌≡◌, ℕ, zero, suc, ◌+◌, ◌-◌, ◌*◌, ◌^◌, ◌<◌, ◌≤◌, ◌&&◌, false, List, [], ◌∷◌, length, get_or, drop, cond, leb, ltb, refl, sym, ap, ◌∙◌, arith, add-one, All, slice_index}
 use Rattle.std.proofs.Math.Nat.{mul-le-mul}
 use Rattle.std.proofs.Math.Seq.{drop-cons}
 use Rattle.std.proofs.lemmas.Bool.{le-leb, le-ltb, lt-leb, lt-ltb}
@@ -75,7 +75,7 @@ module _ (snapshots : List (List ℕ)) (table : List ℕ) (are : AreSnapshots sn
   taken-none = record {
     low = 1;
     cut = cut-none;
-    summed = omega (arith, (footprint_is_sum snapshots 1 (omega arith) are).sum table legal);
+    summed = omega (arith, (footprint_is_sum false snapshots 1 (omega arith) are).sum table legal);
     small = omega arith;
     inside = omega arith;
     before = λ within. omega (arith, (legal.in_range 0 0 within).0);

@@ -1,5 +1,5 @@
 -- From a tuned sheet to the headline, by the laws of the crates below.
-use Rattle.std.proofs.Common.{◌≡◌, ℕ, List, ◌++◌, refl, sym, ◌∙◌}
+use Rattle.std.proofs.Common.{◌≡◌, ℕ, false, List, ◌++◌, refl, sym, ◌∙◌}
 use Rattle.class_table.specs.Tables.{rounding_loss}
 use Rattle.replay_theory.specs.Losses.{ServesEach, counted_sizes, requested_sizes}
 use Rattle.replay_theory.specs.Report.{report}
@@ -19,7 +19,7 @@ use Rattle.heap_theory.specs.declared.config.Config.{Config}
 use Rattle.tuner_theory.specs.Sheets.{Sheet}
 
 pub headline : (limit step : ℕ) (config : Config) (events : List Event) (sheet : Sheet)
-    → IsTuned (profile_of_events events).counts step limit sheet
+    → IsTuned (profile_of_events events).counts step limit false sheet
     → IsTunedRun limit step config events (record { text = sheet_text sheet ++ report_on config sheet.table events; status = Done })
 unfolding report
 headline limit step config events sheet tuned =

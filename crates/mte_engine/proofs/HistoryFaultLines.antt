@@ -1,5 +1,5 @@
 -- An input that is refused for its history, or for the table before it, has its first fault in the line of the refusal.
-use Rattle.std.proofs.Common.{◌≡◌, ℕ, suc, ◌+◌, ◌-◌, ◌≤◌, false, List, [], ◌∷◌, ◌++◌, take, drop, length, codes, All, slice_index_or, Option, Result, Ok, Err, inl, inr, refl, sym, ap, ◌∙◌, subst, arith}
+use Rattle.std.proofs.Common.{◌≡◌, ℕ, suc, ◌+◌, ◌-◌, ◌≤◌, Bool, true, false, List, [], ◌∷◌, ◌++◌, take, drop, length, codes, All, slice_index_or, if◌then◌else◌, Option, Result, Ok, Err, inl, inr, refl, sym, ap, ◌∙◌, subst, arith}
 use Rattle.std.specs.Option.{ok_or}
 use Rattle.std.proofs.lemmas.Bool.{cases_lt}
 use Rattle.std.proofs.lemmas.List.{append-nil, drop-append-le, drop_all, length-take, take-append-le, take-take, take_all}
@@ -12,7 +12,7 @@ use Rattle.history_count.specs.Histories.{History as CountedHistory, nothing_cou
 use Rattle.history_count.specs.HistoryText.{IsRefusedAt, SpellsHistory, history_from, history_of, history_of_lines}
 use Rattle.history_count.specs.declared.fault.HistoryFault.{HistoryFault}
 use Rattle.history_count.proofs.LawLemmas.{first_fault_is_refused, history_is_spelled, lines_before_it_spell, refused_line_is_there, spelled_history_is_read}
-use Rattle.potential_check.specs.SheetText.{SpellsFit, cost_in, cost_number, fit_of_lines, head_line_count, head_of_lines, is_named, limit_in, line_at, read_by, step_at, table_in}
+use Rattle.potential_check.specs.SheetText.{SpellsFit, cost_in, cost_number, fit_of_lines, forced_at, forced_number, head_of_lines, is_named, limit_in, line_at, read_by, step_at, table_in}
 use Rattle.potential_check.specs.declared.cost.Cost.TheVariants.{Footprint}
 use Rattle.potential_check.specs.Leading.{head_size, is_row_line, leading_lines, lines_after}
 use Rattle.potential_check.proofs.LawLemmas.{read_is_spelled}
@@ -65,9 +65,22 @@ one_line : {A : Type 0} (number : ℕ) (reading : List ℕ → Option A) (ls : L
 one_line number reading ls x is = (slice_index_or ls 0 [], grind arith)
 
 -- the head of lines that go on after the step
-step_there : (ls : List (List ℕ)) (step : ℕ × List (List ℕ)) → ok_or {E = ℕ} (step_at ls) 3 ≡ Ok step → 1 ≤ length step.1
-    → head_line_count (is_named (codes "step") (slice_index_or ls 0 [])) ≤ suc (suc (length ls))
-step_there ls step is some = grind arith
+forced_there : (ls : List (List ℕ)) (number : ℕ) (forced : Bool × List (List ℕ)) → ok_or {E = ℕ} (forced_at ls) number ≡ Ok forced
+    → 1 ≤ length forced.1 → (if is_named (codes "forced") (slice_index_or ls 0 []) then 2 else 1) ≤ length ls
+forced_there ls number forced is some = grind arith
+
+step_there : (a b : List ℕ) (ls : List (List ℕ)) (number : ℕ) (step : ℕ × List (List ℕ)) (forced : Bool × List (List ℕ))
+    → ok_or {E = ℕ} (step_at ls) 3 ≡ Ok step → ok_or {E = ℕ} (forced_at step.1) number ≡ Ok forced → 1 ≤ length forced.1
+    → head_size (a ∷ b ∷ ls) ≤ suc (suc (length ls))
+step_there a b [] number step forced is also some = let there = forced_there step.1 number forced also some in grind arith
+step_there a b (c ∷ ls) number step forced is also some =
+    let there = forced_there step.1 number forced also some in go (is_named (codes "step") c) refl there
+  where
+    go : (named : Bool) → is_named (codes "step") c ≡ named
+        → (if is_named (codes "forced") (slice_index_or step.1 0 []) then 2 else 1) ≤ length step.1
+        → head_size (a ∷ b ∷ c ∷ ls) ≤ suc (suc (length (c ∷ ls)))
+    go true named there = grind arith
+    go false named there = grind arith
 
 -- lines that are read as a sheet or a fit have a whole head
 head_by : (cost : _) (ls : List (List ℕ)) (s : Sheet) → read_by cost ls ≡ Ok s → head_size ls ≤ length ls
@@ -77,12 +90,14 @@ head_by cost ls s e =
     went_on (line_at 1 table_in ls) _ head e (λ table is_table e.
     went_on (line_at 2 limit_in table.1) _ head e (λ limit is_limit e.
     went_on (ok_or (step_at limit.1) 3) _ head e (λ step is_step e.
-    went_on (line_at (cost_number step.0) (cost_in cost) step.1) _ head e (λ stated is_cost _.
+    went_on (ok_or (forced_at step.1) (forced_number step.0)) _ head e (λ forced is_forced e.
+    went_on (line_at (cost_number step.0 forced.0) (cost_in cost) forced.1) _ head e (λ stated is_cost _.
     let one = (one_line 1 table_in ls table is_table).1 in
     let two = (one_line 2 limit_in table.1 limit is_limit).1 in
-    let last = ap length (one_line (cost_number step.0) (cost_in cost) step.1 stated is_cost).1 in
-    let there = step_there limit.1 step is_step (omega (arith, last)) in
-    rw (one, two) there)))))
+    let last = ap length (one_line (cost_number step.0 forced.0) (cost_in cost) forced.1 stated is_cost).1 in
+    let there = step_there (one_line 1 table_in ls table is_table).0 (one_line 2 limit_in table.1 limit is_limit).0 limit.1
+    (forced_number step.0) step forced is_step is_forced (omega (arith, last)) in
+    rw (one, two) there))))))
 
 head_is_there : (ls : List (List ℕ)) (fit : Sheet) → fit_of_lines ls ≡ Ok fit → head_size ls ≤ length ls
 head_is_there ls fit e = head_by Footprint ls fit e

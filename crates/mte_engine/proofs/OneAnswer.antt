@@ -5,7 +5,7 @@ use Rattle.heap_theory.specs.declared.config.Config.{Config}
 use Rattle.history_count.specs.Histories.{History}
 use Rattle.history_count.specs.HistoryText.{history_of}
 use Rattle.history_count.specs.Timelines.TimelineText.{timeline_of}
-use Rattle.line_text.specs.Lines.{lines, text_of}
+use Rattle.line_text.specs.Lines.{lines}
 use Rattle.potential_check.specs.SheetText.{fit_text, sheet_text}
 use Rattle.profile_count.specs.ProfileText.{profile_of}
 use Rattle.replay_theory.specs.Report.{report}
@@ -15,7 +15,7 @@ use Rattle.tuner_theory.specs.Profiles.{Profile as Counted}
 use Rattle.tuner_theory.specs.Sheets.{Sheet}
 use Rattle.tuner_theory.specs.declared.size_event.SizeEvent.{SizeEvent}
 use Rattle.mte_engine.specs.Fit.{FitAnswers, IsFitText}
-use Rattle.mte_engine.specs.FitOver.{FitEitherAnswers, FitOverAnswers, IsFoundText, between_lines, least_text}
+use Rattle.mte_engine.specs.FitOver.{FitEitherAnswers, FitOverAnswers, IsFoundText}
 use Rattle.mte_engine.specs.Parts.{AnswersPart, history_part, profile_part, timeline_part}
 use Rattle.mte_engine.specs.Replay.{report_on}
 use Rattle.mte_engine.specs.Run.{IsTunedRun, RunAnswers}
@@ -24,7 +24,7 @@ use Rattle.mte_engine.specs.Traces.{profile_of_events, trace_part}
 use Rattle.mte_engine.specs.Tune.{IsTunedText, TuneAnswers}
 use Rattle.mte_engine.specs.declared.fault.InputFault.{InputFault}
 use Rattle.mte_engine.specs.Outcome.{Answer}
-use Rattle.mte_engine.specs.declared.engine.Status.TheVariants.{Done, No}
+use Rattle.mte_engine.specs.declared.engine.Status.TheVariants.{Done}
 
 -- what is read is one, and what is said of it is one
 one_answer : {A : Type 0} (part : Result A InputFault) (says : A → Answer → Type 0) → ((x : A) (a b : Answer) → says x a → says x b → a ≡ b)
@@ -36,71 +36,71 @@ one_answer part says one (Ok a) (Err fault) first second = let read = sym first.
 one_answer part says one (Err fault) (Ok b) first second = let read = sym first ∙ second.1 in cc
 one_answer part says one (Err fault) (Err other) first second = let read = sym first ∙ second in cc
 
-module _ (limit step : ℕ) (text : List ℕ) where
-  tune_written : (p : Counted) (a b : Answer) → IsTunedText limit step p a → IsTunedText limit step p b → a ≡ b
+module _ (limit step : ℕ) (forced : Bool) (text : List ℕ) where
+  tune_written : (p : Counted) (a b : Answer) → IsTunedText limit step forced p a → IsTunedText limit step forced p b → a ≡ b
   tune_written p a b first second =
-      let same = one_sheet p.counts step limit first.sheet second.sheet first.tuned second.tuned in
+      let same = one_sheet p.counts step limit forced first.sheet second.sheet first.tuned second.tuned in
       first.written ∙ ap (λ (s : Sheet). record { text = sheet_text s; status = Done }) same ∙ sym second.written
 
-  tuned : (a : Result Answer InputFault) → TuneAnswers limit step text a
-      → AnswersPart (profile_part 0 (profile_of text)) (IsTunedText limit step) a
+  tuned : (a : Result Answer InputFault) → TuneAnswers limit step forced text a
+      → AnswersPart (profile_part 0 (profile_of text)) (IsTunedText limit step forced) a
   tuned (Ok a) answers = answers
   tuned (Err fault) answers = answers
 
-  pub one_tune : (a b : Result Answer InputFault) → TuneAnswers limit step text a → TuneAnswers limit step text b → a ≡ b
+  pub one_tune : (a b : Result Answer InputFault) → TuneAnswers limit step forced text a → TuneAnswers limit step forced text b → a ≡ b
   one_tune a b first second =
-      one_answer (profile_part 0 (profile_of text)) (IsTunedText limit step) tune_written a b (tuned a first) (tuned b second)
+      one_answer (profile_part 0 (profile_of text)) (IsTunedText limit step forced) tune_written a b (tuned a first) (tuned b second)
 
-  fit_written : (h : History) (a b : Answer) → IsFitText limit step h a → IsFitText limit step h b → a ≡ b
+  fit_written : (h : History) (a b : Answer) → IsFitText limit step forced h a → IsFitText limit step forced h b → a ≡ b
   fit_written h a b first second =
-      let same = one_fit h.snapshots step limit first.fit second.fit first.fitted second.fitted in
+      let same = one_fit h.snapshots step limit forced first.fit second.fit first.fitted second.fitted in
       first.written ∙ ap (λ (s : Sheet). record { text = fit_text s; status = Done }) same ∙ sym second.written
 
-  fitted : (a : Result Answer InputFault) → FitAnswers limit step text a
-      → AnswersPart (history_part 0 (history_of text)) (IsFitText limit step) a
+  fitted : (a : Result Answer InputFault) → FitAnswers limit step forced text a
+      → AnswersPart (history_part 0 (history_of text)) (IsFitText limit step forced) a
   fitted (Ok a) answers = answers
   fitted (Err fault) answers = answers
 
-  pub one_fitted : (a b : Result Answer InputFault) → FitAnswers limit step text a → FitAnswers limit step text b → a ≡ b
+  pub one_fitted : (a b : Result Answer InputFault) → FitAnswers limit step forced text a → FitAnswers limit step forced text b → a ≡ b
   one_fitted a b first second =
-      one_answer (history_part 0 (history_of text)) (IsFitText limit step) fit_written a b (fitted a first) (fitted b second)
+      one_answer (history_part 0 (history_of text)) (IsFitText limit step forced) fit_written a b (fitted a first) (fitted b second)
 
-  over_written : (events : List SizeEvent) (a b : Answer) → IsFoundText limit step events a → IsFoundText limit step events b → a ≡ b
+  over_written : (events : List SizeEvent) (a b : Answer) → IsFoundText limit step forced events a → IsFoundText limit step forced events b → a ≡ b
   over_written events a b (inl first) (inl second) =
-      let same = one-least events step limit first.made second.made first.numbers second.numbers first.fit second.fit first.least
-          second.least in
+      let same = one-least events step limit forced first.made second.made first.numbers second.numbers first.fit second.fit first.least
+      second.least in
       first.written ∙ (rw (same.0, same.1) refl ∙ sym second.written)
   over_written events a b (inl first) (inr second) =
-      absurd (least-or_between events step limit first.made 1024 first.numbers second.table first.fit second.takes second.least first.few
+      absurd (least-or_between events step limit forced first.made 1024 first.numbers second.table first.fit second.takes second.least first.few
       first.least second.between)
   over_written events a b (inr first) (inl second) =
-      absurd (least-or_between events step limit second.made 1024 second.numbers first.table second.fit first.takes first.least second.few
+      absurd (least-or_between events step limit forced second.made 1024 second.numbers first.table second.fit first.takes first.least second.few
       second.least first.between)
   over_written events a b (inr first) (inr second) =
-      let same = one-between events step limit 1024 first.table second.table first.takes second.takes first.least second.least first.between
-          second.between in
+      let same = one-between events step limit forced 1024 first.table second.table first.takes second.takes first.least second.least first.between
+      second.between in
       first.written ∙ (rw (same.0, same.1, same.2) refl ∙ sym second.written)
 
-  fitted_over : (a : Result Answer InputFault) → FitOverAnswers limit step text a
-      → AnswersPart (timeline_part 0 (timeline_of text)) (IsFoundText limit step) a
+  fitted_over : (a : Result Answer InputFault) → FitOverAnswers limit step forced text a
+      → AnswersPart (timeline_part 0 (timeline_of text)) (IsFoundText limit step forced) a
   fitted_over (Ok a) answers = answers
   fitted_over (Err fault) answers = answers
 
   by_first_line : (over : Bool) (a b : Result Answer InputFault)
-      → MatchBool over (FitOverAnswers limit step text a) (FitAnswers limit step text a)
-      → MatchBool over (FitOverAnswers limit step text b) (FitAnswers limit step text b) → a ≡ b
+      → MatchBool over (FitOverAnswers limit step forced text a) (FitAnswers limit step forced text a)
+      → MatchBool over (FitOverAnswers limit step forced text b) (FitAnswers limit step forced text b) → a ≡ b
   by_first_line true a b first second =
-      one_answer (timeline_part 0 (timeline_of text)) (IsFoundText limit step) over_written a b (fitted_over a first) (fitted_over b second)
+      one_answer (timeline_part 0 (timeline_of text)) (IsFoundText limit step forced) over_written a b (fitted_over a first) (fitted_over b second)
   by_first_line false a b first second = one_fitted a b first second
 
-  pub one_either : (a b : Result Answer InputFault) → FitEitherAnswers limit step text a → FitEitherAnswers limit step text b → a ≡ b
+  pub one_either : (a b : Result Answer InputFault) → FitEitherAnswers limit step forced text a → FitEitherAnswers limit step forced text b → a ≡ b
   one_either = by_first_line (begins_timeline (lines text))
 
 module _ (limit step : ℕ) (config : Config) (text : List ℕ) where
   run_written : (events : List Event) (a b : Answer) → IsTunedRun limit step config events a → IsTunedRun limit step config events b → a ≡ b
   unfolding report
   run_written events a b first second =
-      let same = one_sheet (profile_of_events events).counts step limit first.sheet second.sheet first.tuned second.tuned in
+      let same = one_sheet (profile_of_events events).counts step limit false first.sheet second.sheet first.tuned second.tuned in
       first.written ∙ ap (λ (s : Sheet). record { text = sheet_text s ++ report_on config s.table events; status = Done }) same
       ∙ sym second.written
 

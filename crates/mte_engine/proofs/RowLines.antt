@@ -1,5 +1,5 @@
 -- The lines of the rows of a sheet or a fit, one after the other.
-use Rattle.std.proofs.Common.{◌≡◌, ℕ, ◌+◌, ◌≤◌, List, [], ◌++◌, codes, drop, length, Some, append_assoc, arith, slice_get}
+use Rattle.std.proofs.Common.{◌≡◌, ℕ, ◌+◌, ◌≤◌, Bool, List, [], ◌++◌, codes, drop, length, Some, append_assoc, arith, slice_get}
 use Rattle.std.proofs.lemmas.List.Elements.{All-weaker}
 use Rattle.class_table.specs.NamedLines.{named_line}
 use Rattle.class_table.specs.declared.sizes.TheConstants.{MOST_NEEDS}
@@ -24,7 +24,7 @@ short_rows rows limit d shape few =
     All-weaker (λ row. length row ≡ d) (λ row. length row ≤ MOST_NEEDS) (λ row is. omega (arith, is)) rows shape.row_lengths
 
 -- the lines of the rows come after the others
-pub rows_after : (cost : Cost) (table : List ℕ) (limit step stated : ℕ) (rows : List (List ℕ))
-    → text_by cost (record { table = table; limit = limit; step = step; cost = stated; rows = [] }) ++ row_lines rows
-    ≡ text_by cost (record { table = table; limit = limit; step = step; cost = stated; rows = rows })
-rows_after cost table limit step stated rows = grind (arith, common_steps)
+pub rows_after : (cost : Cost) (table : List ℕ) (limit step : ℕ) (forced : Bool) (stated : ℕ) (rows : List (List ℕ))
+    → text_by cost (record { table = table; limit = limit; step = step; forced = forced; cost = stated; rows = [] }) ++ row_lines rows
+    ≡ text_by cost (record { table = table; limit = limit; step = step; forced = forced; cost = stated; rows = rows })
+rows_after cost table limit step forced stated rows = grind (arith, common_steps)

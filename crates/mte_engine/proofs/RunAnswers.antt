@@ -1,5 +1,5 @@
 -- From a trace to the answer of `run`.
-use Rattle.std.proofs.Common.{◌≡◌, ℕ, List, ◌++◌, Ok, Err, sym, ap, ◌∙◌, subst}
+use Rattle.std.proofs.Common.{◌≡◌, ℕ, false, List, ◌++◌, Ok, Err, sym, ap, ◌∙◌, subst}
 use Rattle.class_tuner.specs.Tuned.{IsTuned}
 use Rattle.potential_check.specs.SheetText.{sheet_text}
 use Rattle.heap_theory.specs.declared.config.Config.{Config}
@@ -30,14 +30,14 @@ module _ (limit step : ℕ) (config : Config) (reading : Reading) (bytes : List 
       trace_refused 0 (trace_of bytes) (finished reading).state refused (ap (λ (r : Reading). r.state) finished_is) ended
 
   pub run_written : (reading' : Reading) (profile : Counted) (sheet : Sheet) (text : List ℕ) → HasEnded 0 (finished reading).state (Ok tt)
-      → reading' ≡ finished reading → profile ≡ profile_of_events reading'.events → IsTuned profile.counts step limit sheet
+      → reading' ≡ finished reading → profile ≡ profile_of_events reading'.events → IsTuned profile.counts step limit false sheet
       → text ≡ sheet_text sheet ++ report_on config sheet.table reading'.events
       → RunAnswers limit step config bytes (Ok (record { text = text; status = Done }))
   run_written reading' profile sheet text ended same is_profile tuned is_text =
       let events = reading'.events in
       let part = trace_ends 0 (trace_of bytes) (finished reading).state (ap (λ (r : Reading). r.state) finished_is) ended in
-      let is_tuned : IsTuned (profile_of_events events).counts step limit sheet =
-      subst (λ (p : Counted). IsTuned p.counts step limit sheet) is_profile tuned in (
+      let is_tuned : IsTuned (profile_of_events events).counts step limit false sheet =
+      subst (λ (p : Counted). IsTuned p.counts step limit false sheet) is_profile tuned in (
         events,
         part ∙ ap (λ (r : Reading). Ok r.events) (sym (same ∙ finished_is)),
         rw is_text (headline limit step config events sheet is_tuned),

@@ -1,12 +1,13 @@
 -- Which lines of a text are its sheet depends only on these lines and the one after them.
 use Rattle.std.proofs.Common.{◌≡◌, ℕ, zero, suc, ◌+◌, ◌-◌, ◌<◌, ◌≤◌, Bool, true, false, All, List, [], ◌∷◌, ◌++◌, length, take, drop, get_or, codes, refl, sym, ap, ◌∙◌, arith, length-append}
 use Rattle.std.specs.List.{prefix_len, take_while}
+use Rattle.std.proofs.lemmas.Bool.{false≢true}
 use Rattle.std.proofs.lemmas.List.{drop-append-le, drop-take, get_or_append_left, get_or-take, length-drop, length-take, take-append-le, take-take}
 use Rattle.std.proofs.lemmas.List.Folds.{length-prefix_len}
 use Rattle.std.proofs.lemmas.List.Elements.{All-append, All-drop, All-take}
 use Rattle.std.proofs.lemmas.List.Sums.{prefix_len-le-length, take_while-cons}
 use Rattle.line_text.specs.Lines.{IsLine}
-use Rattle.potential_check.specs.Leading.{head_size, is_row_line, leading_lines}
+use Rattle.potential_check.specs.Leading.{head_size, head_size_from, is_row_line, leading_lines}
 use Rattle.potential_check.specs.SheetText.{is_named}
 
 -- ---- lists that begin alike
@@ -122,21 +123,39 @@ leading-one_more p h xs x fails within =
 
 -- ---- the lines of a sheet
 
--- its head has three lines or four,
-head_size-few : (ls : List (List ℕ)) → 3 ≤ head_size ls
-head_size-few ls = go (is_named (codes "step") (get_or ls 2 [])) refl
+-- its head has three lines at least, and four with one of the step,
+from-few : (n : ℕ) (ls : List (List ℕ)) → n + 1 ≤ head_size_from n ls
+from-few n ls = go (is_named (codes "forced") (get_or ls n [])) refl
   where
-    go : (named : Bool) → is_named (codes "step") (get_or ls 2 []) ≡ named → 3 ≤ head_size ls
+    go : (named : Bool) → is_named (codes "forced") (get_or ls n []) ≡ named → n + 1 ≤ head_size_from n ls
     go true is = rw is (omega arith)
     go false is = rw is (omega arith)
 
--- and it depends only on the first three lines
-head_size-alike : (n : ℕ) (ls other : List (List ℕ)) → 3 ≤ n → take n ls ≡ take n other → head_size other ≡ head_size ls
+head_size-few : (ls : List (List ℕ)) → (3 ≤ head_size ls) × (is_named (codes "step") (get_or ls 2 []) ≡ true → 4 ≤ head_size ls)
+head_size-few ls = go (is_named (codes "step") (get_or ls 2 [])) refl
+  where
+    go : (named : Bool) → is_named (codes "step") (get_or ls 2 []) ≡ named
+        → (3 ≤ head_size ls) × (is_named (codes "step") (get_or ls 2 []) ≡ true → 4 ≤ head_size ls)
+    go true is = let four = from-few 3 ls in (rw is (omega (arith, four)), λ _. rw is (omega (arith, four)))
+    go false is = (rw is (omega (arith, from-few 2 ls)), λ named. absurd (false≢true (sym is ∙ named)))
+
+-- and it depends only on its own lines
+head_size-same : (ls other : List (List ℕ)) → get_or other 2 [] ≡ get_or ls 2 []
+    → (is_named (codes "step") (get_or ls 2 []) ≡ true → get_or other 3 [] ≡ get_or ls 3 []) → head_size other ≡ head_size ls
+head_size-same ls other third fourth = go (is_named (codes "step") (get_or ls 2 [])) refl
+  where
+    go : (named : Bool) → is_named (codes "step") (get_or ls 2 []) ≡ named → head_size other ≡ head_size ls
+    go true is = rw (third, is, fourth is) refl
+    go false is = rw (third, is) refl
+
+head_size-alike : (n : ℕ) (ls other : List (List ℕ)) → head_size ls ≤ n → take n ls ≡ take n other → head_size other ≡ head_size ls
 head_size-alike n ls other few e =
-    let of_other = get_or-take n other 2 [] (omega (arith, few)) in
-    let of_this = get_or-take n ls 2 [] (omega (arith, few)) in
-    let third : get_or other 2 [] ≡ get_or ls 2 [] = sym of_other ∙ ap (λ (front : List (List ℕ)). get_or front 2 []) (sym e) ∙ of_this in
-    rw third refl
+    let long = head_size-few ls in
+    head_size-same ls other (same 2 (omega (arith, few, long.0))) (λ named. same 3 (omega (arith, few, long.1 named)))
+  where
+    same : (i : ℕ) → i < n → get_or other i [] ≡ get_or ls i []
+    same i lt =
+        sym (get_or-take n other i [] lt) ∙ ap (λ (front : List (List ℕ)). get_or front i []) (sym e) ∙ get_or-take n ls i [] lt
 
 -- The lines of a sheet, where one is after them, are those of each text that begins with them and that one,
 pub leading_lines-settled : (n : ℕ) (ls other : List (List ℕ)) → length (leading_lines ls) < n → n ≤ length ls → take n ls ≡ take n other
@@ -144,7 +163,7 @@ pub leading_lines-settled : (n : ℕ) (ls other : List (List ℕ)) → length (l
 unfolding leading_lines
 leading_lines-settled n ls other few there e =
     let size = leading-size is_row_line (head_size ls) ls (omega (arith, few, there)) in
-    let head = head_size-alike n ls other (omega (arith, head_size-few ls, few, size.0)) e in
+    let head = head_size-alike n ls other (omega (arith, few, size.0)) e in
     ap (λ (h : ℕ). leading is_row_line h other) head ∙ leading-settled is_row_line (head_size ls) n ls other few there e
 
 -- and of the lines that are left where only lines after them are cut off.
@@ -154,7 +173,7 @@ unfolding leading_lines
 leading_lines-cut n ls few short =
     let size = leading-size is_row_line (head_size ls) ls short in
     let same = sym (take-take n n ls (omega arith)) in
-    let head = head_size-alike n ls (take n ls) (omega (arith, head_size-few ls, few, size.0)) same in
+    let head = head_size-alike n ls (take n ls) (omega (arith, few, size.0)) same in
     ap (λ (h : ℕ). leading is_row_line h (take n ls)) head ∙ leading-cut is_row_line (head_size ls) n ls few short
 
 -- where another line than a row's stands after them,
@@ -166,13 +185,13 @@ leading_lines-one_more ls line is_no_row within =
     let k = length (leading_lines ls) in
     let both = leading-one_more is_row_line (head_size ls) ls line is_no_row within in
     let some = head_size-few ls in
-    let long : 2 < k =
+    let long : head_size ls ≤ k =
     (let both_long = length-append (take (head_size ls) ls) (take_while is_row_line (drop (head_size ls) ls)) in
-    omega (arith, some, both_long, length-take (head_size ls) ls, within)) in
-    let kept : 2 < length (take k ls) = omega (arith, long, both.0, length-take k ls) in
-    let third : get_or (take k ls ++ line ∷ []) 2 [] ≡ get_or ls 2 [] =
-    get_or_append_left (take k ls) (line ∷ []) [] 2 kept ∙ get_or-take k ls 2 [] long in
-    let head : head_size (take k ls ++ line ∷ []) ≡ head_size ls = rw third refl in
+    omega (arith, both_long, length-take (head_size ls) ls, within)) in
+    let kept : (i : ℕ) → i < k → get_or (take k ls ++ line ∷ []) i [] ≡ get_or ls i [] = λ i lt.
+    get_or_append_left (take k ls) (line ∷ []) [] i (omega (arith, lt, both.0, length-take k ls)) ∙ get_or-take k ls i [] lt in
+    let head : head_size (take k ls ++ line ∷ []) ≡ head_size ls =
+    head_size-same ls (take k ls ++ line ∷ []) (kept 2 (omega (arith, long, some.0))) (λ named. kept 3 (omega (arith, long, some.1 named))) in
     (both.0, ap (λ (h : ℕ). leading is_row_line h (take k ls ++ line ∷ [])) head ∙ both.1)
 
 -- They are lines.

@@ -1,5 +1,5 @@
 -- The answers of each call's engine, to one text and to two.
-use Rattle.std.specs.Prelude.{ℕ, List, Result}
+use Rattle.std.specs.Prelude.{ℕ, ◌==◌, List, Result}
 use Rattle.mte_engine.specs.Check.{CheckAnswers}
 use Rattle.mte_engine.specs.CheckFitOver.{CheckFitEitherAnswers}
 use Rattle.mte_engine.specs.FitOver.{FitEitherAnswers}
@@ -18,10 +18,10 @@ use Rattle.tool_call.specs.declared.call.Call.TheVariants.{Score, Tune, Check, F
 
 abbrev pub answers_of : Call → List ℕ → Result Answer InputFault → Type 0
 answers_of Score = ScoreAnswers
-answers_of (Tune limits) = TuneAnswers limits.limit limits.step
+answers_of (Tune limits largest_class) = TuneAnswers limits.limit limits.step (largest_class == 1)
 answers_of Check = CheckAnswers
 answers_of Footprint = FootprintEitherAnswers
-answers_of (Fit limits) = FitEitherAnswers limits.limit limits.step
+answers_of (Fit limits largest_class) = FitEitherAnswers limits.limit limits.step (largest_class == 1)
 answers_of CheckFit = CheckFitEitherAnswers
 answers_of Profile = ProfileAnswers
 answers_of (Replay config) = ReplayAnswers config

@@ -5,6 +5,7 @@ use Rattle.potential_check.specs.declared.cost.Cost.TheVariants.{Waste}
 use Rattle.potential_check.specs.Leading.{leading_lines, lines_after}
 use Rattle.profile_count.specs.ProfileText.{profile_of_lines}
 use Rattle.tuner_theory.specs.Best.{IsBest}
+use Rattle.tuner_theory.specs.Served.{served}
 use Rattle.tuner_theory.specs.Sheets.{IsVerdict, Sheet}
 use Rattle.tuner_theory.specs.RefusalText.{shown_refusal}
 use Rattle.tuner_theory.specs.Profiles.{Profile as Counted}
@@ -29,7 +30,7 @@ verdict_text verdict = verdict_text_by shown_refusal verdict
 pub record IsChecked (sheet : Sheet) (profile : Counted) (answer : Answer) : Type 0 where
   pub verdict : Verdict
   pub is_verdict : IsVerdict profile.counts sheet verdict
-  pub best : verdict ≡ Optimal → IsBest profile.counts sheet.step sheet.limit sheet.table
+  pub best : verdict ≡ Optimal → IsBest (served sheet.forced profile.counts) sheet.step sheet.limit sheet.table
   pub written : answer ≡ verdict_text verdict
 
 -- The lines of a sheet and those that are left of its text, and the lines of a profile, which come after this many of their input. The

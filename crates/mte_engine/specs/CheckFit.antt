@@ -19,7 +19,7 @@ use Rattle.mte_engine.specs.declared.fault.InputFault.{InputFault}
 pub record IsFitChecked (fit : Sheet) (history : History) (answer : Answer) : Type 0 where
   pub verdict : Verdict
   pub is_verdict : IsFitVerdict history.snapshots fit verdict
-  pub least : verdict ≡ Optimal → IsLeastFootprint history.snapshots fit.step fit.limit fit.table
+  pub least : verdict ≡ Optimal → IsLeastFootprint fit.forced history.snapshots fit.step fit.limit fit.table
   pub written : answer ≡ verdict_text_by shown_fit_refusal verdict
 
 -- The lines of a fit and those that are left of its text, and the lines of a history, which come after this many of their input. The

@@ -44,7 +44,7 @@ whole_moments_part count (line ∷ ls) = alone (moments_part (count + 1) (moment
 pub record IsCheckedOver (fit : Sheet) (numbers : List ℕ) (events : List SizeEvent) (answer : Answer) : Type 0 where
   pub verdict : OverVerdict
   pub is_verdict : IsOverVerdict events numbers fit verdict
-  pub least : verdict ≡ Optimal → IsLeastOver events fit.step fit.limit fit.table
+  pub least : verdict ≡ Optimal → IsLeastOver fit.forced events fit.step fit.limit fit.table
   pub written : answer ≡ over_verdict_text verdict
 
 -- The lines of a fit, those of its moments, and those of a timeline, which come after this many of their input. The answer is the verdict,

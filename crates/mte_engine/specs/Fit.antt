@@ -1,5 +1,5 @@
 -- The answers of `fit`: the table of least footprint over a history, with its certificate.
-use Rattle.std.specs.Prelude.{◌≡◌, ℕ, List, Result, Ok, Err}
+use Rattle.std.specs.Prelude.{◌≡◌, ℕ, Bool, List, Result, Ok, Err}
 use Rattle.class_tuner.specs.Fits.Fitted.{IsFitOf}
 use Rattle.history_count.specs.Histories.{History}
 use Rattle.history_count.specs.HistoryText.{history_of}
@@ -10,14 +10,14 @@ use Rattle.mte_engine.specs.Parts.{history_part}
 use Rattle.mte_engine.specs.declared.engine.Status.TheVariants.{Done}
 use Rattle.mte_engine.specs.declared.fault.InputFault.{InputFault}
 
--- The text of the fit of a history, a limit and a step.
-pub record IsFitText (limit step : ℕ) (history : History) (answer : Answer) : Type 0 where
+-- The text of the fit of a history, a limit and a step, and whether the largest class is forced.
+pub record IsFitText (limit step : ℕ) (forced : Bool) (history : History) (answer : Answer) : Type 0 where
   pub fit : Sheet
-  pub fitted : IsFitOf history.snapshots step limit fit
+  pub fitted : IsFitOf history.snapshots step limit forced fit
   pub written : answer ≡ record { text = fit_text fit; status = Done }
 
 -- The whole text is a history. The answer is the fit's text, or the history's first fault.
-abbrev pub FitAnswers : ℕ → ℕ → List ℕ → Result Answer InputFault → Type 0
-FitAnswers limit step text (Ok answer) =
-    (history : History) × (history_part 0 (history_of text) ≡ Ok history) × IsFitText limit step history answer
-FitAnswers limit step text (Err fault) = history_part 0 (history_of text) ≡ Err fault
+abbrev pub FitAnswers : ℕ → ℕ → Bool → List ℕ → Result Answer InputFault → Type 0
+FitAnswers limit step forced text (Ok answer) =
+    (history : History) × (history_part 0 (history_of text) ≡ Ok history) × IsFitText limit step forced history answer
+FitAnswers limit step forced text (Err fault) = history_part 0 (history_of text) ≡ Err fault

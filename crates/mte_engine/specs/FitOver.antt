@@ -1,5 +1,5 @@
 -- The answers of `fit` to a timeline: the table of least footprint over every moment, with its certificate; or a table and a bound.
-use Rattle.std.specs.Prelude.{◌≡◌, ◌⊎◌, ◌≤◌, ℕ, List, [], ◌∷◌, ◌++◌, codes, MatchBool, Result, Ok, Err}
+use Rattle.std.specs.Prelude.{◌≡◌, ◌⊎◌, ◌≤◌, ℕ, Bool, List, [], ◌∷◌, ◌++◌, codes, MatchBool, Result, Ok, Err}
 use Rattle.class_table.specs.ClassLine.{class_line}
 use Rattle.class_table.specs.NamedLines.{named_line}
 use Rattle.line_text.specs.Lines.{ended, lines, text_of}
@@ -27,32 +27,32 @@ between_lines table takes least =
     ∷ named_line (codes "not shown least: no table takes less than") (least ∷ []) ∷ []
 
 -- No table takes less over every moment, and a round shows that, the last of those that were made.
-pub record IsLeastText (limit step : ℕ) (events : List SizeEvent) (answer : Answer) : Type 0 where
+pub record IsLeastText (limit step : ℕ) (forced : Bool) (events : List SizeEvent) (answer : Answer) : Type 0 where
   pub made : ℕ
   pub few : made ≤ 1024
   pub numbers : List ℕ
   pub fit : Sheet
-  pub least : IsLeastFit events step limit made numbers fit
+  pub least : IsLeastFit events step limit forced made numbers fit
   pub written : answer ≡ record { text = least_text fit numbers; status = Done }
 
 -- None of 1,024 rounds shows that.
-pub record IsBetweenText (limit step : ℕ) (events : List SizeEvent) (answer : Answer) : Type 0 where
+pub record IsBetweenText (limit step : ℕ) (forced : Bool) (events : List SizeEvent) (answer : Answer) : Type 0 where
   pub table : List ℕ
   pub takes : ℕ
   pub least : ℕ
-  pub between : IsBetween events step limit 1024 table takes least
+  pub between : IsBetween events step limit forced 1024 table takes least
   pub written : answer ≡ record { text = text_of (between_lines table takes least); status = No }
 
-abbrev pub IsFoundText : ℕ → ℕ → List SizeEvent → Answer → Type 0
-IsFoundText limit step events answer = IsLeastText limit step events answer ⊎ IsBetweenText limit step events answer
+abbrev pub IsFoundText : ℕ → ℕ → Bool → List SizeEvent → Answer → Type 0
+IsFoundText limit step forced events answer = IsLeastText limit step forced events answer ⊎ IsBetweenText limit step forced events answer
 
 -- The whole text is a timeline. The answer is what was found, or the timeline's first fault.
-abbrev pub FitOverAnswers : ℕ → ℕ → List ℕ → Result Answer InputFault → Type 0
-FitOverAnswers limit step text (Ok answer) =
-    (events : List SizeEvent) × (timeline_part 0 (timeline_of text) ≡ Ok events) × IsFoundText limit step events answer
-FitOverAnswers limit step text (Err fault) = timeline_part 0 (timeline_of text) ≡ Err fault
+abbrev pub FitOverAnswers : ℕ → ℕ → Bool → List ℕ → Result Answer InputFault → Type 0
+FitOverAnswers limit step forced text (Ok answer) =
+    (events : List SizeEvent) × (timeline_part 0 (timeline_of text) ≡ Ok events) × IsFoundText limit step forced events answer
+FitOverAnswers limit step forced text (Err fault) = timeline_part 0 (timeline_of text) ≡ Err fault
 
 -- The answers to any input: a timeline, or else a history.
-abbrev pub FitEitherAnswers : ℕ → ℕ → List ℕ → Result Answer InputFault → Type 0
-FitEitherAnswers limit step text answer =
-    MatchBool (begins_timeline (lines text)) (FitOverAnswers limit step text answer) (FitAnswers limit step text answer)
+abbrev pub FitEitherAnswers : ℕ → ℕ → Bool → List ℕ → Result Answer InputFault → Type 0
+FitEitherAnswers limit step forced text answer =
+    MatchBool (begins_timeline (lines text)) (FitOverAnswers limit step forced text answer) (FitAnswers limit step forced text answer)

@@ -1,6 +1,6 @@
 -- The headline: the answers of `run`. It tunes a class table for the requests of a trace, and replays the trace on the heap over that
 -- table.
-use Rattle.std.specs.Prelude.{◌≡◌, ℕ, ◌≤◌, List, ◌++◌, length, zip, Result, Ok, Err}
+use Rattle.std.specs.Prelude.{◌≡◌, ℕ, false, ◌≤◌, List, ◌++◌, length, zip, Result, Ok, Err}
 use Rattle.class_table.specs.Tables.{IsLegalTable, rounding_loss}
 use Rattle.class_tuner.specs.Tuned.{IsTuned}
 use Rattle.replay_theory.specs.AccessLaws.{AccessesAreAnswered}
@@ -54,7 +54,7 @@ pub record IsTunedRun (limit step : ℕ) (config : Config) (events : List Event)
   -- No table in question wastes less.
   pub least : (other : List ℕ) → IsTableFor step limit events other → sheet.cost ≤ rounding_loss other (counted_sizes events)
   -- It is the canonical sheet for the profile of the events, so one function of profile, limit and step.
-  pub tuned : IsTuned (profile_of_events events).counts step limit sheet
+  pub tuned : IsTuned (profile_of_events events).counts step limit false sheet
   -- What is written is the sheet, then a line for each event of the replay on that very table that has one, and the totals.
   pub written : answer ≡ record {
     text = sheet_text sheet ++ (report_lines 1 (answers_on config sheet.table events) ++ totals_text (totals_on config sheet.table events));

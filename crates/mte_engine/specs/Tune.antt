@@ -1,5 +1,5 @@
 -- The options and the answers of `tune`: the sheet that is tuned for a profile.
-use Rattle.std.specs.Prelude.{◌≡◌, ℕ, List, Result, Ok, Err}
+use Rattle.std.specs.Prelude.{◌≡◌, ℕ, Bool, List, Result, Ok, Err}
 pub use Rattle.tool_call.specs.Options.{AreTuneOptions}
 use Rattle.class_tuner.specs.Tuned.{IsTuned}
 use Rattle.potential_check.specs.SheetText.{sheet_text}
@@ -11,14 +11,14 @@ use Rattle.mte_engine.specs.Parts.{profile_part}
 use Rattle.mte_engine.specs.declared.engine.Status.TheVariants.{Done}
 use Rattle.mte_engine.specs.declared.fault.InputFault.{InputFault}
 
--- The text of the sheet that is tuned for a profile, a limit and a step.
-pub record IsTunedText (limit step : ℕ) (profile : Counted) (answer : Answer) : Type 0 where
+-- The text of the sheet that is tuned for a profile, a limit and a step, and whether the largest class is forced.
+pub record IsTunedText (limit step : ℕ) (forced : Bool) (profile : Counted) (answer : Answer) : Type 0 where
   pub sheet : Sheet
-  pub tuned : IsTuned profile.counts step limit sheet
+  pub tuned : IsTuned profile.counts step limit forced sheet
   pub written : answer ≡ record { text = sheet_text sheet; status = Done }
 
 -- The whole text is a profile. The answer is the tuned sheet's text, or the profile's first fault.
-abbrev pub TuneAnswers : ℕ → ℕ → List ℕ → Result Answer InputFault → Type 0
-TuneAnswers limit step text (Ok answer) =
-    (profile : Counted) × (profile_part 0 (profile_of text) ≡ Ok profile) × IsTunedText limit step profile answer
-TuneAnswers limit step text (Err fault) = profile_part 0 (profile_of text) ≡ Err fault
+abbrev pub TuneAnswers : ℕ → ℕ → Bool → List ℕ → Result Answer InputFault → Type 0
+TuneAnswers limit step forced text (Ok answer) =
+    (profile : Counted) × (profile_part 0 (profile_of text) ≡ Ok profile) × IsTunedText limit step forced profile answer
+TuneAnswers limit step forced text (Err fault) = profile_part 0 (profile_of text) ≡ Err fault

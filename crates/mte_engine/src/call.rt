@@ -32,10 +32,14 @@ pub fn run_call<R: ByteSource, W: ByteSink>(
 {
     match call {
         Call::Score => score(alloc, source, sink),
-        Call::Tune(Limits { limit, step }) => tune(alloc, limit, step, source, sink),
+        Call::Tune(Limits { limit, step }, largest_class) => {
+            tune(alloc, limit, step, largest_class == 1, source, sink)
+        }
         Call::Check => check(alloc, source, sink),
         Call::Footprint => footprint(alloc, source, sink),
-        Call::Fit(Limits { limit, step }) => fit(alloc, limit, step, source, sink),
+        Call::Fit(Limits { limit, step }, largest_class) => {
+            fit(alloc, limit, step, largest_class == 1, source, sink)
+        }
         Call::CheckFit => check_fit(alloc, source, sink),
         Call::Profile => profile(alloc, source, sink),
         Call::Replay(config) => replay(alloc, config, source, sink),

@@ -14,7 +14,8 @@ use byte_streams::{ByteSink, ByteSource, WholeText};
 use std::alloc::{AllocError, Global};
 
 /// Reads a history or a timeline, and writes the fit of its table of least footprint. Of all tables that have at most `limit` (1 to 32) classes, all of
-/// them multiples of `step` (1, 2, 4 or 8 granules), and that serve each counted size, it is the canonical one of those that take least. The
+/// them multiples of `step` (1, 2, 4 or 8 granules), that serve each counted size, and if `forced` have the largest class, so that they serve
+/// each size that any table can, it is the canonical one of those that take least. The
 /// fit's certificate is rows of least footprints: number i of row k, both counted from 1, is the least that at most k classes take for the
 /// blocks whose need is above the i - 1 smallest distinct needs.
 ///
@@ -28,14 +29,20 @@ pub fn fit<R: ByteSource, W: ByteSink>(
     alloc: Global,
     limit: u8,
     step: u8,
+    forced: bool,
     source: &mut R,
     sink: &mut W,
 ) -> Result<Status, ToolFault>
     requires options { AreTuneOptions limit step }
-    ensures { Runs (FitEitherAnswers limit step) (R.state source.old) (R.state source.new)
+    ensures { Runs (FitEitherAnswers limit step forced) (R.state source.old) (R.state source.new)
         W.state sink.old sink.new result }
 {
-    run_engine(alloc, &FitEngine { limit, step }, source, sink)
+    let engine = FitEngine {
+        limit,
+        step,
+        forced,
+    };
+    run_engine(alloc, &engine, source, sink)
 }
 
 // the options of `fit`
@@ -43,6 +50,7 @@ pub fn fit<R: ByteSource, W: ByteSink>(
 struct FitEngine {
     limit: u8,
     step: u8,
+    forced: bool,
     ghost options: { AreTuneOptions limit step },
 }
 
@@ -51,14 +59,14 @@ impl Engine for FitEngine {
 
     type Output = SheetText;
 
-    ghost answers = { λ e. FitEitherAnswers e.limit e.step };
+    ghost answers = { λ e. FitEitherAnswers e.limit e.step e.forced };
 
     fn input(&self, alloc: Global) -> Result<WholeText, AllocError> {
         Ok(WholeText::new(alloc))
     }
 
     fn answer(&self, alloc: Global, input: WholeText) -> Result<(SheetText, Status), AnswerError> {
-        fit_either(alloc, self.limit, self.step, &input.text)
+        fit_either(alloc, self.limit, self.step, self.forced, &input.text)
     }
 }
 
@@ -67,15 +75,16 @@ fn fit_either(
     alloc: Global,
     limit: u8,
     step: u8,
+    forced: bool,
     text: &[u8],
 ) -> Result<(SheetText, Status), AnswerError>
     requires options { AreTuneOptions limit step }
-    ensures { GivesAnswer sheet_left (FitEitherAnswers limit step text.now) result }
+    ensures { GivesAnswer sheet_left (FitEitherAnswers limit step forced text.now) result }
 {
     if begins_timeline(text) {
-        return fit_over_text(alloc, limit, step, text);
+        return fit_over_text(alloc, limit, step, forced, text);
     }
-    fit_text(alloc, limit, step, text)
+    fit_text(alloc, limit, step, forced, text)
 }
 
 // the answer to a history's text
@@ -83,13 +92,14 @@ fn fit_text(
     alloc: Global,
     limit: u8,
     step: u8,
+    forced: bool,
     text: &[u8],
 ) -> Result<(SheetText, Status), AnswerError>
     requires options { AreTuneOptions limit step }
-    ensures { GivesAnswer sheet_left (FitAnswers limit step text.now) result }
+    ensures { GivesAnswer sheet_left (FitAnswers limit step forced text.now) result }
 {
     let history = read_history(alloc, text, 0)?;
-    let fitted = class_tuner::fit(alloc, &history, limit, step)?;
+    let fitted = class_tuner::fit(alloc, &history, limit, step, forced)?;
     let output = SheetText::of_sheet(alloc, fitted.into_sheet())?;
     Ok((output, Status::Done))
 }

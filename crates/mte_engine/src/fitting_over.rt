@@ -21,13 +21,14 @@ pub(crate) fn fit_over_text(
     alloc: Global,
     limit: u8,
     step: u8,
+    forced: bool,
     text: &[u8],
 ) -> Result<(SheetText, Status), AnswerError>
     requires options { AreTuneOptions limit step }
-    ensures { GivesAnswer sheet_left (FitOverAnswers limit step text.now) result }
+    ensures { GivesAnswer sheet_left (FitOverAnswers limit step forced text.now) result }
 {
     let timeline = read_timeline(alloc, text, 0)?;
-    let fitted = fit_over(alloc, &timeline, limit, step, MOST_ROUNDS)?;
+    let fitted = fit_over(alloc, &timeline, limit, step, forced, MOST_ROUNDS)?;
     match fitted.found {
         Found::Least { fit, numbers } => {
             let text = text_of_least(alloc, &fit, &numbers)?;

@@ -1,5 +1,5 @@
 //! What holds for every answer of an engine. Each law is the contract of a function that does nothing.
-ghost use Rattle.std.specs.Prelude.{◌≡◌, ℕ, List, ◌++◌, Err, Result, Some};
+ghost use Rattle.std.specs.Prelude.{◌≡◌, ℕ, Bool, false, List, ◌++◌, Err, Result, Some};
 ghost use Rattle.class_table.specs.ClassLine.{BeginsWithTable};
 ghost use Rattle.class_table.specs.Sizes.{largest_counted};
 ghost use Rattle.class_table.specs.declared.class_line.TheConstants.{LINE_BYTES};
@@ -48,19 +48,19 @@ ghost use Rattle.mte_engine.specs.declared.fault.InputFault.TheVariants.{History
 /// The headline holds for a sheet that is tuned for the profile of a trace, followed by the report on the replay over that sheet's table.
 pub fn law_headline()
     ensures { (limit step : ℕ) (config : Config) (events : List Event) (sheet : Sheet)
-        → IsTuned (profile_of_events events).counts step limit sheet
+        → IsTuned (profile_of_events events).counts step limit false sheet
         → let text = sheet_text sheet ++ report_on config sheet.table events in
         IsTunedRun limit step config events (record { text = text; status = Done }) }
 {}
 
 /// What `tune`, `fit` and `run` write is one function of their input and options; so of `fit`, whether the input is a history or a timeline.
 pub fn law_one_answer()
-    ensures tune { (limit step : ℕ) (text : List ℕ) (a b : Result Answer InputFault)
-        → TuneAnswers limit step text a → TuneAnswers limit step text b → a ≡ b }
-    ensures fit { (limit step : ℕ) (text : List ℕ) (a b : Result Answer InputFault)
-        → FitAnswers limit step text a → FitAnswers limit step text b → a ≡ b }
-    ensures fit_either { (limit step : ℕ) (text : List ℕ) (a b : Result Answer InputFault)
-        → FitEitherAnswers limit step text a → FitEitherAnswers limit step text b → a ≡ b }
+    ensures tune { (limit step : ℕ) (forced : Bool) (text : List ℕ) (a b : Result Answer InputFault)
+        → TuneAnswers limit step forced text a → TuneAnswers limit step forced text b → a ≡ b }
+    ensures fit { (limit step : ℕ) (forced : Bool) (text : List ℕ) (a b : Result Answer InputFault)
+        → FitAnswers limit step forced text a → FitAnswers limit step forced text b → a ≡ b }
+    ensures fit_either { (limit step : ℕ) (forced : Bool) (text : List ℕ) (a b : Result Answer InputFault)
+        → FitEitherAnswers limit step forced text a → FitEitherAnswers limit step forced text b → a ≡ b }
     ensures run { (limit step : ℕ) (config : Config) (text : List ℕ) (a b : Result Answer InputFault)
         → RunAnswers limit step config text a → RunAnswers limit step config text b → a ≡ b }
 {}
@@ -73,20 +73,20 @@ pub fn law_fault_lines()
         → (name : List ℕ) × (shown_input_fault fault ≡ in_line name n) }
     ensures score { (options : Options) (text : List ℕ) (fault : InputFault)
         → answers_of (call_of Score options) text (Err fault) → IsAtFirstFault SpellsTableAndProfile text fault }
-    ensures tune { (limit step : ℕ) (text : List ℕ) (fault : InputFault) → TuneAnswers limit step text (Err fault)
-        → IsAtFirstFault SpellsProfile text fault }
+    ensures tune { (limit step : ℕ) (forced : Bool) (text : List ℕ) (fault : InputFault)
+        → TuneAnswers limit step forced text (Err fault) → IsAtFirstFault SpellsProfile text fault }
     ensures check { (options : Options) (text : List ℕ) (n : ℕ) (fault : ProfileFault)
         → answers_of (call_of Check options) text (Err (Profile n fault)) → IsFirstFault SpellsSheetAndProfile text n }
     ensures replay { (config : Config) (text : List ℕ) (fault : TableError)
         → ReplayAnswers config text (Err (Table fault)) → IsAtFirstFault BeginsWithTable text (Table fault) }
     ensures footprint { (text : List ℕ) (fault : InputFault) → FootprintAnswers text (Err fault)
         → IsAtFirstFault SpellsTableAndHistory text fault }
-    ensures fit { (limit step : ℕ) (text : List ℕ) (fault : InputFault) → FitAnswers limit step text (Err fault)
-        → IsAtFirstFault SpellsHistory text fault }
+    ensures fit { (limit step : ℕ) (forced : Bool) (text : List ℕ) (fault : InputFault)
+        → FitAnswers limit step forced text (Err fault) → IsAtFirstFault SpellsHistory text fault }
     ensures footprint_over { (text : List ℕ) (fault : InputFault) → FootprintOverAnswers text (Err fault)
         → IsAtFirstFault SpellsTableAndTimeline text fault }
-    ensures fit_over { (limit step : ℕ) (text : List ℕ) (fault : InputFault)
-        → FitOverAnswers limit step text (Err fault) → IsAtFirstFault SpellsTimeline text fault }
+    ensures fit_over { (limit step : ℕ) (forced : Bool) (text : List ℕ) (fault : InputFault)
+        → FitOverAnswers limit step forced text (Err fault) → IsAtFirstFault SpellsTimeline text fault }
     ensures check_fit { (text : List ℕ) (n : ℕ) (fault : HistoryFault) → CheckFitAnswers text (Err (History n fault))
         → IsFirstFault SpellsFitAndHistory text n }
 {}

@@ -114,7 +114,7 @@ fn answer_to(
         → GivesAnswer report_left (RunAnswers limit step config bytes) result }
 {
     let (reader, profile) = ended(input)?;
-    let tuned = tune(alloc, &profile, limit, step)?;
+    let tuned = tune(alloc, &profile, limit, step, false)?;
     let sheet = tuned.sheet();
     let mut text = Vec::new(alloc);
     write_sheet(sheet, &mut text)?;

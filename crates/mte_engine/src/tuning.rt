@@ -11,7 +11,8 @@ use byte_streams::{ByteSink, ByteSource, WholeText};
 use std::alloc::{AllocError, Global};
 
 /// Reads a profile, and writes the sheet of its table of least waste. Of all tables that have at most `limit` (1 to 32) classes, all of
-/// them multiples of `step` (1, 2, 4 or 8 granules), and that serve each counted size, it is the canonical best one. The sheet's
+/// them multiples of `step` (1, 2, 4 or 8 granules), that serve each counted size, and if `forced` have the largest class, so that they serve
+/// each size that any table can, it is the canonical best one. The sheet's
 /// certificate is rows of least wastes: number i of row k, both counted from 1, is the least that at most k classes waste on the requests
 /// whose need is above the i - 1 smallest distinct needs.
 ///
@@ -21,13 +22,20 @@ pub fn tune<R: ByteSource, W: ByteSink>(
     alloc: Global,
     limit: u8,
     step: u8,
+    forced: bool,
     source: &mut R,
     sink: &mut W,
 ) -> Result<Status, ToolFault>
     requires options { AreTuneOptions limit step }
-    ensures { Runs (TuneAnswers limit step) (R.state source.old) (R.state source.new) W.state sink.old sink.new result }
+    ensures { Runs (TuneAnswers limit step forced) (R.state source.old) (R.state source.new)
+        W.state sink.old sink.new result }
 {
-    run_engine(alloc, &TuneEngine { limit, step }, source, sink)
+    let engine = TuneEngine {
+        limit,
+        step,
+        forced,
+    };
+    run_engine(alloc, &engine, source, sink)
 }
 
 // the options of `tune`
@@ -35,6 +43,7 @@ pub fn tune<R: ByteSource, W: ByteSink>(
 struct TuneEngine {
     limit: u8,
     step: u8,
+    forced: bool,
     ghost options: { AreTuneOptions limit step },
 }
 
@@ -43,14 +52,14 @@ impl Engine for TuneEngine {
 
     type Output = SheetText;
 
-    ghost answers = { λ e. TuneAnswers e.limit e.step };
+    ghost answers = { λ e. TuneAnswers e.limit e.step e.forced };
 
     fn input(&self, alloc: Global) -> Result<WholeText, AllocError> {
         Ok(WholeText::new(alloc))
     }
 
     fn answer(&self, alloc: Global, input: WholeText) -> Result<(SheetText, Status), AnswerError> {
-        tune_text(alloc, self.limit, self.step, &input.text)
+        tune_text(alloc, self.limit, self.step, self.forced, &input.text)
     }
 }
 
@@ -59,13 +68,14 @@ fn tune_text(
     alloc: Global,
     limit: u8,
     step: u8,
+    forced: bool,
     text: &[u8],
 ) -> Result<(SheetText, Status), AnswerError>
     requires options { AreTuneOptions limit step }
-    ensures { GivesAnswer sheet_left (TuneAnswers limit step text.now) result }
+    ensures { GivesAnswer sheet_left (TuneAnswers limit step forced text.now) result }
 {
     let profile = read_profile(alloc, text, 0)?;
-    let tuned = class_tuner::tune(alloc, &profile, limit, step)?;
+    let tuned = class_tuner::tune(alloc, &profile, limit, step, forced)?;
     let output = SheetText::of_sheet(alloc, tuned.into_sheet())?;
     Ok((output, Status::Done))
 }

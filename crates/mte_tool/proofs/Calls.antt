@@ -25,10 +25,10 @@ valid_config rows config has = record {
 valid_options : (command : CommandName) (rows : List Row) (options : Options) → HasOptions command rows options
     → IsValid (call_of command options)
 valid_options Score rows options has = tt
-valid_options Tune rows options has = valid_limits rows (limits_of options) has
+valid_options Tune rows options has = (valid_limits rows (limits_of options) has.0, has.1.2)
 valid_options Check rows options has = tt
 valid_options Footprint rows options has = tt
-valid_options Fit rows options has = valid_limits rows (limits_of options) has
+valid_options Fit rows options has = (valid_limits rows (limits_of options) has.0, has.1.2)
 valid_options CheckFit rows options has = tt
 valid_options Profile rows options has = tt
 valid_options Replay rows options has = valid_config rows (config_of options) has

@@ -1,5 +1,5 @@
 -- Appending lines to a text, and words to a line.
-use Rattle.std.proofs.Common.{◌≡◌, ℕ, ◌+◌, List, [], ◌∷◌, ◌++◌, map, take, get_or, Some, refl, sym, ap, ◌∙◌, append-nil, arith, slice_get}
+use Rattle.std.proofs.Common.{◌≡◌, ℕ, ◌+◌, List, [], ◌∷◌, ◌++◌, map, take, get_or, Some, refl, sym, ap, ◌∙◌, append-nil, append_assoc, arith, slice_get}
 use Rattle.std.specs.Fmt.{decimal}
 use Rattle.std.proofs.lemmas.List.{map-append, take_more}
 use Rattle.std.proofs.lemmas.List.Concat.{flat_map-append}
@@ -21,3 +21,10 @@ rows_text-more name rows i row is =
     let here : get_or rows i [] ≡ row = get_or_from_slice_get rows i row [] is in
     let more : take (i + 1) rows ≡ take i rows ++ row ∷ [] = take_more rows i [] (slice_get_within rows i row is) ∙ rw here refl in
     grind (arith, map-append, flat_map-append, append-nil)
+
+-- the lines before the rows, part by part
+pub head-appended : (old a b c d table limit stated : List ℕ) (steps forced : List (List ℕ)) → a ≡ old ++ ended table
+    → b ≡ a ++ text_of (limit ∷ steps) → c ≡ b ++ text_of forced → d ≡ c ++ ended stated
+    → d ≡ old ++ text_of (table ∷ limit ∷ steps ++ (forced ++ stated ∷ []))
+head-appended old a b c d table limit stated steps forced is_a is_b is_c is_d =
+    grind (arith, append_assoc, flat_map-append, append-nil)

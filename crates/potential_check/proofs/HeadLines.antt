@@ -1,8 +1,8 @@
 -- Reading the head of a sheet, one line after the other.
-use Rattle.std.proofs.Common.{◌≡◌, ℕ, List, Option, Some, None, Result, Ok, Err, Bor, refl, MatchOption, arith}
+use Rattle.std.proofs.Common.{◌≡◌, ℕ, Bool, List, Option, Some, None, Result, Ok, Err, Bor, refl, MatchOption, arith}
 use Rattle.std.specs.Iterator.{YieldsFirstBy}
 use Rattle.std.specs.Option.{ok_or}
-use Rattle.potential_check.specs.SheetText.{Gives, cost_in, cost_number, head_of_lines, limit_in, line_at, step_at, table_in}
+use Rattle.potential_check.specs.SheetText.{Gives, cost_in, cost_number, forced_at, forced_number, head_of_lines, limit_in, line_at, step_at, table_in}
 use Rattle.potential_check.specs.declared.cost.Cost.{Cost}
 use Rattle.potential_check.specs.declared.fault.Fault.{Fault}
 use Rattle.potential_check.specs.declared.fault.Fault.TheVariants.{Line}
@@ -53,13 +53,19 @@ module _ (cost : Cost) (ls : List (List ℕ)) where
       no_step none = rw (is_table, is_limit, none) refl
 
       module _ (step : ℕ) (after_step : List (List ℕ)) (is_step : step_at after_limit ≡ Some (step, after_step)) where
-        pub no_cost : line_at (cost_number step) (cost_in cost) after_step ≡ Err (cost_number step) →
-            head_of_lines cost ls ≡ Err (cost_number step)
+        pub no_forced : forced_at after_step ≡ None → head_of_lines cost ls ≡ Err (forced_number step)
         unfolding head_of_lines
-        no_cost none = rw (is_table, is_limit, is_step, none) refl
+        no_forced none = rw (is_table, is_limit, is_step, none) refl
 
-        module _ (stated : ℕ) (after_cost : List (List ℕ))
-            (is_cost : line_at (cost_number step) (cost_in cost) after_step ≡ Ok (stated, after_cost)) where
-          pub all_read : head_of_lines cost ls ≡ Ok (record { table = table; limit = limit; step = step; cost = stated }, after_cost)
+        module _ (forced : Bool) (after_forced : List (List ℕ)) (is_forced : forced_at after_step ≡ Some (forced, after_forced)) where
+          pub no_cost : line_at (cost_number step forced) (cost_in cost) after_forced ≡ Err (cost_number step forced)
+              → head_of_lines cost ls ≡ Err (cost_number step forced)
           unfolding head_of_lines
-          all_read = rw (is_table, is_limit, is_step, is_cost) refl
+          no_cost none = rw (is_table, is_limit, is_step, is_forced, none) refl
+
+          module _ (stated : ℕ) (after_cost : List (List ℕ))
+              (is_cost : line_at (cost_number step forced) (cost_in cost) after_forced ≡ Ok (stated, after_cost)) where
+            pub all_read : head_of_lines cost ls
+                ≡ Ok (record { table = table; limit = limit; step = step; forced = forced; cost = stated }, after_cost)
+            unfolding head_of_lines
+            all_read = rw (is_table, is_limit, is_step, is_forced, is_cost) refl

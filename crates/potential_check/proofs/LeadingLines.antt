@@ -1,12 +1,12 @@
 -- Lines that are read as a sheet or a fit in front of others, and what is read where there are no others.
-use Rattle.std.proofs.Common.{◌≡◌, ℕ, zero, suc, ◌+◌, ◌≤◌, add-one, true, false, List, [], ◌∷◌, length, drop, Some, None, Result, Ok, Err, refl, ◌∙◌, arith}
+use Rattle.std.proofs.Common.{◌≡◌, ℕ, zero, suc, ◌+◌, ◌≤◌, add-one, Bool, true, false, List, [], ◌∷◌, length, drop, Some, None, Result, Ok, Err, refl, ◌∙◌, arith, codes}
 use Rattle.std.specs.List.{take_while}
 use Rattle.std.proofs.lemmas.List.Sums.{take_while-cons}
 use Rattle.line_text.specs.FirstFault.{◌>>=◌}
 use Rattle.line_text.specs.Lines.{lines}
 use Rattle.potential_check.specs.Leading.{GivesLeading, IsLeadingOf, is_row_line, leading_lines, lines_after}
 use Rattle.class_table.specs.declared.table.TheConstants.{MOST_CLASSES}
-use Rattle.potential_check.specs.SheetText.{Gives, cost_number, head_line_count, head_of_lines, read_by, row_in, rows_from, step_in, with_rows}
+use Rattle.potential_check.specs.SheetText.{Gives, cost_number, forced_in, forced_number, head_of_lines, is_named, read_by, row_in, rows_from, step_in, with_rows}
 use Rattle.potential_check.specs.declared.cost.Cost.{Cost}
 use Rattle.potential_check.specs.declared.fault.Fault.{Fault}
 use Rattle.potential_check.specs.declared.fault.Fault.TheVariants.{OutOfMemory, Line}
@@ -15,6 +15,7 @@ use Rattle.potential_check.specs.declared.reading.Head.{Head}
 use Rattle.potential_check.specs.declared.certificates.certificate.Certificate.{Certificate as Held}
 use Rattle.potential_check.specs.Certificates.SheetView.{sheet_of}
 use Rattle.potential_check.proofs.ReadIsSpelled.{head_and}
+use Rattle.potential_check.proofs.SheetLines.{line-forced_in}
 use Rattle.tuner_theory.specs.Sheets.{Sheet}
 
 -- ---- rows
@@ -68,12 +69,16 @@ rows_from-length (line ∷ ls) number (suc most) rows e = grind (arith, rows_fro
 -- The head of the sheet's lines is the head of all lines, and the rows are after it.
 pub record HeadIsFound (cost : Cost) (ls : List (List ℕ)) (head : Head) (after : List (List ℕ)) : Type 0 where
   pub leading : head_of_lines cost (leading_lines ls) ≡ Ok (head, rows_of after)
-  pub size : length (leading_lines ls) ≡ cost_number head.step + length (rows_of after)
+  pub size : length (leading_lines ls) ≡ cost_number head.step head.forced + length (rows_of after)
   pub rest : lines_after ls ≡ rest_of after
 
--- a step that is written is not 1, so the cost comes after its line
-pub cost_number-written : (line : List ℕ) (step : ℕ) → step_in line ≡ Some step → cost_number step ≡ head_line_count true
-cost_number-written line step e = grind arith
+-- a step that is written is not 1, so the next line comes after its line
+pub forced_number-written : (line : List ℕ) (step : ℕ) → step_in line ≡ Some step → forced_number step ≡ 4
+forced_number-written line step e = grind arith
+
+-- and what is written of a forced class is that it is forced
+pub forced-written : (line : List ℕ) (forced : Bool) → forced_in line ≡ Some forced → forced ≡ true
+forced-written line forced e = (line-forced_in line forced e).1
 
 -- ---- all that is read
 
@@ -83,24 +88,67 @@ head_fault number = Err number
 pub leading-faulty : (cost : Cost) (ls : List (List ℕ)) (number : ℕ) → head_of_lines cost ls ≡ head_fault number →
     read_by cost (leading_lines ls) ≡ Err number
 unfolding head_of_lines leading_lines read_by
-leading-faulty cost (a ∷ b ∷ c ∷ d ∷ ls) number e = grind (arith, cost_number-written)
+leading-faulty cost (a ∷ b ∷ c ∷ d ∷ f ∷ ls) number e = grind (arith, forced_number-written, forced-written)
 leading-faulty cost ls number e = grind arith
+
+-- by the optional lines that are there
+found-neither : (cost : Cost) (a b c : List ℕ) (ls : List (List ℕ)) (head : Head) (after : List (List ℕ))
+    → is_named (codes "step") c ≡ false → is_named (codes "forced") c ≡ false
+    → head_of_lines cost (a ∷ b ∷ c ∷ ls) ≡ head_and head after → HeadIsFound cost (a ∷ b ∷ c ∷ ls) head after
+unfolding head_of_lines leading_lines lines_after
+found-neither cost a b c ls head after no_step no_forced e = grind arith
+
+found-forced : (cost : Cost) (a b c : List ℕ) (ls : List (List ℕ)) (head : Head) (after : List (List ℕ))
+    → is_named (codes "step") c ≡ false → is_named (codes "forced") c ≡ true
+    → head_of_lines cost (a ∷ b ∷ c ∷ ls) ≡ head_and head after → HeadIsFound cost (a ∷ b ∷ c ∷ ls) head after
+unfolding head_of_lines leading_lines lines_after
+found-forced cost a b c ls head after no_step is_forced e = grind (arith, forced-written)
+
+found-step : (cost : Cost) (a b c d : List ℕ) (ls : List (List ℕ)) (head : Head) (after : List (List ℕ))
+    → is_named (codes "step") c ≡ true → is_named (codes "forced") d ≡ false
+    → head_of_lines cost (a ∷ b ∷ c ∷ d ∷ ls) ≡ head_and head after → HeadIsFound cost (a ∷ b ∷ c ∷ d ∷ ls) head after
+unfolding head_of_lines leading_lines lines_after
+found-step cost a b c d ls head after is_step no_forced e = grind (arith, forced_number-written)
+
+found-both : (cost : Cost) (a b c d : List ℕ) (ls : List (List ℕ)) (head : Head) (after : List (List ℕ))
+    → is_named (codes "step") c ≡ true → is_named (codes "forced") d ≡ true
+    → head_of_lines cost (a ∷ b ∷ c ∷ d ∷ ls) ≡ head_and head after → HeadIsFound cost (a ∷ b ∷ c ∷ d ∷ ls) head after
+unfolding head_of_lines leading_lines lines_after
+found-both cost a b c d [] head after is_step is_forced e = grind arith
+found-both cost a b c d (f ∷ ls) head after is_step is_forced e = grind (arith, forced_number-written, forced-written)
 
 pub head-is_found : (cost : Cost) (ls : List (List ℕ)) (head : Head) (after : List (List ℕ)) → head_of_lines cost ls ≡ head_and head after →
     HeadIsFound cost ls head after
-unfolding head_of_lines leading_lines lines_after
-head-is_found cost ls head after e = grind (arith, cost_number-written)
+unfolding head_of_lines
+head-is_found cost (a ∷ b ∷ c ∷ d ∷ ls) head after e =
+    go (is_named (codes "step") c) (is_named (codes "forced") c) (is_named (codes "forced") d) refl refl refl
+  where
+    go : (step forced later : Bool) → is_named (codes "step") c ≡ step → is_named (codes "forced") c ≡ forced
+        → is_named (codes "forced") d ≡ later → HeadIsFound cost (a ∷ b ∷ c ∷ d ∷ ls) head after
+    go false false later is_step is_forced is_later = found-neither cost a b c (d ∷ ls) head after is_step is_forced e
+    go false true later is_step is_forced is_later = found-forced cost a b c (d ∷ ls) head after is_step is_forced e
+    go true forced false is_step is_forced is_later = found-step cost a b c d ls head after is_step is_later e
+    go true forced true is_step is_forced is_later = found-both cost a b c d ls head after is_step is_later e
+head-is_found cost (a ∷ b ∷ c ∷ []) head after e =
+    go (is_named (codes "step") c) (is_named (codes "forced") c) refl refl
+  where
+    go : (step forced : Bool) → is_named (codes "step") c ≡ step → is_named (codes "forced") c ≡ forced
+        → HeadIsFound cost (a ∷ b ∷ c ∷ []) head after
+    go false false is_step is_forced = found-neither cost a b c [] head after is_step is_forced e
+    go false true is_step is_forced = found-forced cost a b c [] head after is_step is_forced e
+    go true forced is_step is_forced = grind arith
+head-is_found cost ls head after e = grind arith
 
 module _ (cost : Cost) (ls : List (List ℕ)) (head : Head) (after : List (List ℕ)) (found : HeadIsFound cost ls head after) where
-  pub leading-read : (rows : List (List ℕ)) → rows_from (cost_number head.step + 1) MOST_CLASSES (rows_of after) ≡ Ok rows →
+  pub leading-read : (rows : List (List ℕ)) → rows_from (cost_number head.step head.forced + 1) MOST_CLASSES (rows_of after) ≡ Ok rows →
       read_by cost (leading_lines ls) ≡ Ok (with_rows head rows)
   unfolding read_by
-  leading-read rows e = rw (found.leading, ← add-one (cost_number head.step), e) refl
+  leading-read rows e = rw (found.leading, ← add-one (cost_number head.step head.forced), e) refl
 
-  pub leading-row_fault : (number : ℕ) → rows_from (cost_number head.step + 1) MOST_CLASSES (rows_of after) ≡ Err number →
+  pub leading-row_fault : (number : ℕ) → rows_from (cost_number head.step head.forced + 1) MOST_CLASSES (rows_of after) ≡ Err number →
       read_by cost (leading_lines ls) ≡ Err number
   unfolding read_by
-  leading-row_fault number e = rw (found.leading, ← add-one (cost_number head.step), e) refl
+  leading-row_fault number e = rw (found.leading, ← add-one (cost_number head.step head.forced), e) refl
 
 -- ---- faults
 
@@ -112,7 +160,7 @@ head_fault_given cost view ls result y e is also too = grind (arith, leading-fau
 pub row_fault_given : {C : Type 0} (cost : Cost) (ls : List (List ℕ)) (head : Head) (after : List (List ℕ)) (result : Result (LeadingSheet C) Fault)
     (y e : Fault) → HeadIsFound cost ls head after
     → result ≡ Err y → y ≡ e
-    → Gives (λ (rows : List (List ℕ)). rows) (Err e) (rows_from (cost_number head.step + 1) MOST_CLASSES (rows_of after)) →
+    → Gives (λ (rows : List (List ℕ)). rows) (Err e) (rows_from (cost_number head.step head.forced + 1) MOST_CLASSES (rows_of after)) →
     GivesLeading cost ls result
 row_fault_given cost ls head after result y OutOfMemory found is same given = rw (is, same) tt
 row_fault_given cost ls head after result y (Line number) found is same given =

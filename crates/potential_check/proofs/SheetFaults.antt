@@ -1,6 +1,7 @@
 -- The number of a fault, of a sheet or a fit, is that of its first fault.
-use Rattle.std.proofs.Common.{◌≡◌, ℕ, zero, suc, ◌+◌, ◌^◌, ◌<◌, ◌⊎◌, inl, inr, List, [], ◌∷◌, Option, Some, None, Result, Ok, Err, refl, ap, ◌∙◌, arith, codes, All, if◌then◌else◌}
+use Rattle.std.proofs.Common.{◌≡◌, ℕ, zero, suc, ◌+◌, ◌^◌, ◌<◌, ◌⊎◌, inl, inr, Bool, true, false, List, [], ◌∷◌, Option, Some, None, Result, Ok, Err, refl, sym, ap, ◌∙◌, arith, codes, All, if◌then◌else◌}
 use Rattle.std.specs.Option.{ok_or, option_map}
+use Rattle.std.proofs.lemmas.Bool.{false≢true}
 use Rattle.std.proofs.lemmas.List.Elements.{All-cons, All-nil}
 use Rattle.class_table.specs.ClassLine.{class_line}
 use Rattle.class_table.proofs.LawLemmas.{IsName, class_line_is_full, named_line_is_line, no_classes_are_legal}
@@ -8,12 +9,13 @@ use Rattle.line_text.specs.Lines.{IsLine, lines}
 use Rattle.line_text.specs.FirstFault.{◌>>=◌, IsFirstFault}
 use Rattle.line_text.proofs.LawLemmas.{IsLineByLine, one_first_fault, refusal_is_first_fault}
 use Rattle.class_table.specs.declared.table.TheConstants.{MOST_CLASSES}
-use Rattle.potential_check.specs.SheetText.{SpellsBy, cost_in, head_of_lines, is_named, limit_in, read_by, row_in, rows_from, step_in, table_in, with_rows, word_of}
+use Rattle.potential_check.specs.SheetText.{SpellsBy, cost_in, cost_number, forced_at, forced_in, forced_number, head_of_lines, is_named, limit_in, line_at, read_by, row_in, rows_from, step_at, step_in, table_in, with_rows, word_of}
 use Rattle.potential_check.specs.declared.cost.Cost.{Cost}
+use Rattle.potential_check.specs.declared.reading.Head.{Head}
 use Rattle.class_table.specs.NamedLines.{named_line}
-use Rattle.potential_check.proofs.LeadingLines.{cost_number-written}
+use Rattle.potential_check.proofs.LeadingLines.{forced-written, forced_number-written}
 use Rattle.potential_check.proofs.ReadIsSpelled.{read_is_spelled}
-use Rattle.potential_check.proofs.SheetLines.{cost-not_step, cost_in-line, limit_in-line, names, one_small, table_in-line}
+use Rattle.potential_check.proofs.SheetLines.{cost-not_forced, cost-not_step, cost_in-line, limit_in-line, names, one_small, table_in-line}
 use Rattle.potential_check.proofs.SpelledIsRead.{spelled_is_read}
 use Rattle.tuner_theory.specs.Sheets.{Sheet}
 
@@ -24,20 +26,26 @@ data Place : Type 0 where
   Table : Place
   Limit : List ℕ → Place
   Step : List ℕ → ℕ → Place
-  CostOf : List ℕ → ℕ → ℕ → Place
+  Forced : List ℕ → ℕ → ℕ → Place
+  CostOf : List ℕ → ℕ → ℕ → Bool → Place
   Rows : (List (List ℕ) → Sheet) → ℕ → Place
 
-abbrev rows_after : List ℕ → ℕ → ℕ → ℕ → Place
-rows_after table limit step stated =
-    Rows (with_rows (record { table = table; limit = limit; step = step; cost = stated })) MOST_CLASSES
+abbrev rows_after : List ℕ → ℕ → ℕ → Bool → ℕ → Place
+rows_after table limit step forced stated =
+    Rows (with_rows (record { table = table; limit = limit; step = step; forced = forced; cost = stated })) MOST_CLASSES
+
+abbrev next_forced : Cost → List ℕ → ℕ → ℕ → List ℕ → Option Place
+next_forced cost table limit step line =
+    if is_named (codes "forced") line then option_map (CostOf table limit step) (forced_in line)
+    else option_map (rows_after table limit step false) (cost_in cost line)
 
 abbrev next : Cost → Place → List ℕ → Option Place
 next cost Table line = option_map Limit (table_in line)
 next cost (Limit table) line = option_map (Step table) (limit_in line)
 next cost (Step table limit) line =
-    if is_named (codes "step") line then option_map (CostOf table limit) (step_in line)
-    else option_map (rows_after table limit 1) (cost_in cost line)
-next cost (CostOf table limit step) line = option_map (rows_after table limit step) (cost_in cost line)
+    if is_named (codes "step") line then option_map (Forced table limit) (step_in line) else next_forced cost table limit 1 line
+next cost (Forced table limit step) line = next_forced cost table limit step line
+next cost (CostOf table limit step forced) line = option_map (rows_after table limit step forced) (cost_in cost line)
 next cost (Rows finish zero) line = None
 next cost (Rows finish (suc most)) line = option_map (λ row. Rows (λ rows. finish (row ∷ rows)) most) (row_in line)
 
@@ -76,15 +84,67 @@ module _ (cost : Cost) where
   line_read None at number ls after head rows same = refl
   line_read (Some x) at number ls after head rows same = same x
 
+  -- what comes after the limit
+  abbrev rows_of_head : Head × List (List ℕ) → Result Sheet ℕ
+  rows_of_head head = rows_from (suc (cost_number head.0.step head.0.forced)) MOST_CLASSES head.1 >>= λ rows. Ok (with_rows head.0 rows)
+
+  abbrev after_forced : List ℕ → ℕ → ℕ → Bool → List (List ℕ) → Result (Head × List (List ℕ)) ℕ
+  after_forced table limit step forced ls =
+      line_at (cost_number step forced) (cost_in cost) ls
+      >>= λ stated. Ok (record { table = table; limit = limit; step = step; forced = forced; cost = stated.0 }, stated.1)
+
+  abbrev after_step : List ℕ → ℕ → ℕ → List (List ℕ) → Result (Head × List (List ℕ)) ℕ
+  after_step table limit step ls =
+      ok_or (forced_at ls) (forced_number step) >>= λ forced. after_forced table limit step forced.0 forced.1
+
+  cost_read : (table : List ℕ) (limit step : ℕ) (forced : Bool) (ls : List (List ℕ)) (number : ℕ) → number ≡ cost_number step forced
+      → read_from cost number (CostOf table limit step forced) ls ≡ numbered (after_forced table limit step forced ls >>= rows_of_head)
+  unfolding read_from
+  cost_read table limit step forced [] number is = rw is refl
+  cost_read table limit step forced (c ∷ ls) number is = go (cost_in cost c) refl
+    where
+      go : (o : Option ℕ) → cost_in cost c ≡ o
+          → read_from cost number (CostOf table limit step forced) (c ∷ ls)
+          ≡ numbered (after_forced table limit step forced (c ∷ ls) >>= rows_of_head)
+      go None none = rw (none, is) refl
+      go (Some stated) some =
+          let next : number + 1 ≡ suc (cost_number step forced) = omega (arith, is) in
+          rw (some, next) (rows_read ls (suc (cost_number step forced)) MOST_CLASSES _)
+
+  forced_read : (table : List ℕ) (limit step : ℕ) (ls : List (List ℕ)) (number : ℕ) → number ≡ forced_number step
+      → read_from cost number (Forced table limit step) ls ≡ numbered (after_step table limit step ls >>= rows_of_head)
+  unfolding read_from
+  forced_read table limit step [] number is = rw is refl
+  forced_read table limit step (c ∷ ls) number is = go (is_named (codes "forced") c) refl (forced_in c) refl
+    where
+      go : (b : Bool) → is_named (codes "forced") c ≡ b → (o : Option Bool) → forced_in c ≡ o
+          → read_from cost number (Forced table limit step) (c ∷ ls) ≡ numbered (after_step table limit step (c ∷ ls) >>= rows_of_head)
+      go false not o read = rw not (cost_read table limit step false (c ∷ ls) number is)
+      go true named None none = rw (named, none, is) refl
+      go true named (Some false) some = absurd (false≢true (forced-written c false some))
+      go true named (Some true) some = rw (named, some) (cost_read table limit step true ls (number + 1) (ap (λ n. n + 1) is))
+
+  step_read : (table : List ℕ) (limit : ℕ) (ls : List (List ℕ))
+      → read_from cost 3 (Step table limit) ls
+      ≡ numbered ((ok_or (step_at ls) 3 >>= λ step. after_step table limit step.0 step.1) >>= rows_of_head)
+  unfolding read_from
+  step_read table limit [] = refl
+  step_read table limit (c ∷ ls) = go (is_named (codes "step") c) refl (step_in c) refl
+    where
+      go : (b : Bool) → is_named (codes "step") c ≡ b → (o : Option ℕ) → step_in c ≡ o
+          → read_from cost 3 (Step table limit) (c ∷ ls)
+          ≡ numbered ((ok_or (step_at (c ∷ ls)) 3 >>= λ step. after_step table limit step.0 step.1) >>= rows_of_head)
+      go false not o read = rw not (forced_read table limit 1 (c ∷ ls) 3 refl)
+      go true named None none = rw (named, none) refl
+      go true named (Some step) some = rw (named, some) (forced_read table limit step ls 4 (sym (forced_number-written c step some)))
+
   all_read : (ls : List (List ℕ)) → read_from cost 1 Table ls ≡ numbered (read_by cost ls)
-  unfolding read_from read_by head_of_lines rows_from
+  unfolding read_from read_by head_of_lines
   all_read [] = refl
   all_read (a ∷ []) = line_read (table_in a) Limit 1 [] _ _ _ (λ table. refl)
-  all_read (a ∷ b ∷ []) =
-      line_read (table_in a) Limit 1 (b ∷ []) _ _ _ (λ table. line_read (limit_in b) (Step table) 2 [] _ _ _ (λ limit. refl))
-  all_read (a ∷ b ∷ c ∷ ls) =
-      line_read (table_in a) Limit 1 (b ∷ c ∷ ls) _ _ _
-      (λ table. line_read (limit_in b) (Step table) 2 (c ∷ ls) _ _ _ (λ limit. grind (arith, rows_read, cost_number-written)))
+  all_read (a ∷ b ∷ ls) =
+      line_read (table_in a) Limit 1 (b ∷ ls) _ _ _
+      (λ table. line_read (limit_in b) (Step table) 2 ls _ _ _ (λ limit. step_read table limit ls))
 
   -- ---- line by line
 
@@ -128,8 +188,9 @@ module _ (cost : Cost) where
   at_step : (table : List ℕ) (limit : ℕ) → GoesOn (Step table limit)
   unfolding cost_line
   at_step table limit =
-      by_line _ (rows_after table limit 1 0) cost_line (line_of_one (word_of cost) 0 (names.cost cost) (omega arith))
-      (rw (cost-not_step cost 0 (omega arith), cost_in-line cost 0 (omega arith)) refl) (at_rows _ MOST_CLASSES)
+      by_line _ (rows_after table limit 1 false 0) cost_line (line_of_one (word_of cost) 0 (names.cost cost) (omega arith))
+      (rw (cost-not_step cost 0 (omega arith), cost-not_forced cost 0 (omega arith), cost_in-line cost 0 (omega arith)) refl)
+      (at_rows _ MOST_CLASSES)
 
   at_limit : (table : List ℕ) → GoesOn (Limit table)
   at_limit table =
@@ -143,8 +204,11 @@ module _ (cost : Cost) where
       (at_limit [])
   goes_on (Limit table) = at_limit table
   goes_on (Step table limit) = at_step table limit
-  goes_on (CostOf table limit step) =
-      by_line _ (rows_after table limit step 0) cost_line (line_of_one (word_of cost) 0 (names.cost cost) (omega arith))
+  goes_on (Forced table limit step) =
+      by_line _ (rows_after table limit step false 0) cost_line (line_of_one (word_of cost) 0 (names.cost cost) (omega arith))
+      (rw (cost-not_forced cost 0 (omega arith), cost_in-line cost 0 (omega arith)) refl) (at_rows _ MOST_CLASSES)
+  goes_on (CostOf table limit step forced) =
+      by_line _ (rows_after table limit step forced 0) cost_line (line_of_one (word_of cost) 0 (names.cost cost) (omega arith))
       (rw (cost_in-line cost 0 (omega arith)) refl) (at_rows _ MOST_CLASSES)
   goes_on (Rows finish most) = at_rows finish most
 

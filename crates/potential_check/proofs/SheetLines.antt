@@ -1,18 +1,19 @@
 -- Each line of a sheet or a fit: it is read as what it spells, and no other line is.
-use Rattle.std.proofs.Common.{◌≡◌, ◌≢◌, ℕ, ◌<◌, ◌≤◌, ◌^◌, true, false, List, [], ◌∷◌, length, Some, refl, arith, codes, leb}
+use Rattle.std.proofs.Common.{◌≡◌, ◌≢◌, ℕ, ◌<◌, ◌≤◌, ◌^◌, Bool, true, false, List, [], ◌∷◌, length, Option, Some, refl, sym, ap, ◌∙◌, arith, codes, leb}
 use Rattle.std.specs.List.{list_all}
-use Rattle.std.proofs.lemmas.Bool.{and_from, and_parts, leb-true, le-leb, lt-ltb, ltb-true}
+use Rattle.std.specs.Option.{option_map}
+use Rattle.std.proofs.lemmas.Bool.{and_from, and_parts, eqb-true, leb-true, le-leb, lt-ltb, ltb-true}
 use Rattle.std.proofs.lemmas.Bool.Decides.{nat_tests}
 use Rattle.std.proofs.lemmas.List.Elements.{All-nil, All-cons, All-head, All-tail, All-weaker}
 use Rattle.std.proofs.lemmas.List.Sums.{AllPass-from_list_all}
 use Rattle.class_table.specs.ClassLine.{class_line}
 use Rattle.class_table.specs.Steps.{IsStep}
 use Rattle.class_table.specs.Tables.{IsLegalTable}
-use Rattle.class_table.specs.declared.sizes.TheConstants.{MOST_NEEDS}
+use Rattle.class_table.specs.declared.sizes.TheConstants.{LARGEST_CLASS, MOST_NEEDS}
 use Rattle.class_table.specs.declared.table.TheConstants.{MOST_CLASSES}
 use Rattle.class_table.proofs.LawLemmas.{AreSmall, IsName, line_of_read_numbers, named_numbers_are_read, read_line_is_spelled, table_line_is_read, words_of_named_line}
 use Rattle.class_table.specs.NamedLines.{named_line, numbers_in}
-use Rattle.potential_check.specs.SheetText.{IsRow, cost_in, fits, is_limit, is_named, is_row, is_written_step, limit_in, passing, row_in, step_in, table_in, word_of}
+use Rattle.potential_check.specs.SheetText.{IsRow, cost_in, fits, forced_in, forced_lines, is_forced, is_limit, is_named, is_row, is_written_step, limit_in, number_in, passing, row_in, step_in, table_in, word_of}
 use Rattle.potential_check.specs.declared.cost.Cost.{Cost}
 use Rattle.potential_check.specs.declared.cost.Cost.TheVariants.{Waste, Footprint}
 use Rattle.potential_check.proofs.OneNumber.{line-number_in, number_in-named_line}
@@ -24,6 +25,7 @@ use Rattle.potential_check.proofs.RowNumbers.{passing-some}
 pub record AreNames : Type 0 where
   pub limit : IsName (codes "limit")
   pub step : IsName (codes "step")
+  pub forced : IsName (codes "forced")
   pub cost : (cost : Cost) → IsName (word_of cost)
   pub row : IsName (codes "row")
 
@@ -83,6 +85,34 @@ pub cost-not_step : (cost : Cost) (n : ℕ) → n < 2 ^ 64 → is_named (codes "
 cost-not_step Waste n small = rw (words_of_named_line (codes "waste") (n ∷ []) (names.cost Waste) (one_small n small)) refl
 cost-not_step Footprint n small = rw (words_of_named_line (codes "footprint") (n ∷ []) (names.cost Footprint) (one_small n small)) refl
 
+-- nor one of a forced class
+pub cost-not_forced : (cost : Cost) (n : ℕ) → n < 2 ^ 64 → is_named (codes "forced") (named_line (word_of cost) (n ∷ [])) ≡ false
+cost-not_forced Waste n small = rw (words_of_named_line (codes "waste") (n ∷ []) (names.cost Waste) (one_small n small)) refl
+cost-not_forced Footprint n small =
+    rw (words_of_named_line (codes "footprint") (n ∷ []) (names.cost Footprint) (one_small n small)) refl
+
+-- the line of a forced class, which is no step line
+pub forced_line : List ℕ
+forced_line = named_line (codes "forced") (LARGEST_CLASS ∷ [])
+
+pub forced_line-is : forced_lines true ≡ forced_line ∷ []
+unfolding forced_line
+forced_line-is = refl
+
+pub forced-named : (is_named (codes "step") forced_line ≡ false) × (is_named (codes "forced") forced_line ≡ true)
+unfolding forced_line
+forced-named =
+    rw (words_of_named_line (codes "forced") (LARGEST_CLASS ∷ []) names.forced (one_small LARGEST_CLASS (omega arith))) (refl, refl)
+
+forced_in-number : (line : List ℕ) → forced_in line ≡ option_map (λ class. true) (number_in (codes "forced") is_forced line)
+forced_in-number line = grind arith
+
+pub forced_in-line : forced_in forced_line ≡ Some true
+unfolding forced_line
+forced_in-line =
+    forced_in-number (named_line (codes "forced") (LARGEST_CLASS ∷ []))
+    ∙ rw (number_in-named_line (codes "forced") is_forced LARGEST_CLASS names.forced (omega arith) refl) refl
+
 -- a row, by the line's numbers
 row_in-numbers : (line : List ℕ) → row_in line ≡ passing is_row (numbers_in (codes "row") line)
 row_in-numbers line = grind arith
@@ -105,6 +135,18 @@ pub line-step_in : (line : List ℕ) (s : ℕ) → step_in line ≡ Some s → (
 line-step_in line s e =
     let read = line-number_in (codes "step") is_written_step line s e (λ m f. omega (arith, (passed_step m f).2)) in
     grind (arith, passed_step)
+
+-- what a class is forced by
+forced_number_there : (o : Option ℕ) (forced : Bool) → option_map (λ class. true) o ≡ Some forced → (forced ≡ true) × ((class : ℕ) × (o ≡ Some class))
+forced_number_there o forced is = grind arith
+
+pub line-forced_in : (line : List ℕ) (forced : Bool) → forced_in line ≡ Some forced → (line ≡ forced_line) × (forced ≡ true)
+unfolding forced_line
+line-forced_in line forced e =
+    let there = forced_number_there (number_in (codes "forced") is_forced line) forced (sym (forced_in-number line) ∙ e) in
+    let read = line-number_in (codes "forced") is_forced line there.1.0 there.1.1
+    (λ m f. let same : m ≡ LARGEST_CLASS = eqb-true m LARGEST_CLASS f in omega (arith, same)) in
+    (read.0 ∙ ap (λ class. named_line (codes "forced") (class ∷ [])) (eqb-true there.1.0 LARGEST_CLASS read.1), there.0)
 
 pub line-cost_in : (cost : Cost) (line : List ℕ) (n : ℕ) → cost_in cost line ≡ Some n
     → (line ≡ named_line (word_of cost) (n ∷ [])) × (n < 2 ^ 64)

@@ -1,9 +1,9 @@
 -- A certificate before other lines, as a checker's input has it before the profile or the history.
-use Rattle.std.specs.Prelude.{◌≡◌, ◌≤◌, ℕ, ◌+◌, Bool, true, List, [], ◌++◌, length, take, drop, codes, slice_index_or, Result, Ok, Err}
+use Rattle.std.specs.Prelude.{◌≡◌, ◌≤◌, ℕ, ◌+◌, Bool, if◌then◌else◌, List, [], ◌++◌, length, take, drop, codes, slice_index_or, Result, Ok, Err}
 use Rattle.std.specs.List.{take_while}
 use Rattle.line_text.specs.Lines.{lines}
 use Rattle.potential_check.specs.Certificates.SheetView.{sheet_of}
-use Rattle.potential_check.specs.SheetText.{head_line_count, is_named, read_by}
+use Rattle.potential_check.specs.SheetText.{is_named, most_head_lines, read_by}
 use Rattle.potential_check.specs.declared.cost.Cost.{Cost}
 use Rattle.potential_check.specs.declared.cost.Cost.TheVariants.{Waste, Footprint}
 use Rattle.potential_check.specs.declared.fault.Fault.{Fault}
@@ -17,9 +17,14 @@ use Rattle.class_table.specs.declared.table.TheConstants.{MOST_CLASSES}
 abbrev pub is_row_line : List ℕ → Bool
 is_row_line line = is_named (codes "row") line
 
--- How many lines come before a sheet's rows. The third one is the line of the step if its first word is `step`.
+-- How many lines come before a sheet's rows, if the cost's is the next after so many or the one after that: the next is the line of the forced
+-- class if its first word is `forced`.
+abbrev pub head_size_from : ℕ → List (List ℕ) → ℕ
+head_size_from n ls = if is_named (codes "forced") (slice_index_or ls n []) then n + 2 else n + 1
+
+-- How many there are. The third one is the line of the step if its first word is `step`.
 abbrev pub head_size : List (List ℕ) → ℕ
-head_size ls = head_line_count (is_named (codes "step") (slice_index_or ls 2 []))
+head_size ls = if is_named (codes "step") (slice_index_or ls 2 []) then head_size_from 3 ls else head_size_from 2 ls
 
 -- The lines of the sheet, or of the fit: those before its rows, and all lines directly after them whose first word is `row`.
 unfoldable pub leading_lines : List (List ℕ) → List (List ℕ)
@@ -34,7 +39,7 @@ pub record IsLeadingOf {A : Type 0} (reading : List (List ℕ) → Result A ℕ)
     (rest : List ℕ) : Type 0 where
   pub read : reading (leading_lines ls) ≡ Ok value
   pub size : count ≡ length (leading_lines ls)
-  pub few : count ≤ head_line_count true + MOST_CLASSES
+  pub few : count ≤ most_head_lines + MOST_CLASSES
   pub after : lines rest ≡ lines_after ls
 
 -- What was read of these lines by a cost, unless memory ran out: with the faults of lines,

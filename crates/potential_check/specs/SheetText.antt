@@ -1,6 +1,7 @@
--- A sheet's text: a class line, `limit K`, `step S` where the step is not 1, `waste W`, and a line `row ..` for each row.
+-- A sheet's text: a class line, `limit K`, `step S` where the step is not 1, `forced 1024` where the largest class is forced, `waste W`, and a
+-- line `row ..` for each row.
 -- A fit has `footprint F` in place of `waste W`. What is below names the cost.
-use Rattle.std.specs.Prelude.{◌≡◌, ℕ, zero, suc, ◌<◌, ◌≤◌, ◌^◌, Bool, ◌||◌, ◌&&◌, not, List, [], ◌∷◌, ◌++◌, length, map, All, codes, Option, Some, None, is_some, option_and_then, Result, Ok, Err, nat_lt, nat_le, ◌==◌, if◌then◌else◌}
+use Rattle.std.specs.Prelude.{◌≡◌, ℕ, zero, suc, ◌<◌, ◌+◌, ◌≤◌, ◌^◌, Bool, true, false, ◌||◌, ◌&&◌, List, [], ◌∷◌, ◌++◌, length, map, All, codes, Option, Some, None, is_some, option_and_then, Result, Ok, Err, nat_lt, nat_le, ◌==◌, if◌then◌else◌}
 use Rattle.std.specs.List.{list_all}
 use Rattle.std.specs.Option.{ok_or, option_map}
 use Rattle.std.specs.Result.{result_ok}
@@ -18,7 +19,7 @@ use Rattle.potential_check.specs.declared.fault.SheetError.{SheetError}
 use Rattle.potential_check.specs.declared.fault.SheetError.TheVariants.{OutOfMemory as NoMemory, BadSheet, BadFit}
 use Rattle.potential_check.specs.declared.reading.Head.{Head}
 use Rattle.tuner_theory.specs.Sheets.{Sheet}
-use Rattle.class_table.specs.declared.sizes.TheConstants.{MOST_NEEDS}
+use Rattle.class_table.specs.declared.sizes.TheConstants.{LARGEST_CLASS, MOST_NEEDS}
 use Rattle.class_table.specs.declared.table.TheConstants.{MOST_CLASSES}
 
 -- ---- the spelling
@@ -32,16 +33,22 @@ word_of Footprint = codes "footprint"
 abbrev pub step_lines : ℕ → List (List ℕ)
 step_lines step = if step == 1 then [] else named_line (codes "step") (step ∷ []) ∷ []
 
+-- Where no class is forced there is no line.
+abbrev pub forced_lines : Bool → List (List ℕ)
+forced_lines false = []
+forced_lines true = named_line (codes "forced") (LARGEST_CLASS ∷ []) ∷ []
+
 -- The lines before the rows.
 abbrev pub head_lines : Cost → Sheet → List (List ℕ)
 head_lines cost s =
-    class_line s.table ∷ named_line (codes "limit") (s.limit ∷ []) ∷ step_lines s.step ++ named_line (word_of cost) (s.cost ∷ []) ∷ []
+    class_line s.table ∷ named_line (codes "limit") (s.limit ∷ []) ∷ step_lines s.step
+    ++ (forced_lines s.forced ++ named_line (word_of cost) (s.cost ∷ []) ∷ [])
 
 -- The lines of a table with its certificate by a cost, the waste or the footprint.
 abbrev pub lines_by : Cost → Sheet → List (List ℕ)
 lines_by cost s =
     class_line s.table ∷ named_line (codes "limit") (s.limit ∷ []) ∷ step_lines s.step
-    ++ named_line (word_of cost) (s.cost ∷ []) ∷ map (named_line (codes "row")) s.rows
+    ++ (forced_lines s.forced ++ named_line (word_of cost) (s.cost ∷ []) ∷ map (named_line (codes "row")) s.rows)
 
 abbrev pub text_by : Cost → Sheet → List ℕ
 text_by cost s = text_of (lines_by cost s)
@@ -114,6 +121,10 @@ is_limit k = nat_le 1 k && nat_le k MOST_CLASSES
 abbrev pub is_written_step : ℕ → Bool
 is_written_step step = step == 2 || step == 4 || step == 8
 
+-- Only the largest class is forced.
+abbrev pub is_forced : ℕ → Bool
+is_forced class = class == LARGEST_CLASS
+
 abbrev pub is_row : List ℕ → Bool
 is_row numbers = nat_le (length numbers) MOST_NEEDS && list_all fits numbers
 
@@ -129,6 +140,13 @@ step_of_words ws = number_of_words is_written_step ws
 
 abbrev pub step_in : List ℕ → Option ℕ
 step_in line = option_and_then step_of_words (words_after (codes "step") (words line))
+
+-- That a class is forced, which the words after a line's name spell.
+abbrev pub forced_of_words : List (List ℕ) → Option Bool
+forced_of_words ws = option_map (λ class. true) (number_of_words is_forced ws)
+
+abbrev pub forced_in : List ℕ → Option Bool
+forced_in line = option_and_then forced_of_words (words_after (codes "forced") (words line))
 
 abbrev pub cost_in : Cost → List ℕ → Option ℕ
 cost_in cost line = number_in (word_of cost) fits line
@@ -156,13 +174,23 @@ abbrev pub step_at : List (List ℕ) → Option (ℕ × List (List ℕ))
 step_at [] = Some (1, [])
 step_at (line ∷ ls) = if is_named (codes "step") line then option_map (λ step. (step, ls)) (step_in line) else Some (1, line ∷ ls)
 
--- How many lines come before the rows, the last of which is the cost's: one more where there is a step line.
-abbrev pub head_line_count : Bool → ℕ
-head_line_count has_step = if has_step then 4 else 3
+-- Whether a class is forced, by the first of the lines, and the lines after it; not, and all of them, if its first word is not `forced`.
+abbrev pub forced_at : List (List ℕ) → Option (Bool × List (List ℕ))
+forced_at [] = Some (false, [])
+forced_at (line ∷ ls) =
+    if is_named (codes "forced") line then option_map (λ forced. (forced, ls)) (forced_in line) else Some (false, line ∷ ls)
 
--- The number of the cost's line. A step line never says 1.
-abbrev pub cost_number : ℕ → ℕ
-cost_number step = head_line_count (not (step == 1))
+-- The number of the line after that of the step. A step line never says 1.
+abbrev pub forced_number : ℕ → ℕ
+forced_number step = if step == 1 then 3 else 4
+
+-- The number of the cost's line, the last before the rows: one more where there is a line of the forced class.
+abbrev pub cost_number : ℕ → Bool → ℕ
+cost_number step forced = if forced then forced_number step + 1 else forced_number step
+
+-- So there are at most so many lines before the rows.
+abbrev pub most_head_lines : ℕ
+most_head_lines = 5
 
 -- The rows of the lines, the first of which has this number. A line after the last one allowed is faulty, whatever it says.
 unfoldable pub rows_from : ℕ → ℕ → List (List ℕ) → Result (List (List ℕ)) ℕ
@@ -179,16 +207,24 @@ head_of_lines cost ls = do
   (table, ls) ← line_at 1 table_in ls
   (limit, ls) ← line_at 2 limit_in ls
   (step, ls) ← ok_or (step_at ls) 3
-  (stated, ls) ← line_at (cost_number step) (cost_in cost) ls
-  Ok (record { table = table; limit = limit; step = step; cost = stated }, ls)
+  (forced, ls) ← ok_or (forced_at ls) (forced_number step)
+  (stated, ls) ← line_at (cost_number step forced) (cost_in cost) ls
+  Ok (record { table = table; limit = limit; step = step; forced = forced; cost = stated }, ls)
 
 abbrev pub with_rows : Head → List (List ℕ) → Sheet
-with_rows head rows = record { table = head.table; limit = head.limit; step = head.step; cost = head.cost; rows = rows }
+with_rows head rows = record {
+  table = head.table;
+  limit = head.limit;
+  step = head.step;
+  forced = head.forced;
+  cost = head.cost;
+  rows = rows;
+}
 
 unfoldable pub read_by : Cost → List (List ℕ) → Result Sheet ℕ
 read_by cost ls = do
   (head, ls) ← head_of_lines cost ls
-  rows ← rows_from (suc (cost_number head.step)) MOST_CLASSES ls
+  rows ← rows_from (suc (cost_number head.step head.forced)) MOST_CLASSES ls
   Ok (with_rows head rows)
 
 abbrev pub sheet_of_lines : List (List ℕ) → Result Sheet ℕ

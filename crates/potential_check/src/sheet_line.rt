@@ -3,10 +3,10 @@ ghost use Rattle.std.specs.Prelude.{◌≡◌, IfOk};
 ghost use Rattle.std.specs.Option.{option_map};
 ghost use Rattle.line_text.specs.Lines.{words};
 ghost use Rattle.class_table.specs.NamedLines.{words_after};
-ghost use Rattle.potential_check.specs.SheetText.{cost_in, fits, limit_in, number_of_words, row_of_words, step_of_words, table_in};
+ghost use Rattle.potential_check.specs.SheetText.{cost_in, fits, forced_of_words, limit_in, number_of_words, row_of_words, step_of_words, table_in};
 
 use crate::cost::Cost;
-use class_table::{ClassTable, MOST_CLASSES, MOST_NEEDS, is_step};
+use class_table::{ClassTable, LARGEST_CLASS, MOST_CLASSES, MOST_NEEDS, is_step};
 use line_text::{Number, Words, number_in, words_in};
 use std::alloc::{AllocError, Global};
 
@@ -16,8 +16,14 @@ pub(crate) const LIMIT: &[u8] = b"limit";
 /// The first word of the line with its step.
 pub(crate) const STEP: &[u8] = b"step";
 
+/// The first word of the line with its forced class.
+pub(crate) const FORCED: &[u8] = b"forced";
+
 /// The first word of each line with a row.
 pub(crate) const ROW: &[u8] = b"row";
+
+// the only class that is forced
+pub(crate) const FORCED_CLASS: u64 = LARGEST_CLASS as u64;
 
 // no table has more classes than this
 const MOST_LIMIT: u64 = MOST_CLASSES as u64;
@@ -45,6 +51,16 @@ pub(crate) fn step_of_words(words: Words<'_>) -> Option<u8>
 {
     match u8::try_from(only_number(words)?) {
         Ok(step) if step != 1 && is_step(step) => Some(step),
+        _ => None,
+    }
+}
+
+/// That the largest class is forced, which the words after the name spell.
+pub(crate) fn forced_of_words(words: Words<'_>) -> Option<bool>
+    ensures { result ≡ forced_of_words words.entry }
+{
+    match only_number(words)? {
+        FORCED_CLASS => Some(true),
         _ => None,
     }
 }

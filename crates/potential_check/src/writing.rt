@@ -5,12 +5,12 @@ ghost use Rattle.class_table.specs.ClassLine.{class_line};
 ghost use Rattle.line_text.specs.Prefixes.{IsPrefix};
 ghost use Rattle.potential_check.specs.Certificates.SheetView.{sheet_of};
 ghost use Rattle.class_table.specs.NamedLines.{named_line};
-ghost use Rattle.potential_check.specs.SheetText.{head_lines, step_lines, text_by};
+ghost use Rattle.potential_check.specs.SheetText.{forced_lines, head_lines, step_lines, text_by};
 ghost use Rattle.potential_check.specs.Spaced.{spaced};
 
 use crate::certificates::{Certificate, Rows};
 use crate::cost::{Cost, CostKind};
-use crate::sheet_line::{LIMIT, ROW, STEP};
+use crate::sheet_line::{FORCED, FORCED_CLASS, LIMIT, ROW, STEP};
 use arrayvec::ArrayVec;
 use class_table::{ClassTable, LINE_BYTES, MOST_NEEDS};
 use itoa::write_digits;
@@ -27,8 +27,8 @@ const TOGETHER_BYTES: usize = TOGETHER * NUMBER_BYTES;
 /// The most bytes that the line of a row has: its name, a number for each need that there may be, and the newline.
 pub const ROW_BYTES: usize = 4 + MOST_NEEDS * NUMBER_BYTES;
 
-/// Appends the text of a certificate: its class line, `limit K`, `step S` unless the step is 1, `waste W` or `footprint F` by its cost, and a
-/// line `row ..` for each row. Each line has its newline. If memory runs out, `text` is unchanged.
+/// Appends the text of a certificate: its class line, `limit K`, `step S` unless the step is 1, `forced 1024` if the largest class is forced,
+/// `waste W` or `footprint F` by its cost, and a line `row ..` for each row. Each line has its newline. If memory runs out, `text` is unchanged.
 pub fn write_sheet<C: CostKind>(
     sheet: &Certificate<C>,
     text: &mut Vec<u8>,
@@ -70,6 +70,7 @@ fn append_head<C>(cost: Cost, text: &mut Vec<u8>, sheet: &Certificate<C>) -> Res
 {
     append_table(text, &sheet.table)?;
     append_limits(text, sheet.limit, sheet.step)?;
+    append_forced(text, sheet.forced)?;
     append_line(text, cost.word(), &[sheet.cost])
 }
 
@@ -84,6 +85,17 @@ fn append_limits(text: &mut Vec<u8>, limit: u8, step: u8) -> Result<(), AllocErr
         return Ok(());
     }
     append_line(text, STEP, &[u64::from(step)])
+}
+
+// the line of the largest class if it is forced
+fn append_forced(text: &mut Vec<u8>, forced: bool) -> Result<(), AllocError>
+    ensures written { OnOk result (text.new.items ≡ text.old.items ++ text_of (forced_lines forced)) }
+    ensures kept { IsPrefix text.old.items text.new.items }
+{
+    if !forced {
+        return Ok(());
+    }
+    append_line(text, FORCED, &[FORCED_CLASS])
 }
 
 /// Appends the class line of a table, with its newline. The only error is that the allocator refuses memory; then a part of the line may be

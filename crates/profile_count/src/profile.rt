@@ -1,7 +1,8 @@
 //! The counts of a profile, and what follows from them alone.
-ghost use Rattle.std.specs.Prelude.{◌≡◌, ◌↔◌, ◌<◌, ◌≤◌, ◌+◌, ◌^◌, ℕ, slice_index, None, IsErr, IsSome, IfOk, IfSome, IfNone, OnErr, OnOk};
+ghost use Rattle.std.specs.Prelude.{◌≡◌, ◌↔◌, ◌<◌, ◌≤◌, ◌+◌, ◌^◌, ℕ, slice_index, None, IsErr, IsSome, IfOk, IfSome, IfNone, OnErr, OnOk, true};
 ghost use Rattle.class_table.specs.Tables.{class_for};
 ghost use Rattle.tuner_theory.specs.Profiles.{IsCounted, IsProfile};
+ghost use Rattle.tuner_theory.specs.Served.{served};
 ghost use Rattle.tuner_theory.specs.Waste.{Serves, waste_of};
 ghost use Rattle.profile_count.specs.Counts.{IsNextCounted, count_for, nothing_counted, unserved_of, with_count, with_large, with_one_more, zeros};
 
@@ -93,6 +94,22 @@ impl Profile {
         ensures { self.new ≡ with_count self.old n count }
     {
         self.counts[n as usize] = count;
+    }
+
+    /// A copy in which the largest size that is counted was requested at least once, and nothing else is changed. The only error is that the
+    /// allocator refuses memory.
+    pub fn with_largest(&self, alloc: Global) -> Result<Profile, AllocError>
+        ensures { IfOk result
+            (λ profile. profile ≡ record { counts = served true self.now.counts; large = self.now.large }) }
+    {
+        let mut counts = Vec::with_capacity(alloc, self.counts.len())?;
+        counts.extend_from_slice(&self.counts)?;
+        let mut profile = Profile {
+            counts,
+            large: self.large,
+        };
+        profile.set_count(LARGEST_COUNTED, self.count(LARGEST_COUNTED).max(1));
+        Ok(profile)
     }
 
     /// Sets the count of the large requests.

@@ -20,10 +20,10 @@ config_of options = record { granules = options.granules; seed = options.seed; q
 -- The call of a command with those of the options that are its own.
 abbrev pub call_of : CommandName → Options → Call
 call_of name.Score options = Score
-call_of name.Tune options = Tune (limits_of options)
+call_of name.Tune options = Tune (limits_of options) options.largest_class
 call_of name.Check options = Check
 call_of name.Footprint options = Footprint
-call_of name.Fit options = Fit (limits_of options)
+call_of name.Fit options = Fit (limits_of options) options.largest_class
 call_of name.CheckFit options = CheckFit
 call_of name.Profile options = Profile
 call_of name.Replay options = Replay (config_of options)
@@ -50,10 +50,10 @@ pub record AreTuneOptions (limit step : ℕ) : Type 0 where
 -- What each command wants of its options.
 abbrev pub IsValid : Call → Type 0
 IsValid Score = ⊤
-IsValid (Tune limits) = AreTuneOptions limits.limit limits.step
+IsValid (Tune limits largest_class) = AreTuneOptions limits.limit limits.step × largest_class ≤ 1
 IsValid Check = ⊤
 IsValid Footprint = ⊤
-IsValid (Fit limits) = AreTuneOptions limits.limit limits.step
+IsValid (Fit limits largest_class) = AreTuneOptions limits.limit limits.step × largest_class ≤ 1
 IsValid CheckFit = ⊤
 IsValid Profile = ⊤
 IsValid (Replay config) = IsConfig config

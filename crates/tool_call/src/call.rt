@@ -35,10 +35,12 @@ pub const COMMANDS: &[CommandName] = &[
 #[derive(Clone, Copy, Debug)]
 pub enum Call {
     Score,
-    Tune(Limits),
+    /// With whether the table must have the largest class, 0 or 1.
+    Tune(Limits, u8),
     Check,
     Footprint,
-    Fit(Limits),
+    /// The same.
+    Fit(Limits, u8),
     CheckFit,
     Profile,
     Replay(Config),
@@ -54,10 +56,10 @@ impl Call {
     {
         match command {
             CommandName::Score => Call::Score,
-            CommandName::Tune => Call::Tune(options.limits()),
+            CommandName::Tune => Call::Tune(options.limits(), options.largest_class),
             CommandName::Check => Call::Check,
             CommandName::Footprint => Call::Footprint,
-            CommandName::Fit => Call::Fit(options.limits()),
+            CommandName::Fit => Call::Fit(options.limits(), options.largest_class),
             CommandName::CheckFit => Call::CheckFit,
             CommandName::Profile => Call::Profile,
             CommandName::Replay => Call::Replay(options.config()),
@@ -81,7 +83,9 @@ impl Call {
     {
         match self {
             Call::Score | Call::Check | Call::Footprint | Call::CheckFit | Call::Profile => true,
-            Call::Tune(limits) | Call::Fit(limits) => limits.are_valid(),
+            Call::Tune(limits, largest_class) | Call::Fit(limits, largest_class) => {
+                limits.are_valid() && largest_class <= 1
+            }
             Call::Replay(config) => config.is_valid(),
             Call::Run(limits, config) => limits.are_valid() && config.is_valid(),
         }

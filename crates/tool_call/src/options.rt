@@ -19,9 +19,11 @@ pub struct Options {
     pub limit: u8,
     /// The granules that each class is a multiple of: 1, 2, 4 or 8.
     pub step: u8,
+    /// Whether the table must have class 1024: 0 or 1.
+    pub largest_class: u8,
 }
 
-/// The options of `tune` and `fit`, which are options of `run` too.
+/// The options of `tune` and `fit` that are options of `run` too.
 #[derive(Clone, Copy, Debug)]
 pub struct Limits {
     /// The most classes of the table, 1 to 32.

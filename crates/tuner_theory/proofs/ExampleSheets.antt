@@ -1,5 +1,5 @@
 -- The conditions on a sheet at small sheets for the profile of three requests of 16 bytes and one of 40.
-use Rattle.std.proofs.Common.{ℕ, List, [], ◌∷◌, arith}
+use Rattle.std.proofs.Common.{ℕ, false, List, [], ◌∷◌, arith}
 use Rattle.std.proofs.lemmas.Bool.{false≢true}
 use Rattle.tuner_theory.specs.Sheets.{IsVerdict, Meets, Sheet}
 use Rattle.tuner_theory.specs.Waste.{sum_below}
@@ -9,7 +9,7 @@ use Rattle.tuner_theory.proofs.ExampleProfiles.{two_sizes}
 
 -- a sheet for step 1, with two rows of two numbers
 abbrev sheet_of : List ℕ → ℕ → ℕ → List ℕ → List ℕ → Sheet
-sheet_of table limit waste row1 row2 = record { table = table; limit = limit; step = 1; cost = waste; rows = row1 ∷ row2 ∷ [] }
+sheet_of table limit waste row1 row2 = record { table = table; limit = limit; step = 1; forced = false; cost = waste; rows = row1 ∷ row2 ∷ [] }
 
 -- the sheet of the best table of two classes
 abbrev best_sheet : Sheet
@@ -55,14 +55,14 @@ waste_of_one_more : Meets two_sizes (sheet_of (2 ∷ 4 ∷ []) 2 9 (104 ∷ 8 �
 unfolding sum_below
 waste_of_one_more meets = omega (arith, meets)
 
-row_missing : Meets two_sizes (record { table = 2 ∷ 4 ∷ []; limit = 2; step = 1; cost = 8; rows = (104 ∷ 8 ∷ []) ∷ [] }) Shape → ⊥
+row_missing : Meets two_sizes (record { table = 2 ∷ 4 ∷ []; limit = 2; step = 1; forced = false; cost = 8; rows = (104 ∷ 8 ∷ []) ∷ [] }) Shape → ⊥
 row_missing meets = omega (arith, meets.row_count)
 
-class_3_off_step_2 : Meets two_sizes (record { table = 2 ∷ 3 ∷ 4 ∷ []; limit = 3; step = 2; cost = 0; rows = [] }) OffStep → ⊥
+class_3_off_step_2 : Meets two_sizes (record { table = 2 ∷ 3 ∷ 4 ∷ []; limit = 3; step = 2; forced = false; cost = 0; rows = [] }) OffStep → ⊥
 class_3_off_step_2 meets = omega (arith, meets.1 1 0 (omega arith))
 
-no_step_3 : Meets two_sizes (record { table = 2 ∷ 4 ∷ []; limit = 3; step = 3; cost = 0; rows = [] }) OffStep → ⊥
+no_step_3 : Meets two_sizes (record { table = 2 ∷ 4 ∷ []; limit = 3; step = 3; forced = false; cost = 0; rows = [] }) OffStep → ⊥
 no_step_3 meets = false≢true meets.0
 
-no_step_0 : Meets two_sizes (record { table = 2 ∷ 4 ∷ []; limit = 3; step = 0; cost = 0; rows = [] }) OffStep → ⊥
+no_step_0 : Meets two_sizes (record { table = 2 ∷ 4 ∷ []; limit = 3; step = 0; forced = false; cost = 0; rows = [] }) OffStep → ⊥
 no_step_0 meets = false≢true meets.0

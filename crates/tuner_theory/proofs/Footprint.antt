@@ -12,9 +12,11 @@ use Rattle.tuner_theory.specs.Footprint.{blocks_between, footprint_between, foot
 use Rattle.tuner_theory.specs.Histories.{AreSnapshots, most, peaks}
 use Rattle.tuner_theory.specs.Intervals.{IsIntervalCost, IsSumOfIntervals, cost_above}
 use Rattle.tuner_theory.specs.Profiles.{IsCounted}
+use Rattle.tuner_theory.specs.Served.{served}
 use Rattle.tuner_theory.specs.Spans.{rounded_need}
 use Rattle.tuner_theory.specs.Waste.{sum_below}
 use Rattle.tuner_theory.proofs.Rounding.{rounded-positive}
+use Rattle.tuner_theory.proofs.Served.{counted-served, interval-more}
 use Rattle.tuner_theory.proofs.Sums.{sum_at_most, sum_same}
 use Rattle.tuner_theory.proofs.Tables.{class_for-first, class_for-later, cost-at_one}
 
@@ -158,10 +160,17 @@ module _ (step : ℕ) (pos : 0 < step) where
       needed : (x v : ℕ) → 2 ≤ x → v ≡ cond (ltb 1 x) v 0
       needed x v two = grind (arith, nat_tests)
 
-pub footprint_is_sum : (snapshots : List (List ℕ)) (step : ℕ) → 0 < step → AreSnapshots snapshots
-    → IsSumOfIntervals (footprint_of snapshots) (footprint_between snapshots step) (peaks snapshots) step
-footprint_is_sum snapshots step pos are = record {
-  interval = footprint-cost snapshots are step;
+-- where more is counted than the peaks,
+pub footprint-cost_on : (snapshots : List (List ℕ)) (counts : List ℕ) (step : ℕ) → AreSnapshots snapshots
+    → ((n : ℕ) → IsCounted (peaks snapshots) n → IsCounted counts n) → IsIntervalCost counts step (footprint_between snapshots step)
+footprint-cost_on snapshots counts step are covers =
+    interval-more (peaks snapshots) counts step (footprint_between snapshots step) covers (footprint-cost snapshots are step)
+
+-- as where the largest class is forced
+pub footprint_is_sum : (forced : Bool) (snapshots : List (List ℕ)) (step : ℕ) → 0 < step → AreSnapshots snapshots
+    → IsSumOfIntervals (footprint_of snapshots) (footprint_between snapshots step) (served forced (peaks snapshots)) step
+footprint_is_sum forced snapshots step pos are = record {
+  interval = footprint-cost_on snapshots (served forced (peaks snapshots)) step are (counted-served forced (peaks snapshots));
   sum = λ classes legal. let above = classes_of_legal_table step classes legal in
       footprint-all step pos snapshots classes above ∙ footprint-above step pos snapshots 1 classes (omega arith) above;
 }

@@ -12,11 +12,12 @@ use Rattle.class_table.specs.Tables.{IsLegalTable}
 use Rattle.class_table.specs.declared.sizes.TheConstants.{LARGEST_CLASS}
 use Rattle.class_table.proofs.LawLemmas.{AreClassesAbove, classes_of_legal_table}
 use Rattle.tuner_theory.specs.Best.{IsCandidate, IsCanonical, IsCanonicalBy}
-use Rattle.tuner_theory.specs.Footprint.{IsFitted, IsLeastFootprint, blocks, blocks_between, footprint_between, footprint_of, span_footprint}
+use Rattle.tuner_theory.specs.Footprint.{IsFitted, IsLeastFootprint, blocks, blocks_between, footprint_between, footprint_of}
 use Rattle.tuner_theory.specs.Histories.{AreSnapshots, most, peaks}
-use Rattle.tuner_theory.specs.Intervals.{cost_above}
+use Rattle.tuner_theory.specs.Intervals.{cost_above, span_cost}
 use Rattle.tuner_theory.specs.Measures.{footprint_on}
 use Rattle.tuner_theory.specs.Profiles.{AreCounts, greatest_count}
+use Rattle.tuner_theory.specs.Served.{served}
 use Rattle.tuner_theory.specs.Sheets.{IsFitVerdict, Sheet}
 use Rattle.tuner_theory.specs.Spans.{need_at, places, rounded_need, waste_between}
 use Rattle.tuner_theory.specs.Waste.{Serves, sum_below, waste_of}
@@ -24,6 +25,7 @@ use Rattle.tuner_theory.specs.declared.verdict.Verdict.TheVariants.{Optimal}
 use Rattle.tuner_theory.proofs.Footprint.{footprint-above, footprint-all, footprint_is_sum, peak-at, peaks-length}
 use Rattle.tuner_theory.proofs.Needs.{place_is_class}
 use Rattle.tuner_theory.proofs.Rounding.{rounded-fits, rounded-positive, step-positive}
+use Rattle.tuner_theory.proofs.Served.{counted-served, served_waste}
 use Rattle.tuner_theory.proofs.Sheets.{optimal-best_by}
 use Rattle.tuner_theory.proofs.Spans.{count-small}
 use Rattle.tuner_theory.proofs.Sums.{sum_at_most, sum_balance, sum_bounded, sum_none, sum_same, sum_split}
@@ -31,9 +33,9 @@ use Rattle.tuner_theory.proofs.Tables.{ServesAbove, ServesAbove-later, waste-sum
 
 -- A fit that meets all conditions, and whose table is legal, has a table of least footprint, whoever wrote it.
 pub optimal_fit_is_least : (snapshots : List (List ℕ)) (fit : Sheet) → AreSnapshots snapshots → IsLegalTable 1 fit.table
-    → IsFitVerdict snapshots fit Optimal → IsLeastFootprint snapshots fit.step fit.limit fit.table
+    → IsFitVerdict snapshots fit Optimal → IsLeastFootprint fit.forced snapshots fit.step fit.limit fit.table
 optimal_fit_is_least snapshots fit are legal meets =
-    optimal-best_by (footprint_on snapshots) fit (λ step pos. footprint_is_sum snapshots step pos are) legal meets
+    optimal-best_by (footprint_on fit.forced snapshots) fit (λ step pos. footprint_is_sum fit.forced snapshots step pos are) legal meets
 
 -- ---- how large numbers are
 
@@ -49,28 +51,27 @@ masked-bounded false v bound le = omega arith
 pub peaks_are_counts : (snapshots : List (List ℕ)) → AreSnapshots snapshots → AreCounts (peaks snapshots)
 peaks_are_counts snapshots are = grind (arith, peaks-length, peak-at, most-bounded, count-small)
 
-pub span_footprints_fit : (snapshots : List (List ℕ)) (step i j : ℕ) → IsStep step → AreSnapshots snapshots → i < j
-    → j ≤ places (peaks snapshots) step → span_footprint snapshots step i j < 2 ^ 58
-span_footprints_fit snapshots step i j is_step are lt le =
-    let class = place_is_class (peaks snapshots) step j is_step (omega (arith, peaks-length snapshots)) (omega arith) le in
-    let counted = most-bounded (blocks_between step (need_at (peaks snapshots) step i) (need_at (peaks snapshots) step j))
+pub span_footprints_fit : (snapshots : List (List ℕ)) (counts : List ℕ) (step i j : ℕ) → IsStep step → AreSnapshots snapshots
+    → AreCounts counts → i < j → j ≤ places counts step → span_cost (footprint_between snapshots step) counts step i j < 2 ^ 58
+span_footprints_fit snapshots counts step i j is_step are are_counts lt le =
+    let class = place_is_class counts step j is_step (omega (arith, are_counts.sizes)) (omega arith) le in
+    let counted = most-bounded (blocks_between step (need_at counts step i) (need_at counts step j))
     ((largest_counted + 1) * greatest_count) snapshots (λ k d within. at (get_or snapshots k d) (are.counts k d within)) in
-    let size : 16 * need_at (peaks snapshots) step j ≤ 16 * LARGEST_CLASS = omega (arith, class.0.1) in
+    let size : 16 * need_at counts step j ≤ 16 * LARGEST_CLASS = omega (arith, class.0.1) in
     omega (arith, mul-le-mul size counted)
   where
     masked : (x low high v : ℕ) → v ≤ greatest_count → cond (ltb low x && leb x high) v 0 ≤ greatest_count
     masked x low high v le = masked-bounded (ltb low x && leb x high) v greatest_count le
 
     at : (s : List ℕ) → AreCounts s
-        → blocks_between step (need_at (peaks snapshots) step i) (need_at (peaks snapshots) step j) s
+        → blocks_between step (need_at counts step i) (need_at counts step j) s
         ≤ (largest_counted + 1) * greatest_count
-    at s counts =
+    at s its =
         omega (
           arith,
-          counts.sizes,
+          its.sizes,
           sum_bounded _ (length s) greatest_count
-              (λ n within. masked (rounded_need step n) (need_at (peaks snapshots) step i) (need_at (peaks snapshots) step j) _
-              (count-small s n counts)),
+              (λ n within. masked (rounded_need step n) (need_at counts step i) (need_at counts step j) _ (count-small s n its)),
         )
 
 -- ---- one snapshot
@@ -166,13 +167,19 @@ canonical-greater : (cost greater : List ℕ → ℕ) (counts : List ℕ) (step 
     → IsCanonicalBy greater counts step limit classes → IsCanonicalBy cost counts step limit classes
 canonical-greater cost greater counts step limit more classes by canonical = grind arith
 
-pub fitted_is_tuned : (counts classes : List ℕ) (step limit : ℕ) → IsStep step → AreCounts counts
-    → IsFitted (counts ∷ []) step limit classes → IsCanonical counts step limit classes
-fitted_is_tuned counts classes step limit is_step are fitted =
-    canonical-greater (waste_of counts) (footprint_of (counts ∷ [])) counts step limit
+pub fitted_is_tuned : (forced : Bool) (counts classes : List ℕ) (step limit : ℕ) → IsStep step → AreCounts counts
+    → IsFitted forced (counts ∷ []) step limit classes → IsCanonical (served forced counts) step limit classes
+fitted_is_tuned forced counts classes step limit is_step are fitted =
+    canonical-greater (waste_of (served forced counts)) (footprint_of (counts ∷ [])) (served forced counts) step limit
     (sum_below (λ n. slice_index counts n * (n + 16)) (length counts)) classes
-    (λ table candidate. one_snapshot counts table step is_step candidate.legal candidate.serving)
-    (subst (λ (its : List ℕ). IsCanonicalBy (footprint_of (counts ∷ [])) its step limit classes) (peaks-one counts are) fitted)
+    (λ table candidate.
+    omega (
+      arith,
+      one_snapshot counts table step is_step candidate.legal (λ n counted. candidate.serving n (counted-served forced counts n counted)),
+      served_waste forced counts table candidate.legal.in_range,
+    ))
+    (subst (λ (its : List ℕ). IsCanonicalBy (footprint_of (counts ∷ [])) (served forced its) step limit classes) (peaks-one counts are)
+    fitted)
 
 -- ---- larger histories
 

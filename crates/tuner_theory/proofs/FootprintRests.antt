@@ -2,20 +2,20 @@
 use Rattle.std.proofs.Common.{◌≡◌, ℕ, ◌*◌, ◌%◌, ◌<◌, ◌≤◌, max, Bool, true, false, List, [], ◌∷◌, length, map, slice_index, cond, ltb, leb, arith, refl, ap, sym, ◌∙◌}
 use Rattle.std.proofs.lemmas.Bool.Decides.{nat_tests}
 use Rattle.std.proofs.lemmas.List.Sums.{sum_by-cons}
-use Rattle.class_table.specs.Sizes.{largest_counted}
 use Rattle.class_table.proofs.LawLemmas.{AreClassesAbove}
 use Rattle.tuner_theory.specs.Footprint.{blocks, footprint_between, footprint_of, is_class_of}
 use Rattle.tuner_theory.specs.Histories.{AreSnapshots, most, peaks}
 use Rattle.tuner_theory.specs.Intervals.{cost_above}
-use Rattle.tuner_theory.specs.Profiles.{IsCounted}
-use Rattle.tuner_theory.specs.Rests.{IsFootprintRest, counts_above_from, snapshots_above}
+use Rattle.tuner_theory.specs.Rests.{IsFootprintRest, counts_above, counts_above_from, snapshots_above}
+use Rattle.tuner_theory.specs.Served.{served}
 use Rattle.tuner_theory.specs.Spans.{need_at, places, rounded_need}
 use Rattle.tuner_theory.specs.Tuned.{AreFittedRows}
 use Rattle.tuner_theory.specs.Waste.{sum_below}
-use Rattle.tuner_theory.proofs.BoundRests.{IsRestCost, left-above, length-above}
-use Rattle.tuner_theory.proofs.Footprint.{blocks_above, footprint-above, footprint-cost, footprint_above, later-is, most-same, no-class, peak-at, peaks-length, sum-later}
+use Rattle.tuner_theory.proofs.BoundRests.{IsRestCost, counted-above, counted-to, left-above, length-above}
+use Rattle.tuner_theory.proofs.Footprint.{blocks_above, footprint-above, footprint-cost_on, footprint_above, later-is, most-same, no-class, sum-later}
 use Rattle.tuner_theory.proofs.Rests.{rows_are_rests}
 use Rattle.tuner_theory.proofs.Rounding.{rounded-positive, step-positive}
+use Rattle.tuner_theory.proofs.Served.{counted-served}
 use Rattle.tuner_theory.proofs.Sums.{sum_none, sum_same}
 
 most-map : (f : List ℕ → ℕ) (g : List ℕ → List ℕ) (snapshots : List (List ℕ)) → most f (map g snapshots) ≡ most (λ s. f (g s)) snapshots
@@ -26,53 +26,19 @@ most-none : (snapshots : List (List ℕ)) → most (λ s. 0) snapshots ≡ 0
 most-none [] = refl
 most-none (s ∷ ss) = omega (arith, most-none ss)
 
-most-cond : (b : Bool) (f : List ℕ → ℕ) (snapshots : List (List ℕ)) → most (λ s. cond b 0 (f s)) snapshots ≡ cond b 0 (most f snapshots)
-most-cond true f snapshots = most-none snapshots
-most-cond false f snapshots = refl
-
 -- one size: what is left of it, in a class or not
 left : (x low v w : ℕ) (b : Bool) → 2 ≤ x → w ≡ cond (leb x low) 0 v → cond b w 0 ≡ cond (ltb (max 1 low) x) (cond b v 0) 0
 left x low v w b two e = grind (arith, nat_tests)
 
-kept : (x low v w : ℕ) → w ≡ cond (leb x low) 0 v → 0 < w → (low < x) × (0 < v)
-kept x low v w e some = grind arith
-
-keep : (x low v w : ℕ) → w ≡ cond (leb x low) 0 v → low < x → w ≡ v
-keep x low v w e over = grind (arith, nat_tests)
-
-module _ (snapshots : List (List ℕ)) (step : ℕ) (pos : 0 < step) (i : ℕ) where
+module _ (snapshots : List (List ℕ)) (step : ℕ) (pos : 0 < step) (counts : List ℕ) (i : ℕ) where
   abbrev need : ℕ
-  need = need_at (peaks snapshots) step i
+  need = need_at counts step i
 
   abbrev low : ℕ
   low = max 1 need
 
   abbrev pub above : List (List ℕ)
-  above = snapshots_above snapshots step i
-
-  -- ---- the sizes that are counted
-
-  peak-above : (n : ℕ) → n ≤ largest_counted
-      → slice_index (peaks above) n ≡ cond (leb (rounded_need step n) need) 0 (slice_index (peaks snapshots) n)
-  peak-above n le =
-      peak-at above n 0 le
-      ∙ most-map (λ s. slice_index s n) (λ s. counts_above_from 0 s step need) snapshots
-      ∙ most-same _ (λ s. cond (leb (rounded_need step n) need) 0 (slice_index s n)) snapshots (λ s. left-above n s step need)
-      ∙ most-cond (leb (rounded_need step n) need) (λ s. slice_index s n) snapshots
-      ∙ ap (λ v. cond (leb (rounded_need step n) need) 0 v) (sym (peak-at snapshots n 0 le))
-
-  from-above : (n : ℕ) → IsCounted (peaks above) n → IsCounted (peaks snapshots) n × (need < rounded_need step n)
-  from-above n counted =
-      let within : n ≤ largest_counted = omega (arith, counted.0, peaks-length above) in
-      let both = kept (rounded_need step n) need (slice_index (peaks snapshots) n) _ (peak-above n within) counted.1 in
-      ((omega (arith, within, peaks-length snapshots), both.1), both.0)
-
-  to-above : (n : ℕ) → IsCounted (peaks snapshots) n → need < rounded_need step n → IsCounted (peaks above) n
-  to-above n counted over =
-      let within : n ≤ largest_counted = omega (arith, counted.0, peaks-length snapshots) in (
-        omega (arith, within, peaks-length above),
-        omega (arith, counted.1, keep (rounded_need step n) need (slice_index (peaks snapshots) n) _ (peak-above n within) over),
-      )
+  above = snapshots_above snapshots step need
 
   -- ---- the blocks of a class
 
@@ -123,13 +89,16 @@ module _ (snapshots : List (List ℕ)) (step : ℕ) (pos : 0 < step) (i : ℕ) w
             ∙ most-same _ _ snapshots (same-blocks c class cs le two multiple) ∙ sym (blocks-left cs class))) (omega arith) are,
       )
 
-  pub footprint-rest : IsRestCost (footprint_of above) (footprint_between snapshots step) (peaks snapshots) (peaks above) step i
-  footprint-rest = record { from = from-above; to = to-above; sum = sum-above; drop = drop-class }
+  pub footprint-rest : IsRestCost (footprint_of above) (footprint_between snapshots step) counts (counts_above counts step i) step i
+  footprint-rest = record { from = counted-above counts step i; to = counted-to counts step i; sum = sum-above; drop = drop-class }
 
-pub fitted_rows_are_rests : (snapshots : List (List ℕ)) (step limit : ℕ) (rows ends : ℕ → ℕ → ℕ) → AreSnapshots snapshots
-    → AreFittedRows snapshots step limit rows ends
-    → (k i : ℕ) → 1 ≤ k → k ≤ limit → i < places (peaks snapshots) step → IsFootprintRest snapshots step k i (rows k i)
-fitted_rows_are_rests snapshots step limit rows ends are fitted k i =
-    rows_are_rests (footprint_between snapshots step) (peaks snapshots) step limit (footprint-cost snapshots are step) rows ends fitted
-    (footprint_of (snapshots_above snapshots step i)) (peaks (snapshots_above snapshots step i)) i
-    (footprint-rest snapshots step (step-positive step fitted.is_step) i) k
+pub fitted_rows_are_rests : (forced : Bool) (snapshots : List (List ℕ)) (step limit : ℕ) (rows ends : ℕ → ℕ → ℕ) → AreSnapshots snapshots
+    → AreFittedRows forced snapshots step limit rows ends
+    → (k i : ℕ) → 1 ≤ k → k ≤ limit → i < places (served forced (peaks snapshots)) step
+    → IsFootprintRest forced snapshots step k i (rows k i)
+fitted_rows_are_rests forced snapshots step limit rows ends are fitted k i =
+    let counts = served forced (peaks snapshots) in
+    rows_are_rests (footprint_between snapshots step) counts step limit
+    (footprint-cost_on snapshots counts step are (counted-served forced (peaks snapshots))) rows ends fitted
+    (footprint_of (snapshots_above snapshots step (need_at counts step i))) (counts_above counts step i) i
+    (footprint-rest snapshots step (step-positive step fitted.is_step) counts i) k

@@ -1,12 +1,13 @@
 -- Costs of intervals grow with their spans.
 use Rattle.std.proofs.Common.{ℕ, ◌<◌, List, arith}
 use Rattle.class_table.specs.Steps.{IsStep}
-use Rattle.tuner_theory.specs.Footprint.{footprint_between, span_footprint}
+use Rattle.tuner_theory.specs.Footprint.{footprint_between}
 use Rattle.tuner_theory.specs.Growing.{IsGrowing}
 use Rattle.tuner_theory.specs.Histories.{AreSnapshots, peaks}
 use Rattle.tuner_theory.specs.Intervals.{IsIntervalCost, span_cost}
+use Rattle.tuner_theory.specs.Profiles.{IsCounted}
 use Rattle.tuner_theory.specs.Spans.{need_at, places}
-use Rattle.tuner_theory.proofs.Footprint.{footprint-cost}
+use Rattle.tuner_theory.proofs.Footprint.{footprint-cost_on}
 use Rattle.tuner_theory.proofs.Needs.{need_at-mono}
 use Rattle.tuner_theory.proofs.Rounding.{step-positive}
 
@@ -17,8 +18,9 @@ spans_grow counts step pos between cost a i j b ai ij jb le =
     (need_at-mono counts step pos j b jb le)
     (λ n counted above within. omega (arith, above, need_at-mono counts step pos a i ai (omega arith)))
 
-pub span_footprints_grow : (snapshots : List (List ℕ)) (step : ℕ) → IsStep step → AreSnapshots snapshots
-    → IsGrowing (span_footprint snapshots step) (places (peaks snapshots) step)
-span_footprints_grow snapshots step is_step are =
-    spans_grow (peaks snapshots) step (step-positive step is_step) (footprint_between snapshots step)
-    (footprint-cost snapshots are step)
+pub span_footprints_grow : (snapshots : List (List ℕ)) (counts : List ℕ) (step : ℕ) → IsStep step → AreSnapshots snapshots
+    → ((n : ℕ) → IsCounted (peaks snapshots) n → IsCounted counts n)
+    → IsGrowing (span_cost (footprint_between snapshots step) counts step) (places counts step)
+span_footprints_grow snapshots counts step is_step are covers =
+    spans_grow counts step (step-positive step is_step) (footprint_between snapshots step)
+    (footprint-cost_on snapshots counts step are covers)

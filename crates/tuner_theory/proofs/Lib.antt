@@ -7,6 +7,7 @@ pub mod ExampleSheets
 pub mod Footprint
 pub mod FootprintLawLemmas
 pub mod FootprintRests
+pub mod ForcedSheets
 pub mod Growing
 pub mod Intervals
 pub mod LeastRows
@@ -15,6 +16,7 @@ pub mod Needs
 pub mod RefusalCodes
 pub mod Rests
 pub mod Rounding
+pub mod Served
 pub mod Sheets
 pub mod Spans
 pub mod Sums

@@ -1,5 +1,5 @@
 -- What meets all conditions has a best table, and the table of least rows meets them.
-use Rattle.std.proofs.Common.{◌≡◌, ℕ, ◌<◌, List, arith, refl, sym}
+use Rattle.std.proofs.Common.{◌≡◌, ℕ, ◌<◌, Bool, List, arith, refl, sym}
 use Rattle.std.proofs.lemmas.Bool.{cases_lt}
 use Rattle.std.proofs.lemmas.List.{get_or_past}
 use Rattle.class_table.specs.Tables.{IsLegalTable}
@@ -9,6 +9,7 @@ use Rattle.tuner_theory.specs.Tuned.{AreRowsBy, tuned_table}
 use Rattle.tuner_theory.specs.Potentials.{AreValidPotentials}
 use Rattle.tuner_theory.specs.Rows.{HasShape, number_at}
 use Rattle.tuner_theory.specs.Measures.{AreSums, Measure, waste_on}
+use Rattle.tuner_theory.specs.Served.{served}
 use Rattle.tuner_theory.specs.Sheets.{IsVerdict, MeetsOn, Sheet}
 use Rattle.tuner_theory.specs.Spans.{places}
 use Rattle.tuner_theory.specs.declared.verdict.Refusal.{Refusal}
@@ -56,16 +57,17 @@ optimal-best_by m sheet sums legal meets = record {
 
 -- so a sheet that meets them has one, whoever wrote it;
 pub optimal_is_best : (counts : List ℕ) (sheet : Sheet) → IsLegalTable 1 sheet.table → IsVerdict counts sheet Optimal
-    → IsBest counts sheet.step sheet.limit sheet.table
-optimal_is_best counts sheet legal meets = optimal-best_by (waste_on counts) sheet (waste-sum counts) legal meets
+    → IsBest (served sheet.forced counts) sheet.step sheet.limit sheet.table
+optimal_is_best counts sheet legal meets =
+    let its = served sheet.forced counts in optimal-best_by (waste_on its) sheet (waste-sum its) legal meets
 
 -- and the table of least rows meets them.
-pub rows-optimal_by : (m : Measure) (step limit : ℕ) (rows : List (List ℕ)) (ends : ℕ → ℕ → ℕ)
+pub rows-optimal_by : (m : Measure) (step limit : ℕ) (forced : Bool) (rows : List (List ℕ)) (ends : ℕ → ℕ → ℕ)
     → IsSumOfIntervals m.cost (m.between step) m.counts step → AreRowsBy (m.between step) m.counts step limit (number_at rows) ends
     → HasShape rows limit (places m.counts step) → (refusal : Refusal)
     → let table = tuned_table m.counts step limit ends in
-    MeetsOn m (record { table = table; limit = limit; step = step; cost = m.cost table; rows = rows }) refusal
-rows-optimal_by m step limit rows ends sums tuned shape = meets
+    MeetsOn m (record { table = table; limit = limit; step = step; forced = forced; cost = m.cost table; rows = rows }) refusal
+rows-optimal_by m step limit forced rows ends sums tuned shape = meets
   where
     canonical : IsCanonicalBy m.cost m.counts step limit (tuned_table m.counts step limit ends)
         × (m.cost (tuned_table m.counts step limit ends) ≡ number_at rows limit 0)
@@ -78,7 +80,7 @@ rows-optimal_by m step limit rows ends sums tuned shape = meets
     table = tuned_table m.counts step limit ends
 
     meets : (refusal : Refusal)
-        → MeetsOn m (record { table = table; limit = limit; step = step; cost = m.cost table; rows = rows }) refusal
+        → MeetsOn m (record { table = table; limit = limit; step = step; forced = forced; cost = m.cost table; rows = rows }) refusal
     meets OffStep = (tuned.is_step, canonical.0.best.candidate.legal.fitting)
     meets OverLimit = canonical.0.best.candidate.few
     meets NotServing = canonical.0.best.candidate.serving

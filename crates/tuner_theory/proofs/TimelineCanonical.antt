@@ -8,15 +8,17 @@ use Rattle.std.proofs.lemmas.List.Sums.{sum_by-cons}
 use Rattle.std.proofs.Math.Nat.{mul-le-mul, mul-le-mul_left}
 use Rattle.class_table.specs.Sizes.{largest_counted}
 use Rattle.class_table.specs.Tables.{class_for}
-use Rattle.tuner_theory.specs.Best.{IsCandidate, IsCanonicalBy, IsUsed}
+use Rattle.tuner_theory.specs.Best.{IsBestBy, IsCandidate, IsCanonicalBy, IsUsed}
 use Rattle.tuner_theory.specs.Footprint.{IsFitted, blocks, footprint_of, is_class_of}
 use Rattle.tuner_theory.specs.Histories.{most, peaks}
+use Rattle.tuner_theory.specs.Served.{served}
 use Rattle.tuner_theory.specs.Timelines.{AreMoments, footprint_over, history_at, moments, snapshot_at}
 use Rattle.tuner_theory.specs.Waste.{Serves, sum_below}
 use Rattle.tuner_theory.specs.declared.size_event.SizeEvent.{SizeEvent}
 use Rattle.tuner_theory.proofs.Footprint.{most-above, peak-at, peaks-length}
 use Rattle.tuner_theory.proofs.FootprintLawLemmas.{sum-more}
-use Rattle.tuner_theory.proofs.Timelines.{candidate-before, counted-later, moment-at, moments-length, snapshot-length, some-below, some_moments_take_less}
+use Rattle.tuner_theory.proofs.Served.{counted-served, largest-served, served-cases}
+use Rattle.tuner_theory.proofs.Timelines.{candidate-before, served-later, serves-served, moment-at, moments-length, snapshot-length, some-below, some_moments_take_less}
 
 -- ---- what is not 0
 
@@ -104,11 +106,11 @@ terms-equal f g (c ∷ cs) each le =
     (omega (arith, sum_by-cons f c cs, sum_by-cons g c cs, sum-more f g cs each))
     (terms-equal f g cs each (omega (arith, sum_by-cons f c cs, sum_by-cons g c cs, each c)))
 
-pub canonical_over : (events : List SizeEvent) (numbers : List ℕ) (step limit : ℕ) (classes : List ℕ) → AreMoments events numbers
-    → IsFitted (history_at events numbers) step limit classes → Serves (peaks (moments events)) classes
+pub canonical_over : (forced : Bool) (events : List SizeEvent) (numbers : List ℕ) (step limit : ℕ) (classes : List ℕ)
+    → AreMoments events numbers → IsFitted forced (history_at events numbers) step limit classes → Serves (peaks (moments events)) classes
     → footprint_over events classes ≡ footprint_of (history_at events numbers) classes
-    → IsCanonicalBy (footprint_over events) (peaks (moments events)) step limit classes
-canonical_over events numbers step limit classes are fitted serving same =
+    → IsCanonicalBy (footprint_over events) (served forced (peaks (moments events))) step limit classes
+canonical_over forced events numbers step limit classes are fitted serving same =
     record {
       best = record {
         candidate = its;
@@ -116,16 +118,16 @@ canonical_over events numbers step limit classes are fitted serving same =
             omega (
               arith,
               same,
-              fitted.best.least other (candidate-before events numbers step limit other are candidate),
+              fitted.best.least other (candidate-before forced events numbers step limit other are candidate),
               some_moments_take_less events numbers other are,
             );
       };
       used = λ k d lt.
           let used = fitted.used k d lt in
-          (used.0, counted-later events numbers used.0 are used.1, used.2);
+          (used.0, served-later forced events numbers used.0 are used.1, used.2);
       least = λ other best used.
           fitted.least other (record {
-            candidate = candidate-before events numbers step limit other are best.candidate;
+            candidate = candidate-before forced events numbers step limit other are best.candidate;
             least = λ third candidate.
                 omega (
                   arith,
@@ -134,25 +136,46 @@ canonical_over events numbers step limit classes are fitted serving same =
                   best.least classes its,
                   fitted.best.least third candidate,
                 );
-          }) (λ k d lt.
-          let c = get_or other k d in
-          let over = blocks-of-used events other c (used k d lt) in
-          let equal = terms-equal (λ c. 16 * c * most (blocks other c) (history_at events numbers))
-          (λ c. 16 * c * most (blocks other c) (moments events)) other
-          (λ c. mul-le-mul_left (16 * c) (some-below (blocks other c) events numbers are.within))
-          (omega (
-            arith,
-            same,
-            best.least classes its,
-            fitted.best.least other (candidate-before events numbers step limit other are best.candidate),
-          )) k d lt in
-          let large : 16 * 2 ≤ 16 * c = omega (arith, (best.candidate.legal.in_range k d lt).0) in
-          used-of-blocks events numbers other c (elim (cases_lt 0 (most (blocks other c) (history_at events numbers))) [
-            | inl some ↦ some
-            | inr none ↦ let zero : most (blocks other c) (history_at events numbers) ≡ 0 = omega arith in
-                absurd (omega (arith, equal, ap (λ m. 16 * c * m) zero, mul-le-mul large over))
-          ]));
+          }) (λ k d lt. still-used other best k d lt (used k d lt));
     }
   where
-    its : IsCandidate (peaks (moments events)) step limit classes
-    its = record { legal = fitted.best.candidate.legal; few = fitted.best.candidate.few; serving = serving }
+    history : List (List ℕ)
+    history = history_at events numbers
+
+    its : IsCandidate (served forced (peaks (moments events))) step limit classes
+    its = record {
+      legal = fitted.best.candidate.legal;
+      few = fitted.best.candidate.few;
+      serving = serves-served forced events numbers classes fitted.best.candidate.serving serving;
+    }
+
+    -- a class with a block at a moment has one at some of them, since the table takes no more over all moments
+    has-blocks : (other : List ℕ) → IsBestBy (footprint_over events) (served forced (peaks (moments events))) step limit other
+        → (k d : ℕ) → k < length other → IsUsed (peaks (moments events)) other (get_or other k d)
+        → IsUsed (peaks history) other (get_or other k d)
+    has-blocks other best k d lt used =
+        let c = get_or other k d in
+        let over = blocks-of-used events other c used in
+        let equal = terms-equal (λ c. 16 * c * most (blocks other c) history) (λ c. 16 * c * most (blocks other c) (moments events)) other
+        (λ c. mul-le-mul_left (16 * c) (some-below (blocks other c) events numbers are.within))
+        (omega (
+          arith,
+          same,
+          best.least classes its,
+          fitted.best.least other (candidate-before forced events numbers step limit other are best.candidate),
+        )) k d lt in
+        let large : 16 * 2 ≤ 16 * c = omega (arith, (best.candidate.legal.in_range k d lt).0) in
+        used-of-blocks events numbers other c (elim (cases_lt 0 (most (blocks other c) history)) [
+          | inl some ↦ some
+          | inr none ↦ let zero : most (blocks other c) history ≡ 0 = omega arith in
+              absurd (omega (arith, equal, ap (λ m. 16 * c * m) zero, mul-le-mul large over))
+        ])
+
+    still-used : (other : List ℕ) → IsBestBy (footprint_over events) (served forced (peaks (moments events))) step limit other
+        → (k d : ℕ) → k < length other → IsUsed (served forced (peaks (moments events))) other (get_or other k d)
+        → IsUsed (served forced (peaks history)) other (get_or other k d)
+    still-used other best k d lt used = elim (served-cases forced (peaks (moments events)) used.0 used.1) [
+      | inr largest ↦ (used.0, rw (largest.0, largest.1) (largest-served (peaks history) (omega (arith, peaks-length history))), used.2)
+      | inl counted ↦ (let live = has-blocks other best k d lt (used.0, counted, used.2) in
+          (live.0, counted-served forced (peaks history) live.0 live.1, live.2))
+    ]

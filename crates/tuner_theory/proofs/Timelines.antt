@@ -1,5 +1,5 @@
 -- What a history of some moments says of the whole timeline.
-use Rattle.std.proofs.Common.{◌≡◌, ℕ, ◌+◌, ◌-◌, ◌*◌, ◌≤◌, List, [], ◌∷◌, length, take, slice_index, get_or, arith, ap, All}
+use Rattle.std.proofs.Common.{◌≡◌, ℕ, ◌+◌, ◌-◌, ◌*◌, ◌≤◌, Bool, List, [], ◌∷◌, length, take, slice_index, get_or, arith, ap, inl, inr, All}
 use Rattle.std.proofs.lemmas.List.{length-map, length-take}
 use Rattle.std.proofs.lemmas.List.Elements.{All-head, All-map, All-tail}
 use Rattle.std.proofs.lemmas.List.FromFn.{get_or-map-range_with_len, length-map-range_with_len}
@@ -11,6 +11,7 @@ use Rattle.tuner_theory.specs.Best.{IsCandidate}
 use Rattle.tuner_theory.specs.Footprint.{blocks, footprint_of}
 use Rattle.tuner_theory.specs.Histories.{AreSnapshots, most, peaks}
 use Rattle.tuner_theory.specs.Profiles.{AreCounts, IsCounted}
+use Rattle.tuner_theory.specs.Served.{served}
 use Rattle.tuner_theory.specs.Sheets.{IsFitVerdict, Sheet}
 use Rattle.tuner_theory.specs.Timelines.{AreMoments, IsLeastOver, IsTimeline, footprint_over, freed, history_at, is_request, moments, requested, snapshot_at}
 use Rattle.tuner_theory.specs.Waste.{Serves}
@@ -19,6 +20,7 @@ use Rattle.tuner_theory.specs.declared.verdict.Refusal.TheVariants.{WasteWrong}
 use Rattle.tuner_theory.specs.declared.verdict.Verdict.TheVariants.{Optimal}
 use Rattle.tuner_theory.proofs.Footprint.{most-above, peak-at, peaks-length}
 use Rattle.tuner_theory.proofs.FootprintLawLemmas.{optimal_fit_is_least, sum-more}
+use Rattle.tuner_theory.proofs.Served.{largest-served, served-cases, served-more}
 
 -- ---- snapshots
 
@@ -103,36 +105,57 @@ counted-later events numbers n are counted =
       ),
     )
 
-pub candidate-before : (events : List SizeEvent) (numbers : List ℕ) (step limit : ℕ) (classes : List ℕ) → AreMoments events numbers
-    → IsCandidate (peaks (moments events)) step limit classes → IsCandidate (peaks (history_at events numbers)) step limit classes
-candidate-before events numbers step limit classes are candidate = record {
+pub served-later : (forced : Bool) (events : List SizeEvent) (numbers : List ℕ) (n : ℕ) → AreMoments events numbers
+    → IsCounted (served forced (peaks (history_at events numbers))) n → IsCounted (served forced (peaks (moments events))) n
+served-later forced events numbers n are =
+    served-more forced (peaks (history_at events numbers)) (peaks (moments events)) n (omega (arith, peaks-length (moments events)))
+    (λ m. counted-later events numbers m are)
+
+pub candidate-before : (forced : Bool) (events : List SizeEvent) (numbers : List ℕ) (step limit : ℕ) (classes : List ℕ)
+    → AreMoments events numbers → IsCandidate (served forced (peaks (moments events))) step limit classes
+    → IsCandidate (served forced (peaks (history_at events numbers))) step limit classes
+candidate-before forced events numbers step limit classes are candidate = record {
   legal = candidate.legal;
   few = candidate.few;
-  serving = λ n counted. candidate.serving n (counted-later events numbers n are counted);
+  serving = λ n counted. candidate.serving n (served-later forced events numbers n are counted);
 }
+
+-- what serves some moments has the largest class where it is forced, so nothing is left but the sizes that are live at a moment
+pub serves-served : (forced : Bool) (events : List SizeEvent) (numbers classes : List ℕ)
+    → Serves (served forced (peaks (history_at events numbers))) classes → Serves (peaks (moments events)) classes
+    → Serves (served forced (peaks (moments events))) classes
+serves-served forced events numbers classes some all n counted = elim (served-cases forced (peaks (moments events)) n counted) [
+  | inl its ↦ all n its
+  | inr largest ↦ some n (rw (largest.0, largest.1) (largest-served (peaks (history_at events numbers))
+      (omega (arith, peaks-length (history_at events numbers)))))
+]
 
 -- ---- fits
 
 pub fit_bounds_timeline : (events : List SizeEvent) (numbers : List ℕ) (fit : Sheet) (other : List ℕ) → IsTimeline events
     → AreMoments events numbers → IsLegalTable 1 fit.table → IsFitVerdict (history_at events numbers) fit Optimal
-    → IsCandidate (peaks (moments events)) fit.step fit.limit other → fit.cost ≤ footprint_over events other
+    → IsCandidate (served fit.forced (peaks (moments events))) fit.step fit.limit other → fit.cost ≤ footprint_over events other
 fit_bounds_timeline events numbers fit other timeline are legal meets candidate =
     let best = optimal_fit_is_least (history_at events numbers) fit (moments_are_snapshots events numbers timeline are) legal meets in
     let says : fit.cost ≡ footprint_of (history_at events numbers) fit.table = meets WasteWrong in
     omega (
       arith,
       says,
-      best.least other (candidate-before events numbers fit.step fit.limit other are candidate),
+      best.least other (candidate-before fit.forced events numbers fit.step fit.limit other are candidate),
       some_moments_take_less events numbers other are,
     )
 
 pub least_over_timeline : (events : List SizeEvent) (numbers : List ℕ) (fit : Sheet) → IsTimeline events → AreMoments events numbers
     → IsLegalTable 1 fit.table → IsFitVerdict (history_at events numbers) fit Optimal → Serves (peaks (moments events)) fit.table
-    → footprint_over events fit.table ≡ fit.cost → IsLeastOver events fit.step fit.limit fit.table
+    → footprint_over events fit.table ≡ fit.cost → IsLeastOver fit.forced events fit.step fit.limit fit.table
 least_over_timeline events numbers fit timeline are legal meets serving same =
     let best = optimal_fit_is_least (history_at events numbers) fit (moments_are_snapshots events numbers timeline are) legal meets in
     record {
-      candidate = record { legal = best.candidate.legal; few = best.candidate.few; serving = serving };
+      candidate = record {
+        legal = best.candidate.legal;
+        few = best.candidate.few;
+        serving = serves-served fit.forced events numbers fit.table best.candidate.serving serving;
+      };
       least = λ other candidate.
           omega (arith, same, fit_bounds_timeline events numbers fit other timeline are legal meets candidate);
     }

@@ -5,7 +5,8 @@ use Rattle.class_table.specs.Sizes.{granule_bytes}
 use Rattle.class_table.specs.Tables.{class_for}
 use Rattle.tuner_theory.specs.Best.{IsBestBy, IsCanonicalBy}
 use Rattle.tuner_theory.specs.Histories.{most, peaks}
-use Rattle.tuner_theory.specs.Spans.{need_at, rounded_need}
+use Rattle.tuner_theory.specs.Served.{served}
+use Rattle.tuner_theory.specs.Spans.{rounded_need}
 use Rattle.tuner_theory.specs.Waste.{sum_below}
 
 -- Whether this is the class of a size.
@@ -21,13 +22,16 @@ blocks classes class snapshot =
 abbrev pub footprint_of : List (List ℕ) → List ℕ → ℕ
 footprint_of snapshots classes = sum_by (λ class. granule_bytes * class * most (blocks classes class) snapshots) classes
 
--- A table of least footprint, of those that are legal for the step, have at most `limit` classes and serve each counted size;
-abbrev pub IsLeastFootprint : List (List ℕ) → ℕ → ℕ → List ℕ → Type 0
-IsLeastFootprint snapshots step limit classes = IsBestBy (footprint_of snapshots) (peaks snapshots) step limit classes
+-- A table of least footprint, of those that are legal for the step, have at most `limit` classes and serve each counted size, and where the
+-- largest class is forced the largest size too;
+abbrev pub IsLeastFootprint : Bool → List (List ℕ) → ℕ → ℕ → List ℕ → Type 0
+IsLeastFootprint forced snapshots step limit classes =
+    IsBestBy (footprint_of snapshots) (served forced (peaks snapshots)) step limit classes
 
 -- and of these whose every class is used the lexicographically least.
-abbrev pub IsFitted : List (List ℕ) → ℕ → ℕ → List ℕ → Type 0
-IsFitted snapshots step limit classes = IsCanonicalBy (footprint_of snapshots) (peaks snapshots) step limit classes
+abbrev pub IsFitted : Bool → List (List ℕ) → ℕ → ℕ → List ℕ → Type 0
+IsFitted forced snapshots step limit classes =
+    IsCanonicalBy (footprint_of snapshots) (served forced (peaks snapshots)) step limit classes
 
 -- ---- by intervals
 
@@ -40,8 +44,3 @@ blocks_between step low high snapshot =
 -- What the class `high` takes for these blocks.
 abbrev pub footprint_between : List (List ℕ) → ℕ → ℕ → ℕ → ℕ
 footprint_between snapshots step low high = granule_bytes * high * most (blocks_between step low high) snapshots
-
--- The span footprint: what one class takes for the places above i up to j of the counted sizes.
-abbrev pub span_footprint : List (List ℕ) → ℕ → ℕ → ℕ → ℕ
-span_footprint snapshots step i j =
-    footprint_between snapshots step (need_at (peaks snapshots) step i) (need_at (peaks snapshots) step j)

@@ -1,5 +1,6 @@
 pub mod Best
 pub mod Footprint
+pub mod Forced
 pub mod Growing
 pub mod Histories
 pub mod Intervals
@@ -11,6 +12,7 @@ pub mod Rests
 pub mod Rows
 pub mod Sheets
 pub mod RefusalText
+pub mod Served
 pub mod Spans
 pub mod Timelines
 pub mod Tuned

@@ -1,8 +1,9 @@
 -- What tables are measured by, and so what certificates are checked against: the waste on a profile, or the footprint over a history.
-use Rattle.std.specs.Prelude.{ℕ, ◌<◌, List}
+use Rattle.std.specs.Prelude.{ℕ, ◌<◌, Bool, List}
 use Rattle.tuner_theory.specs.Footprint.{footprint_between, footprint_of}
 use Rattle.tuner_theory.specs.Histories.{peaks}
 use Rattle.tuner_theory.specs.Intervals.{IsSumOfIntervals}
+use Rattle.tuner_theory.specs.Served.{served}
 use Rattle.tuner_theory.specs.Spans.{waste_between}
 use Rattle.tuner_theory.specs.Waste.{waste_of}
 
@@ -16,9 +17,10 @@ pub record Measure : Type 0 where
 abbrev pub waste_on : List ℕ → Measure
 waste_on counts = record { counts = counts; cost = waste_of counts; between = waste_between counts }
 
-abbrev pub footprint_on : List (List ℕ) → Measure
-footprint_on snapshots =
-    record { counts = peaks snapshots; cost = footprint_of snapshots; between = footprint_between snapshots }
+-- A forced size has no block, so it takes nothing.
+abbrev pub footprint_on : Bool → List (List ℕ) → Measure
+footprint_on forced snapshots =
+    record { counts = served forced (peaks snapshots); cost = footprint_of snapshots; between = footprint_between snapshots }
 
 -- What a table costs is the sum of what its classes cost.
 abbrev pub AreSums : Measure → Type 0

@@ -24,3 +24,7 @@ pub record IsProfile (profile : Profile) : Type 0 where
 -- Requests of n bytes were counted.
 abbrev pub IsCounted : List ℕ → ℕ → Type 0
 IsCounted counts n = (n < length counts) × (0 < slice_index counts n)
+
+-- Each size that is counted in the fewer is counted in the more.
+abbrev pub Covers : List ℕ → List ℕ → Type 0
+Covers more fewer = (n : ℕ) → IsCounted fewer n → IsCounted more n

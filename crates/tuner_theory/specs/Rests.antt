@@ -1,8 +1,9 @@
 -- The least waste and the least footprint of the rest: of the sizes whose rounded need is above the one at a place.
-use Rattle.std.specs.Prelude.{◌≡◌, ℕ, suc, nat_le, if◌then◌else◌, List, [], ◌∷◌, map}
+use Rattle.std.specs.Prelude.{◌≡◌, ℕ, suc, Bool, nat_le, if◌then◌else◌, List, [], ◌∷◌, map}
 use Rattle.tuner_theory.specs.Best.{IsBestBy}
 use Rattle.tuner_theory.specs.Footprint.{footprint_of}
 use Rattle.tuner_theory.specs.Histories.{peaks}
+use Rattle.tuner_theory.specs.Served.{served}
 use Rattle.tuner_theory.specs.Spans.{need_at, rounded_need}
 use Rattle.tuner_theory.specs.Waste.{waste_of}
 
@@ -26,11 +27,13 @@ pub record IsRestBy (cost : List ℕ → ℕ) (counts : List ℕ) (step k rest :
 abbrev pub IsRest : List ℕ → ℕ → ℕ → ℕ → ℕ → Type 0
 IsRest counts step k i waste = IsRestBy (waste_of (counts_above counts step i)) (counts_above counts step i) step k waste
 
--- The snapshots of a history without the blocks of the sizes whose rounded need is at most the one at place i.
+-- The snapshots of a history without the blocks of the sizes whose rounded need is at most this one.
 abbrev pub snapshots_above : List (List ℕ) → ℕ → ℕ → List (List ℕ)
-snapshots_above snapshots step i = map (λ snapshot. counts_above_from 0 snapshot step (need_at (peaks snapshots) step i)) snapshots
+snapshots_above snapshots step low = map (λ snapshot. counts_above_from 0 snapshot step low) snapshots
 
--- The least rest of a history: the least footprint with which at most k classes serve these.
-abbrev pub IsFootprintRest : List (List ℕ) → ℕ → ℕ → ℕ → ℕ → Type 0
-IsFootprintRest snapshots step k i footprint =
-    IsRestBy (footprint_of (snapshots_above snapshots step i)) (peaks (snapshots_above snapshots step i)) step k footprint
+-- The least rest of a history: the least footprint with which at most k classes serve the sizes whose rounded need is above the one at
+-- place i.
+abbrev pub IsFootprintRest : Bool → List (List ℕ) → ℕ → ℕ → ℕ → ℕ → Type 0
+IsFootprintRest forced snapshots step k i footprint =
+    let counts = served forced (peaks snapshots) in
+    IsRestBy (footprint_of (snapshots_above snapshots step (need_at counts step i))) (counts_above counts step i) step k footprint

@@ -1,10 +1,11 @@
 -- Sheets, what has to hold of one, and the verdict on it.
-use Rattle.std.specs.Prelude.{◌≡◌, ℕ, ◌<◌, ◌≤◌, List, length}
+use Rattle.std.specs.Prelude.{◌≡◌, ℕ, ◌<◌, ◌≤◌, Bool, List, length}
 use Rattle.class_table.specs.Tables.{FitsStep}
 use Rattle.tuner_theory.specs.Intervals.{span_cost}
 use Rattle.tuner_theory.specs.Measures.{Measure, footprint_on, waste_on}
 use Rattle.tuner_theory.specs.Potentials.{KeepsEdges, KeepsLastClass, KeepsStageDrops}
 use Rattle.tuner_theory.specs.Rows.{HasShape, number_at}
+use Rattle.tuner_theory.specs.Served.{served}
 use Rattle.tuner_theory.specs.Spans.{places}
 use Rattle.class_table.specs.Steps.{IsStep}
 use Rattle.tuner_theory.specs.Waste.{Serves}
@@ -13,11 +14,13 @@ use Rattle.tuner_theory.specs.declared.verdict.Refusal.TheVariants.{OffStep, Ove
 use Rattle.tuner_theory.specs.declared.verdict.Verdict.{Verdict}
 use Rattle.tuner_theory.specs.declared.verdict.Verdict.TheVariants.{Optimal, Refused}
 
--- A class table with the certificate of its cost: its waste on a profile, or its footprint over a history.
+-- A class table with the certificate of its cost: its waste on a profile, or its footprint over a history. `forced` is whether the table has to
+-- have the largest class.
 pub record Sheet : Type 0 where
   pub table : List ℕ
   pub limit : ℕ
   pub step : ℕ
+  pub forced : Bool
   pub cost : ℕ
   pub rows : List (List ℕ)
 
@@ -64,10 +67,10 @@ IsVerdictBy meets (Refused refusal) = AreMetBefore meets refusal × (meets refus
 abbrev pub IsVerdictOn : Measure → Sheet → Verdict → Type 0
 IsVerdictOn m s verdict = IsVerdictBy (MeetsOn m s) verdict
 
--- for the counts of a profile;
+-- for the counts of a profile, where the largest size is one of them if the largest class is forced;
 abbrev pub IsVerdict : List ℕ → Sheet → Verdict → Type 0
-IsVerdict counts s verdict = IsVerdictOn (waste_on counts) s verdict
+IsVerdict counts s verdict = IsVerdictOn (waste_on (served s.forced counts)) s verdict
 
 -- and on a fit, which is a sheet of the footprint, for the snapshots of a history.
 abbrev pub IsFitVerdict : List (List ℕ) → Sheet → Verdict → Type 0
-IsFitVerdict snapshots fit verdict = IsVerdictOn (footprint_on snapshots) fit verdict
+IsFitVerdict snapshots fit verdict = IsVerdictOn (footprint_on fit.forced snapshots) fit verdict

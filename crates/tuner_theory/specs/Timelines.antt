@@ -50,9 +50,9 @@ abbrev pub footprint_over : List SizeEvent → List ℕ → ℕ
 footprint_over events classes = footprint_of (moments events) classes
 
 -- A table of least footprint over all moments, of those that are legal for the step, have at most `limit` classes and serve each size that
--- is live at a moment.
-abbrev pub IsLeastOver : List SizeEvent → ℕ → ℕ → List ℕ → Type 0
-IsLeastOver events step limit classes = IsLeastFootprint (moments events) step limit classes
+-- is live at a moment, and where the largest class is forced the largest size too.
+abbrev pub IsLeastOver : Bool → List SizeEvent → ℕ → ℕ → List ℕ → Type 0
+IsLeastOver forced events step limit classes = IsLeastFootprint forced (moments events) step limit classes
 
 -- Some moments of a timeline, by their numbers, at most as many as a history has snapshots.
 pub record AreMoments (events : List SizeEvent) (numbers : List ℕ) : Type 0 where

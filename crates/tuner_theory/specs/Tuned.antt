@@ -1,9 +1,10 @@
 -- What a tuner makes for a profile: rows over its spans, and the table that they give.
-use Rattle.std.specs.Prelude.{ℕ, ◌≤◌, List}
+use Rattle.std.specs.Prelude.{ℕ, ◌≤◌, Bool, List}
 use Rattle.tuner_theory.specs.Footprint.{footprint_between}
 use Rattle.tuner_theory.specs.Histories.{peaks}
 use Rattle.tuner_theory.specs.Intervals.{span_cost}
 use Rattle.tuner_theory.specs.Rows.{AreLeastRows, table_of_ends}
+use Rattle.tuner_theory.specs.Served.{served}
 use Rattle.tuner_theory.specs.Spans.{need_at, places, waste_between}
 use Rattle.class_table.specs.Steps.{IsStep}
 use Rattle.tuner_theory.specs.Profiles.{AreCounts}
@@ -22,8 +23,9 @@ abbrev pub AreTunedRows : List ℕ → ℕ → ℕ → (ℕ → ℕ → ℕ) →
 AreTunedRows counts step limit rows ends = AreRowsBy (waste_between counts step) counts step limit rows ends
 
 -- Least rows over the span footprints of a history.
-abbrev pub AreFittedRows : List (List ℕ) → ℕ → ℕ → (ℕ → ℕ → ℕ) → (ℕ → ℕ → ℕ) → Type 0
-AreFittedRows snapshots step limit rows ends = AreRowsBy (footprint_between snapshots step) (peaks snapshots) step limit rows ends
+abbrev pub AreFittedRows : Bool → List (List ℕ) → ℕ → ℕ → (ℕ → ℕ → ℕ) → (ℕ → ℕ → ℕ) → Type 0
+AreFittedRows forced snapshots step limit rows ends =
+    AreRowsBy (footprint_between snapshots step) (served forced (peaks snapshots)) step limit rows ends
 
 -- The table that they give, from the last row and place 0.
 abbrev pub tuned_table : List ℕ → ℕ → ℕ → (ℕ → ℕ → ℕ) → List ℕ

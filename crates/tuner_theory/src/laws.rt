@@ -1,13 +1,19 @@
 //! What holds for every profile, table and sheet. Each law is the contract of a function that does nothing.
-ghost use Rattle.std.specs.Prelude.{◌≡◌, ℕ, ◌+◌, ◌≤◌, List};
+ghost use Rattle.std.specs.Prelude.{◌≡◌, ◌↔◌, ℕ, ◌+◌, ◌≤◌, true, List, Contains};
 ghost use Rattle.class_table.specs.Steps.{IsStep};
 ghost use Rattle.class_table.specs.Tables.{IsLegalTable};
+ghost use Rattle.class_table.specs.declared.sizes.TheConstants.{LARGEST_CLASS};
 ghost use Rattle.tuner_theory.specs.Best.{IsBest, IsCandidate};
+ghost use Rattle.tuner_theory.specs.Footprint.{footprint_of};
+ghost use Rattle.tuner_theory.specs.Forced.{IsBestWithLargest};
+ghost use Rattle.tuner_theory.specs.Histories.{AreSnapshots, peaks};
 ghost use Rattle.tuner_theory.specs.Potentials.{AreValidPotentials};
+ghost use Rattle.tuner_theory.specs.Profiles.{AreCounts};
 ghost use Rattle.tuner_theory.specs.Rests.{counts_above};
+ghost use Rattle.tuner_theory.specs.Served.{served};
 ghost use Rattle.tuner_theory.specs.Sheets.{IsFitVerdict, IsVerdict, Sheet};
 ghost use Rattle.tuner_theory.specs.Spans.{places, span_waste, waste_between};
-ghost use Rattle.tuner_theory.specs.Waste.{waste_of};
+ghost use Rattle.tuner_theory.specs.Waste.{Serves, waste_of};
 ghost use Rattle.tuner_theory.specs.declared.verdict.Verdict.{Verdict};
 ghost use Rattle.tuner_theory.specs.declared.verdict.Verdict.TheVariants.{Optimal};
 
@@ -35,10 +41,26 @@ pub fn law_potentials_bound()
         → potential k i ≤ waste_of (counts_above counts step i) classes }
 {}
 
-/// A sheet that meets all conditions, and whose table is legal, has a best table, whoever wrote it.
+/// A sheet that meets all conditions, and whose table is legal, has a best table, whoever wrote it. Where the largest class is forced, it is one
+/// of those that serve the largest size too; `law_forced_class` says what that means.
 pub fn law_optimal_is_best()
     ensures { (counts : List ℕ) (sheet : Sheet) → IsLegalTable 1 sheet.table → IsVerdict counts sheet Optimal
-        → IsBest counts sheet.step sheet.limit sheet.table }
+        → IsBest (served sheet.forced counts) sheet.step sheet.limit sheet.table }
+{}
+
+/// The tables that serve the largest size too are those that have the largest class, and they waste nothing on it. So a sheet that meets all
+/// conditions, and forces the largest class, has it, and of the tables that have it none wastes less; and a fit likewise takes least.
+pub fn law_forced_class()
+    ensures serving { (counts classes : List ℕ) (step : ℕ) → AreCounts counts → IsLegalTable step classes
+        → Serves (served true counts) classes ↔ (Serves counts classes × Contains classes LARGEST_CLASS) }
+    ensures waste { (counts classes : List ℕ) (step : ℕ) → IsLegalTable step classes
+        → waste_of (served true counts) classes ≡ waste_of counts classes }
+    ensures sheet { (counts : List ℕ) (sheet : Sheet) → AreCounts counts → IsLegalTable 1 sheet.table
+        → sheet.forced ≡ true → IsVerdict counts sheet Optimal
+        → IsBestWithLargest (waste_of counts) counts sheet.step sheet.limit sheet.table }
+    ensures fit { (snapshots : List (List ℕ)) (fit : Sheet) → AreSnapshots snapshots → IsLegalTable 1 fit.table
+        → fit.forced ≡ true → IsFitVerdict snapshots fit Optimal
+        → IsBestWithLargest (footprint_of snapshots) (peaks snapshots) fit.step fit.limit fit.table }
 {}
 
 /// A sheet has one verdict, and so has a fit.

@@ -1,10 +1,11 @@
 //! What holds for every timeline, table and fit. Each law is the contract of a function that does nothing.
-ghost use Rattle.std.specs.Prelude.{◌≡◌, ◌↔◌, ℕ, ◌≤◌, ◌<◌, List, IsSome, length, slice_index};
+ghost use Rattle.std.specs.Prelude.{◌≡◌, ◌↔◌, ℕ, ◌≤◌, ◌<◌, Bool, List, IsSome, length, slice_index};
 ghost use Rattle.class_table.specs.Sizes.{largest_counted};
 ghost use Rattle.class_table.specs.Tables.{IsLegalTable, class_for};
 ghost use Rattle.tuner_theory.specs.Best.{IsCandidate};
 ghost use Rattle.tuner_theory.specs.Footprint.{IsFitted, footprint_of};
 ghost use Rattle.tuner_theory.specs.Histories.{AreSnapshots, peaks};
+ghost use Rattle.tuner_theory.specs.Served.{served};
 ghost use Rattle.tuner_theory.specs.Sheets.{IsFitVerdict, Sheet};
 ghost use Rattle.tuner_theory.specs.Timelines.{AreMoments, IsLeastOver, IsTimeline, footprint_over, history_at, moments, requested, snapshot_at};
 ghost use Rattle.tuner_theory.specs.Waste.{Serves};
@@ -20,11 +21,12 @@ pub fn law_some_moments()
 {}
 
 /// A fit that is optimal over some moments bounds from below what any table takes over the whole timeline, if it serves each size that is live
-/// at a moment.
+/// at a moment, and where the fit's largest class is forced the largest size too.
 pub fn law_fit_bounds_timeline()
     ensures { (events : List SizeEvent) (numbers : List ℕ) (fit : Sheet) (other : List ℕ) → IsTimeline events
         → AreMoments events numbers → IsLegalTable 1 fit.table → IsFitVerdict (history_at events numbers) fit Optimal
-        → IsCandidate (peaks (moments events)) fit.step fit.limit other → fit.cost ≤ footprint_over events other }
+        → IsCandidate (served fit.forced (peaks (moments events))) fit.step fit.limit other
+        → fit.cost ≤ footprint_over events other }
 {}
 
 /// If a fit is optimal over some moments, and its table serves each size that is live at a moment and takes no more over the whole timeline,
@@ -33,7 +35,7 @@ pub fn law_least_over_timeline()
     ensures { (events : List SizeEvent) (numbers : List ℕ) (fit : Sheet) → IsTimeline events → AreMoments events numbers
         → IsLegalTable 1 fit.table → IsFitVerdict (history_at events numbers) fit Optimal
         → Serves (peaks (moments events)) fit.table → footprint_over events fit.table ≡ fit.cost
-        → IsLeastOver events fit.step fit.limit fit.table }
+        → IsLeastOver fit.forced events fit.step fit.limit fit.table }
 {}
 
 /// A table serves each size that is live at a moment exactly if it serves each requested size, up to the largest that is counted.
@@ -55,9 +57,9 @@ pub fn law_largest_size()
 /// The table that is fitted over some moments, if it serves each size that is live at a moment and takes no more over the whole timeline, is
 /// the one that would be fitted over all moments. So which moments were looked at is not seen in the table.
 pub fn law_one_table()
-    ensures { (events : List SizeEvent) (numbers : List ℕ) (step limit : ℕ) (classes : List ℕ)
+    ensures { (forced : Bool) (events : List SizeEvent) (numbers : List ℕ) (step limit : ℕ) (classes : List ℕ)
         → AreMoments events numbers
-        → IsFitted (history_at events numbers) step limit classes → Serves (peaks (moments events)) classes
+        → IsFitted forced (history_at events numbers) step limit classes → Serves (peaks (moments events)) classes
         → footprint_over events classes ≡ footprint_of (history_at events numbers) classes
-        → IsFitted (moments events) step limit classes }
+        → IsFitted forced (moments events) step limit classes }
 {}

@@ -39,6 +39,7 @@ pub struct mte_tool_options {
     pub seed: u64,
     pub limit: u64,
     pub step: u64,
+    pub largest_class: u64,
 }
 
 /// `mte_tool_result`.

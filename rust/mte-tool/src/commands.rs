@@ -10,7 +10,7 @@ pub fn score(classes: &[u8], profile: &[u8]) -> Result<Cost, Error> {
     Ok(call_on(c::mte_tool_score, classes, profile, &Options::new(0))?.cost())
 }
 
-/// The sheet of the table of least waste on a profile, by `limit` and `step`.
+/// The sheet of the table of least waste on a profile, by `limit`, `step` and `largest_class`.
 pub fn tune(profile: &[u8], options: &Options) -> Result<Text, Error> {
     Ok(call(c::mte_tool_tune, profile, options)?.text)
 }
@@ -25,7 +25,7 @@ pub fn footprint(classes: &[u8], history: &[u8]) -> Result<Cost, Error> {
     Ok(call_on(c::mte_tool_footprint, classes, history, &Options::new(0))?.cost())
 }
 
-/// The fit of the table of least footprint over a history or a timeline, by `limit` and `step`.
+/// The fit of the table of least footprint over a history or a timeline, by `limit`, `step` and `largest_class`.
 pub fn fit(history: &[u8], options: &Options) -> Result<Fit, Error> {
     Ok(call(c::mte_tool_fit, history, options)?.fit())
 }

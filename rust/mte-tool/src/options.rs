@@ -15,12 +15,14 @@ pub struct Options {
     pub limit: u64,
     /// The granules that each class is a multiple of: 1, 2, 4 or 8.
     pub step: u64,
+    /// Whether the table must have class 1024: 0 or 1.
+    pub largest_class: u64,
 }
 
 impl Options {
     /// The program's defaults, with this limit.
     pub fn new(limit: u64) -> Options {
-        Options { granules: 65_536, quarantine: 65_536, seed: 1, limit, step: 1 }
+        Options { granules: 65_536, quarantine: 65_536, seed: 1, limit, step: 1, largest_class: 0 }
     }
 
     pub(crate) fn to_c(&self) -> c::mte_tool_options {
@@ -31,6 +33,7 @@ impl Options {
             seed: self.seed,
             limit: self.limit,
             step: self.step,
+            largest_class: self.largest_class,
         }
     }
 }

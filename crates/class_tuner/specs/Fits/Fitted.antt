@@ -1,19 +1,22 @@
 -- The result of a fitter.
-use Rattle.std.specs.Prelude.{ℕ, ◌<◌, ◌≤◌, List}
+use Rattle.std.specs.Prelude.{ℕ, ◌<◌, ◌≤◌, Bool, List}
 use Rattle.class_tuner.specs.Tuned.{IsMadeFor}
 use Rattle.tuner_theory.specs.Histories.{peaks}
 use Rattle.tuner_theory.specs.Measures.{footprint_on}
 use Rattle.tuner_theory.specs.Rests.{IsFootprintRest}
 use Rattle.tuner_theory.specs.Rows.{number_at}
+use Rattle.tuner_theory.specs.Served.{served}
 use Rattle.tuner_theory.specs.Sheets.{Sheet}
 use Rattle.tuner_theory.specs.Spans.{places}
 
 -- Each number of the rows is the least footprint of its row and place.
-abbrev pub AreFootprintRests : List (List ℕ) → ℕ → ℕ → List (List ℕ) → Type 0
-AreFootprintRests snapshots step limit rows =
-    (k i : ℕ) → 1 ≤ k → k ≤ limit → i < places (peaks snapshots) step → IsFootprintRest snapshots step k i (number_at rows k i)
+abbrev pub AreFootprintRests : Bool → List (List ℕ) → ℕ → ℕ → List (List ℕ) → Type 0
+AreFootprintRests forced snapshots step limit rows =
+    (k i : ℕ) → 1 ≤ k → k ≤ limit → i < places (served forced (peaks snapshots)) step
+    → IsFootprintRest forced snapshots step k i (number_at rows k i)
 
--- The fit of a history for a step and a limit. Its rows are the least footprints of what is left above each place.
-pub record IsFitOf (snapshots : List (List ℕ)) (step limit : ℕ) (fit : Sheet) : Type 0 where
-  pub made : IsMadeFor (footprint_on snapshots) step limit fit
-  pub rests : AreFootprintRests snapshots step limit fit.rows
+-- The fit of a history for a step and a limit, and whether the largest class is forced. Its rows are the least footprints of what is left
+-- above each place.
+pub record IsFitOf (snapshots : List (List ℕ)) (step limit : ℕ) (forced : Bool) (fit : Sheet) : Type 0 where
+  pub made : IsMadeFor (footprint_on forced snapshots) step limit forced fit
+  pub rests : AreFootprintRests forced snapshots step limit fit.rows

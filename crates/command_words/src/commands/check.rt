@@ -19,6 +19,7 @@ Standard input is a sheet, and then a profile:
                      ascending
   limit K            the most classes that a table may have, 1 to 32
   step S             2, 4 or 8, where each class must be a multiple of it; no such line for 1
+  forced 1024        where the table must have class 1024; " largest " is a counted size then
   waste W            the bytes that the table is said to waste
   row N1 N2 ..       K rows with a number for each distinct need; all `row` lines that follow at
                      once belong to the sheet
@@ -29,7 +30,8 @@ Standard input is a sheet, and then a profile:
 The output is one line:
 
   optimal              the sheet meets all conditions below: no table of at most K classes that are
-                       multiples of S, and that serves each counted size, wastes less
+                       multiples of S, with class 1024 if it is forced, and that serves each
+                       counted size, wastes less
   refused CODE NAME    the first condition that the sheet breaks; the exit status is 1
 
 A table may be a best one and its sheet refused: the rows must prove it. The conditions:

@@ -19,6 +19,7 @@ Standard input is a fit, and then a history, or a line `moments` and a timeline:
                      ascending
   limit K            the most classes that a table may have, 1 to 32
   step S             2, 4 or 8, where each class must be a multiple of it; no such line for 1
+  forced 1024        where the table must have class 1024; " largest " is a counted size then
   footprint F        the bytes that the table is said to take
   row N1 N2 ..       K rows with a number for each distinct need; all `row` lines that follow at
                      once belong to the fit
@@ -31,8 +32,9 @@ Standard input is a fit, and then a history, or a line `moments` and a timeline:
 The output is one line:
 
   optimal              the fit meets all conditions below: no table of at most K classes that are
-                       multiples of S, and that serves each counted size, takes less: over the
-                       history, or over every moment of the timeline
+                       multiples of S, with class 1024 if it is forced, and that serves each
+                       counted size, takes less: over the history, or over every moment of the
+                       timeline
   refused CODE NAME    the first condition that the fit breaks; the exit status is 1
 
 A table may be one that takes least and its fit refused: the rows must prove it. The conditions:

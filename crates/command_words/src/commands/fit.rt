@@ -23,9 +23,11 @@ The output is a fit:
                      first in lexicographic order
   limit K            the most classes that it was allowed
   step S             each class is a multiple of it; no such line for 1
+  forced 1024        with --largest-class 1: the table has class 1024, which serves each size that
+                     any class serves; " largest " counts as a size then, with no block
   footprint F        the bytes that its classes take, each when most of its blocks are live; no
-                     table of at most K classes that are multiples of S, and that serves each
-                     counted size, takes less
+                     table of at most K classes that are multiples of S, with class 1024 if it is
+                     forced, and that serves each counted size, takes less
   row N1 N2 ..       K rows: row k, number i is the least that at most k classes take for the blocks
                      without those of the i-1 smallest distinct needs
   moments M1 M2 ..   of a timeline: the events before each of the moments whose history the rows are

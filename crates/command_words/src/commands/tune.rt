@@ -23,9 +23,11 @@ The output is a sheet:
                      first in lexicographic order
   limit K            the most classes that it was allowed
   step S             each class is a multiple of it; no such line for 1
+  forced 1024        with --largest-class 1: the table has class 1024, which serves each size that
+                     any class serves; " largest " counts as a size then, at no waste
   waste W            the bytes that all requests together leave unused in their blocks; no table of
-                     at most K classes that are multiples of S, and that serves each counted size,
-                     wastes less
+                     at most K classes that are multiples of S, with class 1024 if it is forced,
+                     and that serves each counted size, wastes less
   row N1 N2 ..       K rows: row k, number i is the least that at most k classes waste on the
                      requests without those of the i-1 smallest distinct needs
 

@@ -1,5 +1,5 @@
 //! A caller of an engine, from a slice to a vector.
-ghost use Rattle.std.specs.Prelude.{◌≡◌, IfOk, Ok};
+ghost use Rattle.std.specs.Prelude.{◌≡◌, false, IfOk, Ok};
 ghost use Rattle.mte_engine.specs.Outcome.{Answer, AnswersInput};
 ghost use Rattle.mte_engine.specs.Tune.{AreTuneOptions, TuneAnswers};
 ghost use Rattle.mte_engine.specs.declared.engine.Status.{Status};
@@ -12,7 +12,7 @@ use std::alloc::Global;
 pub fn tuned_sheet(alloc: Global, limit: u8, step: u8, profile: &[u8]) -> Result<Vec<u8>, ToolFault>
     requires { AreTuneOptions limit step }
     ensures { IfOk result (λ text. (answer : Answer)
-        × AnswersInput (TuneAnswers limit step) profile.now (Ok answer) × (answer.text ≡ text.items)) }
+        × AnswersInput (TuneAnswers limit step false) profile.now (Ok answer) × (answer.text ≡ text.items)) }
 {
     let mut source = MemorySource {
         rest: profile,
@@ -26,6 +26,6 @@ pub fn tuned_sheet(alloc: Global, limit: u8, step: u8, profile: &[u8]) -> Result
         most: usize::MAX,
         until_failure: None,
     };
-    tune(alloc, limit, step, &mut source, &mut sink)?;
+    tune(alloc, limit, step, false, &mut source, &mut sink)?;
     Ok(sink.text)
 }

@@ -42,6 +42,6 @@ pub fn least_waste(alloc: Global, sizes: &[u32], limit: u8) -> Result<u64, NoTab
     for n in sizes {
         profile.add(*n)?;
     }
-    let tuned = tune(alloc, &profile, limit, 1)?;
+    let tuned = tune(alloc, &profile, limit, 1, false)?;
     Ok(tuned.sheet().cost)
 }

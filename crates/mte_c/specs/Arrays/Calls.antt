@@ -1,5 +1,5 @@
 -- What the calls over arrays answer.
-use Rattle.std.specs.Prelude.{◌≡◌, ◌≢◌, ℕ, ◌*◌, ◌/◌, ◌%◌, ◌<◌, ◌≤◌, List, ◌++◌, drop, length, None, Some, Result, Ok, Err, IsOk}
+use Rattle.std.specs.Prelude.{◌≡◌, ◌≢◌, ℕ, ◌*◌, ◌/◌, ◌%◌, ◌<◌, ◌≤◌, Bool, ◌==◌, List, ◌++◌, drop, length, None, Some, Result, Ok, Err, IsOk}
 use Rattle.class_table.specs.Faults.{table_of_classes}
 use Rattle.class_table.specs.declared.fault.TableError.{TableError}
 use Rattle.class_tuner.specs.Tuned.{IsTuned}
@@ -7,6 +7,7 @@ use Rattle.profile_count.specs.Counts.{unserved_of}
 use Rattle.tool_call.specs.Options.{AreTuneOptions}
 use Rattle.tuner_theory.specs.Best.{IsBest}
 use Rattle.tuner_theory.specs.Profiles.{Profile}
+use Rattle.tuner_theory.specs.Served.{served}
 use Rattle.tuner_theory.specs.Sheets.{IsVerdict, Sheet}
 use Rattle.tuner_theory.specs.Spans.{places}
 use Rattle.tuner_theory.specs.Waste.{waste_of}
@@ -44,53 +45,58 @@ IsScored classes sizes counts (Err Misuse) = ⊥
 
 -- ---- tune
 
+-- The limit, the step, and whether the table must have the largest class, 0 or 1.
+abbrev pub AreOptions : ℕ → ℕ → ℕ → Type 0
+AreOptions limit step largest_class = AreTuneOptions limit step × largest_class ≤ 1
+
 -- The tuned sheet, as numbers: its classes at the start of one array, and its rows at the start of another if they fit.
-pub record IsTunedInto (limit step : ℕ) (sizes counts classes rows classes' rows' : List ℕ) (tuned : TunedNumbers) : Type 0 where
+pub record IsTunedInto (limit step : ℕ) (forced : Bool) (sizes counts classes rows classes' rows' : List ℕ) (tuned : TunedNumbers) : Type 0 where
   pub profile : Profile
   pub spelled : profile_of_arrays sizes counts ≡ Ok profile
   pub sheet : Sheet
-  pub is_tuned : IsTuned profile.counts step limit sheet
+  pub is_tuned : IsTuned profile.counts step limit forced sheet
   pub class_count : tuned.classes ≡ length sheet.table
   pub waste : tuned.waste ≡ sheet.cost
-  pub row_length : tuned.places ≡ places profile.counts step
+  pub row_length : tuned.places ≡ places (served forced profile.counts) step
   pub table : classes' ≡ sheet.table ++ drop (length sheet.table) classes
   pub rows_fit : limit * tuned.places ≤ length rows → AreRows limit tuned.places rows' sheet.rows
   pub rows_rest : drop (limit * tuned.places) rows' ≡ drop (limit * tuned.places) rows
   pub rows_kept : length rows < limit * tuned.places → rows' ≡ rows
 
 -- That, or the first error. `room` is how many classes there is room for.
-abbrev pub IsTunedOr : ℕ → ℕ → List ℕ → List ℕ → ℕ → Result TunedNumbers ArrayError → (TunedNumbers → Type 0) → Type 0
-IsTunedOr limit step sizes counts room (Ok tuned) done = AreTuneOptions limit step × (limit ≤ room) × done tuned
-IsTunedOr limit step sizes counts room (Err OutOfMemory) done = AreTuneOptions limit step × (limit ≤ room)
-IsTunedOr limit step sizes counts room (Err (Table fault)) done = ⊥
-IsTunedOr limit step sizes counts room (Err (Entry index fault)) done =
-    AreTuneOptions limit step × (limit ≤ room) × (profile_of_arrays sizes counts ≡ Err (index, fault))
-IsTunedOr limit step sizes counts room (Err BadOption) done = AreTuneOptions limit step → ⊥
-IsTunedOr limit step sizes counts room (Err Misuse) done = AreTuneOptions limit step × (room < limit)
+abbrev pub IsTunedOr : ℕ → ℕ → ℕ → List ℕ → List ℕ → ℕ → Result TunedNumbers ArrayError → (TunedNumbers → Type 0) → Type 0
+IsTunedOr limit step largest_class sizes counts room (Ok tuned) done = AreOptions limit step largest_class × (limit ≤ room) × done tuned
+IsTunedOr limit step largest_class sizes counts room (Err OutOfMemory) done = AreOptions limit step largest_class × (limit ≤ room)
+IsTunedOr limit step largest_class sizes counts room (Err (Table fault)) done = ⊥
+IsTunedOr limit step largest_class sizes counts room (Err (Entry index fault)) done =
+    AreOptions limit step largest_class × (limit ≤ room) × (profile_of_arrays sizes counts ≡ Err (index, fault))
+IsTunedOr limit step largest_class sizes counts room (Err BadOption) done = AreOptions limit step largest_class → ⊥
+IsTunedOr limit step largest_class sizes counts room (Err Misuse) done = AreOptions limit step largest_class × (room < limit)
 
 -- ---- check
 
 -- The verdict on the sheet that the numbers spell.
-pub record IsCheckedAs (limit step waste : ℕ) (classes numbers sizes counts : List ℕ) (verdict : Verdict) : Type 0 where
+pub record IsCheckedAs (limit step : ℕ) (forced : Bool) (waste : ℕ) (classes numbers sizes counts : List ℕ) (verdict : Verdict) : Type 0 where
   pub table : List ℕ
   pub is_table : table_of_classes classes ≡ Ok table
   pub profile : Profile
   pub spelled : profile_of_arrays sizes counts ≡ Ok profile
   pub rows : List (List ℕ)
   pub are_rows : AreRows limit (length numbers / limit) numbers rows
-  pub is_verdict : IsVerdict profile.counts (record { table = table; limit = limit; step = step; cost = waste; rows = rows }) verdict
-  pub best : verdict ≡ Optimal → IsBest profile.counts step limit table
+  pub is_verdict : IsVerdict profile.counts
+      (record { table = table; limit = limit; step = step; forced = forced; cost = waste; rows = rows }) verdict
+  pub best : verdict ≡ Optimal → IsBest (served forced profile.counts) step limit table
 
 -- That, or the first error.
-abbrev pub IsChecked : ℕ → ℕ → ℕ → List ℕ → List ℕ → List ℕ → List ℕ → Result Verdict ArrayError → Type 0
-IsChecked limit step waste classes numbers sizes counts (Ok verdict) =
-    AreTuneOptions limit step × (length numbers % limit ≡ 0) × IsCheckedAs limit step waste classes numbers sizes counts verdict
-IsChecked limit step waste classes numbers sizes counts (Err OutOfMemory) =
-    AreTuneOptions limit step × (length numbers % limit ≡ 0) × IsOk (table_of_classes classes)
-IsChecked limit step waste classes numbers sizes counts (Err BadOption) = AreTuneOptions limit step → ⊥
-IsChecked limit step waste classes numbers sizes counts (Err Misuse) = AreTuneOptions limit step × (length numbers % limit ≢ 0)
-IsChecked limit step waste classes numbers sizes counts (Err (Table fault)) =
-    AreTuneOptions limit step × (length numbers % limit ≡ 0) × (table_of_classes classes ≡ Err fault)
-IsChecked limit step waste classes numbers sizes counts (Err (Entry index fault)) =
-    AreTuneOptions limit step × (length numbers % limit ≡ 0)
+abbrev pub IsChecked : ℕ → ℕ → ℕ → ℕ → List ℕ → List ℕ → List ℕ → List ℕ → Result Verdict ArrayError → Type 0
+IsChecked limit step largest_class waste classes numbers sizes counts (Ok verdict) =
+    AreOptions limit step largest_class × (length numbers % limit ≡ 0) × IsCheckedAs limit step (largest_class == 1) waste classes numbers sizes counts verdict
+IsChecked limit step largest_class waste classes numbers sizes counts (Err OutOfMemory) =
+    AreOptions limit step largest_class × (length numbers % limit ≡ 0) × IsOk (table_of_classes classes)
+IsChecked limit step largest_class waste classes numbers sizes counts (Err BadOption) = AreOptions limit step largest_class → ⊥
+IsChecked limit step largest_class waste classes numbers sizes counts (Err Misuse) = AreOptions limit step largest_class × (length numbers % limit ≢ 0)
+IsChecked limit step largest_class waste classes numbers sizes counts (Err (Table fault)) =
+    AreOptions limit step largest_class × (length numbers % limit ≡ 0) × (table_of_classes classes ≡ Err fault)
+IsChecked limit step largest_class waste classes numbers sizes counts (Err (Entry index fault)) =
+    AreOptions limit step largest_class × (length numbers % limit ≡ 0)
     × ((table : List ℕ) × (table_of_classes classes ≡ Ok table) × (profile_of_arrays sizes counts ≡ Err (index, fault)))

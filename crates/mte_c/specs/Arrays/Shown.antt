@@ -1,5 +1,5 @@
 -- What C is told of the answer of a call over arrays.
-use Rattle.std.specs.Prelude.{◌≡◌, ℕ, List, ◌++◌, length, Some, Result, Ok, Err, OnErr}
+use Rattle.std.specs.Prelude.{◌≡◌, ℕ, ◌==◌, List, ◌++◌, length, Some, Result, Ok, Err, OnErr}
 use Rattle.class_table.specs.FaultText.{shown_table_error}
 use Rattle.handed_text.specs.declared.ends.TheConstants.{DONE, NO, REFUSED, OUT_OF_MEMORY, BAD_OPTION, MISUSE}
 use Rattle.line_text.specs.Numbers.{leading_number_of}
@@ -53,14 +53,15 @@ pub record Scores (classes sizes counts : List ℕ) (numbers : Numbers) : Type 0
   pub is_scored : IsScored classes sizes counts scored
   pub shown : ShowsScore scored numbers
 
-pub record Tunes (limit step : ℕ) (sizes counts classes rows classes' rows' : List ℕ) (numbers : Numbers) : Type 0 where
+pub record Tunes (limit step largest_class : ℕ) (sizes counts classes rows classes' rows' : List ℕ) (numbers : Numbers) : Type 0 where
   pub tuned : Result TunedNumbers ArrayError
-  pub is_tuned : IsTunedOr limit step sizes counts (length classes) tuned (IsTunedInto limit step sizes counts classes rows classes' rows')
+  pub is_tuned : IsTunedOr limit step largest_class sizes counts (length classes) tuned
+      (IsTunedInto limit step (largest_class == 1) sizes counts classes rows classes' rows')
   pub classes_kept : OnErr tuned (classes' ≡ classes)
   pub rows_kept : OnErr tuned (rows' ≡ rows)
   pub shown : ShowsTuned tuned numbers
 
-pub record Checks (limit step waste : ℕ) (classes rows sizes counts : List ℕ) (numbers : Numbers) : Type 0 where
+pub record Checks (limit step largest_class waste : ℕ) (classes rows sizes counts : List ℕ) (numbers : Numbers) : Type 0 where
   pub checked : Result Verdict ArrayError
-  pub is_checked : IsChecked limit step waste classes rows sizes counts checked
+  pub is_checked : IsChecked limit step largest_class waste classes rows sizes counts checked
   pub shown : ShowsVerdict checked numbers

@@ -11,8 +11,8 @@ use std::marker::PhantomData;
 use tool_call::Limits;
 
 /// The verdict on a sheet for the profile of these sizes with these counts: optimal, or the first refusal. The sheet is a table of these
-/// classes (in granules), for at most `limit` (1 to 32) classes that are multiples of `step` (1, 2, 4 or 8 granules), with what it is said
-/// to waste in bytes, and the rows of its certificate, one after the other, as many as the limit.
+/// classes (in granules), for at most `limit` (1 to 32) classes that are multiples of `step` (1, 2, 4 or 8 granules), and with the largest
+/// class if `largest_class` is 1 and not 0, with what it is said to waste in bytes, and the rows of its certificate, one after the other, as many as the limit.
 ///
 /// Errors, in the order of the tests: `BadOption`; `Misuse` if the numbers of the rows can't be cut in `limit` rows of one length; `Table`,
 /// `Entry`. `OutOfMemory` may come at any time.
@@ -20,15 +20,16 @@ pub fn check(
     alloc: Global,
     limit: u8,
     step: u8,
+    largest_class: u8,
     waste: u64,
     classes: &[u16],
     numbers: &[u64],
     sizes: &[u32],
     counts: &[u32],
 ) -> Result<Verdict, ArrayError>
-    ensures { IsChecked limit step waste classes.now numbers.now sizes.now counts.now result }
+    ensures { IsChecked limit step largest_class waste classes.now numbers.now sizes.now counts.now result }
 {
-    if !(Limits { limit, step }).are_valid() {
+    if !(Limits { limit, step }).are_valid() || largest_class > 1 {
         return Err(ArrayError::BadOption);
     }
     let row_count = usize::from(limit);
@@ -42,6 +43,7 @@ pub fn check(
         table,
         limit,
         step,
+        forced: largest_class == 1,
         cost: waste,
         rows,
         of: PhantomData,

@@ -1,7 +1,8 @@
 //! `tune`: the table of least waste for a profile, with its certificate.
-ghost use Rattle.std.specs.Prelude.{◌≡◌, ◌<◌, ◌≤◌, ◌++◌, All, OnErr, drop, length};
+ghost use Rattle.std.specs.Prelude.{◌≡◌, ◌==◌, ◌<◌, ◌≤◌, ◌++◌, All, OnErr, drop, length};
 ghost use Rattle.mte_c.specs.Arrays.Calls.{IsTunedInto, IsTunedOr};
 ghost use Rattle.tuner_theory.specs.Profiles.{AreCounts};
+ghost use Rattle.tuner_theory.specs.Served.{served};
 ghost use Rattle.tuner_theory.specs.Spans.{places};
 ghost use Rattle.class_table.specs.Steps.{IsStep};
 
@@ -26,7 +27,7 @@ pub struct TunedNumbers {
 }
 
 /// The table of least waste for the profile of these sizes with these counts, of at most `limit` (1 to 32) classes that are multiples of
-/// `step` (1, 2, 4 or 8 granules). Its classes, in granules, are put at the start of `classes`, which needs room for `limit` of them; the
+/// `step` (1, 2, 4 or 8 granules), and of those with the largest class if `largest_class` is 1 and not 0. Its classes, in granules, are put at the start of `classes`, which needs room for `limit` of them; the
 /// rows of its certificate at the start of `rows`, one after the other, if all of them fit. What comes after stays.
 ///
 /// Errors, in the order of the tests: `BadOption`, `Misuse`, `Entry`. `OutOfMemory` may come at any time. After an error both arrays are as
@@ -35,26 +36,28 @@ pub fn tune(
     alloc: Global,
     limit: u8,
     step: u8,
+    largest_class: u8,
     sizes: &[u32],
     counts: &[u32],
     classes: &mut [u16],
     rows: &mut [u64],
 ) -> Result<TunedNumbers, ArrayError>
-    ensures tuned { IsTunedOr limit step sizes.now counts.now (length classes.old) result
-        (IsTunedInto limit step sizes.now counts.now classes.old rows.old classes.new rows.new) }
+    ensures tuned { IsTunedOr limit step largest_class sizes.now counts.now (length classes.old) result
+        (IsTunedInto limit step (largest_class == 1) sizes.now counts.now classes.old rows.old classes.new rows.new) }
     ensures classes { OnErr result (classes.new ≡ classes.old) }
     ensures rows { OnErr result (rows.new ≡ rows.old) }
 {
-    if !(Limits { limit, step }).are_valid() {
+    if !(Limits { limit, step }).are_valid() || largest_class > 1 {
         return Err(ArrayError::BadOption);
     }
     if classes.len() < usize::from(limit) {
         return Err(ArrayError::Misuse);
     }
     let profile = count(alloc, sizes, counts)?;
-    let tuned = class_tuner::tune(alloc, &profile, limit, step)?;
+    let forced = largest_class == 1;
+    let tuned = class_tuner::tune(alloc, &profile, limit, step, forced)?;
     let sheet = tuned.sheet();
-    let places = row_length(&profile, step, &sheet.rows);
+    let places = row_length(&profile, step, forced, &sheet.rows);
     put_classes(&sheet.table, classes);
     put_rows(&sheet.rows, usize::from(limit), places, rows);
     Ok(TunedNumbers {
@@ -64,13 +67,13 @@ pub fn tune(
     })
 }
 
-// the length of each row of a certificate for a profile and a step
-fn row_length(profile: &Profile, step: u8, rows: &Rows) -> usize
+// the length of each row of a certificate for a profile and a step, and whether the largest class is forced
+fn row_length(profile: &Profile, step: u8, forced: bool, rows: &Rows) -> usize
     requires some { 0 < length rows.now }
     requires step { IsStep step }
     requires counts { AreCounts profile.now.counts }
-    requires shape { All (λ row. length row ≡ places profile.now.counts step) rows.now }
-    ensures length { result ≡ places profile.now.counts step }
+    requires shape { All (λ row. length row ≡ places (served forced profile.now.counts) step) rows.now }
+    ensures length { result ≡ places (served forced profile.now.counts) step }
     ensures few { result ≤ 1024 }
 {
     rows.row(0).len()

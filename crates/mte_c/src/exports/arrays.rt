@@ -23,14 +23,24 @@ pub extern "C" fn mte_arrays_tune(
     alloc: Global,
     limit: u8,
     step: u8,
+    largest_class: u8,
     sizes: &[u32],
     counts: &[u32],
     classes: &mut [u16],
     rows: &mut [u64],
 ) -> Numbers
-    ensures { Tunes limit step sizes.now counts.now classes.old rows.old classes.new rows.new result }
+    ensures { Tunes limit step largest_class sizes.now counts.now classes.old rows.old classes.new rows.new result }
 {
-    Numbers::of_tuned(crate::arrays::tune(alloc, limit, step, sizes, counts, classes, rows))
+    Numbers::of_tuned(crate::arrays::tune(
+        alloc,
+        limit,
+        step,
+        largest_class,
+        sizes,
+        counts,
+        classes,
+        rows,
+    ))
 }
 
 /// The verdict on a sheet.
@@ -39,15 +49,24 @@ pub extern "C" fn mte_arrays_check(
     alloc: Global,
     limit: u8,
     step: u8,
+    largest_class: u8,
     waste: u64,
     classes: &[u16],
     rows: &[u64],
     sizes: &[u32],
     counts: &[u32],
 ) -> Numbers
-    ensures { Checks limit step waste classes.now rows.now sizes.now counts.now result }
+    ensures { Checks limit step largest_class waste classes.now rows.now sizes.now counts.now result }
 {
     Numbers::of_verdict(crate::arrays::check(
-        alloc, limit, step, waste, classes, rows, sizes, counts,
+        alloc,
+        limit,
+        step,
+        largest_class,
+        waste,
+        classes,
+        rows,
+        sizes,
+        counts,
     ))
 }

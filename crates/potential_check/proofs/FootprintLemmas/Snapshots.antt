@@ -6,11 +6,12 @@ use Rattle.std.proofs.lemmas.Bool.{cases_lt}
 use Rattle.std.proofs.lemmas.Bool.Decides.{nat_tests}
 use Rattle.class_table.specs.declared.sizes.TheConstants.{MOST_NEEDS}
 use Rattle.potential_check.specs.Footprints.SnapshotSums.{AreMostBlocks, AreMostIn, AreScaled, AreSumsAt, AreWritten, HoldsSnapshots, IsRaised, IsRaisedBy, raised_to}
-use Rattle.tuner_theory.specs.Footprint.{blocks_between, footprint_between, span_footprint}
+use Rattle.tuner_theory.specs.Footprint.{blocks_between, footprint_between}
 use Rattle.tuner_theory.specs.Growing.{IsGrowing}
 use Rattle.tuner_theory.specs.Histories.{most}
+use Rattle.tuner_theory.specs.Intervals.{span_cost}
 use Rattle.tuner_theory.specs.Spans.{counted_up_to, need_at, places, rounded_need}
-use Rattle.tuner_theory.proofs.FootprintLawLemmas.{peaks_are_counts, span_footprints_fit}
+use Rattle.tuner_theory.proofs.FootprintLawLemmas.{span_footprints_fit}
 use Rattle.tuner_theory.proofs.LawLemmas.{few_places, places_ascend, span_footprints_grow, step-positive}
 use Rattle.tuner_theory.proofs.Sums.{sum_split}
 
@@ -92,14 +93,14 @@ module _ (sums : List (List ℕ)) (t : ℕ) where
 
 module _ (snapshots : List (List ℕ)) (counts : List ℕ) (step : ℕ) (sums : List (List ℕ))
     (holds : HoldsSnapshots snapshots counts step sums) where
-  pub small-spans : (i j : ℕ) → i < j → j ≤ places counts step → span_footprint snapshots step i j ≤ 2 ^ 60
-  small-spans i j lt le = grind (arith, span_footprints_fit)
+  pub small-spans : (i j : ℕ) → i < j → j ≤ places counts step → span_cost (footprint_between snapshots step) counts step i j ≤ 2 ^ 60
+  small-spans i j lt le = omega (arith, span_footprints_fit snapshots counts step i j holds.is_step holds.are holds.are_counts lt le)
 
-  pub spans-grow : IsGrowing (span_footprint snapshots step) (places counts step)
-  spans-grow = rw holds.counts_are (span_footprints_grow snapshots step holds.is_step holds.are)
+  pub spans-grow : IsGrowing (span_cost (footprint_between snapshots step) counts step) (places counts step)
+  spans-grow = span_footprints_grow snapshots counts step holds.is_step holds.are holds.covers
 
   pub places-fit : places counts step ≤ MOST_NEEDS
-  places-fit = few_places counts step holds.is_step (rw holds.counts_are (peaks_are_counts snapshots holds.are))
+  places-fit = few_places counts step holds.is_step holds.are_counts
 
   needs-up : (i j : ℕ) → i < j → j ≤ places counts step → need_at counts step i ≤ need_at counts step j
   needs-up i j lt le = omega (arith, places_ascend counts step (step-positive step holds.is_step) i j lt le)
@@ -174,7 +175,7 @@ module _ (snapshots : List (List ℕ)) (counts : List ℕ) (step : ℕ) (sums : 
 
   -- what the spans take
   pub written-all : (i stop : ℕ) (numbers : List ℕ) → AreWritten snapshots counts step i stop numbers → places counts step < stop
-      → (j : ℕ) → i < j → j ≤ places counts step → slice_index numbers j ≡ span_footprint snapshots step i j
+      → (j : ℕ) → i < j → j ≤ places counts step → slice_index numbers j ≡ span_cost (footprint_between snapshots step) counts step i j
   written-all i stop numbers are all j ij le = grind arith
 
   pub scaled-written : (i stop : ℕ) (numbers : List ℕ) → AreScaled snapshots counts step i stop numbers

@@ -3,4 +3,4 @@ use Rattle.potential_check.specs.declared.certificates.certificate.Certificate.{
 use Rattle.tuner_theory.specs.Sheets.{Sheet}
 
 abbrev pub sheet_of : {C : Type 0} → Certificate C → Sheet
-sheet_of s = record { table = s.table; limit = s.limit; step = s.step; cost = s.cost; rows = s.rows }
+sheet_of s = record { table = s.table; limit = s.limit; step = s.step; forced = s.forced; cost = s.cost; rows = s.rows }

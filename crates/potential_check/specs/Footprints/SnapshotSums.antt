@@ -6,6 +6,7 @@ use Rattle.history_count.specs.CountedLines.{IsCutAt}
 use Rattle.potential_check.specs.Certificates.Spanned.{AreSumsUpTo}
 use Rattle.tuner_theory.specs.Footprint.{blocks_between, footprint_between}
 use Rattle.tuner_theory.specs.Histories.{AreSnapshots, most, peaks}
+use Rattle.tuner_theory.specs.Profiles.{AreCounts, Covers}
 use Rattle.tuner_theory.specs.Spans.{counted_up_to, need_at, places}
 use Rattle.tuner_theory.specs.Waste.{sum_below}
 
@@ -26,11 +27,12 @@ pub record AreColumnSums (column cuts sums : List ℕ) : Type 0 where
   pub none : slice_index sums 0 ≡ 0
   pub each : (p : ℕ) → p < length cuts → slice_index sums (p + 1) ≡ sum_below (slice_index column) (slice_index cuts p)
 
--- What is kept of a history and the places of its peaks.
+-- What is kept of a history and the places of some counts, which have the sizes of its peaks.
 pub record HoldsSnapshots (snapshots : List (List ℕ)) (counts : List ℕ) (step : ℕ) (sums : List (List ℕ)) : Type 0 where
   pub is_step : IsStep step
   pub are : AreSnapshots snapshots
-  pub counts_are : counts ≡ peaks snapshots
+  pub are_counts : AreCounts counts
+  pub covers : Covers counts (peaks snapshots)
   pub sums_are : AreSnapshotSums snapshots counts step sums
 
 -- No sum after place i is below that at it.

@@ -13,6 +13,8 @@ pub struct Certificate<C> {
     pub limit: u8,
     /// The step in granules, of which each class should be a multiple. 1, 2, 4 or 8 in one that was read.
     pub step: u8,
+    /// Whether the table has to have the largest class, so that it serves each size that any table can.
+    pub forced: bool,
     /// What it says that its table costs, in bytes.
     pub cost: u64,
     /// In a true one there is a row for each number of classes up to the limit, with a number for each distinct need.

@@ -1,8 +1,10 @@
 ghost use Rattle.std.specs.Prelude.{◌≡◌, ◌+◌, IfOk, refl};
 ghost use Rattle.std.proofs.Common.{add-zero, add_assoc, ap, sym};
 ghost use Rattle.potential_check.specs.Certificates.Spanned.{IsSpanned};
-ghost use Rattle.tuner_theory.specs.Footprint.{span_footprint};
+ghost use Rattle.tuner_theory.specs.Footprint.{footprint_between};
 ghost use Rattle.tuner_theory.specs.Histories.{peaks};
+ghost use Rattle.tuner_theory.specs.Intervals.{span_cost};
+ghost use Rattle.tuner_theory.specs.Profiles.{Covers};
 ghost use Rattle.tuner_theory.specs.Spans.{places};
 
 use crate::certificates::Spans;
@@ -19,7 +21,8 @@ pub struct HistorySpans<'a> {
 }
 
 impl<'a> HistorySpans<'a> {
-    /// The span footprints of a history, with no call counted. `spans` must be over its peaks. Its step is theirs.
+    /// The span footprints of a history, with no call counted. `spans` must be over the sizes of its peaks, and may be over more. Its step is
+    /// theirs.
     /// The only error is that the allocator refuses memory.
     pub fn new(
         alloc: Global,
@@ -27,9 +30,10 @@ impl<'a> HistorySpans<'a> {
         spans: &'a Spans<'a>,
     ) -> Result<HistorySpans<'a>, AllocError>
         requires spans { IsSpanned spans.now }
-        requires peaks { spans.now.counts ≡ peaks history.now.snapshots }
+        requires peaks { Covers spans.now.counts (peaks history.now.snapshots) }
         ensures cost { let step = spans.now.step in IfOk result
-            (λ s. ⟦<HistorySpans<'a> as SpanCosts>⟧.cost s ≡ span_footprint history.now.snapshots step) }
+            (λ s. ⟦<HistorySpans<'a> as SpanCosts>⟧.cost s
+            ≡ span_cost (footprint_between history.now.snapshots step) spans.now.counts step) }
         ensures places { IfOk result
             (λ s. ⟦<HistorySpans<'a> as SpanCosts>⟧.place_count s ≡ places spans.now.counts spans.now.step) }
         ensures calls { IfOk result (λ s. ⟦<HistorySpans<'a> as SpanCosts>⟧.call_count s ≡ 0) }
@@ -40,7 +44,8 @@ impl<'a> HistorySpans<'a> {
 }
 
 impl<'a> SpanCosts for HistorySpans<'a> {
-    ghost cost = { λ s. span_footprint s.sums.history.now.snapshots s.sums.spans.now.step };
+    ghost cost = { λ s. let step = s.sums.spans.now.step in
+        span_cost (footprint_between s.sums.history.now.snapshots step) s.sums.spans.now.counts step };
 
     ghost place_count = { λ s. places s.sums.spans.now.counts s.sums.spans.now.step };
 

@@ -3,7 +3,8 @@ ghost use Rattle.std.specs.Prelude.{◌≡◌, IfOk};
 ghost use Rattle.potential_check.specs.Certificates.SheetView.{sheet_of};
 ghost use Rattle.tuner_theory.specs.Sheets.{IsFitVerdict};
 ghost use Rattle.tuner_theory.specs.Footprint.{IsLeastFootprint};
-ghost use Rattle.tuner_theory.specs.Histories.{AreSnapshots};
+ghost use Rattle.tuner_theory.specs.Histories.{AreSnapshots, peaks};
+ghost use Rattle.tuner_theory.specs.Served.{served};
 ghost use Rattle.tuner_theory.specs.declared.verdict.Verdict.TheVariants.{Optimal};
 
 use crate::certificates::{Certificate, Fit, Spans};
@@ -21,28 +22,41 @@ use tuner_theory::Verdict;
 /// The verdict on a fit, whoever wrote it and whatever it holds: optimal, or the first refusal that holds. `Refusal::WasteWrong` is the one
 /// of a wrong footprint.
 /// The table of an optimal fit has the least footprint: no table of at most `limit` classes that fits the step and serves the history takes
-/// less. The only error is that the allocator refuses memory.
+/// less, or where the largest class is forced, none of those that have it too. The only error is that the allocator refuses memory.
 pub fn check_fit(alloc: Global, history: &History, fit: &Fit) -> Result<Verdict, AllocError>
     ensures verdict { IfOk result (IsFitVerdict history.now.snapshots (sheet_of fit.now)) }
     ensures least { IfOk result
         (λ verdict. verdict ≡ Optimal
-        → IsLeastFootprint history.now.snapshots fit.now.step fit.now.limit fit.now.table) }
+        → IsLeastFootprint fit.now.forced history.now.snapshots fit.now.step fit.now.limit fit.now.table) }
 {
-    verdict_on(alloc, &on_history(history), fit)
+    if fit.forced {
+        let sizes = history.peaks().with_largest(alloc)?;
+        return verdict_on(alloc, &on_history(history, &sizes, true), fit);
+    }
+    verdict_on(alloc, &on_history(history, history.peaks(), false), fit)
 }
 
-// a history, against which fits are checked
+// a history, against which fits are checked, with the sizes that a table has to serve
 #[derive(Drop)]
 struct OnHistory<'a> {
     history: &'a History,
+    sizes: &'a Profile,
+    forced: bool,
     ghost are: { AreSnapshots history.now.snapshots },
+    ghost sizes_are: { sizes.now.counts ≡ served forced (peaks history.now.snapshots) },
 }
 
-fn on_history(history: &History) -> OnHistory<'_>
-    ensures { result.history.now ≡ history.now }
+fn on_history<'a>(history: &'a History, sizes: &'a Profile, forced: bool) -> OnHistory<'a>
+    requires { sizes.now.counts ≡ served forced (peaks history.now.snapshots) }
+    ensures history { result.history.now ≡ history.now }
+    ensures forced { result.forced ≡ forced }
 {
     let _peaks = history.peaks();
-    OnHistory { history }
+    OnHistory {
+        history,
+        sizes,
+        forced,
+    }
 }
 
 impl<'a> Measured for OnHistory<'a> {
@@ -51,10 +65,10 @@ impl<'a> Measured for OnHistory<'a> {
 
     type Kind = OfFootprint;
 
-    ghost measure = { λ s. footprint_on s.history.now.snapshots };
+    ghost measure = { λ s. footprint_on s.forced s.history.now.snapshots };
 
     fn profile(&self) -> &Profile {
-        self.history.peaks()
+        self.sizes
     }
 
     fn cost_of(&self, table: &ClassTable) -> u64 {
@@ -72,5 +86,5 @@ impl<'a> Measured for OnHistory<'a> {
         test_rows(alloc, &mut costs, &sheet.rows)
     }
 
-    ghost sums = { λ s step pos. footprint_is_sum s.history.now.snapshots step pos s.are };
+    ghost sums = { λ s step pos. footprint_is_sum s.forced s.history.now.snapshots step pos s.are };
 }

@@ -2,7 +2,7 @@ ghost use Rattle.std.specs.Prelude.{◌≡◌, ℕ, ◌+◌, ◌*◌, ◌^◌, �
 ghost use Rattle.potential_check.specs.Footprints.SnapshotSums.{AreColumnSums, AreCuts, AreMostIn, AreNarrow, AreScaled, AreSumsAt};
 ghost use Rattle.potential_check.specs.Footprints.SnapshotSums.{AreWritten, Ascends, HoldsSnapshots, IsRaised, IsRaisedBy};
 ghost use Rattle.tuner_theory.specs.Lists.{lists_of};
-ghost use Rattle.tuner_theory.specs.Footprint.{span_footprint};
+ghost use Rattle.tuner_theory.specs.Footprint.{footprint_between};
 ghost use Rattle.tuner_theory.specs.Growing.{IsGrowing};
 ghost use Rattle.tuner_theory.specs.Spans.{need_at, places};
 ghost use Rattle.class_table.specs.Sizes.{granule_bytes};
@@ -10,7 +10,8 @@ ghost use Rattle.potential_check.specs.Certificates.Spanned.{IsSpanned};
 ghost use Rattle.class_table.specs.declared.sizes.TheConstants.{LARGEST_COUNTED};
 ghost use Rattle.history_count.specs.CountedLines.{AreSizes};
 ghost use Rattle.tuner_theory.specs.Histories.{peaks};
-ghost use Rattle.tuner_theory.specs.Profiles.{greatest_count};
+ghost use Rattle.tuner_theory.specs.Intervals.{span_cost};
+ghost use Rattle.tuner_theory.specs.Profiles.{Covers, greatest_count};
 
 use crate::certificates::Spans;
 use class_table::{GRANULE_BYTES, LARGEST_COUNTED};
@@ -30,21 +31,21 @@ pub(crate) struct SnapshotSums<'a> {
     narrow: Vec<Vec<u32>>,
     ghost holds: { HoldsSnapshots history.now.snapshots spans.now.counts spans.now.step (lists_of sums.items) },
     ghost small: { (i j : ℕ) → i < j → j ≤ places spans.now.counts spans.now.step
-        → span_footprint history.now.snapshots spans.now.step i j ≤ 2 ^ 60 },
+        → span_cost (footprint_between history.now.snapshots spans.now.step) spans.now.counts spans.now.step i j ≤ 2 ^ 60 },
     ghost same: { AreNarrow (lists_of narrow.items) (lists_of sums.items) },
-    ghost grows: { let cost = span_footprint history.now.snapshots spans.now.step in
-        IsGrowing cost (places spans.now.counts spans.now.step) },
+    ghost grows: { let between = footprint_between history.now.snapshots spans.now.step in
+        IsGrowing (span_cost between spans.now.counts spans.now.step) (places spans.now.counts spans.now.step) },
 }
 
 impl<'a> SnapshotSums<'a> {
-    /// The sums of a history, of which `spans` has the peaks.
+    /// The sums of a history, the sizes of whose peaks `spans` has.
     pub(crate) fn new(
         alloc: Global,
         history: &'a History,
         spans: &'a Spans<'a>,
     ) -> Result<SnapshotSums<'a>, AllocError>
         requires spans { IsSpanned spans.now }
-        requires peaks { spans.now.counts ≡ peaks history.now.snapshots }
+        requires peaks { Covers spans.now.counts (peaks history.now.snapshots) }
         ensures history { IfOk result (λ s. s.history.now ≡ history.now) }
         ensures spans { IfOk result (λ s. s.spans.now ≡ spans.now) }
     {
@@ -76,7 +77,8 @@ impl<'a> SnapshotSums<'a> {
         requires size { length costs.old ≡ places self.now.spans.now.counts self.now.spans.now.step + 1 }
         ensures size { length costs.new ≡ length costs.old }
         ensures costs { let s = self.now in (j : ℕ) → i < j → j ≤ places s.spans.now.counts s.spans.now.step
-            → slice_index costs.new j ≡ span_footprint s.history.now.snapshots s.spans.now.step i j }
+            → slice_index costs.new j
+            ≡ span_cost (footprint_between s.history.now.snapshots s.spans.now.step) s.spans.now.counts s.spans.now.step i j }
     {
         if self.narrow.is_empty() {
             self.write_wide(i, costs);

@@ -1,5 +1,5 @@
 -- The rounds of a timeline are determined, and so is what is found in them.
-use Rattle.std.proofs.Common.{◌≡◌, ◌⊎◌, ℕ, zero, suc, ◌+◌, ◌≤◌, List, [], ◌∷◌, length, slice_index, arith, ap, sym, subst, inl, inr, ◌∙◌}
+use Rattle.std.proofs.Common.{◌≡◌, ◌⊎◌, ℕ, zero, suc, ◌+◌, ◌≤◌, Bool, List, [], ◌∷◌, length, slice_index, arith, ap, sym, subst, inl, inr, ◌∙◌}
 use Rattle.std.proofs.lemmas.Bool.{cases_lt}
 use Rattle.std.proofs.lemmas.List.{ext_get_or}
 use Rattle.class_table.specs.Sizes.{largest_counted}
@@ -80,8 +80,8 @@ one-next events numbers table a b of_a of_b =
     let firsts = one-firsts events table of_b.firsts of_a.firsts of_b.are_firsts of_a.are_firsts in
     one-union (moments_left numbers of_a.decisive (length of_a.firsts)) of_a.firsts a b of_a.union (rw (decisive, firsts) at of_b.union)
 
-module _ (events : List SizeEvent) (step limit : ℕ) where
-  pub one-moments : (earlier : ℕ) (a b : List ℕ) → AreRoundMoments events step limit earlier a → AreRoundMoments events step limit earlier b
+module _ (events : List SizeEvent) (step limit : ℕ) (forced : Bool) where
+  pub one-moments : (earlier : ℕ) (a b : List ℕ) → AreRoundMoments events step limit forced earlier a → AreRoundMoments events step limit forced earlier b
       → a ≡ b
   unfolding AreRoundMoments
   one-moments zero a b of_a of_b =
@@ -89,32 +89,32 @@ module _ (events : List SizeEvent) (step limit : ℕ) where
       of_a.2 ∙ (ap (λ (m : ℕ). m ∷ []) same ∙ sym of_b.2)
   one-moments (suc earlier) a b of_a of_b =
       let before : of_b.0 ≡ of_a.0 = one-moments earlier of_b.0 of_a.0 of_b.2 of_a.2 in
-      let fit : of_b.1 ≡ of_a.1 = one_fit (history_at events of_a.0) step limit of_b.1 of_a.1
-      (subst (λ (ns : List ℕ). IsFitOf (history_at events ns) step limit of_b.1) before of_b.3) of_a.3 in
+      let fit : of_b.1 ≡ of_a.1 = one_fit (history_at events of_a.0) step limit forced of_b.1 of_a.1
+      (subst (λ (ns : List ℕ). IsFitOf (history_at events ns) step limit forced of_b.1) before of_b.3) of_a.3 in
       one-next events of_a.0 of_a.1.table a b of_a.4
       (subst (λ (f : Sheet). AreNextMoments events of_a.0 f.table b) fit
       (subst (λ (ns : List ℕ). AreNextMoments events ns of_b.1.table b) before of_b.4))
 
   -- a round has one list of moments, and one fit
-  pub one-round : (earlier : ℕ) (numbers others : List ℕ) (fit other : Sheet) → IsRound events step limit earlier numbers fit
-      → IsRound events step limit earlier others other → (numbers ≡ others) × (fit ≡ other)
+  pub one-round : (earlier : ℕ) (numbers others : List ℕ) (fit other : Sheet) → IsRound events step limit forced earlier numbers fit
+      → IsRound events step limit forced earlier others other → (numbers ≡ others) × (fit ≡ other)
   one-round earlier numbers others fit other a b =
       let moments = one-moments earlier numbers others a.moments b.moments in (
         moments,
-        one_fit (history_at events others) step limit fit other
-            (subst (λ (ns : List ℕ). IsFitOf (history_at events ns) step limit fit) moments a.fitted) b.fitted,
+        one_fit (history_at events others) step limit forced fit other
+            (subst (λ (ns : List ℕ). IsFitOf (history_at events ns) step limit forced fit) moments a.fitted) b.fitted,
       )
 
   -- ---- what is found
 
   -- two rounds of one number, by an equation
-  pub same-round : (k j : ℕ) (numbers others : List ℕ) (fit other : Sheet) → k ≡ j → IsRound events step limit k numbers fit
-      → IsRound events step limit j others other → (numbers ≡ others) × (fit ≡ other)
+  pub same-round : (k j : ℕ) (numbers others : List ℕ) (fit other : Sheet) → k ≡ j → IsRound events step limit forced k numbers fit
+      → IsRound events step limit forced j others other → (numbers ≡ others) × (fit ≡ other)
   same-round k j numbers others fit other same a b =
-      one-round j numbers others fit other (subst (λ (n : ℕ). IsRound events step limit n numbers fit) same a) b
+      one-round j numbers others fit other (subst (λ (n : ℕ). IsRound events step limit forced n numbers fit) same a) b
 
-  pub one-least : (made made' : ℕ) (numbers numbers' : List ℕ) (fit fit' : Sheet) → IsLeastFit events step limit made numbers fit
-      → IsLeastFit events step limit made' numbers' fit' → (numbers ≡ numbers') × (fit ≡ fit')
+  pub one-least : (made made' : ℕ) (numbers numbers' : List ℕ) (fit fit' : Sheet) → IsLeastFit events step limit forced made numbers fit
+      → IsLeastFit events step limit forced made' numbers' fit' → (numbers ≡ numbers') × (fit ≡ fit')
   one-least made made' numbers numbers' fit fit' a b =
       elim (cases_lt a.earlier b.earlier) [
         | inl lt ↦ absurd (omega (arith, b.loose a.earlier numbers fit lt a.round, a.takes))
@@ -126,11 +126,11 @@ module _ (events : List SizeEvent) (step limit : ℕ) where
 
   -- a round is made that shows a fit, or none
   pub least-or_between : (made made' : ℕ) (numbers table : List ℕ) (fit : Sheet) (takes least : ℕ) → made ≤ made'
-      → IsLeastFit events step limit made numbers fit → IsBetween events step limit made' table takes least → ⊥
+      → IsLeastFit events step limit forced made numbers fit → IsBetween events step limit forced made' table takes least → ⊥
   least-or_between made made' numbers table fit takes least le a b =
       omega (arith, b.loose a.earlier numbers fit (omega (arith, a.last)) a.round, a.takes)
 
-  one-least_table : (made : ℕ) (a b : List ℕ) → IsLeastOfRounds events step limit made a → IsLeastOfRounds events step limit made b → a ≡ b
+  one-least_table : (made : ℕ) (a b : List ℕ) → IsLeastOfRounds events step limit forced made a → IsLeastOfRounds events step limit forced made b → a ≡ b
   one-least_table made a b of_a of_b =
       elim (cases_lt of_a.earlier of_b.earlier) [
         | inl lt ↦ absurd (omega (
@@ -154,7 +154,7 @@ module _ (events : List SizeEvent) (step limit : ℕ) where
         ]
       ]
 
-  one-greatest : (made a b : ℕ) → IsGreatestOfRounds events step limit made a → IsGreatestOfRounds events step limit made b → a ≡ b
+  one-greatest : (made a b : ℕ) → IsGreatestOfRounds events step limit forced made a → IsGreatestOfRounds events step limit forced made b → a ≡ b
   one-greatest made a b of_a of_b =
       omega (
         arith,
@@ -164,8 +164,8 @@ module _ (events : List SizeEvent) (step limit : ℕ) where
         of_b.cost_of,
       )
 
-  pub one-between : (made : ℕ) (table table' : List ℕ) (takes takes' least least' : ℕ) → IsBetween events step limit made table takes least
-      → IsBetween events step limit made table' takes' least' → (table ≡ table') × (takes ≡ takes') × (least ≡ least')
+  pub one-between : (made : ℕ) (table table' : List ℕ) (takes takes' least least' : ℕ) → IsBetween events step limit forced made table takes least
+      → IsBetween events step limit forced made table' takes' least' → (table ≡ table') × (takes ≡ takes') × (least ≡ least')
   one-between made table table' takes takes' least least' a b =
       let tables = one-least_table made table table' a.best b.best in
       (tables, a.taken ∙ (ap (footprint_over events) tables ∙ sym b.taken), one-greatest made least least' a.greatest b.greatest)

@@ -1,5 +1,5 @@
 -- What a round shows, and what is kept of all of them.
-use Rattle.std.proofs.Common.{◌≡◌, ◌≢◌, ◌+◌, ◌*◌, ◌<◌, ◌≤◌, ℕ, List, [], ◌∷◌, All, length, max, sym, subst, ◌∙◌, add-one, arith, refl, inl, inr}
+use Rattle.std.proofs.Common.{◌≡◌, ◌≢◌, ◌⊎◌, ◌+◌, ◌*◌, ◌^◌, ◌<◌, ◌≤◌, ℕ, Bool, List, [], ◌∷◌, All, length, max, sym, subst, ◌∙◌, add-one, arith, refl, inl, inr}
 use Rattle.std.proofs.Math.Nat.{mul-le-mul}
 use Rattle.std.proofs.lemmas.Bool.{cases_lt}
 use Rattle.std.specs.List.{Contains}
@@ -11,6 +11,7 @@ use Rattle.class_table.specs.Tables.{IsLegalTable}
 use Rattle.history_count.specs.Timelines.LiveBlocks.{AreFirsts}
 use Rattle.history_count.specs.Timelines.Requests.{Decides}
 use Rattle.tuner_theory.specs.Best.{IsCandidate}
+use Rattle.tuner_theory.specs.Served.{served}
 use Rattle.tuner_theory.specs.Sheets.{Sheet}
 use Rattle.tuner_theory.specs.Histories.{peaks}
 use Rattle.tuner_theory.specs.Timelines.{AreMoments, IsTimeline, footprint_over, history_at, moments}
@@ -19,11 +20,14 @@ use Rattle.tuner_theory.specs.declared.most_snapshots.TheConstants.{MOST_SNAPSHO
 use Rattle.tuner_theory.specs.declared.size_event.SizeEvent.{SizeEvent}
 use Rattle.tuner_theory.proofs.LawLemmas.{few_places}
 use Rattle.tuner_theory.proofs.TimelineCanonical.{canonical_over}
-use Rattle.tuner_theory.proofs.Timelines.{fit_bounds_timeline}
+use Rattle.tuner_theory.proofs.Served.{counted-served}
+use Rattle.tuner_theory.proofs.Timelines.{fit_bounds_timeline, serves-served}
 use Rattle.class_table.specs.declared.sizes.TheConstants.{MOST_NEEDS}
+use Rattle.class_tuner.specs.declared.fits.timelines.round.Round.{Round}
 use Rattle.class_tuner.specs.Fits.Timelines.Found.{IsBetween, IsLeastFit}
 use Rattle.class_tuner.specs.Fits.Timelines.Rounds.{AreLoose, AreRoundCosts, AreRoundMoments, IsDecisive, IsGreatestOfRounds, IsRound, IsUnion, moments_left}
 use Rattle.class_tuner.proofs.FitLemmas.TimelineLemmas.OneRound.{same-round}
+use Rattle.potential_check.specs.Certificates.SheetView.{sheet_of}
 use Rattle.potential_check.specs.Footprints.CallCounts.{span_count}
 use Rattle.tuner_theory.specs.Spans.{places}
 
@@ -64,40 +68,48 @@ more-moments events numbers moment few within kept ascending = record {
 }
 
 -- What a round over such moments has.
-pub record IsFittedRound (events : List SizeEvent) (numbers : List ℕ) (moment step limit earlier : ℕ) (fit : Sheet) (takes : ℕ) : Type 0 where
+pub record IsFittedRound (events : List SizeEvent) (numbers : List ℕ) (moment step limit : ℕ) (forced : Bool) (earlier : ℕ) (fit : Sheet) (takes : ℕ) :
+    Type 0 where
   pub over : AreDeciding events numbers moment
-  pub round : IsRound events step limit earlier numbers fit
+  pub round : IsRound events step limit forced earlier numbers fit
   pub legal : IsLegalTable 1 fit.table
   pub taken : takes ≡ footprint_over events fit.table
 
-module _ (events : List SizeEvent) (moment step limit : ℕ) (timeline : IsTimeline events) (decides : Decides events moment) where
-  pub round-serves : (earlier : ℕ) (numbers : List ℕ) (fit : Sheet) (takes : ℕ) → IsFittedRound events numbers moment step limit earlier fit takes
+module _ (events : List SizeEvent) (moment step limit : ℕ) (forced : Bool) (timeline : IsTimeline events) (decides : Decides events moment) where
+  round-serves : (earlier : ℕ) (numbers : List ℕ) (fit : Sheet) (takes : ℕ)
+      → IsFittedRound events numbers moment step limit forced earlier fit takes
       → Serves (peaks (moments events)) fit.table
   round-serves earlier numbers fit takes round =
       let kept = round.over.kept in
       decides numbers fit.table kept.0 kept.1 (get_or_default numbers kept.0 0 moment kept.1 ∙ kept.2)
-      round.round.fitted.made.canonical.best.candidate.serving
+      (λ n counted. round.round.fitted.made.canonical.best.candidate.serving n
+      (counted-served forced (peaks (history_at events numbers)) n counted))
 
-  pub round-candidate : (earlier : ℕ) (numbers : List ℕ) (fit : Sheet) (takes : ℕ)
-      → IsFittedRound events numbers moment step limit earlier fit takes
-      → IsCandidate (peaks (moments events)) step limit fit.table
+  round-candidate : (earlier : ℕ) (numbers : List ℕ) (fit : Sheet) (takes : ℕ)
+      → IsFittedRound events numbers moment step limit forced earlier fit takes
+      → IsCandidate (served forced (peaks (moments events))) step limit fit.table
   round-candidate earlier numbers fit takes round = record {
     legal = round.round.fitted.made.canonical.best.candidate.legal;
     few = round.round.fitted.made.canonical.best.candidate.few;
-    serving = round-serves earlier numbers fit takes round;
+    serving = serves-served forced events numbers fit.table round.round.fitted.made.canonical.best.candidate.serving
+        (round-serves earlier numbers fit takes round);
   }
 
-  pub round-bounds : (earlier : ℕ) (numbers : List ℕ) (fit : Sheet) (takes : ℕ) → IsFittedRound events numbers moment step limit earlier fit takes
-      → (other : List ℕ) → IsCandidate (peaks (moments events)) step limit other → fit.cost ≤ footprint_over events other
+  round-bounds : (earlier : ℕ) (numbers : List ℕ) (fit : Sheet) (takes : ℕ)
+      → IsFittedRound events numbers moment step limit forced earlier fit takes
+      → (other : List ℕ) → IsCandidate (served forced (peaks (moments events))) step limit other → fit.cost ≤ footprint_over events other
   round-bounds earlier numbers fit takes round other candidate =
       let made = round.round.fitted.made in
-      let of_step = subst (λ (s : ℕ). IsCandidate (peaks (moments events)) s limit other) (sym made.for_step) candidate in
-      let of_limit = subst (λ (l : ℕ). IsCandidate (peaks (moments events)) fit.step l other) (sym made.for_limit) of_step in
-      fit_bounds_timeline events numbers fit other timeline round.over.are round.legal made.optimal of_limit
+      let sizes = served forced (peaks (moments events)) in
+      let of_step = subst (λ (s : ℕ). IsCandidate sizes s limit other) (sym made.for_step) candidate in
+      let of_limit = subst (λ (l : ℕ). IsCandidate sizes fit.step l other) (sym made.for_limit) of_step in
+      fit_bounds_timeline events numbers fit other timeline round.over.are round.legal (rw made.for_forced made.optimal)
+      (rw made.for_forced of_limit)
 
   -- a round whose table takes no more over the whole timeline
-  pub round-least : (earlier : ℕ) (numbers : List ℕ) (fit : Sheet) (takes : ℕ) → IsFittedRound events numbers moment step limit earlier fit takes
-      → takes ≡ fit.cost → AreLoose events step limit earlier → IsLeastFit events step limit (earlier + 1) numbers fit
+  pub round-least : (earlier : ℕ) (numbers : List ℕ) (fit : Sheet) (takes : ℕ)
+      → IsFittedRound events numbers moment step limit forced earlier fit takes
+      → takes ≡ fit.cost → AreLoose events step limit forced earlier → IsLeastFit events step limit forced (earlier + 1) numbers fit
   round-least earlier numbers fit takes round tight loose =
       let over : footprint_over events fit.table ≡ fit.cost = sym round.taken ∙ tight in
       record {
@@ -108,11 +120,12 @@ module _ (events : List SizeEvent) (moment step limit : ℕ) (timeline : IsTimel
         are = round.over.are;
         ascending = round.over.ascending;
         takes = over;
-        fitted = canonical_over events numbers step limit fit.table round.over.are round.round.fitted.made.canonical
+        fitted = canonical_over forced events numbers step limit fit.table round.over.are round.round.fitted.made.canonical
             (round-serves earlier numbers fit takes round) (over ∙ round.round.fitted.made.costs);
       }
 
-  takes-more : (earlier : ℕ) (numbers : List ℕ) (fit : Sheet) (takes : ℕ) → IsFittedRound events numbers moment step limit earlier fit takes
+  takes-more : (earlier : ℕ) (numbers : List ℕ) (fit : Sheet) (takes : ℕ)
+      → IsFittedRound events numbers moment step limit forced earlier fit takes
       → takes ≢ fit.cost → fit.cost < footprint_over events fit.table
   takes-more earlier numbers fit takes round differs =
       elim (cases_lt fit.cost takes) [
@@ -126,8 +139,8 @@ module _ (events : List SizeEvent) (moment step limit : ℕ) (timeline : IsTimel
 
   -- the moments of the round after a round
   pub moments-next : (earlier : ℕ) (numbers next firsts : List ℕ) (fit : Sheet) → IsDecisive events moment
-      → IsRound events step limit earlier numbers fit → AreFirsts events fit.table firsts
-      → IsUnion (moments_left numbers moment (length firsts)) firsts next → AreRoundMoments events step limit (earlier + 1) next
+      → IsRound events step limit forced earlier numbers fit → AreFirsts events fit.table firsts
+      → IsUnion (moments_left numbers moment (length firsts)) firsts next → AreRoundMoments events step limit forced (earlier + 1) next
   unfolding AreRoundMoments
   moments-next earlier numbers next firsts fit decisive round are union =
       rw add-one (
@@ -145,18 +158,18 @@ module _ (events : List SizeEvent) (moment step limit : ℕ) (timeline : IsTimel
       )
 
   -- what holds of the fits of so many rounds holds of one more
-  of-one_more : (P : Sheet → Type 0) (made : ℕ) (numbers : List ℕ) (fit : Sheet) → IsRound events step limit made numbers fit → P fit
-      → ((k : ℕ) (others : List ℕ) (other : Sheet) → k < made → IsRound events step limit k others other → P other)
-      → (k : ℕ) (others : List ℕ) (other : Sheet) → k < made + 1 → IsRound events step limit k others other → P other
+  of-one_more : (P : Sheet → Type 0) (made : ℕ) (numbers : List ℕ) (fit : Sheet) → IsRound events step limit forced made numbers fit → P fit
+      → ((k : ℕ) (others : List ℕ) (other : Sheet) → k < made → IsRound events step limit forced k others other → P other)
+      → (k : ℕ) (others : List ℕ) (other : Sheet) → k < made + 1 → IsRound events step limit forced k others other → P other
   of-one_more P made numbers fit round holds before k others other lt its =
       elim (cases_lt k made) [
         | inl earlier ↦ before k others other earlier its
-        | inr not ↦ subst P (same-round events step limit made k numbers others fit other (omega arith) round its).1 holds
+        | inr not ↦ subst P (same-round events step limit forced made k numbers others fit other (omega arith) round its).1 holds
       ]
 
   -- the first round
-  pub between-first : (numbers next : List ℕ) (fit : Sheet) (takes : ℕ) → IsFittedRound events numbers moment step limit 0 fit takes
-      → takes ≢ fit.cost → AreRoundMoments events step limit 1 next → IsBetween events step limit 1 fit.table takes fit.cost
+  pub between-first : (numbers next : List ℕ) (fit : Sheet) (takes : ℕ) → IsFittedRound events numbers moment step limit forced 0 fit takes
+      → takes ≢ fit.cost → AreRoundMoments events step limit forced 1 next → IsBetween events step limit forced 1 fit.table takes fit.cost
   between-first numbers next fit takes round differs more = record {
     next = (next, more);
     loose = of-one_more (λ other. other.cost < footprint_over events other.table) 0 numbers fit round.round
@@ -189,16 +202,16 @@ module _ (events : List SizeEvent) (moment step limit : ℕ) (timeline : IsTimel
 
   -- one round more: the better table of its own and of the one before it, and the greater bound
   module _ (made : ℕ) (numbers next : List ℕ) (fit : Sheet) (takes : ℕ) (table : List ℕ) (best least : ℕ)
-      (round : IsFittedRound events numbers moment step limit made fit takes) (differs : takes ≢ fit.cost)
-      (more : AreRoundMoments events step limit (made + 1) next) (before : IsBetween events step limit made table best least) where
-    loose-more : AreLoose events step limit (made + 1)
+      (round : IsFittedRound events numbers moment step limit forced made fit takes) (differs : takes ≢ fit.cost)
+      (more : AreRoundMoments events step limit forced (made + 1) next) (before : IsBetween events step limit forced made table best least) where
+    loose-more : AreLoose events step limit forced (made + 1)
     loose-more = of-one_more (λ other. other.cost < footprint_over events other.table) made numbers fit round.round
         (takes-more made numbers fit takes round differs) before.loose
 
-    bound-more : (other : List ℕ) → IsCandidate (peaks (moments events)) step limit other → max least fit.cost ≤ footprint_over events other
+    bound-more : (other : List ℕ) → IsCandidate (served forced (peaks (moments events))) step limit other → max least fit.cost ≤ footprint_over events other
     bound-more other candidate = omega (arith, before.bound other candidate, round-bounds made numbers fit takes round other candidate)
 
-    greatest-more : IsGreatestOfRounds events step limit (made + 1) (max least fit.cost)
+    greatest-more : IsGreatestOfRounds events step limit forced (made + 1) (max least fit.cost)
     greatest-more =
         elim (cases_lt least fit.cost) [
           | inl above ↦ record {
@@ -223,7 +236,7 @@ module _ (events : List SizeEvent) (moment step limit : ℕ) (timeline : IsTimel
           }
         ]
 
-    pub between-kept : best ≤ takes → IsBetween events step limit (made + 1) table best (max least fit.cost)
+    pub between-kept : best ≤ takes → IsBetween events step limit forced (made + 1) table best (max least fit.cost)
     between-kept le = record {
       next = (next, more);
       loose = loose-more;
@@ -244,7 +257,7 @@ module _ (events : List SizeEvent) (moment step limit : ℕ) (timeline : IsTimel
       bound = bound-more;
     }
 
-    pub between-better : takes < best → IsBetween events step limit (made + 1) fit.table takes (max least fit.cost)
+    pub between-better : takes < best → IsBetween events step limit forced (made + 1) fit.table takes (max least fit.cost)
     between-better lt = record {
       next = (next, more);
       loose = loose-more;
@@ -269,23 +282,23 @@ module _ (events : List SizeEvent) (moment step limit : ℕ) (timeline : IsTimel
 -- ---- from round to round
 
 -- a fit asks for at most so many
-pub few-costs : (snapshots : List (List ℕ)) (step limit : ℕ) (fit : Sheet) → IsFitOf snapshots step limit fit
-    → span_count (places (peaks snapshots) step) ≤ span_count MOST_NEEDS
-few-costs snapshots step limit fit fitted =
-    let d : ℕ = places (peaks snapshots) step in
-    let few : d ≤ MOST_NEEDS = few_places (peaks snapshots) step fitted.made.least.is_step fitted.made.least.are_counts in
+pub few-costs : (snapshots : List (List ℕ)) (step limit : ℕ) (forced : Bool) (fit : Sheet) → IsFitOf snapshots step limit forced fit
+    → span_count (places (served forced (peaks snapshots)) step) ≤ span_count MOST_NEEDS
+few-costs snapshots step limit forced fit fitted =
+    let d : ℕ = places (served forced (peaks snapshots)) step in
+    let few : d ≤ MOST_NEEDS = few_places (served forced (peaks snapshots)) step fitted.made.least.is_step fitted.made.least.are_counts in
     let product : d * (d + 1) ≤ 1023 * 1024 = mul-le-mul {n₁ = d} {m₁ = d + 1} {n₂ = 1023} {m₂ = 1024} (omega arith) (omega arith) in
     omega (arith, product)
 
-module _ (events : List SizeEvent) (step limit : ℕ) where
-  costs-first : (numbers : List ℕ) (costs : ℕ) → AreRoundMoments events step limit 0 numbers
-      → costs ≡ span_count (places (peaks (history_at events numbers)) step) → AreRoundCosts events step limit 1 costs
+module _ (events : List SizeEvent) (step limit : ℕ) (forced : Bool) where
+  costs-first : (numbers : List ℕ) (costs : ℕ) → AreRoundMoments events step limit forced 0 numbers
+      → costs ≡ span_count (places (served forced (peaks (history_at events numbers))) step) → AreRoundCosts events step limit forced 1 costs
   unfolding AreRoundCosts
   costs-first numbers costs over is = (0, numbers, refl, over, omega (arith, is))
 
-  costs-more : (made : ℕ) (numbers : List ℕ) (costs its : ℕ) → AreRoundCosts events step limit made costs
-      → AreRoundMoments events step limit made numbers
-      → its ≡ span_count (places (peaks (history_at events numbers)) step) → AreRoundCosts events step limit (made + 1) (costs + its)
+  costs-more : (made : ℕ) (numbers : List ℕ) (costs its : ℕ) → AreRoundCosts events step limit forced made costs
+      → AreRoundMoments events step limit forced made numbers
+      → its ≡ span_count (places (served forced (peaks (history_at events numbers))) step) → AreRoundCosts events step limit forced (made + 1) (costs + its)
   unfolding AreRoundCosts
   costs-more made numbers costs its before over is = rw (add-one, is) (costs, numbers, before, over, refl)
 
@@ -297,113 +310,122 @@ pub record IsSetting (events : List SizeEvent) (moment : ℕ) : Type 0 where
   pub decisive : IsDecisive events moment
 
 -- What a round over these moments makes.
-pub record IsMade (events : List SizeEvent) (step limit : ℕ) (numbers : List ℕ) (fit : Sheet) (takes : ℕ) (firsts : List ℕ) (evaluations : ℕ) :
-    Type 0 where
-  pub fitted : IsFitOf (history_at events numbers) step limit fit
-  pub taken : takes ≡ footprint_over events fit.table
-  pub firsts_are : AreFirsts events fit.table firsts
-  pub legal : IsLegalTable 1 fit.table
-  pub exact : evaluations ≡ span_count (places (peaks (history_at events numbers)) step)
+pub record IsMade (events : List SizeEvent) (step limit : ℕ) (forced : Bool) (numbers : List ℕ) (round : Round) : Type 0 where
+  pub fitted : IsFitOf (history_at events numbers) step limit forced (sheet_of round.fit)
+  pub taken : round.takes ≡ footprint_over events round.fit.table
+  pub firsts_are : AreFirsts events round.fit.table round.firsts.items
+  pub legal : IsLegalTable 1 round.fit.table
+  pub exact : round.evaluations ≡ span_count (places (served forced (peaks (history_at events numbers))) step)
 
 -- The moments of the round before which so many were made.
-pub record AreReady (events : List SizeEvent) (moment step limit earlier : ℕ) (numbers : List ℕ) : Type 0 where
+pub record AreReady (events : List SizeEvent) (moment step limit : ℕ) (forced : Bool) (earlier : ℕ) (numbers : List ℕ) : Type 0 where
   pub over : AreDeciding events numbers moment
-  pub round_moments : AreRoundMoments events step limit earlier numbers
+  pub round_moments : AreRoundMoments events step limit forced earlier numbers
+
+-- How many costs so many rounds compute.
+pub record AreFewCosts (events : List SizeEvent) (step limit : ℕ) (forced : Bool) (made costs : ℕ) : Type 0 where
+  pub exact : AreRoundCosts events step limit forced made costs
+  pub few : costs ≤ made * span_count MOST_NEEDS
 
 -- What the rounds so far leave, none of which is tight.
-pub record AreSoFar (events : List SizeEvent) (moment step limit made : ℕ) (numbers table : List ℕ) (takes least evaluations : ℕ) : Type 0 where
-  pub ready : AreReady events moment step limit made numbers
-  pub between : IsBetween events step limit made table takes least
-  pub costs : AreRoundCosts events step limit made evaluations
-  pub few : evaluations ≤ made * span_count MOST_NEEDS
+pub record AreSoFar (events : List SizeEvent) (moment step limit : ℕ) (forced : Bool) (made : ℕ) (numbers : List ℕ) (best : Round) (least evaluations : ℕ) :
+    Type 0 where
+  pub ready : AreReady events moment step limit forced made numbers
+  pub between : IsBetween events step limit forced made best.fit.table best.takes least
+  pub costs : AreFewCosts events step limit forced made evaluations
 
-module _ (events : List SizeEvent) (moment step limit : ℕ) (set : IsSetting events moment) where
-  pub ready-first : (numbers : List ℕ) → numbers ≡ moment ∷ [] → AreReady events moment step limit 0 numbers
+module _ (events : List SizeEvent) (moment step limit : ℕ) (forced : Bool) (set : IsSetting events moment) where
+  pub ready-first : (numbers : List ℕ) → numbers ≡ moment ∷ [] → AreReady events moment step limit forced 0 numbers
   unfolding AreRoundMoments
   ready-first numbers is = record {
     over = one-moment events numbers moment set.within is;
     round_moments = (moment, set.decisive, is);
   }
 
-  as-fitted : (earlier : ℕ) (numbers : List ℕ) (fit : Sheet) (takes : ℕ) (firsts : List ℕ) (its : ℕ)
-      → AreReady events moment step limit earlier numbers → IsMade events step limit numbers fit takes firsts its
-      → IsFittedRound events numbers moment step limit earlier fit takes
-  as-fitted earlier numbers fit takes firsts its ready made = record {
-    over = ready.over;
-    round = record { moments = ready.round_moments; fitted = made.fitted };
-    legal = made.legal;
-    taken = made.taken;
-  }
+  module _ (earlier : ℕ) (numbers : List ℕ) (round : Round) (ready : AreReady events moment step limit forced earlier numbers)
+      (made : IsMade events step limit forced numbers round) where
+    as-fitted : IsFittedRound events numbers moment step limit forced earlier (sheet_of round.fit) round.takes
+    as-fitted = record {
+      over = ready.over;
+      round = record { moments = ready.round_moments; fitted = made.fitted };
+      legal = made.legal;
+      taken = made.taken;
+    }
 
-  pub ready-next : (earlier : ℕ) (numbers next : List ℕ) (fit : Sheet) (takes : ℕ) (firsts : List ℕ) (its : ℕ)
-      → AreReady events moment step limit earlier numbers → IsMade events step limit numbers fit takes firsts its
-      → length next ≤ MOST_SNAPSHOTS → All (λ number. number ≤ length events) next → Contains next moment
-      → IsUnion (moments_left numbers moment (length firsts)) firsts next → AreReady events moment step limit (earlier + 1) next
-  ready-next earlier numbers next fit takes firsts its ready made few within kept union = record {
-    over = more-moments events next moment few within kept union.ascending;
-    round_moments = moments-next events moment step limit set.timeline set.decides earlier numbers next firsts fit set.decisive
-        (as-fitted earlier numbers fit takes firsts its ready made).round made.firsts_are union;
-  }
+    pub ready-next : (next : List ℕ) → length next ≤ MOST_SNAPSHOTS → All (λ number. number ≤ length events) next → Contains next moment
+        → IsUnion (moments_left numbers moment (length round.firsts.items)) round.firsts.items next
+        → AreReady events moment step limit forced (earlier + 1) next
+    ready-next next few within kept union = record {
+      over = more-moments events next moment few within kept union.ascending;
+      round_moments = moments-next events moment step limit forced set.timeline set.decides earlier numbers next round.firsts.items
+          (sheet_of round.fit) set.decisive as-fitted.round made.firsts_are union;
+    }
+
+    -- its table takes no more over the whole timeline
+    pub tight : AreLoose events step limit forced earlier → round.takes ≡ round.fit.cost
+        → IsLeastFit events step limit forced (earlier + 1) numbers (sheet_of round.fit)
+    tight loose same =
+        round-least events moment step limit forced set.timeline set.decides earlier numbers (sheet_of round.fit) round.takes as-fitted same loose
+
+    its-costs : round.evaluations ≤ span_count MOST_NEEDS
+    its-costs = omega (arith, made.exact, few-costs (history_at events numbers) step limit forced (sheet_of round.fit) made.fitted)
 
   -- the first round
-  pub tight-first : (numbers : List ℕ) (fit : Sheet) (takes : ℕ) (firsts : List ℕ) (its : ℕ)
-      → AreReady events moment step limit 0 numbers → IsMade events step limit numbers fit takes firsts its → takes ≡ fit.cost
-      → IsLeastFit events step limit 1 numbers fit
-  tight-first numbers fit takes firsts its ready made tight =
-      round-least events moment step limit set.timeline set.decides 0 numbers fit takes (as-fitted 0 numbers fit takes firsts its ready made) tight
-      (λ k others other lt round. absurd (omega arith))
+  module _ (numbers : List ℕ) (round : Round) (ready : AreReady events moment step limit forced 0 numbers)
+      (made : IsMade events step limit forced numbers round) where
+    first-costs : AreFewCosts events step limit forced 1 round.evaluations
+    first-costs = record {
+      exact = costs-first events step limit forced numbers round.evaluations ready.round_moments made.exact;
+      few = omega (arith, its-costs 0 numbers round ready made);
+    }
 
-  pub so_far-first : (numbers next : List ℕ) (fit : Sheet) (takes : ℕ) (firsts : List ℕ) (its : ℕ)
-      → AreReady events moment step limit 0 numbers → IsMade events step limit numbers fit takes firsts its → takes ≢ fit.cost
-      → AreReady events moment step limit 1 next → AreSoFar events moment step limit 1 next fit.table takes fit.cost its
-  so_far-first numbers next fit takes firsts its ready made differs more = record {
-    ready = more;
-    between = between-first events moment step limit set.timeline set.decides numbers next fit takes
-        (as-fitted 0 numbers fit takes firsts its ready made) differs more.round_moments;
-    costs = costs-first events step limit numbers its ready.round_moments made.exact;
-    few = omega (arith, made.exact, few-costs (history_at events numbers) step limit fit made.fitted);
-  }
+    pub tight-first : round.takes ≡ round.fit.cost
+        → IsLeastFit events step limit forced 1 numbers (sheet_of round.fit) × AreFewCosts events step limit forced 1 round.evaluations
+    tight-first same = (tight 0 numbers round ready made (λ k others other lt its. absurd (omega arith)) same, first-costs)
 
-  pub costs-of_first : (numbers : List ℕ) (fit : Sheet) (takes : ℕ) (firsts : List ℕ) (its : ℕ)
-      → AreReady events moment step limit 0 numbers → IsMade events step limit numbers fit takes firsts its
-      → AreRoundCosts events step limit 1 its × (its ≤ 1 * span_count MOST_NEEDS)
-  costs-of_first numbers fit takes firsts its ready made = (
-    costs-first events step limit numbers its ready.round_moments made.exact,
-    omega (arith, made.exact, few-costs (history_at events numbers) step limit fit made.fitted),
-  )
+    pub so_far-first : (next : List ℕ) → round.takes ≢ round.fit.cost → AreReady events moment step limit forced 1 next
+        → AreSoFar events moment step limit forced 1 next round round.fit.cost round.evaluations
+    so_far-first next differs more = record {
+      ready = more;
+      between = between-first events moment step limit forced set.timeline set.decides numbers next (sheet_of round.fit) round.takes
+          (as-fitted 0 numbers round ready made) differs more.round_moments;
+      costs = first-costs;
+    }
 
   -- one round more
-  module _ (count : ℕ) (numbers table : List ℕ) (best least evaluations : ℕ) (fit : Sheet) (takes : ℕ) (firsts : List ℕ) (its : ℕ)
-      (before : AreSoFar events moment step limit count numbers table best least evaluations)
-      (made : IsMade events step limit numbers fit takes firsts its) where
-    pub tight-more : takes ≡ fit.cost → IsLeastFit events step limit (count + 1) numbers fit
-    tight-more tight =
-        round-least events moment step limit set.timeline set.decides count numbers fit takes
-        (as-fitted count numbers fit takes firsts its before.ready made) tight before.between.loose
-
-    pub costs-of_more : AreRoundCosts events step limit (count + 1) (evaluations + its)
-        × (evaluations + its ≤ (count + 1) * span_count MOST_NEEDS)
-    costs-of_more = (
-      costs-more events step limit count numbers evaluations its before.costs before.ready.round_moments made.exact,
-      omega (arith, before.few, made.exact, few-costs (history_at events numbers) step limit fit made.fitted),
-    )
-
-    pub so_far-kept : (next : List ℕ) → takes ≢ fit.cost → AreReady events moment step limit (count + 1) next → best ≤ takes
-        → AreSoFar events moment step limit (count + 1) next table best (max least fit.cost) (evaluations + its)
-    so_far-kept next differs more le = record {
-      ready = more;
-      between = between-kept events moment step limit set.timeline set.decides count numbers next fit takes table best least
-          (as-fitted count numbers fit takes firsts its before.ready made) differs more.round_moments before.between le;
-      costs = costs-of_more.0;
-      few = costs-of_more.1;
+  module _ (count : ℕ) (numbers : List ℕ) (best : Round) (least evaluations : ℕ) (round : Round)
+      (before : AreSoFar events moment step limit forced count numbers best least evaluations)
+      (made : IsMade events step limit forced numbers round) where
+    more-costs : AreFewCosts events step limit forced (count + 1) (evaluations + round.evaluations)
+    more-costs = record {
+      exact = costs-more events step limit forced count numbers evaluations round.evaluations before.costs.exact before.ready.round_moments
+          made.exact;
+      few = omega (arith, before.costs.few, its-costs count numbers round before.ready made);
     }
 
-    pub so_far-better : (next : List ℕ) → takes ≢ fit.cost → AreReady events moment step limit (count + 1) next → takes < best
-        → AreSoFar events moment step limit (count + 1) next fit.table takes (max least fit.cost) (evaluations + its)
-    so_far-better next differs more lt = record {
-      ready = more;
-      between = between-better events moment step limit set.timeline set.decides count numbers next fit takes table best least
-          (as-fitted count numbers fit takes firsts its before.ready made) differs more.round_moments before.between lt;
-      costs = costs-of_more.0;
-      few = costs-of_more.1;
-    }
+    pub costs-fit : count < 2 ^ 32 → evaluations + round.evaluations < 2 ^ 64
+    costs-fit small = omega (arith, more-costs.few, small)
+
+    pub tight-more : round.takes ≡ round.fit.cost → IsLeastFit events step limit forced (count + 1) numbers (sheet_of round.fit)
+        × AreFewCosts events step limit forced (count + 1) (evaluations + round.evaluations)
+    tight-more same = (tight count numbers round before.ready made before.between.loose same, more-costs)
+
+    pub so_far-more : (next : List ℕ) (better : Round) → round.takes ≢ round.fit.cost → AreReady events moment step limit forced (count + 1) next
+        → ((better ≡ best) × (best.takes ≤ round.takes)) ⊎ ((better ≡ round) × (round.takes < best.takes))
+        → AreSoFar events moment step limit forced (count + 1) next better (max least round.fit.cost) (evaluations + round.evaluations)
+    so_far-more next better differs more (inl kept) =
+        rw kept.0 (record {
+          ready = more;
+          between = between-kept events moment step limit forced set.timeline set.decides count numbers next (sheet_of round.fit) round.takes
+              best.fit.table best.takes least (as-fitted count numbers round before.ready made) differs more.round_moments before.between
+              kept.1;
+          costs = more-costs;
+        })
+    so_far-more next better differs more (inr other) =
+        rw other.0 (record {
+          ready = more;
+          between = between-better events moment step limit forced set.timeline set.decides count numbers next (sheet_of round.fit) round.takes
+              best.fit.table best.takes least (as-fitted count numbers round before.ready made) differs more.round_moments before.between
+              other.1;
+          costs = more-costs;
+        })

@@ -1,6 +1,6 @@
--- The rounds of a fit over a timeline. Each fits the history of some moments; the next one has further moments, at which that fit's table has most
--- of its blocks. All of them are determined.
-use Rattle.std.specs.Prelude.{◌≡◌, ◌↔◌, ◌⊎◌, ℕ, zero, suc, ◌+◌, ◌<◌, ◌≤◌, if◌then◌else◌, nat_le, List, [], ◌∷◌, length}
+-- The rounds of a fit over a timeline. Each fits the history of some moments; the next one has further moments, at which most blocks of the
+-- table are live. All of them are determined.
+use Rattle.std.specs.Prelude.{◌≡◌, ◌↔◌, ◌⊎◌, ℕ, zero, suc, ◌+◌, ◌<◌, ◌≤◌, Bool, if◌then◌else◌, nat_le, List, [], ◌∷◌, length}
 use Rattle.std.specs.List.{Contains}
 use Rattle.std.specs.List.Sorted.{IsStrictlyIncreasing}
 use Rattle.class_table.specs.Sizes.{largest_counted}
@@ -9,6 +9,7 @@ use Rattle.history_count.specs.Timelines.LiveBlocks.{AreFirsts}
 use Rattle.history_count.specs.Timelines.Requests.{IsFirstLive, IsLargest}
 use Rattle.potential_check.specs.Footprints.CallCounts.{span_count}
 use Rattle.tuner_theory.specs.Histories.{peaks}
+use Rattle.tuner_theory.specs.Served.{served}
 use Rattle.tuner_theory.specs.Sheets.{Sheet}
 use Rattle.tuner_theory.specs.Spans.{places}
 use Rattle.tuner_theory.specs.Timelines.{footprint_over, history_at, requested}
@@ -25,12 +26,13 @@ pub record IsUnion (one other both : List ℕ) : Type 0 where
   pub ascending : IsStrictlyIncreasing both
   pub each : (n : ℕ) → Contains both n ↔ (Contains one n ⊎ Contains other n)
 
--- The moments that a round leaves for the next one, which has so many further ones: all, or the decisive one alone where they would be too many.
+-- The moments that a round leaves for the next one, which has so many further ones: all, or where they would be too many the decisive one
+-- alone.
 abbrev pub moments_left : List ℕ → ℕ → ℕ → List ℕ
 moments_left numbers decisive further = if nat_le (length numbers + further) MOST_SNAPSHOTS then numbers else decisive ∷ []
 
--- The moments of the round after one over `numbers` with this table: what is left of them, and for each class of the table the first moment at
--- which most of its blocks are live.
+-- The moments of the round after one over `numbers` with this table: what is left of them, and for each class of the table the first moment
+-- at which most of its blocks are live.
 pub record AreNextMoments (events : List SizeEvent) (numbers table next : List ℕ) : Type 0 where
   pub decisive : ℕ
   pub decides : IsDecisive events decisive
@@ -39,49 +41,50 @@ pub record AreNextMoments (events : List SizeEvent) (numbers table next : List �
   pub union : IsUnion (moments_left numbers decisive (length firsts)) firsts next
 
 -- The moments of the round before which so many were made. The first round has the decisive one alone.
-unfoldable pub AreRoundMoments : List SizeEvent → ℕ → ℕ → ℕ → List ℕ → Type 0
-AreRoundMoments events step limit zero numbers = (decisive : ℕ) × IsDecisive events decisive × (numbers ≡ decisive ∷ [])
-AreRoundMoments events step limit (suc earlier) numbers =
-    (before : List ℕ) × (fit : Sheet) × AreRoundMoments events step limit earlier before
-    × IsFitOf (history_at events before) step limit fit × AreNextMoments events before fit.table numbers
+unfoldable pub AreRoundMoments : List SizeEvent → ℕ → ℕ → Bool → ℕ → List ℕ → Type 0
+AreRoundMoments events step limit forced zero numbers = (decisive : ℕ) × IsDecisive events decisive × (numbers ≡ decisive ∷ [])
+AreRoundMoments events step limit forced (suc earlier) numbers =
+    (before : List ℕ) × (fit : Sheet) × AreRoundMoments events step limit forced earlier before
+    × IsFitOf (history_at events before) step limit forced fit × AreNextMoments events before fit.table numbers
 
 -- The round before which so many were made: its moments, and the fit of their history.
-pub record IsRound (events : List SizeEvent) (step limit earlier : ℕ) (numbers : List ℕ) (fit : Sheet) : Type 0 where
-  pub moments : AreRoundMoments events step limit earlier numbers
-  pub fitted : IsFitOf (history_at events numbers) step limit fit
+pub record IsRound (events : List SizeEvent) (step limit : ℕ) (forced : Bool) (earlier : ℕ) (numbers : List ℕ) (fit : Sheet) : Type 0 where
+  pub moments : AreRoundMoments events step limit forced earlier numbers
+  pub fitted : IsFitOf (history_at events numbers) step limit forced fit
 
 -- Whether the table of each of the first so many rounds takes more over the whole timeline than over the round's moments.
-abbrev pub AreLoose : List SizeEvent → ℕ → ℕ → ℕ → Type 0
-AreLoose events step limit made =
-    (k : ℕ) (numbers : List ℕ) (fit : Sheet) → k < made → IsRound events step limit k numbers fit → fit.cost < footprint_over events fit.table
+abbrev pub AreLoose : List SizeEvent → ℕ → ℕ → Bool → ℕ → Type 0
+AreLoose events step limit forced made =
+    (k : ℕ) (numbers : List ℕ) (fit : Sheet) → k < made → IsRound events step limit forced k numbers fit
+    → fit.cost < footprint_over events fit.table
 
 -- Of the tables of the first so many rounds, the first that takes least over the whole timeline.
-pub record IsLeastOfRounds (events : List SizeEvent) (step limit made : ℕ) (table : List ℕ) : Type 0 where
+pub record IsLeastOfRounds (events : List SizeEvent) (step limit : ℕ) (forced : Bool) (made : ℕ) (table : List ℕ) : Type 0 where
   pub earlier : ℕ
   pub numbers : List ℕ
   pub fit : Sheet
   pub among : earlier < made
-  pub round : IsRound events step limit earlier numbers fit
+  pub round : IsRound events step limit forced earlier numbers fit
   pub table_of : table ≡ fit.table
-  pub least : (k : ℕ) (others : List ℕ) (other : Sheet) → k < made → IsRound events step limit k others other
+  pub least : (k : ℕ) (others : List ℕ) (other : Sheet) → k < made → IsRound events step limit forced k others other
       → footprint_over events table ≤ footprint_over events other.table
-  pub first : (k : ℕ) (others : List ℕ) (other : Sheet) → k < earlier → IsRound events step limit k others other
+  pub first : (k : ℕ) (others : List ℕ) (other : Sheet) → k < earlier → IsRound events step limit forced k others other
       → footprint_over events table < footprint_over events other.table
 
 -- The greatest of what the fits of the first so many rounds take over their moments.
-pub record IsGreatestOfRounds (events : List SizeEvent) (step limit made greatest : ℕ) : Type 0 where
+pub record IsGreatestOfRounds (events : List SizeEvent) (step limit : ℕ) (forced : Bool) (made greatest : ℕ) : Type 0 where
   pub earlier : ℕ
   pub numbers : List ℕ
   pub fit : Sheet
   pub among : earlier < made
-  pub round : IsRound events step limit earlier numbers fit
+  pub round : IsRound events step limit forced earlier numbers fit
   pub cost_of : greatest ≡ fit.cost
-  pub most : (k : ℕ) (others : List ℕ) (other : Sheet) → k < made → IsRound events step limit k others other → other.cost ≤ greatest
+  pub most : (k : ℕ) (others : List ℕ) (other : Sheet) → k < made → IsRound events step limit forced k others other → other.cost ≤ greatest
 
 -- How many costs of spans the first so many rounds compute: of each the span footprints of its history, each once.
-unfoldable pub AreRoundCosts : List SizeEvent → ℕ → ℕ → ℕ → ℕ → Type 0
-AreRoundCosts events step limit zero costs = costs ≡ 0
-AreRoundCosts events step limit (suc earlier) costs =
-    (before : ℕ) × (numbers : List ℕ) × AreRoundCosts events step limit earlier before
-    × AreRoundMoments events step limit earlier numbers
-    × (costs ≡ before + span_count (places (peaks (history_at events numbers)) step))
+unfoldable pub AreRoundCosts : List SizeEvent → ℕ → ℕ → Bool → ℕ → ℕ → Type 0
+AreRoundCosts events step limit forced zero costs = costs ≡ 0
+AreRoundCosts events step limit forced (suc earlier) costs =
+    (before : ℕ) × (numbers : List ℕ) × AreRoundCosts events step limit forced earlier before
+    × AreRoundMoments events step limit forced earlier numbers
+    × (costs ≡ before + span_count (places (served forced (peaks (history_at events numbers))) step))

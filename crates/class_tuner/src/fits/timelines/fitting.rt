@@ -49,13 +49,14 @@ pub struct FittedOver {
 }
 
 /// The class table of least footprint over every moment of a timeline, of at most `limit` (1 to 32) classes that are multiples of `step` (1,
-/// 2, 4 or 8 granules). It is fitted over some moments, in at least one round and at most `rounds`. If the last table then still takes more
+/// 2, 4 or 8 granules), and where `forced` have the largest class. It is fitted over some moments, in at least one round and at most `rounds`. If the last table then still takes more
 /// over the whole timeline, the result is an interval. The only error is that the allocator refuses memory.
 pub fn fit_over(
     alloc: Global,
     timeline: &Timeline,
     limit: u8,
     step: u8,
+    forced: bool,
     rounds: u32,
 ) -> Result<FittedOver, AllocError>
     requires some { 1 ≤ limit }
@@ -63,15 +64,15 @@ pub fn fit_over(
     requires step { IsStep step }
 
     // the first round that shows a fit, or what all rounds give where none does
-    ensures found { IfOk result (λ fitted. IsFound timeline.now step limit rounds fitted.rounds fitted.found) }
+    ensures found { IfOk result (λ fitted. IsFound timeline.now step limit forced rounds fitted.rounds fitted.found) }
     // the footprint of each span of each round was asked for once
-    ensures exact { IfOk result (λ fitted. AreRoundCosts timeline.now step limit fitted.rounds fitted.evaluations) }
+    ensures exact { IfOk result (λ fitted. AreRoundCosts timeline.now step limit forced fitted.rounds fitted.evaluations) }
     ensures bounded { IfOk result (λ fitted. fitted.evaluations ≤ fitted.rounds * span_count MOST_NEEDS) }
 {
     let events = timeline.events();
     let decisive = largest_moment(events);
     let mut numbers = one_moment(alloc, decisive)?;
-    let mut best = round_over(alloc, events, &numbers, limit, step)?;
+    let mut best = round_over(alloc, events, &numbers, limit, step, forced)?;
     let mut evaluations = best.evaluations;
     if best.is_tight() {
         return Ok(least_of(best, numbers, 1, evaluations));
@@ -79,7 +80,7 @@ pub fn fit_over(
     numbers = with_moments(alloc, numbers, decisive, &best.firsts, events.len())?;
     let mut least = best.fit.cost;
     for made in 1..rounds {
-        let next = round_over(alloc, events, &numbers, limit, step)?;
+        let next = round_over(alloc, events, &numbers, limit, step, forced)?;
         evaluations += next.evaluations;
         if next.is_tight() {
             return Ok(least_of(next, numbers, made + 1, evaluations));
@@ -126,6 +127,7 @@ fn between_of(round: Round, least: u64, rounds: u32, evaluations: u64) -> Fitted
         table,
         limit: _limit,
         step: _step,
+        forced: _forced,
         cost: _cost,
         rows: _rows,
         of: _of,

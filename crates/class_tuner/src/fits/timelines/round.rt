@@ -7,6 +7,7 @@ ghost use Rattle.class_table.specs.Steps.{IsStep};
 ghost use Rattle.class_table.specs.Tables.{IsLegalTable};
 ghost use Rattle.history_count.specs.Timelines.LiveBlocks.{AreFirsts};
 ghost use Rattle.tuner_theory.specs.Histories.{peaks};
+ghost use Rattle.tuner_theory.specs.Served.{served};
 ghost use Rattle.tuner_theory.specs.Spans.{places};
 ghost use Rattle.tuner_theory.specs.Timelines.{AreMoments, IsTimeline, footprint_over, history_at};
 
@@ -46,6 +47,7 @@ pub(crate) fn round_over(
     numbers: &[usize],
     limit: u8,
     step: u8,
+    forced: bool,
 ) -> Result<Round, AllocError>
     requires some { 1 ≤ limit }
     requires few { limit ≤ MOST_CLASSES }
@@ -53,15 +55,15 @@ pub(crate) fn round_over(
     requires timeline { IsTimeline events.now }
     requires moments { AreMoments events.now numbers.now }
     ensures fitted { IfOk result (λ round.
-        IsFitOf (history_at events.now numbers.now) step limit (sheet_of round.fit)) }
+        IsFitOf (history_at events.now numbers.now) step limit forced (sheet_of round.fit)) }
     ensures takes { IfOk result (λ round. round.takes ≡ footprint_over events.now round.fit.table) }
     ensures firsts { IfOk result (λ round. AreFirsts events.now round.fit.table round.firsts.items) }
     ensures legal { IfOk result (λ round. IsLegalTable 1 round.fit.table) }
     ensures exact { IfOk result
-        (λ round. round.evaluations ≡ span_count (places (peaks (history_at events.now numbers.now)) step)) }
+        (λ round. round.evaluations ≡ span_count (places (served forced (peaks (history_at events.now numbers.now))) step)) }
 {
     let history = history_over(alloc, events, numbers)?;
-    let fitted = fit(alloc, &history, limit, step)?;
+    let fitted = fit(alloc, &history, limit, step, forced)?;
     let evaluations = fitted.evaluations();
     let fit = fitted.into_sheet();
     let _classes = fit.table.len();

@@ -34,6 +34,17 @@ fn run_all(rt: &(impl Abort + AllocGlobal), cases: &[Case]) -> Result<(), Fail> 
 
 // One class for both sizes wastes 104 bytes, two waste 8.
 const ONE_NUMBER_CHANGED: &[Case] = &[
+    Optimal(
+        b"classes 4 1024\nlimit 2\nforced 1024\nwaste 104\nrow 65384 16328 0\nrow 104 8 0\n16 3\n40 1\n",
+    ),
+    Refused(
+        b"classes 4 1024\nlimit 2\nwaste 104\nrow 65384 16328 0\nrow 104 8 0\n16 3\n40 1\n",
+        "refused 43 Shape\n",
+    ),
+    Refused(
+        b"classes 2 4\nlimit 2\nforced 1024\nwaste 8\nrow 104 8\nrow 8 8\n16 3\n40 1\n",
+        "refused 41 NotServing\n",
+    ),
     Optimal(b"classes 2 4\nlimit 2\nwaste 8\nrow 104 8\nrow 8 8\n16 3\n40 1\n"),
     Refused(
         b"classes 2 4\nlimit 2\nwaste 8\nrow 104 8\nrow 9 8\n16 3\n40 1\n",
@@ -211,6 +222,18 @@ fn answers_front(
 
 const SMALL_INPUTS: &[Case] = &[
     Fault(b"classes 2 4\nlimit 2\nstep 2", "error 48 BadSheet line 4"),
+    Fault(
+        b"classes 2 4\nlimit 2\nforced 512\nwaste 8\n",
+        "error 48 BadSheet line 3",
+    ),
+    Fault(
+        b"classes 2 4\nlimit 2\nforced 1024\nstep 2\nwaste 8\n",
+        "error 48 BadSheet line 4",
+    ),
+    Fault(
+        b"classes 2 4\nlimit 2\nstep 2\nforced 1024\n",
+        "error 48 BadSheet line 5",
+    ),
     Optimal(b"classes\nlimit 1\nwaste 0\nrow"),
     Optimal(b"classes\nlimit 1\nwaste 0\nrow\nlarge 3\n"),
 ];

@@ -142,6 +142,16 @@ const HISTORY_FAULTS: &[Case] = &[
 // the best two classes, and fits with one thing changed
 const VERDICTS: &[Case] = &[
     (
+        b"classes 4 1024\nlimit 2\nforced 1024\nfootprint 192\nrow 49152 16384 0\nrow 192 64 0\nsnapshots 2\n16 3 0\n40 0 1\n",
+        "optimal\n",
+        "done",
+    ),
+    (
+        b"classes 2 4\nlimit 2\nforced 1024\nfootprint 160\nrow 192 64\nrow 160 64\nsnapshots 2\n16 3 0\n40 0 1\n",
+        "refused 41 NotServing\n",
+        "no",
+    ),
+    (
         b"classes 2 4\nlimit 2\nfootprint 160\nrow 192 64\nrow 160 64\nsnapshots 2\n16 3 0\n40 0 1\n",
         "optimal\n",
         "done",
@@ -214,12 +224,23 @@ const VERDICTS: &[Case] = &[
     ),
 ];
 
+// class 1024 takes nothing where it has no block
+const FITS_WITH_THE_LARGEST_CLASS: &[Case] = &[(
+    b"snapshots 2\n16 3 0\n40 0 1\n",
+    "classes 4 1024\nlimit 2\nforced 1024\nfootprint 192\nrow 49152 16384 0\nrow 192 64 0\n",
+    "done",
+)];
+
 const GROUPS: &[(Call, &[Case])] = &[
     (Call::Footprint, FOOTPRINTS),
-    (Call::Fit(Limits { limit: 2, step: 1 }), FITS_OF_TWO),
-    (Call::Fit(Limits { limit: 1, step: 1 }), FITS_OF_ONE),
-    (Call::Fit(Limits { limit: 2, step: 4 }), FITS_FOR_STEP_FOUR),
-    (Call::Fit(Limits { limit: 2, step: 1 }), HISTORY_FAULTS),
+    (Call::Fit(Limits { limit: 2, step: 1 }, 0), FITS_OF_TWO),
+    (Call::Fit(Limits { limit: 1, step: 1 }, 0), FITS_OF_ONE),
+    (Call::Fit(Limits { limit: 2, step: 4 }, 0), FITS_FOR_STEP_FOUR),
+    (
+        Call::Fit(Limits { limit: 2, step: 1 }, 1),
+        FITS_WITH_THE_LARGEST_CLASS,
+    ),
+    (Call::Fit(Limits { limit: 2, step: 1 }, 0), HISTORY_FAULTS),
     (Call::CheckFit, VERDICTS),
 ];
 

@@ -24,7 +24,7 @@ const FIT: &str =
 const CASES: &[Case] = &[
     Case(SCORE, "classes 4\n16 3\n40 1\n", "waste 104\n"),
     Case(
-        Call::Tune(Limits { limit: 2, step: 1 }),
+        Call::Tune(Limits { limit: 2, step: 1 }, 0),
         "16 3\n40 1\n",
         "classes 2 4\nlimit 2\nwaste 8\nrow 104 8\nrow 8 8\n",
     ),
@@ -35,7 +35,7 @@ const CASES: &[Case] = &[
         "footprint 160\n",
     ),
     Case(
-        Call::Fit(Limits { limit: 2, step: 1 }),
+        Call::Fit(Limits { limit: 2, step: 1 }, 0),
         "snapshots 2\n16 3 0\n40 0 1\n",
         "classes 2 4\nlimit 2\nfootprint 160\nrow 192 64\nrow 160 64\n",
     ),

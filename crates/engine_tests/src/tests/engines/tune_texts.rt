@@ -1,5 +1,5 @@
 //! `tune` from text to text.
-use self::Case::{Fault, Tuned};
+use self::Case::{Fault, Tuned, WithLargest};
 use crate::tests::calls::answers;
 use mte_engine::{Call, Limits};
 use std::process::Abort;
@@ -10,19 +10,22 @@ use std::test::Fail;
 enum Case {
     /// The limit and the step, the input, and the sheet.
     Tuned(u8, u8, &'static [u8], &'static str),
+    /// The input, and the sheet with class 1024 at limit 2 and step 1.
+    WithLargest(&'static [u8], &'static str),
     /// The input, and the fault at limit 2 and step 1.
     Fault(&'static [u8], &'static str),
 }
 
 fn check(rt: &(impl Abort + AllocGlobal), cases: &[Case]) -> Result<(), Fail> {
     for case in cases {
-        let (limit, step, input, written, wanted) = match case {
-            Tuned(limit, step, input, written) => (*limit, *step, *input, *written, "done"),
-            Fault(input, wanted) => (2, 1, *input, "", *wanted),
+        let (limit, step, largest_class, input, written, wanted) = match case {
+            Tuned(limit, step, input, written) => (*limit, *step, 0, *input, *written, "done"),
+            WithLargest(input, written) => (2, 1, 1, *input, *written, "done"),
+            Fault(input, wanted) => (2, 1, 0, *input, "", *wanted),
         };
         answers(
             rt,
-            Call::Tune(Limits { limit, step }),
+            Call::Tune(Limits { limit, step }, largest_class),
             input,
             written,
             wanted,
@@ -131,6 +134,22 @@ const TUNES_FOR_A_STEP: &[Case] = &[
     ),
 ];
 
+// class 1024 serves whatever is above the other class, and so one class alone all
+const TUNES_WITH_THE_LARGEST_CLASS: &[Case] = &[
+    WithLargest(
+        b"16 3\n40 1\n",
+        "classes 4 1024\nlimit 2\nforced 1024\nwaste 104\nrow 65384 16328 0\nrow 104 8 0\n",
+    ),
+    WithLargest(
+        b"16 3\n16368 1\n",
+        "classes 2 1024\nlimit 2\nforced 1024\nwaste 0\nrow 49056 0\nrow 0 0\n",
+    ),
+    WithLargest(
+        b"",
+        "classes 1024\nlimit 2\nforced 1024\nwaste 0\nrow 0\nrow 0\n",
+    ),
+];
+
 const FAULTS_OF_THE_PROFILE: &[Case] = &[
     Fault(b"40 1\n16 3\n", "error 31 NotAscending line 2"),
     Fault(b"16 0\n", "error 32 CountOutOfRange line 1"),
@@ -143,5 +162,6 @@ const FAULTS_OF_THE_PROFILE: &[Case] = &[
 fn tunes(rt: HostRuntime) -> Result<(), Fail> {
     check(&rt, TUNES)?;
     check(&rt, TUNES_FOR_A_STEP)?;
+    check(&rt, TUNES_WITH_THE_LARGEST_CLASS)?;
     check(&rt, FAULTS_OF_THE_PROFILE)
 }

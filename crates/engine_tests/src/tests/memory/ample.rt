@@ -33,7 +33,7 @@ fn is_tuned(
     step: u8,
 ) -> Result<(), Fail> {
     assert!(rt; limit >= 1 && limit <= 32 && is_step(step));
-    let tuned = tune(rt.alloc(), profile, limit, step)?;
+    let tuned = tune(rt.alloc(), profile, limit, step, false)?;
     let verdict = check(rt.alloc(), profile, tuned.sheet())?;
     assert!(rt; verdict == Verdict::Optimal, "limit {limit} step {step}");
     is_read(rt, tuned.sheet())

@@ -29,7 +29,7 @@ fn scoring(rt: HostRuntime) -> Result<(), Fail> {
 fn tuning(rt: HostRuntime) -> Result<(), Fail> {
     answers(
         &rt,
-        Call::Tune(Limits { limit: 2, step: 1 }),
+        Call::Tune(Limits { limit: 2, step: 1 }, 0),
         PROFILE,
         SHEET,
     )
@@ -51,7 +51,7 @@ fn taking_a_footprint(rt: HostRuntime) -> Result<(), Fail> {
 
 #[test]
 fn fitting(rt: HostRuntime) -> Result<(), Fail> {
-    answers(&rt, Call::Fit(Limits { limit: 2, step: 1 }), HISTORY, FIT)
+    answers(&rt, Call::Fit(Limits { limit: 2, step: 1 }, 0), HISTORY, FIT)
 }
 
 #[test]

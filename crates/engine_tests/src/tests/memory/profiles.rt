@@ -105,7 +105,7 @@ fn a_tuned_sheet(rt: HostRuntime) -> Result<(), Fail> {
 }
 
 fn is_tuned(rt: &(impl Abort + AllocGlobal), profile: &Profile) -> bool {
-    let Ok(tuned) = tune(rt.alloc(), profile, 2, 1) else {
+    let Ok(tuned) = tune(rt.alloc(), profile, 2, 1, false) else {
         return false;
     };
     same(rt, &tuned.sheet().cost, &8, &"the waste");

@@ -114,7 +114,7 @@ fn evaluations(
 ) -> Result<u64, Fail> {
     assert!(rt; limit >= 1 && limit <= 32 && is_step(step));
     let profile = Profile::read(rt.alloc(), text)?;
-    let tuned = tune(rt.alloc(), &profile, limit, step)?;
+    let tuned = tune(rt.alloc(), &profile, limit, step, false)?;
     let rows = tuned.sheet().rows.len();
     same(rt, &rows, &(limit as usize), &(limit, step));
     Ok(tuned.evaluations())

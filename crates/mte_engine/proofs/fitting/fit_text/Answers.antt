@@ -4,7 +4,9 @@ use Rattle.potential_check.specs.SheetText.{fit_text}
 use Rattle.potential_check.specs.declared.cost.OfFootprint.{OfFootprint}
 use Rattle.potential_check.specs.declared.certificates.certificate.Certificate.{Certificate}
 use Rattle.tuner_theory.proofs.FootprintLawLemmas.{peaks_are_counts}
+use Rattle.tuner_theory.specs.Served.{served}
 use Rattle.tuner_theory.proofs.LawLemmas.{few_places}
+use Rattle.tuner_theory.proofs.Served.{served_are_counts}
 use Rattle.history_count.specs.Histories.{History}
 use Rattle.tuner_theory.specs.Histories.{AreSnapshots, peaks}
 use Rattle.mte_engine.specs.declared.engine.Status.TheVariants.{Done}
@@ -16,7 +18,8 @@ of_sheet-requires c =
     let history = c.in_ok-history.history in
     let Good : History → Type 0 = λ h. AreSnapshots h.snapshots in
     let are = subst Good c.history.view_is c.history.invariant.lines.snapshots in
-    let few = few_places (peaks history.snapshots) c.args.step c.requires.options.is_step (peaks_are_counts history.snapshots are) in
+    let few = few_places (served c.args.forced (peaks history.snapshots)) c.args.step c.requires.options.is_step
+    (served_are_counts c.args.forced (peaks history.snapshots) (peaks_are_counts history.snapshots are)) in
     rw c.into_sheet.ensures (short_rows _ c.args.limit _ c.in_ok-fitted.ensures.fitted.made.shape few)
 
 pub returns : goal.returns

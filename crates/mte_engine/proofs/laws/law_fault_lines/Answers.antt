@@ -14,7 +14,7 @@ pub returns-clause-score : goal.returns-clause-score
 returns-clause-score c = λ options. after_table_at_first SpellsProfile profile_of_lines profile_part profile_is_part
 
 pub returns-clause-tune : goal.returns-clause-tune
-returns-clause-tune c = λ limit step. alone_at_first SpellsProfile profile_of_lines profile_part profile_is_part
+returns-clause-tune c = λ limit step forced. alone_at_first SpellsProfile profile_of_lines profile_part profile_is_part
 
 pub returns-clause-check : goal.returns-clause-check
 returns-clause-check c = λ options. check_profile_at_first
@@ -26,13 +26,13 @@ pub returns-clause-footprint : goal.returns-clause-footprint
 returns-clause-footprint c = after_table_at_first SpellsHistory history_of_lines history_part history_is_part
 
 pub returns-clause-fit : goal.returns-clause-fit
-returns-clause-fit c = λ limit step. alone_at_first SpellsHistory history_of_lines history_part history_is_part
+returns-clause-fit c = λ limit step forced. alone_at_first SpellsHistory history_of_lines history_part history_is_part
 
 pub returns-clause-footprint_over : goal.returns-clause-footprint_over
 returns-clause-footprint_over c = after_table_at_first SpellsTimeline timeline_of_lines timeline_part timeline_is_part
 
 pub returns-clause-fit_over : goal.returns-clause-fit_over
-returns-clause-fit_over c = λ limit step. alone_at_first SpellsTimeline timeline_of_lines timeline_part timeline_is_part
+returns-clause-fit_over c = λ limit step forced. alone_at_first SpellsTimeline timeline_of_lines timeline_part timeline_is_part
 
 pub returns-clause-check_fit : goal.returns-clause-check_fit
 returns-clause-check_fit c = check_fit_history_at_first

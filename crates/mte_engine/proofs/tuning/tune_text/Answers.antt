@@ -3,7 +3,9 @@ use Rattle.potential_check.specs.Certificates.SheetView.{sheet_of}
 use Rattle.potential_check.specs.SheetText.{sheet_text}
 use Rattle.potential_check.specs.declared.cost.OfWaste.{OfWaste}
 use Rattle.potential_check.specs.declared.certificates.certificate.Certificate.{Certificate}
+use Rattle.tuner_theory.specs.Served.{served}
 use Rattle.tuner_theory.proofs.LawLemmas.{few_places}
+use Rattle.tuner_theory.proofs.Served.{served_are_counts}
 use Rattle.mte_engine.specs.declared.engine.Status.TheVariants.{Done}
 use Rattle.mte_engine.proofs.RowLines.{short_rows}
 use Rattle.mte_engine.proofs.tuning.tune_text.Goals as goal
@@ -12,7 +14,8 @@ pub of_sheet-requires : goal.of_sheet-requires
 of_sheet-requires c =
     let profile = c.in_ok-profile.profile in
     let is_profile = rw c.profile.view_is at c.profile.invariant in
-    let few = few_places profile.counts c.args.step c.requires.options.is_step is_profile.counts in
+    let few = few_places (served c.args.forced profile.counts) c.args.step c.requires.options.is_step
+    (served_are_counts c.args.forced profile.counts is_profile.counts) in
     rw c.into_sheet.ensures (short_rows _ c.args.limit _ c.in_ok-tuned.ensures.tuned.made.shape few)
 
 pub returns : goal.returns

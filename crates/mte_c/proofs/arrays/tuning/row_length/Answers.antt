@@ -1,6 +1,8 @@
 use Rattle.std.proofs.Common.{◌≡◌, ◌∙◌, [], ap, arith, length, sym}
 use Rattle.std.proofs.lemmas.Option.{get_or_from_slice_get}
 use Rattle.tuner_theory.proofs.LawLemmas.{few_places}
+use Rattle.tuner_theory.specs.Served.{served}
+use Rattle.tuner_theory.proofs.Served.{served_are_counts}
 use Rattle.tuner_theory.specs.Spans.{places}
 use Rattle.mte_c.proofs.arrays.tuning.row_length.Goals as goal
 
@@ -12,6 +14,7 @@ returns-clause-length c =
 pub returns-clause-few : goal.returns-clause-few
 returns-clause-few c =
     let first = get_or_from_slice_get c.args.rows.now 0 c.row.result.now [] c.row.ensures in
-    let long : length c.row.result.now ≡ places c.args.profile.now.counts c.args.step =
+    let long : length c.row.result.now ≡ places (served c.args.forced c.args.profile.now.counts) c.args.step =
     ap length (sym first) ∙ c.requires.shape 0 [] c.requires.some in
-    omega (arith, long, few_places c.args.profile.now.counts c.args.step c.requires.step c.requires.counts)
+    omega (arith, long, few_places (served c.args.forced c.args.profile.now.counts) c.args.step c.requires.step
+        (served_are_counts c.args.forced c.args.profile.now.counts c.requires.counts))

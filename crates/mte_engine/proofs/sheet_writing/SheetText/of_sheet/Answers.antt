@@ -12,5 +12,5 @@ returns g c =
     let empty = c.new.ensures.items in
     let made = c.new-2.ensures in
     let sheet = c.args.sheet in
-    let all = rows_after g.C.CostKind.kind sheet.table sheet.limit sheet.step sheet.cost sheet.rows in
+    let all = rows_after g.C.CostKind.kind sheet.table sheet.limit sheet.step sheet.forced sheet.cost sheet.rows in
     IfOk-weaker c.new-3.result _ _ (λ output e. e ∙ rw (head, none, value, after, made, empty) all) c.new-3.ensures

@@ -20,6 +20,6 @@ test_rows-requires-clause-few c = omega (arith, c.requires.shape.row_count)
 pub returns : goal.returns
 returns c =
     IfOk-weaker c.test_rows.result _ _
-    (λ tests are. tests_of c.args.self.now.history.now.snapshots (sheet_of c.args.sheet.now) c.args.spans.now.counts c.args.spans.now.step
+    (λ tests are. tests_of c.args.self.now.forced c.args.self.now.history.now.snapshots (sheet_of c.args.sheet.now) c.args.spans.now.counts c.args.spans.now.step
     c.requires.counts c.requires.step _ _ tests c.in_ok-costs.ensures.cost c.in_ok-costs.ensures.places c.requires.shape are)
     c.test_rows.ensures.tests

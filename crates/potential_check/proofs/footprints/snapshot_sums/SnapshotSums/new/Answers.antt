@@ -88,7 +88,8 @@ invariant_of-result c =
     let holds : HoldsSnapshots snapshots s.counts s.step sums = record {
       is_step = c.requires.spans.is_step;
       are = lines.ensures.history.snapshots;
-      counts_are = c.requires.peaks;
+      are_counts = c.requires.spans.are_counts;
+      covers = c.requires.peaks;
       sums_are = first-all snapshots s.counts s.step c.loop-t.t sums
           (omega (arith, lists-length lines.result.columns.now, lines.ensures.lines.width)) c.loop-t.invariant.first;
     } in
