@@ -5,7 +5,7 @@ use Rattle.heap_theory.specs.declared.config.Config.{Config}
 use Rattle.history_count.specs.Histories.{History}
 use Rattle.history_count.specs.HistoryText.{history_of}
 use Rattle.history_count.specs.Timelines.TimelineText.{timeline_of}
-use Rattle.line_text.specs.Lines.{lines, text_of}
+use Rattle.line_text.specs.Lines.{lines}
 use Rattle.potential_check.specs.SheetText.{fit_text, sheet_text}
 use Rattle.profile_count.specs.ProfileText.{profile_of}
 use Rattle.replay_theory.specs.Report.{report}
@@ -15,7 +15,7 @@ use Rattle.tuner_theory.specs.Profiles.{Profile as Counted}
 use Rattle.tuner_theory.specs.Sheets.{Sheet}
 use Rattle.tuner_theory.specs.declared.size_event.SizeEvent.{SizeEvent}
 use Rattle.mte_engine.specs.Fit.{FitAnswers, IsFitText}
-use Rattle.mte_engine.specs.FitOver.{FitEitherAnswers, FitOverAnswers, IsFoundText, between_lines, least_text}
+use Rattle.mte_engine.specs.FitOver.{FitEitherAnswers, FitOverAnswers, IsFoundText}
 use Rattle.mte_engine.specs.Parts.{AnswersPart, history_part, profile_part, timeline_part}
 use Rattle.mte_engine.specs.Replay.{report_on}
 use Rattle.mte_engine.specs.Run.{IsTunedRun, RunAnswers}
@@ -24,7 +24,7 @@ use Rattle.mte_engine.specs.Traces.{profile_of_events, trace_part}
 use Rattle.mte_engine.specs.Tune.{IsTunedText, TuneAnswers}
 use Rattle.mte_engine.specs.declared.fault.InputFault.{InputFault}
 use Rattle.mte_engine.specs.Outcome.{Answer}
-use Rattle.mte_engine.specs.declared.engine.Status.TheVariants.{Done, No}
+use Rattle.mte_engine.specs.declared.engine.Status.TheVariants.{Done}
 
 -- what is read is one, and what is said of it is one
 one_answer : {A : Type 0} (part : Result A InputFault) (says : A → Answer → Type 0) → ((x : A) (a b : Answer) → says x a → says x b → a ≡ b)
@@ -68,7 +68,7 @@ module _ (limit step : ℕ) (text : List ℕ) where
   over_written : (events : List SizeEvent) (a b : Answer) → IsFoundText limit step events a → IsFoundText limit step events b → a ≡ b
   over_written events a b (inl first) (inl second) =
       let same = one-least events step limit first.made second.made first.numbers second.numbers first.fit second.fit first.least
-          second.least in
+      second.least in
       first.written ∙ (rw (same.0, same.1) refl ∙ sym second.written)
   over_written events a b (inl first) (inr second) =
       absurd (least-or_between events step limit first.made 1024 first.numbers second.table first.fit second.takes second.least first.few
@@ -78,7 +78,7 @@ module _ (limit step : ℕ) (text : List ℕ) where
       second.least first.between)
   over_written events a b (inr first) (inr second) =
       let same = one-between events step limit 1024 first.table second.table first.takes second.takes first.least second.least first.between
-          second.between in
+      second.between in
       first.written ∙ (rw (same.0, same.1, same.2) refl ∙ sym second.written)
 
   fitted_over : (a : Result Answer InputFault) → FitOverAnswers limit step text a

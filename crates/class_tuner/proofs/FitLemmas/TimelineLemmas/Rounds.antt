@@ -1,5 +1,5 @@
 -- What a round shows, and what is kept of all of them.
-use Rattle.std.proofs.Common.{◌≡◌, ◌≢◌, ◌+◌, ◌*◌, ◌<◌, ◌≤◌, ℕ, List, [], ◌∷◌, All, length, max, sym, subst, ◌∙◌, add-one, arith, refl, inl, inr}
+use Rattle.std.proofs.Common.{◌≡◌, ◌≢◌, ◌⊎◌, ◌+◌, ◌*◌, ◌^◌, ◌<◌, ◌≤◌, ℕ, List, [], ◌∷◌, All, length, max, sym, subst, ◌∙◌, add-one, arith, refl, inl, inr}
 use Rattle.std.proofs.Math.Nat.{mul-le-mul}
 use Rattle.std.proofs.lemmas.Bool.{cases_lt}
 use Rattle.std.specs.List.{Contains}
@@ -21,9 +21,11 @@ use Rattle.tuner_theory.proofs.LawLemmas.{few_places}
 use Rattle.tuner_theory.proofs.TimelineCanonical.{canonical_over}
 use Rattle.tuner_theory.proofs.Timelines.{fit_bounds_timeline}
 use Rattle.class_table.specs.declared.sizes.TheConstants.{MOST_NEEDS}
+use Rattle.class_tuner.specs.declared.fits.timelines.round.Round.{Round}
 use Rattle.class_tuner.specs.Fits.Timelines.Found.{IsBetween, IsLeastFit}
 use Rattle.class_tuner.specs.Fits.Timelines.Rounds.{AreLoose, AreRoundCosts, AreRoundMoments, IsDecisive, IsGreatestOfRounds, IsRound, IsUnion, moments_left}
 use Rattle.class_tuner.proofs.FitLemmas.TimelineLemmas.OneRound.{same-round}
+use Rattle.potential_check.specs.Certificates.SheetView.{sheet_of}
 use Rattle.potential_check.specs.Footprints.CallCounts.{span_count}
 use Rattle.tuner_theory.specs.Spans.{places}
 
@@ -64,21 +66,23 @@ more-moments events numbers moment few within kept ascending = record {
 }
 
 -- What a round over such moments has.
-pub record IsFittedRound (events : List SizeEvent) (numbers : List ℕ) (moment step limit earlier : ℕ) (fit : Sheet) (takes : ℕ) : Type 0 where
+pub record IsFittedRound (events : List SizeEvent) (numbers : List ℕ) (moment step limit earlier : ℕ) (fit : Sheet) (takes : ℕ) :
+    Type 0 where
   pub over : AreDeciding events numbers moment
   pub round : IsRound events step limit earlier numbers fit
   pub legal : IsLegalTable 1 fit.table
   pub taken : takes ≡ footprint_over events fit.table
 
 module _ (events : List SizeEvent) (moment step limit : ℕ) (timeline : IsTimeline events) (decides : Decides events moment) where
-  pub round-serves : (earlier : ℕ) (numbers : List ℕ) (fit : Sheet) (takes : ℕ) → IsFittedRound events numbers moment step limit earlier fit takes
+  round-serves : (earlier : ℕ) (numbers : List ℕ) (fit : Sheet) (takes : ℕ)
+      → IsFittedRound events numbers moment step limit earlier fit takes
       → Serves (peaks (moments events)) fit.table
   round-serves earlier numbers fit takes round =
       let kept = round.over.kept in
       decides numbers fit.table kept.0 kept.1 (get_or_default numbers kept.0 0 moment kept.1 ∙ kept.2)
       round.round.fitted.made.canonical.best.candidate.serving
 
-  pub round-candidate : (earlier : ℕ) (numbers : List ℕ) (fit : Sheet) (takes : ℕ)
+  round-candidate : (earlier : ℕ) (numbers : List ℕ) (fit : Sheet) (takes : ℕ)
       → IsFittedRound events numbers moment step limit earlier fit takes
       → IsCandidate (peaks (moments events)) step limit fit.table
   round-candidate earlier numbers fit takes round = record {
@@ -87,7 +91,8 @@ module _ (events : List SizeEvent) (moment step limit : ℕ) (timeline : IsTimel
     serving = round-serves earlier numbers fit takes round;
   }
 
-  pub round-bounds : (earlier : ℕ) (numbers : List ℕ) (fit : Sheet) (takes : ℕ) → IsFittedRound events numbers moment step limit earlier fit takes
+  round-bounds : (earlier : ℕ) (numbers : List ℕ) (fit : Sheet) (takes : ℕ)
+      → IsFittedRound events numbers moment step limit earlier fit takes
       → (other : List ℕ) → IsCandidate (peaks (moments events)) step limit other → fit.cost ≤ footprint_over events other
   round-bounds earlier numbers fit takes round other candidate =
       let made = round.round.fitted.made in
@@ -96,7 +101,8 @@ module _ (events : List SizeEvent) (moment step limit : ℕ) (timeline : IsTimel
       fit_bounds_timeline events numbers fit other timeline round.over.are round.legal made.optimal of_limit
 
   -- a round whose table takes no more over the whole timeline
-  pub round-least : (earlier : ℕ) (numbers : List ℕ) (fit : Sheet) (takes : ℕ) → IsFittedRound events numbers moment step limit earlier fit takes
+  pub round-least : (earlier : ℕ) (numbers : List ℕ) (fit : Sheet) (takes : ℕ)
+      → IsFittedRound events numbers moment step limit earlier fit takes
       → takes ≡ fit.cost → AreLoose events step limit earlier → IsLeastFit events step limit (earlier + 1) numbers fit
   round-least earlier numbers fit takes round tight loose =
       let over : footprint_over events fit.table ≡ fit.cost = sym round.taken ∙ tight in
@@ -112,7 +118,8 @@ module _ (events : List SizeEvent) (moment step limit : ℕ) (timeline : IsTimel
             (round-serves earlier numbers fit takes round) (over ∙ round.round.fitted.made.costs);
       }
 
-  takes-more : (earlier : ℕ) (numbers : List ℕ) (fit : Sheet) (takes : ℕ) → IsFittedRound events numbers moment step limit earlier fit takes
+  takes-more : (earlier : ℕ) (numbers : List ℕ) (fit : Sheet) (takes : ℕ)
+      → IsFittedRound events numbers moment step limit earlier fit takes
       → takes ≢ fit.cost → fit.cost < footprint_over events fit.table
   takes-more earlier numbers fit takes round differs =
       elim (cases_lt fit.cost takes) [
@@ -297,25 +304,29 @@ pub record IsSetting (events : List SizeEvent) (moment : ℕ) : Type 0 where
   pub decisive : IsDecisive events moment
 
 -- What a round over these moments makes.
-pub record IsMade (events : List SizeEvent) (step limit : ℕ) (numbers : List ℕ) (fit : Sheet) (takes : ℕ) (firsts : List ℕ) (evaluations : ℕ) :
-    Type 0 where
-  pub fitted : IsFitOf (history_at events numbers) step limit fit
-  pub taken : takes ≡ footprint_over events fit.table
-  pub firsts_are : AreFirsts events fit.table firsts
-  pub legal : IsLegalTable 1 fit.table
-  pub exact : evaluations ≡ span_count (places (peaks (history_at events numbers)) step)
+pub record IsMade (events : List SizeEvent) (step limit : ℕ) (numbers : List ℕ) (round : Round) : Type 0 where
+  pub fitted : IsFitOf (history_at events numbers) step limit (sheet_of round.fit)
+  pub taken : round.takes ≡ footprint_over events round.fit.table
+  pub firsts_are : AreFirsts events round.fit.table round.firsts.items
+  pub legal : IsLegalTable 1 round.fit.table
+  pub exact : round.evaluations ≡ span_count (places (peaks (history_at events numbers)) step)
 
 -- The moments of the round before which so many were made.
 pub record AreReady (events : List SizeEvent) (moment step limit earlier : ℕ) (numbers : List ℕ) : Type 0 where
   pub over : AreDeciding events numbers moment
   pub round_moments : AreRoundMoments events step limit earlier numbers
 
+-- How many costs so many rounds compute.
+pub record AreFewCosts (events : List SizeEvent) (step limit made costs : ℕ) : Type 0 where
+  pub exact : AreRoundCosts events step limit made costs
+  pub few : costs ≤ made * span_count MOST_NEEDS
+
 -- What the rounds so far leave, none of which is tight.
-pub record AreSoFar (events : List SizeEvent) (moment step limit made : ℕ) (numbers table : List ℕ) (takes least evaluations : ℕ) : Type 0 where
+pub record AreSoFar (events : List SizeEvent) (moment step limit made : ℕ) (numbers : List ℕ) (best : Round) (least evaluations : ℕ) :
+    Type 0 where
   pub ready : AreReady events moment step limit made numbers
-  pub between : IsBetween events step limit made table takes least
-  pub costs : AreRoundCosts events step limit made evaluations
-  pub few : evaluations ≤ made * span_count MOST_NEEDS
+  pub between : IsBetween events step limit made best.fit.table best.takes least
+  pub costs : AreFewCosts events step limit made evaluations
 
 module _ (events : List SizeEvent) (moment step limit : ℕ) (set : IsSetting events moment) where
   pub ready-first : (numbers : List ℕ) → numbers ≡ moment ∷ [] → AreReady events moment step limit 0 numbers
@@ -325,85 +336,90 @@ module _ (events : List SizeEvent) (moment step limit : ℕ) (set : IsSetting ev
     round_moments = (moment, set.decisive, is);
   }
 
-  as-fitted : (earlier : ℕ) (numbers : List ℕ) (fit : Sheet) (takes : ℕ) (firsts : List ℕ) (its : ℕ)
-      → AreReady events moment step limit earlier numbers → IsMade events step limit numbers fit takes firsts its
-      → IsFittedRound events numbers moment step limit earlier fit takes
-  as-fitted earlier numbers fit takes firsts its ready made = record {
-    over = ready.over;
-    round = record { moments = ready.round_moments; fitted = made.fitted };
-    legal = made.legal;
-    taken = made.taken;
-  }
+  module _ (earlier : ℕ) (numbers : List ℕ) (round : Round) (ready : AreReady events moment step limit earlier numbers)
+      (made : IsMade events step limit numbers round) where
+    as-fitted : IsFittedRound events numbers moment step limit earlier (sheet_of round.fit) round.takes
+    as-fitted = record {
+      over = ready.over;
+      round = record { moments = ready.round_moments; fitted = made.fitted };
+      legal = made.legal;
+      taken = made.taken;
+    }
 
-  pub ready-next : (earlier : ℕ) (numbers next : List ℕ) (fit : Sheet) (takes : ℕ) (firsts : List ℕ) (its : ℕ)
-      → AreReady events moment step limit earlier numbers → IsMade events step limit numbers fit takes firsts its
-      → length next ≤ MOST_SNAPSHOTS → All (λ number. number ≤ length events) next → Contains next moment
-      → IsUnion (moments_left numbers moment (length firsts)) firsts next → AreReady events moment step limit (earlier + 1) next
-  ready-next earlier numbers next fit takes firsts its ready made few within kept union = record {
-    over = more-moments events next moment few within kept union.ascending;
-    round_moments = moments-next events moment step limit set.timeline set.decides earlier numbers next firsts fit set.decisive
-        (as-fitted earlier numbers fit takes firsts its ready made).round made.firsts_are union;
-  }
+    pub ready-next : (next : List ℕ) → length next ≤ MOST_SNAPSHOTS → All (λ number. number ≤ length events) next → Contains next moment
+        → IsUnion (moments_left numbers moment (length round.firsts.items)) round.firsts.items next
+        → AreReady events moment step limit (earlier + 1) next
+    ready-next next few within kept union = record {
+      over = more-moments events next moment few within kept union.ascending;
+      round_moments = moments-next events moment step limit set.timeline set.decides earlier numbers next round.firsts.items
+          (sheet_of round.fit) set.decisive as-fitted.round made.firsts_are union;
+    }
+
+    -- its table takes no more over the whole timeline
+    pub tight : AreLoose events step limit earlier → round.takes ≡ round.fit.cost
+        → IsLeastFit events step limit (earlier + 1) numbers (sheet_of round.fit)
+    tight loose same =
+        round-least events moment step limit set.timeline set.decides earlier numbers (sheet_of round.fit) round.takes as-fitted same loose
+
+    its-costs : round.evaluations ≤ span_count MOST_NEEDS
+    its-costs = omega (arith, made.exact, few-costs (history_at events numbers) step limit (sheet_of round.fit) made.fitted)
 
   -- the first round
-  pub tight-first : (numbers : List ℕ) (fit : Sheet) (takes : ℕ) (firsts : List ℕ) (its : ℕ)
-      → AreReady events moment step limit 0 numbers → IsMade events step limit numbers fit takes firsts its → takes ≡ fit.cost
-      → IsLeastFit events step limit 1 numbers fit
-  tight-first numbers fit takes firsts its ready made tight =
-      round-least events moment step limit set.timeline set.decides 0 numbers fit takes (as-fitted 0 numbers fit takes firsts its ready made) tight
-      (λ k others other lt round. absurd (omega arith))
+  module _ (numbers : List ℕ) (round : Round) (ready : AreReady events moment step limit 0 numbers)
+      (made : IsMade events step limit numbers round) where
+    first-costs : AreFewCosts events step limit 1 round.evaluations
+    first-costs = record {
+      exact = costs-first events step limit numbers round.evaluations ready.round_moments made.exact;
+      few = omega (arith, its-costs 0 numbers round ready made);
+    }
 
-  pub so_far-first : (numbers next : List ℕ) (fit : Sheet) (takes : ℕ) (firsts : List ℕ) (its : ℕ)
-      → AreReady events moment step limit 0 numbers → IsMade events step limit numbers fit takes firsts its → takes ≢ fit.cost
-      → AreReady events moment step limit 1 next → AreSoFar events moment step limit 1 next fit.table takes fit.cost its
-  so_far-first numbers next fit takes firsts its ready made differs more = record {
-    ready = more;
-    between = between-first events moment step limit set.timeline set.decides numbers next fit takes
-        (as-fitted 0 numbers fit takes firsts its ready made) differs more.round_moments;
-    costs = costs-first events step limit numbers its ready.round_moments made.exact;
-    few = omega (arith, made.exact, few-costs (history_at events numbers) step limit fit made.fitted);
-  }
+    pub tight-first : round.takes ≡ round.fit.cost
+        → IsLeastFit events step limit 1 numbers (sheet_of round.fit) × AreFewCosts events step limit 1 round.evaluations
+    tight-first same = (tight 0 numbers round ready made (λ k others other lt its. absurd (omega arith)) same, first-costs)
 
-  pub costs-of_first : (numbers : List ℕ) (fit : Sheet) (takes : ℕ) (firsts : List ℕ) (its : ℕ)
-      → AreReady events moment step limit 0 numbers → IsMade events step limit numbers fit takes firsts its
-      → AreRoundCosts events step limit 1 its × (its ≤ 1 * span_count MOST_NEEDS)
-  costs-of_first numbers fit takes firsts its ready made = (
-    costs-first events step limit numbers its ready.round_moments made.exact,
-    omega (arith, made.exact, few-costs (history_at events numbers) step limit fit made.fitted),
-  )
+    pub so_far-first : (next : List ℕ) → round.takes ≢ round.fit.cost → AreReady events moment step limit 1 next
+        → AreSoFar events moment step limit 1 next round round.fit.cost round.evaluations
+    so_far-first next differs more = record {
+      ready = more;
+      between = between-first events moment step limit set.timeline set.decides numbers next (sheet_of round.fit) round.takes
+          (as-fitted 0 numbers round ready made) differs more.round_moments;
+      costs = first-costs;
+    }
 
   -- one round more
-  module _ (count : ℕ) (numbers table : List ℕ) (best least evaluations : ℕ) (fit : Sheet) (takes : ℕ) (firsts : List ℕ) (its : ℕ)
-      (before : AreSoFar events moment step limit count numbers table best least evaluations)
-      (made : IsMade events step limit numbers fit takes firsts its) where
-    pub tight-more : takes ≡ fit.cost → IsLeastFit events step limit (count + 1) numbers fit
-    tight-more tight =
-        round-least events moment step limit set.timeline set.decides count numbers fit takes
-        (as-fitted count numbers fit takes firsts its before.ready made) tight before.between.loose
-
-    pub costs-of_more : AreRoundCosts events step limit (count + 1) (evaluations + its)
-        × (evaluations + its ≤ (count + 1) * span_count MOST_NEEDS)
-    costs-of_more = (
-      costs-more events step limit count numbers evaluations its before.costs before.ready.round_moments made.exact,
-      omega (arith, before.few, made.exact, few-costs (history_at events numbers) step limit fit made.fitted),
-    )
-
-    pub so_far-kept : (next : List ℕ) → takes ≢ fit.cost → AreReady events moment step limit (count + 1) next → best ≤ takes
-        → AreSoFar events moment step limit (count + 1) next table best (max least fit.cost) (evaluations + its)
-    so_far-kept next differs more le = record {
-      ready = more;
-      between = between-kept events moment step limit set.timeline set.decides count numbers next fit takes table best least
-          (as-fitted count numbers fit takes firsts its before.ready made) differs more.round_moments before.between le;
-      costs = costs-of_more.0;
-      few = costs-of_more.1;
+  module _ (count : ℕ) (numbers : List ℕ) (best : Round) (least evaluations : ℕ) (round : Round)
+      (before : AreSoFar events moment step limit count numbers best least evaluations)
+      (made : IsMade events step limit numbers round) where
+    more-costs : AreFewCosts events step limit (count + 1) (evaluations + round.evaluations)
+    more-costs = record {
+      exact = costs-more events step limit count numbers evaluations round.evaluations before.costs.exact before.ready.round_moments
+          made.exact;
+      few = omega (arith, before.costs.few, its-costs count numbers round before.ready made);
     }
 
-    pub so_far-better : (next : List ℕ) → takes ≢ fit.cost → AreReady events moment step limit (count + 1) next → takes < best
-        → AreSoFar events moment step limit (count + 1) next fit.table takes (max least fit.cost) (evaluations + its)
-    so_far-better next differs more lt = record {
-      ready = more;
-      between = between-better events moment step limit set.timeline set.decides count numbers next fit takes table best least
-          (as-fitted count numbers fit takes firsts its before.ready made) differs more.round_moments before.between lt;
-      costs = costs-of_more.0;
-      few = costs-of_more.1;
-    }
+    pub costs-fit : count < 2 ^ 32 → evaluations + round.evaluations < 2 ^ 64
+    costs-fit small = omega (arith, more-costs.few, small)
+
+    pub tight-more : round.takes ≡ round.fit.cost → IsLeastFit events step limit (count + 1) numbers (sheet_of round.fit)
+        × AreFewCosts events step limit (count + 1) (evaluations + round.evaluations)
+    tight-more same = (tight count numbers round before.ready made before.between.loose same, more-costs)
+
+    pub so_far-more : (next : List ℕ) (better : Round) → round.takes ≢ round.fit.cost → AreReady events moment step limit (count + 1) next
+        → ((better ≡ best) × (best.takes ≤ round.takes)) ⊎ ((better ≡ round) × (round.takes < best.takes))
+        → AreSoFar events moment step limit (count + 1) next better (max least round.fit.cost) (evaluations + round.evaluations)
+    so_far-more next better differs more (inl kept) =
+        rw kept.0 (record {
+          ready = more;
+          between = between-kept events moment step limit set.timeline set.decides count numbers next (sheet_of round.fit) round.takes
+              best.fit.table best.takes least (as-fitted count numbers round before.ready made) differs more.round_moments before.between
+              kept.1;
+          costs = more-costs;
+        })
+    so_far-more next better differs more (inr other) =
+        rw other.0 (record {
+          ready = more;
+          between = between-better events moment step limit set.timeline set.decides count numbers next (sheet_of round.fit) round.takes
+              best.fit.table best.takes least (as-fitted count numbers round before.ready made) differs more.round_moments before.between
+              other.1;
+          costs = more-costs;
+        })

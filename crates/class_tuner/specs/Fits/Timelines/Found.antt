@@ -9,7 +9,7 @@ use Rattle.tuner_theory.specs.Histories.{peaks}
 use Rattle.tuner_theory.specs.Timelines.{AreMoments, footprint_over, moments}
 use Rattle.tuner_theory.specs.declared.size_event.SizeEvent.{SizeEvent}
 
--- The fit and the moments of the last of `made` rounds, the first whose table takes no more over the whole timeline: the table that is fitted
+-- The fit and the moments of the last of `made` rounds, the first whose table takes no more over the whole timeline: the one that is fitted
 -- over every moment. The moments' numbers ascend, as those of a line do.
 pub record IsLeastFit (events : List SizeEvent) (step limit made : ℕ) (numbers : List ℕ) (fit : Sheet) : Type 0 where
   pub earlier : ℕ
@@ -21,8 +21,8 @@ pub record IsLeastFit (events : List SizeEvent) (step limit made : ℕ) (numbers
   pub takes : footprint_over events fit.table ≡ fit.cost
   pub fitted : IsFitted (moments events) step limit fit.table
 
--- After `made` rounds, whose tables all take more over the whole timeline than over their moments: of these tables the first that takes least,
--- what it takes, and the greatest of what the rounds' fits take over their moments. No table in question takes less than that.
+-- After `made` rounds, whose tables all take more over the whole timeline than over their moments: the first of these tables that takes
+-- least, what it takes, and the greatest of what the rounds' fits take over their moments. No table in question takes less than that.
 pub record IsBetween (events : List SizeEvent) (step limit made : ℕ) (table : List ℕ) (takes least : ℕ) : Type 0 where
   pub next : (numbers : List ℕ) × AreRoundMoments events step limit made numbers
   pub loose : AreLoose events step limit made

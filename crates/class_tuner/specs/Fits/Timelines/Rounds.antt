@@ -1,5 +1,5 @@
--- The rounds of a fit over a timeline. Each fits the history of some moments; the next one has further moments, at which that fit's table has most
--- of its blocks. All of them are determined.
+-- The rounds of a fit over a timeline. Each fits the history of some moments; the next one has further moments, at which most blocks of the
+-- table are live. All of them are determined.
 use Rattle.std.specs.Prelude.{◌≡◌, ◌↔◌, ◌⊎◌, ℕ, zero, suc, ◌+◌, ◌<◌, ◌≤◌, if◌then◌else◌, nat_le, List, [], ◌∷◌, length}
 use Rattle.std.specs.List.{Contains}
 use Rattle.std.specs.List.Sorted.{IsStrictlyIncreasing}
@@ -25,12 +25,13 @@ pub record IsUnion (one other both : List ℕ) : Type 0 where
   pub ascending : IsStrictlyIncreasing both
   pub each : (n : ℕ) → Contains both n ↔ (Contains one n ⊎ Contains other n)
 
--- The moments that a round leaves for the next one, which has so many further ones: all, or the decisive one alone where they would be too many.
+-- The moments that a round leaves for the next one, which has so many further ones: all, or where they would be too many the decisive one
+-- alone.
 abbrev pub moments_left : List ℕ → ℕ → ℕ → List ℕ
 moments_left numbers decisive further = if nat_le (length numbers + further) MOST_SNAPSHOTS then numbers else decisive ∷ []
 
--- The moments of the round after one over `numbers` with this table: what is left of them, and for each class of the table the first moment at
--- which most of its blocks are live.
+-- The moments of the round after one over `numbers` with this table: what is left of them, and for each class of the table the first moment
+-- at which most of its blocks are live.
 pub record AreNextMoments (events : List SizeEvent) (numbers table next : List ℕ) : Type 0 where
   pub decisive : ℕ
   pub decides : IsDecisive events decisive
@@ -53,7 +54,8 @@ pub record IsRound (events : List SizeEvent) (step limit earlier : ℕ) (numbers
 -- Whether the table of each of the first so many rounds takes more over the whole timeline than over the round's moments.
 abbrev pub AreLoose : List SizeEvent → ℕ → ℕ → ℕ → Type 0
 AreLoose events step limit made =
-    (k : ℕ) (numbers : List ℕ) (fit : Sheet) → k < made → IsRound events step limit k numbers fit → fit.cost < footprint_over events fit.table
+    (k : ℕ) (numbers : List ℕ) (fit : Sheet) → k < made → IsRound events step limit k numbers fit
+    → fit.cost < footprint_over events fit.table
 
 -- Of the tables of the first so many rounds, the first that takes least over the whole timeline.
 pub record IsLeastOfRounds (events : List SizeEvent) (step limit made : ℕ) (table : List ℕ) : Type 0 where

@@ -4,6 +4,6 @@ use Rattle.class_tuner.proofs.fits.timelines.fitting.fit_over.Given as goal
 
 abbrev pub invariant-loop-made : goal.invariant-loop-made
 invariant-loop-made l = record {
-  so_far : AreSoFar l.events l.decisive l.step l.limit l.made l.numbers.items l.best.fit.table l.best.takes l.least l.evaluations;
+  so_far : AreSoFar l.events l.decisive l.step l.limit l.made l.numbers.items l.best l.least l.evaluations;
   within : l.made ≤ max l.rounds 1;
 }
