@@ -53,7 +53,7 @@ pub fn law_headline()
         IsTunedRun limit step config events (record { text = text; status = Done }) }
 {}
 
-/// What `tune`, `fit` and `run` write is one function of their input and options; so of `fit`, whether the input is a history or a timeline.
+/// What `tune`, `fit` and `run` write is one function of their input and options; so is that of `fit` over a timeline.
 pub fn law_one_answer()
     ensures tune { (limit step : ℕ) (forced : Bool) (text : List ℕ) (a b : Result Answer InputFault)
         → TuneAnswers limit step forced text a → TuneAnswers limit step forced text b → a ≡ b }

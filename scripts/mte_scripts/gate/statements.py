@@ -28,7 +28,7 @@ PROMISES = {
     "hardening": ("Hardening", [("replay_core", "laws")]),
     "bounded": (
         "Canonical and bounded",
-        [("mte_engine", "law_one_answer"), ("class_tuner", "fill_rows"), ("class_tuner", "tune"), ("class_tuner", "fit")],
+        [("mte_engine", "law_one_answer"), *(("class_tuner", name) for name in ("fill_rows", "fill_places", "tune", "fit", "fit_over"))],
     ),
 }
 PROGRAM = {"program": ("The whole program, on its own streams", [("mte_tool", "program.run")])}

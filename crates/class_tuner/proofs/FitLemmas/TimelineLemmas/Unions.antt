@@ -75,15 +75,6 @@ insert-union xs i n up = record {
   );
 }
 
-pub union-there : (xs : List ℕ) (n : ℕ) → IsStrictlyIncreasing xs → Contains xs n → IsUnion xs (n ∷ []) xs
-union-there xs n up there = record {
-  ascending = up;
-  each = λ m. (
-    λ has. inl has,
-    λ either. elim either [ inl has ↦ has | inr one ↦ subst (Contains xs) (only m n one) there ],
-  );
-}
-
 -- ---- one list's numbers added to another's, one by one
 
 -- The first i of `further` are added to `start`.

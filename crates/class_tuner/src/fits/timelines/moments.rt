@@ -16,8 +16,8 @@ pub(crate) fn one_moment(alloc: Global, moment: usize) -> Result<Vec<usize>, All
     Ok(numbers)
 }
 
-/// What is left of the moments, all or where they would be too many only `kept`, with further ones. If the moments ascend, these do too. None
-/// is above `most`. The only error is that the allocator refuses memory.
+/// What is left of the moments, all or where they would be too many only `kept`, with further ones. They ascend, and none is above `most`. The
+/// only error is that the allocator refuses memory.
 pub(crate) fn with_moments(
     alloc: Global,
     numbers: Vec<usize>,

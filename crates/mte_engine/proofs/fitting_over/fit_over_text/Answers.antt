@@ -6,8 +6,7 @@ use Rattle.mte_engine.proofs.fitting_over.fit_over_text.Goals as goal
 pub returns : goal.returns
 returns c =
     let found = rw c.in-Between.is at c.in_ok-fitted.ensures.found in
-    let text = rw (c.in-Between.table-is, c.in-Between.takes-is, c.in-Between.least-is) at c.in_ok-text-in-Between.ensures in
-    (
+    let text = rw (c.in-Between.table-is, c.in-Between.takes-is, c.in-Between.least-is) at c.in_ok-text-in-Between.ensures in (
       c.in_ok-timeline.timeline,
       c.in_ok-timeline.ensures,
       inr (record {

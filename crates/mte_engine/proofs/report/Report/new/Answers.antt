@@ -1,4 +1,4 @@
-use Rattle.std.proofs.Common.{◌≡◌, ◌++◌, ◌+◌, length, take, arith, ap, ◌∙◌, List, ℕ}
+use Rattle.std.proofs.Common.{◌≡◌, ◌++◌, length, take, arith, ap, ◌∙◌, List, ℕ}
 use Rattle.std.proofs.lemmas.List.{with_items_is}
 use Rattle.replay_core.specs.ReplayState.{Stored}
 use Rattle.heap_theory.specs.Config.{layout_for}

@@ -31,7 +31,8 @@ returns-clause-union c =
       | else-place-len-via-else-place-len w ↦ absurd (omega (arith, lt, w.if-place-len.false, c.len.ensures))
     ] in
     rw c.in_ok-insert.ensures.items
-    (insert-union xs place c.args.moment (insert-ascends xs place c.args.moment up within (rw c.deref.ensures.value at (c.place_of-place.ensures.below rises)) (λ k le lt.
+    (insert-union xs place c.args.moment
+    (insert-ascends xs place c.args.moment up within (rw c.deref.ensures.value at (c.place_of-place.ensures.below rises)) (λ k le lt.
     elim (cases_lt place k) [
       | inl past ↦ omega (arith, next (omega arith), AllPairs-from_increasing xs up place k 0 past lt)
       | inr here ↦ (let same : k ≡ place = omega arith in rw same (next (omega arith)))
