@@ -1,4 +1,4 @@
-use Rattle.std.proofs.Common.{◌≡◌, List, ℕ, ◌+◌, [], drop, take, length, sym, ◌∙◌, refl, Result}
+use Rattle.std.proofs.Common.{List, ℕ, ◌+◌, drop, take, length, sym, ◌∙◌, Result}
 use Rattle.std.proofs.lemmas.Result.{err_from_is_err_and}
 use Rattle.byte_streams.specs.TextLeft.{text_left}
 use Rattle.history_count.specs.Histories.{History}

@@ -1,4 +1,4 @@
-use Rattle.std.proofs.Common.{refl, append-nil, sym, ◌∙◌, ap}
+use Rattle.std.proofs.Common.{refl, append-nil}
 use Rattle.handed_text.specs.Bytes.{bytes_of}
 use Rattle.mte_c.proofs.CommandLemmas.HandedOut.{handed_out}
 use Rattle.mte_c.proofs.commands.calls.call_texts.Goals as goal
