@@ -103,7 +103,7 @@ fn answer(words: Vec<String>, out: &mut impl Write) -> Result<ExitCode, Fault> {
     };
     let given = Options::new(names, words);
     match command.as_str() {
-        "--version" => written(out, b"plain 1.0.0\n"),
+        "-V" | "--version" => written(out, b"plain 1.0.0\n"),
         "events" => events(&given?, out),
         "score" => given.and_then(|_| score(out)),
         "tune" => tune(&given?, out),

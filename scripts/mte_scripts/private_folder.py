@@ -60,6 +60,27 @@ class Place:
     def file(self, name: str) -> str:
         return os.path.join(self.path, name)
 
+    def at(self, name: str) -> str:
+        """The path of a file by the descriptor, for this process and those that it starts: it leads into this folder, whatever has its name."""
+        return f"/proc/{os.getpid()}/fd/{self.descriptor}/{name}"
+
+    def make_below(self, names: "list[str]") -> None:
+        """Makes the folders of these names, each in the one before, where they are missing."""
+        for at in range(1, len(names) + 1):
+            try:
+                with contextlib.suppress(FileExistsError):
+                    os.mkdir("/".join(names[:at]), 0o755, dir_fd=self.descriptor)
+            except OSError as error:
+                raise Refused(3, f"{self.file('/'.join(names[:at]))} can't be made: {error.strerror}") from None
+
+    def write(self, name: str, data: bytes) -> None:
+        """A file of this name, which may stand in a folder below; by the descriptor."""
+        try:
+            with open(name, "wb", opener=lambda name, flags: os.open(name, flags | os.O_NOFOLLOW, 0o666, dir_fd=self.descriptor)) as file:
+                file.write(data)
+        except OSError as error:
+            raise Refused(3, f"{self.file(name)} can't be written: {error.strerror}") from None
+
     def has(self, name: str) -> bool:
         """Whether it has a file of this name that nobody else can change; the folder itself is closed."""
         try:
@@ -167,16 +188,17 @@ def closed(path: str, make: bool = False) -> Place:
     return place
 
 
-def output(path: str) -> Place:
+def output(path: str, is_new: bool = False) -> Place:
     """A folder that a script is to fill, made if it is missing. It may be in a place that others can change: what stands there is written to
-    by the descriptor alone. Raises NotPrivate if it is another user's."""
+    by the descriptor alone. Raises NotPrivate if it is another user's. One that IS_NEW was not there, and is empty."""
     above, name = os.path.split(os.path.abspath(path))
-    os.makedirs(above, exist_ok=True)
+    if not is_new:
+        os.makedirs(above, exist_ok=True)
     with Place(os.open(above, os.O_PATH | os.O_DIRECTORY | os.O_CLOEXEC), above) as place:
-        with contextlib.suppress(FileExistsError):
+        with contextlib.suppress(() if is_new else FileExistsError):
             os.mkdir(name, 0o755, dir_fd=place.descriptor)
         made = Place(os.open(name, LIST, dir_fd=place.descriptor), path)
-    if not is_owned(os.fstat(made.descriptor)):
+    if not is_owned(os.fstat(made.descriptor)) or is_new and os.listdir(made.descriptor):
         made.close()
         raise NotPrivate(path)
     return made

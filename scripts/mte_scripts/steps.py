@@ -2,7 +2,7 @@
 
 import importlib
 
-from mte_scripts import running
+from mte_scripts import formats, running
 
 HELP = """\
 Take a step of a shell script that is in Python.
@@ -29,6 +29,9 @@ def name(words: list) -> str:
 def step(words: list) -> "int | None":
     if words in (["--help"], ["-h"]):
         print(HELP, end="")
+        return 0
+    if words in (["--version"], ["-V"]):
+        print(f"step {formats.VERSION}")
         return 0
     if not words or words[0] not in MODULES:
         raise running.Refused(2, f"it is `step {'`, `step '.join(MODULES)}`, and more words; --help says which")

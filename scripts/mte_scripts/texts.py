@@ -17,7 +17,7 @@ from collections import defaultdict, namedtuple
 from collections.abc import Iterator, Sequence
 from typing import Any, BinaryIO
 
-from mte_scripts import claims, manifest
+from mte_scripts import claims, manifest, private_folder
 from mte_scripts.formats import LARGEST_CLASS, LARGEST_SIZE, MOST_CLASSES, MOST_COUNT, MOST_INPUT, MOST_SNAPSHOTS
 from mte_scripts.places import ROOT, SCRIPTS
 from mte_scripts.running import Refused, printable, say
@@ -110,15 +110,16 @@ def write(text: "str | bytes") -> int:
     return 0
 
 
-def new_folder(path: str, option: str) -> str:
+def new_folder(path: str, option: str) -> private_folder.Place:
     """Makes a folder, which this option names, for what a script writes."""
     try:
-        os.mkdir(path)
+        return private_folder.output(path, is_new=True)
     except FileExistsError:
         raise Refused(3, f"{path} is there already: move it away, or name another folder by {option}") from None
+    except private_folder.NotPrivate:
+        raise Refused(3, f"another user has put a folder of his in the place of {path}: name another place by {option}") from None
     except OSError as error:
         raise Refused(3, f"the folder {path} can't be made: {error.strerror}; {option} names another place") from None
-    return path
 
 
 def write_file(path: str, data: "str | bytes") -> None:

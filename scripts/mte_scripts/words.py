@@ -51,7 +51,7 @@ class Words(argparse.ArgumentParser):
             if not of or name in of:
                 self.add_argument(option.names[-1], dest=how.pop("dest", name), **how)
         self.add_argument("-h", "--help", action=Says, const=texts.help_text(help_text))
-        self.add_argument("--version", action=Says, const=f"{os.path.basename(sys.argv[0])} {VERSION}\n")
+        self.add_argument("-V", "--version", action=Says, const=f"{os.path.basename(sys.argv[0])} {VERSION}\n")
         if rest:
             self.add_argument(rest, nargs="*")
 

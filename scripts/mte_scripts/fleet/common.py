@@ -235,9 +235,9 @@ def write_certificates(folder: str, own: Iterable[bounds.Bound], table: Table, s
     each = ", ".join(map(str, table.numbers))
     lines.append(f"Joined: the loads in their order, times {each}, added up, divided by {table.divisor:,} and rounded down.\n")
     files["claims.txt"] = "".join(lines).encode(errors="surrogateescape")
-    texts.new_folder(folder, "--certificates")
-    for name, data in files.items():
-        texts.write_file(os.path.join(folder, name), data)
+    with texts.new_folder(folder, "--certificates") as place:
+        for name, data in files.items():
+            place.write(name, data)
 
 
 def main(words: list) -> int:

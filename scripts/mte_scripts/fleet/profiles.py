@@ -1,7 +1,6 @@
 """The profiles and histories in the rows of a fleet's database. `fleet_profiles --help` says all."""
 
 import argparse
-import os
 import re
 
 from mte_scripts import texts
@@ -88,14 +87,11 @@ def name_of(value: str) -> str:
 def write_folder(folder: str, groups: list) -> int:
     """A file for each group, where no file was before. All texts are made before the first is written."""
     every = [(values, ending, text) for values, records in groups for ending, text in texts_of(records)]
-    made = [(os.path.join(folder, *map(name_of, values)) + ending, text) for values, ending, text in every]
-    texts.new_folder(folder, "--output")
-    try:
-        for path, text in made:
-            os.makedirs(os.path.dirname(path), exist_ok=True)
-            texts.write_file(path, text)
-    except OSError as error:
-        raise Refused(3, f"{error.filename} can't be made: {error.strerror}") from None
+    made = [([*map(name_of, values)], ending, text) for values, ending, text in every]
+    with texts.new_folder(folder, "--output") as place:
+        for names, ending, text in made:
+            place.make_below(names[:-1])
+            place.write("/".join(names) + ending, text.encode(errors="surrogateescape"))
     return len(made)
 
 

@@ -377,7 +377,7 @@ def read_result(words: list) -> int:
 
 def main(words: list) -> int:
     steps = {"assign": assign, "predict": predict, "plan": plan, "read": read_result}
-    if words[:1] in (["-h"], ["--help"], ["--version"]):
+    if words[:1] in (["-h"], ["--help"], ["-V"], ["--version"]):
         Words(HELP).take(words[:1])
     if not words or words[0] not in steps:
         raise Refused(2, "the first word is assign, predict, plan or read; --help says more")

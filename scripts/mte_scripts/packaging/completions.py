@@ -10,10 +10,35 @@ BASH = """\
 # Made by scripts/package, of the helps.
 {function}() {{
     local word=${{COMP_WORDS[COMP_CWORD]}} before=${{COMP_WORDS[COMP_CWORD - 1]}}
+    [ "$before" != = ] || before=${{COMP_WORDS[COMP_CWORD - 2]}}
+    [ "$word" != = ] || word=
     COMPREPLY=()
 {body}}}
 complete -o bashdefault -o default -F {function} {name}
 """
+
+
+# the program is the first word that is no option and no option's value; bash has a `=` as a word of its own
+BASH_PROGRAM = """\
+local at=1
+while [ "$at" -lt "$COMP_CWORD" ]; do
+    case ${{COMP_WORDS[at]}} in
+        --) at=$((at + 1)); break ;;
+        {valued}) at=$((at + 2)); [ "${{COMP_WORDS[at - 1]}}" != = ] || at=$((at + 1)) ;;
+        -*) at=$((at + 1)); [ "${{COMP_WORDS[at]}}" != = ] || at=$((at + 2)) ;;
+        *) break ;;
+    esac
+done
+if [ "$at" -lt "$COMP_CWORD" ]; then
+    ! declare -F _command_offset >/dev/null || _command_offset "$at"
+    return
+fi
+"""
+
+
+def valued(help_: Help) -> "list[str]":
+    """The options whose value is the next word."""
+    return [name for option in help_.options() if option.value and not option.joined for name in option.names]
 
 
 def text_of(option: helps.Option, most: int = 70) -> str:
@@ -34,7 +59,9 @@ def bash_reply(words: str) -> str:
 
 def bash_options(help_: Help, indent: int) -> str:
     """The value after an option, else the options; files where there is nothing else to say."""
-    pad, lines = " " * indent, []
+    pad, lines, program = " " * indent, [], []
+    if help_.runs_program():
+        program = [f"{pad}{line}\n" for line in BASH_PROGRAM.format(valued=" | ".join(valued(help_))).splitlines()]
     for option in help_.options():
         if not option.value or option.joined:
             continue
@@ -45,9 +72,9 @@ def bash_options(help_: Help, indent: int) -> str:
         lines = [f"{pad}case $before in\n", *lines, f"{pad}esac\n"]
     names = shlex.quote(" ".join(own_options(help_)))
     lines.append(f"{pad}[[ $word != -* ]] || {{ {bash_reply(f'-W {names}')}; return; }}\n")
-    if help_.runs_program():
-        lines.append(f'{pad}[ "$COMP_CWORD" != 1 ] && [[ $before != -* ]] || {bash_reply("-A command")}\n')
-    return "".join(lines)
+    if program:
+        lines.append(f"{pad}{bash_reply('-A command')}\n")
+    return "".join([*program, *lines])
 
 
 def bash(name: str, help_: Help, commands: "dict[str, Help] | None" = None) -> str:
@@ -129,5 +156,5 @@ def fish(name: str, help_: Help, commands: "dict[str, Help] | None" = None) -> s
     else:
         lines += fish_options(name, help_)
         if help_.runs_program():
-            lines.append(f"complete -c {name} -x -a '(__fish_complete_subcommand)'")
+            lines.append(f"complete -c {name} -x -a '(__fish_complete_subcommand -- {' '.join(valued(help_))})'")
     return "\n".join(lines) + "\n"

@@ -130,28 +130,34 @@ class Folder:
     """The new folder. What a step has made stays there, also where a later step fails."""
 
     def __init__(self, path: str) -> None:
-        self.path = texts.new_folder(path, "--output")
+        self.place = texts.new_folder(path, "--output")
+        self.path = path
 
     def file(self, name: str) -> str:
+        """The path of a file, as it is shown."""
         return os.path.join(self.path, name)
 
+    def at(self, name: str) -> str:
+        """The path by which it is opened."""
+        return self.place.at(name)
+
     def has(self, name: str) -> bool:
-        return os.path.isfile(self.file(name))
+        return os.path.isfile(self.at(name))
 
     def write(self, name: str, data: "str | bytes") -> None:
         try:
-            texts.write_file(self.file(name), data)
+            self.place.write(name, data if isinstance(data, bytes) else data.encode(errors="surrogateescape"))
         except texts.Refused:
             if self.has(name):
-                os.remove(self.file(name))  # what is there of it is no use
+                os.remove(self.at(name))  # what is there of it is no use
             raise
 
     def drop_empty(self) -> None:
         """Without a profile nothing is worth keeping: then the next run finds its folder free."""
         try:
             for name in ("program.profile", "program.timeline", "program.history", "measured"):
-                if self.has(name) and not os.path.getsize(self.file(name)):
-                    os.remove(self.file(name))
+                if self.has(name) and not os.path.getsize(self.at(name)):
+                    os.remove(self.at(name))
             os.rmdir(self.path)
         except OSError:
             pass  # there is something in it
@@ -159,8 +165,9 @@ class Folder:
 
 def count(options: Options, folder: Folder, given: "str | None") -> tuple[int, list[str], dict[str, int]]:
     """Runs the program and writes its profile. Returns the status of the run, 0 or 1, what profile_program said of it, and what it measured."""
-    said, measured, profile = (folder.file(name) for name in ("said", "measured", "program.profile"))
-    printed = profile if options.all else folder.file("program.timeline")
+    said, measured, profile = (folder.at(name) for name in ("said", "measured", "program.profile"))
+    name = "program.profile" if options.all else "program.timeline"
+    printed, shown = folder.at(name), folder.file(name)
     words = [] if options.all else ["--timeline", "--as-scudo", "--peak", profile, "--measured", measured]
     words += [] if options.only is None else ["--only", options.only]
     try:
@@ -169,14 +176,14 @@ def count(options: Options, folder: Folder, given: "str | None") -> tuple[int, l
             with open(given or os.devnull, "rb") as again:
                 status = children.run(command, stdout=file, stdin=again if given else None)
         if not options.all and texts.is_history(texts.read(printed, 100)):
-            os.rename(printed, folder.file("program.history"))
+            os.rename(printed, folder.at("program.history"))
     except OSError as error:
-        raise texts.Refused(3, f"{printed} can't be made: {error.strerror}") from None
+        raise texts.Refused(3, f"{shown} can't be made: {error.strerror}") from None
     notes = [line for line in taken(said).splitlines() if line]
     found = {name: int(value) for name, value in map(str.split, taken(measured).splitlines())}
     if status not in (0, 1):
         # it said why on standard error itself
-        kept = f"; what it wrote is in {printed}" if os.path.exists(printed) and os.path.getsize(printed) else ""
+        kept = f"; what it wrote is in {shown}" if os.path.exists(printed) and os.path.getsize(printed) else ""
         raise texts.Refused(2 if status == 2 else 3, f"there is no profile of {options.words[0]}, and nothing to tune{kept}")
     return status, notes, found
 
@@ -399,7 +406,7 @@ def tuned_in(options: Options, folder: Folder, others: list, given: "dict | None
 
 def made(options: Options, folder: Folder, others: list, notes: list[str], measured: dict[str, int]) -> figures.Figures:
     """All that follows from program.profile."""
-    profile = texts.read_profile(folder.file("program.profile")) if folder.has("program.profile") else {}
+    profile = texts.read_profile(folder.at("program.profile")) if folder.has("program.profile") else {}
     if not any(size for size in profile if size != "large"):
         raise texts.Refused(3, figures.NOTHING)
     tuned = figures.with_largest(profile) if options.largest else profile
@@ -413,7 +420,7 @@ def made(options: Options, folder: Folder, others: list, notes: list[str], measu
     # none of these is needed for what follows
     makes: dict[str, Callable[[], str]] = {
         "tuned_map.inc": lambda: scudo_map.as_default(found.first.classes),
-        "waste.svg": lambda: draw_waste.picture([draw_waste.Curve(folder.file("program.profile"), options.name())]),
+        "waste.svg": lambda: draw_waste.picture([draw_waste.Curve(folder.at("program.profile"), options.name())]),
     }
     if engines := web_page.at_hand():  # with nothing to prove or compile before it
         makes["page.html"] = lambda: tables(options, folder, engines)
@@ -459,7 +466,7 @@ def verify(options: Options, folder: Folder, found: figures.Figures, scudo: veri
     for name in done.strange:
         lines += wrapped(f"! With {name} the program ended otherwise than with glibc at first.", indent="  ")
     text = "".join(f"{printable(line)}\n" for line in lines)
-    folder.write("summary.txt", texts.read(folder.file("summary.txt")) + text.encode())
+    folder.write("summary.txt", texts.read(folder.at("summary.txt")) + text.encode())
     texts.write(text)
 
 
@@ -468,7 +475,7 @@ def fitted(options: Options, folder: Folder) -> "figures.OverTime | None":
     kind = next((kind for kind in ("timeline", "history") if folder.has(f"program.{kind}")), None)
     if kind is None:
         return None
-    text = texts.read(folder.file(f"program.{kind}"))
+    text = texts.read(folder.at(f"program.{kind}"))
     if kind == "history":
         text = texts.history_text(texts.parse_history(text)).encode()
         folder.write("fitted.history", figures.forced_into(kind, text) if options.largest else text)
@@ -499,6 +506,6 @@ def tables(options: Options, folder: Folder, engines: dict[str, bytes]) -> str:
     name = "program.profile"
     if options.objective == "footprint":
         name = "moments.history" if folder.has("moments.history") else "program.history"
-    given = options.name(), texts.read(folder.file(name)).decode()
+    given = options.name(), texts.read(folder.at(name)).decode()
     begin_with = {"limit": options.limit, "step": options.step, "largest": options.largest}
     return web_page.page(engines, profile=given, options=begin_with)
