@@ -11,7 +11,7 @@ use Rattle.command_words.specs.declared.refusal.Refusal.{Refusal}
 use Rattle.command_words.specs.declared.refusal.Refusal.TheVariants.{OutOfMemory as NoMemory, Words, Options}
 use Rattle.line_text.specs.Lines.{ended, lines}
 use Rattle.mte_engine.specs.Calls.{answers_of}
-use Rattle.mte_engine.specs.Check.{CheckAnswers, IsChecked, sheet_and_profile, verdict_text, verdict_text_by}
+use Rattle.mte_engine.specs.Check.{CheckAnswers, IsChecked, verdict_text, verdict_text_by}
 use Rattle.mte_engine.specs.CheckFit.{CheckFitAnswers}
 use Rattle.mte_engine.specs.CheckFitOver.{CheckFitEitherAnswers, CheckFitOverAnswers, begins_moments, over_verdict_text}
 use Rattle.mte_engine.specs.Outcome.{Answer, AnswersInput}

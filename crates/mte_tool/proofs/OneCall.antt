@@ -73,10 +73,14 @@ one_config rows a b first second =
 one_of_command : (command : CommandName) (rows : List Row) (a b : Options) → HasOptions command rows a → HasOptions command rows b
     → call_of command a ≡ call_of command b
 one_of_command Score rows a b first second = refl
-one_of_command Tune rows a b first second = ap (λ l. call.Tune l) (one_limits rows a b first second)
+one_of_command Tune rows a b first second =
+    ap (λ l. call.Tune l a.largest_class) (one_limits rows a b first.0 second.0)
+    ∙ ap (λ n. call.Tune (limits_of b) n) (one_number rows _ a.largest_class b.largest_class first.1.0 second.1.0)
 one_of_command Check rows a b first second = refl
 one_of_command Footprint rows a b first second = refl
-one_of_command Fit rows a b first second = ap (λ l. call.Fit l) (one_limits rows a b first second)
+one_of_command Fit rows a b first second =
+    ap (λ l. call.Fit l a.largest_class) (one_limits rows a b first.0 second.0)
+    ∙ ap (λ n. call.Fit (limits_of b) n) (one_number rows _ a.largest_class b.largest_class first.1.0 second.1.0)
 one_of_command CheckFit rows a b first second = refl
 one_of_command Profile rows a b first second = refl
 one_of_command Replay rows a b first second = ap (λ c. call.Replay c) (one_config rows a b first second)

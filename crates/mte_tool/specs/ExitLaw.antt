@@ -1,5 +1,5 @@
 -- What the exit status of a whole run tells.
-use Rattle.std.specs.Prelude.{◌≡◌, ◌≤◌, ℕ, List, MatchBool, codes, true, Ok}
+use Rattle.std.specs.Prelude.{◌≡◌, ◌≤◌, ◌+◌, ℕ, List, [], MatchBool, Result, codes, drop, length, take, true, Ok}
 use Rattle.byte_streams.specs.Streams.{SinkState, SourceState}
 use Rattle.clap.specs.Kinds.{IsAmong}
 use Rattle.clap.specs.Words.{Text, fault_of}
@@ -7,22 +7,28 @@ use Rattle.clap.specs.declared.error.kind.ErrorKind.{ErrorKind}
 use Rattle.command_words.specs.AcceptedWords.{program}
 use Rattle.command_words.specs.Words.{AreRefused, Mean}
 use Rattle.history_count.specs.Histories.{History}
+use Rattle.history_count.specs.HistoryText.{history_of_lines}
+use Rattle.history_count.specs.Timelines.TimelineText.{timeline_of_lines}
 use Rattle.line_text.specs.Lines.{ended, lines}
 use Rattle.mte_engine.specs.Calls.{answers_of}
-use Rattle.mte_engine.specs.Check.{sheet_and_profile}
-use Rattle.mte_engine.specs.CheckFit.{fit_and_history}
-use Rattle.mte_engine.specs.CheckFitOver.{begins_moments, fit_and_timeline}
+use Rattle.mte_engine.specs.CheckFitOver.{begins_moments, whole_moments_part}
+use Rattle.mte_engine.specs.Parts.{both_parts, history_part, profile_part, sheet_part, timeline_part, whole_sheet_part}
 use Rattle.mte_engine.specs.declared.engine.Status.{Status}
+use Rattle.mte_engine.specs.declared.fault.InputFault.{InputFault}
 use Rattle.mte_tool.specs.Exit.{is_shown, status_of}
 use Rattle.mte_tool.specs.WholeRun.{AnswersAll, HasRun}
 use Rattle.mte_tool.specs.declared.end.End.{End}
 use Rattle.mte_tool.specs.declared.end.End.TheVariants.{Shown, Ended}
 use Rattle.tool_call.specs.declared.call.Call.{Call}
-use Rattle.potential_check.specs.Leading.{lines_after}
+use Rattle.potential_check.specs.Leading.{leading_lines, lines_after}
+use Rattle.potential_check.specs.SheetText.{fit_of_lines}
+use Rattle.potential_check.specs.declared.cost.Cost.TheVariants.{Waste, Footprint}
+use Rattle.profile_count.specs.ProfileText.{profile_of_lines}
 use Rattle.tool_call.specs.declared.call.Call.TheVariants.{Check, CheckFit}
 use Rattle.tuner_theory.specs.Best.{IsBest}
 use Rattle.tuner_theory.specs.Footprint.{IsLeastFootprint}
 use Rattle.tuner_theory.specs.Profiles.{Profile}
+use Rattle.tuner_theory.specs.Served.{served}
 use Rattle.tuner_theory.specs.Sheets.{Sheet}
 use Rattle.tuner_theory.specs.Timelines.{IsLeastOver}
 use Rattle.tuner_theory.specs.declared.size_event.SizeEvent.{SizeEvent}
@@ -31,27 +37,44 @@ use Rattle.tuner_theory.specs.declared.size_event.SizeEvent.{SizeEvent}
 abbrev pub Ran : List Text → SourceState → SinkState → SinkState → End → Type 0
 Ran words source sink errors end = HasRun (Mean words) (AreRefused words) source sink errors end
 
--- The whole input is a sheet and a profile, the sheet's table wastes least of the tables of its limit and step, and `optimal` is what was
--- written.
+-- The sheet that these lines begin with, and the profile after it.
+abbrev pub sheet_and_profile : List (List ℕ) → Result (Sheet × Profile) InputFault
+sheet_and_profile ls =
+    both_parts (whole_sheet_part Waste (leading_lines ls) []) (profile_part (length (leading_lines ls)) (profile_of_lines (lines_after ls)))
+
+-- The fit that they begin with, and the history after it;
+abbrev pub fit_and_history : List (List ℕ) → Result (Sheet × History) InputFault
+fit_and_history ls =
+    both_parts (whole_sheet_part Footprint (leading_lines ls) []) (history_part (length (leading_lines ls)) (history_of_lines (lines_after ls)))
+
+-- or the fit, the line of its moments and the timeline after it.
+abbrev pub fit_and_timeline : List (List ℕ) → Result (Sheet × (List ℕ × List SizeEvent)) InputFault
+fit_and_timeline ls =
+    both_parts (sheet_part Footprint (fit_of_lines (leading_lines ls)))
+    (both_parts (whole_moments_part (length (leading_lines ls)) (take 1 (lines_after ls)))
+    (timeline_part (length (leading_lines ls) + 1) (timeline_of_lines (drop 1 (lines_after ls)))))
+
+-- The whole input is a sheet and a profile, and `optimal` is what was written. Of the tables of the sheet's limit and step that serve the
+-- profile, and where the largest class is forced have it, none wastes less than the sheet's.
 pub record IsOptimal (source : SourceState) (sink : SinkState) : Type 0 where
   pub sheet : Sheet
   pub profile : Profile
   pub whole : source.at_end ≡ true
   pub read : sheet_and_profile (lines source.given) ≡ Ok (sheet, profile)
-  pub best : IsBest profile.counts sheet.step sheet.limit sheet.table
+  pub best : IsBest (served sheet.forced profile.counts) sheet.step sheet.limit sheet.table
   pub written : sink.written ≡ ended (codes "optimal")
 
--- The input is a fit and a history, and the fit's table takes least of the tables of its limit and step;
+-- The input is a fit and a history, and the fit's table takes least of such tables;
 abbrev pub IsLeastInHistory : List ℕ → Type 0
 IsLeastInHistory input =
     (fit : Sheet) × (history : History) × (fit_and_history (lines input) ≡ Ok (fit, history))
-    × IsLeastFootprint history.snapshots fit.step fit.limit fit.table
+    × IsLeastFootprint fit.forced history.snapshots fit.step fit.limit fit.table
 
 -- or it is a fit with its moments and a timeline, and the table takes least over every moment.
 abbrev pub IsLeastInTimeline : List ℕ → Type 0
 IsLeastInTimeline input =
     (fit : Sheet) × (parts : List ℕ × List SizeEvent) × (fit_and_timeline (lines input) ≡ Ok (fit, parts))
-    × IsLeastOver parts.1 fit.step fit.limit fit.table
+    × IsLeastOver fit.forced parts.1 fit.step fit.limit fit.table
 
 -- This is the whole input, one of the two by whether moments are named, and `optimal` is what was written.
 pub record IsOptimalFit (source : SourceState) (sink : SinkState) : Type 0 where

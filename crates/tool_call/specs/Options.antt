@@ -32,10 +32,10 @@ call_of name.Run options = Run (limits_of options) (config_of options)
 -- Whether the input is two texts: a class line, a sheet or a fit, and what comes after it in one text.
 abbrev pub has_two_texts : Call → Bool
 has_two_texts Score = true
-has_two_texts (Tune limits) = false
+has_two_texts (Tune limits largest_class) = false
 has_two_texts Check = true
 has_two_texts Footprint = true
-has_two_texts (Fit limits) = false
+has_two_texts (Fit limits largest_class) = false
 has_two_texts CheckFit = true
 has_two_texts Profile = false
 has_two_texts (Replay config) = true
