@@ -462,8 +462,8 @@ def parts_of(text: "str | bytes", name: str, kind: str, cost: bytes) -> tuple:
 
 
 def joined(first: "str | bytes", second: "str | bytes", name: str = "the first text") -> bytes:
-    """A class line, a sheet or a fit, and what comes after it, as the one text that the program reads. Where one ends and the other begins is
-    what both are read by, so the first has to be whole and nothing else, and the second may not go on with it. They are joined nowhere else."""
+    """A class line, a sheet or a fit, and what comes after it, as the one text that the program reads. The first has to be whole and nothing
+    else, and the second may not go on with it, since the program can't see where they were joined. They are joined nowhere else."""
     lines, second = lines_of(os.fsencode(first)), os.fsencode(second)
     if len(lines) < 2:
         parse_class_line(lines[0] if lines else None, name)
