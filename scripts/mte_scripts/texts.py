@@ -41,7 +41,7 @@ OTHER_TOOLS = re.compile(
 EVENT_WORDS = (b"malloc", b"calloc", b"realloc", b"free", b"load", b"store", b"addg", b"subg")
 NUMBER = rb" (?:0|[1-9][0-9]{0,19})"
 CERTIFICATE = re.compile(
-    rb"classes(?:%(n)s)*\nlimit%(n)s\n(?:step%(n)s\n)?"
+    rb"classes(?:%(n)s)*\nlimit%(n)s\n(?:step%(n)s\n)?(?:forced%(n)s\n)?"
     rb"(?:waste%(n)s\n(?:row(?:%(n)s)*\n)*|footprint%(n)s\n(?:row(?:%(n)s)*\n)*(?:moments(?:%(n)s)+\n)?)" % {b"n": NUMBER}
 )
 SHEET_WORDS = (b"classes", b"limit", b"step", b"waste", b"footprint", b"row", b"moments")
