@@ -94,9 +94,9 @@ const char *mte_tool_strerror(int code);
 
 /* Each call is the program's command of that name: the input is what that reads from standard input, at most MTE_TOOL_MOST_INPUT bytes in
    the formats of docs/FORMATS.md, and the output what it writes. Where the program reads two texts, one after the other, a call takes them
-   apart: `first` is a class line, a sheet or a fit, and nothing else, and `input` what comes after it. Their last lines may lack the newline,
-   the first one's fault comes first, and result->line is a line of the text that the code is of. `input` may be null if `length` is 0, and
-   `first` likewise.
+   apart: `first` is a class line, a sheet or a fit, and nothing else, and `input` what comes after it. Their last lines may lack the
+   newline, the first one's fault comes first, and result->line is a line of the text that the code is of. `input` may be null if `length`
+   is 0, and `first` likewise.
 
    What `output` held before is freed, and the answer takes its place, for the caller to free. For MTE_TOOL_REFUSED that is the first fault
    of the input, as "30 BadLine line 2", without a newline; result->code and result->line have its numbers. For MTE_TOOL_OUT_OF_MEMORY and

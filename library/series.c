@@ -100,8 +100,8 @@ static slice slice_of(const input *it) {
     return made;
 }
 
-/* Makes a call over what comes before the entries, if its input is two texts, and these, whose text begins with a line of its own; and frees
-   both. The answer is put into an empty text. */
+/* Makes a call over a first text, which is empty where the call is over one, and the entries, whose text begins with a line of its own; and
+   frees both. The answer is put into an empty text. */
 static int call(uint8_t command, narrow_options options, input *first, input *given, mte_tool_text *answer, mte_tool_result *found) {
     int end = MTE_TOOL_OUT_OF_MEMORY;
     if (!first->is_out_of_memory && !given->is_out_of_memory)

@@ -126,8 +126,8 @@ class Engines {
     return Object.assign(new Engines(), { tool: await Module.load(tool), steps: await Module.load(steps) });
   }
 
-  /** What a command answers: its exit status and its text, of standard output or, for status 2, of standard error. A command of OF_TWO_TEXTS
-   * takes a class line, a sheet or a fit first, and its input apart from that. */
+  /** What a command answers: its exit status and its text, of standard output or, for status 2, of standard error. FIRST is a class line, a
+   * sheet or a fit, which those of OF_TWO_TEXTS take apart from the input. */
   call(command, options, input, first) {
     const { status, ended, bytes } = this.answer(command, options, input, first);
     return { status, ended, text: status === 2 ? `error ${asText(bytes)}\n` : asText(bytes) };
@@ -135,6 +135,7 @@ class Engines {
 
   /** The same in bytes, of a fault without the word before it. */
   answer(command, options, input, first = "") {
+    if (first && !OF_TWO_TEXTS.includes(command)) throw new RangeError(`${command} takes one text`);
     const m = this.tool;
     const words = packed(Object.keys(OPTION_BITS), options);
     const [before, many] = m.put(first);

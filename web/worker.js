@@ -162,8 +162,8 @@ const ANSWERS = {
   hold({ name, input }) {
     held.set(name, asBytes(input));
   },
-  /** Calls an engine on a text or on one that is kept, after a first one for commands over two, and keeps a text that it does not refuse under
-   * a name. */
+  /** Calls an engine on a text or on one that is kept, with a first one for commands over two, and keeps a text that it does not refuse
+   * under a name. */
   call({ command, options, first, input, of, keep }) {
     const answer = engines.call(command, options, of === undefined ? input : held.get(of), first);
     if (keep !== undefined && answer.status < 2) this.hold({ name: keep, input });

@@ -1,4 +1,4 @@
-"""The options in the order of the header's structure, each with its default, and the commands, each with the number of its texts.
+"""The options in the order of the header's structure, each with its default, and the commands with the number of their texts.
 
 Written by scripts/tests/formats from scripts/mte_scripts/formats.py.
 """

@@ -98,7 +98,8 @@ class Heap:
 
     def addg(self, address: int, granules: int, step: int) -> Outcome:
         """The address so many granules (0 to 63) further up, with its tag counted up by so many steps (0 to 15)."""
-        return self._made("addg", _address(address), *(number if 0 <= number <= _calls.MOST else _calls.MOST for number in (granules, step)))
+        numbers = (number if 0 <= number <= _calls.MOST else _calls.MOST for number in (granules, step))
+        return self._made("addg", _address(address), *numbers)
 
 
 def _address(address: int) -> int:

@@ -41,7 +41,7 @@ OTHER_TOOLS = re.compile(
 EVENT_WORDS = (b"malloc", b"calloc", b"realloc", b"free", b"load", b"store", b"addg", b"subg")
 NUMBER = rb" (?:0|[1-9][0-9]{0,19})"
 CERTIFICATE = re.compile(
-    rb"classes(?:%(n)s)*\nlimit%(n)s\n(?:step%(n)s\n)?"
+    rb"classes(?:%(n)s)*\nlimit%(n)s\n(?:step%(n)s\n)?(?:forced%(n)s\n)?"
     rb"(?:waste%(n)s\n(?:row(?:%(n)s)*\n)*|footprint%(n)s\n(?:row(?:%(n)s)*\n)*(?:moments(?:%(n)s)+\n)?)" % {b"n": NUMBER}
 )
 SHEET_WORDS = (b"classes", b"limit", b"step", b"waste", b"footprint", b"row", b"moments")
@@ -463,8 +463,8 @@ def parts_of(text: "str | bytes", name: str, kind: str, cost: bytes) -> tuple:
 
 
 def joined(first: "str | bytes", second: "str | bytes", name: str = "the first text") -> bytes:
-    """A class line, a sheet or a fit, and what comes after it, as the one text that the program reads. Where one ends and the other begins is
-    what both are read by, so the first has to be whole and nothing else, and the second may not go on with it. They are joined nowhere else."""
+    """A class line, a sheet or a fit, and what comes after it, as the one text that the program reads. The first has to be whole and nothing
+    else, and the second may not go on with it, since the program can't see where they were joined. They are joined nowhere else."""
     lines, second = lines_of(os.fsencode(first)), os.fsencode(second)
     if len(lines) < 2:
         parse_class_line(lines[0] if lines else None, name)

@@ -193,7 +193,7 @@ POSITIONAL = formats.TUNER  # the options that need no name
 def options_of_python():
     lines = "".join(f'    "{name}": {option.default or 0:_},\n' for name, option in OPTIONS.items())
     commands = "".join(f'    "{name}": {len(it.inputs)},\n' for name, it in COMMANDS.items())
-    words = "The options in the order of the header's structure, each with its default, and the commands, each with the number of its texts."
+    words = "The options in the order of the header's structure, each with its default, and the commands with the number of their texts."
     return f'"""{words}\n\n{WRITTEN}\n"""\n\nOPTIONS = {{\n{lines}}}\n\nCOMMANDS = {{\n{commands}}}\n'
 
 

@@ -58,7 +58,8 @@ BORDERS = [
     ("check", (FUSED_SHEET, FUSED_PROFILE), NO, None), ("check", (LONG_SHEET + b"0 1000000000\n", b"33 1000\n1000 1000\n"), 48, 6),
     ("score", (b"classes 2 8", b"9 1000\n24 70\n"), DONE, 13160), ("score", (b"classes 2 8\n9 1000\n", b"24 70\n"), 23, 1),
     ("footprint", (b"classes 2 8\nsnapshots 1\n", b"16 1\n"), 23, 1), ("replay", (b"classes 2\nmalloc 1 16\n", b"free 1\n"), 23, 1),
-    ("check-fit", (SMALL_FIT + b"snapshots 2\n", b"16 3 0\n40 0 1\n"), 36, 6), ("check-fit", (SMALL_FIT, b"moments 1\ntimeline\n16\n"), 34, 1),
+    ("check-fit", (SMALL_FIT + b"snapshots 2\n", b"16 3 0\n40 0 1\n"), 36, 6),
+    ("check-fit", (SMALL_FIT, b"moments 1\ntimeline\n16\n"), 34, 1),
     ("check-fit", (SMALL_FIT + b"moments 5\nmoments 5\n", SMALL_TIMELINE), 36, 7), ("check", (SMALL_SHEET, b"row 1\n16 1\n"), 30, 1),
     ("check-fit", (SMALL_FIT + b"moments 5\n", SMALL_HISTORY), 37, 1), ("check-fit", (SMALL_FIT, SMALL_TIMELINE), 34, 1),
 ]  # fmt: skip
@@ -100,8 +101,8 @@ def large():
 
 
 def program(command, options, data):
-    """How the program ends with these options, and the text that it writes; a refusal without its word `error`. The program reads two texts as
-    one: where the second one is faulty, the lines of the first are counted off."""
+    """How the program ends with these options, and the text that it writes; a refusal without its word `error`. The program reads two texts
+    as one: where the second one is faulty, the lines of the first are counted off."""
     words = [f"--{name.replace('_', '-')}={options.get(name, OPTIONS[name])}" for name in OPTIONS_OF.get(command, [])]
     first, second = data if isinstance(data, tuple) else (b"", data)
     first += b"\n" if first and not first.endswith(b"\n") else b""

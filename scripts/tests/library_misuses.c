@@ -61,7 +61,8 @@ static void apart(void) {
     WANT(mte_tool_append(&text, "x\n", 2) == MTE_TOOL_DONE);
     WANT(mte_tool_tune(&options, profile, LENGTH, &text, NULL) == MTE_TOOL_DONE && !strncmp(text.bytes, "classes 2\n", 10));
     /* the verdict on a sheet takes its place */
-    WANT(mte_tool_check(NULL, text.bytes, text.length, profile, LENGTH, &text, &result) == MTE_TOOL_DONE && !strcmp(text.bytes, "optimal\n"));
+    WANT(mte_tool_check(NULL, text.bytes, text.length, profile, LENGTH, &text, &result) == MTE_TOOL_DONE);
+    WANT(!strcmp(text.bytes, "optimal\n"));
     WANT(mte_tool_tune(&options, "x\n", 2, &text, &result) == MTE_TOOL_REFUSED && !strcmp(text.bytes, "30 BadLine line 1"));
     WANT(result.code == 30 && result.line == 1);
     options.limit = 0;

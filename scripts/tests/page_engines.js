@@ -1,7 +1,7 @@
-// Runs the worker of a page in node: `node page_engines.js PAGE < CASES`. A case is {command, options, input}, with {first} of a command over
-// two texts, and is answered by {status, text}; or {line, trace, options}: a replay of which after each event the picture, what the page knows
-// of slots, variables and quarantine, and the granules that it frames are compared with page_model.js. It is answered by how many events were
-// compared, and the last frame. Both are lists in JSON.
+// Runs the worker of a page in node: `node page_engines.js PAGE < CASES`. A case is {command, options, input}, with {first} of a command
+// over two texts, and is answered by {status, text}; or {line, trace, options}: a replay of which after each event the picture, what the page
+// knows of slots, variables and quarantine, and the granules that it frames are compared with page_model.js. It is answered by how many
+// events were compared, and the last frame. Both are lists in JSON.
 "use strict";
 
 const fs = require("fs");

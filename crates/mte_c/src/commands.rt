@@ -1,5 +1,6 @@
-//! Calls over inputs in memory, for callers that have no source and no sink. The input is what a `HandedText` holds and a slice, two texts or
-//! the pieces of one, and the answer takes the place of what the text held. A call returns how it ended. The static library `mte_c` exports them to C.
+//! Calls over inputs in memory, for callers that have no source and no sink. The input is what a `HandedText` holds and a slice, two texts
+//! or the pieces of one, and the answer takes the place of what the text held. A call returns how it ended. The static library `mte_c` exports
+//! them to C.
 mod calls;
 mod ended;
 mod faults;

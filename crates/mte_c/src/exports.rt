@@ -1,6 +1,6 @@
 //! The functions that C calls: a static library, with the commands here, and the calls over arrays and the heap in files of their own. A
-//! command takes what `text` holds and its input, as two texts (`has_two_texts`) or as the pieces of one, and leaves the answer in `text`. `library/pointers.c` looks
-//! for null pointers and numbers out of range before it calls them, and `include/mte_tool.h` declares that.
+//! command takes what `text` holds and its input, as two texts (`has_two_texts`) or as the pieces of one, and leaves the answer in `text`.
+//! `library/pointers.c` looks for null pointers and numbers out of range before it calls them, and `include/mte_tool.h` declares that.
 
 ghost use Rattle.std.specs.Prelude.{◌≡◌, ◌⊎◌, ◌++◌, [], drop, false, length, min, true, ◌-◌};
 ghost use Rattle.handed_text.specs.Bytes.{bytes_of, filled, is_answer_of};

@@ -45,7 +45,8 @@ module _ {A B : Type 0} (first : Result A InputFault) (second : Result B InputFa
   first_refused (Input fault) gives = rw gives refl
 
   pub then_answered : {O : Type 0} (left : O → List ℕ) (x : A) → first ≡ Ok x → (result : Result (O × Status) AnswerError)
-      → GivesAnswer left (AnswersPart second (λ y. says (x, y))) result → GivesAnswer left (AnswersPart (both_parts first second) says) result
+      → GivesAnswer left (AnswersPart second (λ y. says (x, y))) result
+      → GivesAnswer left (AnswersPart (both_parts first second) says) result
   then_answered left x read (Ok answered) gives = ((x, gives.0), rw (read, gives.1) refl, gives.2)
   then_answered left x read (Err OutOfMemory) gives = tt
   then_answered left x read (Err (Input fault)) gives = rw (read, gives) refl

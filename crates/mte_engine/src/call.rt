@@ -47,9 +47,9 @@ pub fn run_call<R: ByteSource, W: ByteSink>(
     }
 }
 
-/// Runs the engine of a call over two texts, with the call's options: what the source gives is read as what comes after the first text, which
-/// is a class line, a sheet or a fit and nothing else. The last line of either may lack its newline. A fault of the first text comes before
-/// those of the second, but for that the second is too long; and its line is counted in its own text.
+/// Runs the engine of a call over two texts, with the call's options: the source gives what comes after the first text, which has to be a
+/// class line, a sheet or a fit and nothing else. The last line of either may lack its newline. That the second text is too long comes before
+/// all other faults, then those of the first text, then those of the second; a fault's line is counted in its own text.
 pub fn run_call_on<R: ByteSource, W: ByteSink>(
     call: Call,
     alloc: Global,
@@ -59,7 +59,8 @@ pub fn run_call_on<R: ByteSource, W: ByteSink>(
 ) -> Result<Status, ToolFault>
     requires valid { IsValid call }
     requires two { has_two_texts call ≡ true }
-    ensures { Runs (answers_on call first.now) (R.state source.old) (R.state source.new) W.state sink.old sink.new result }
+    ensures { Runs (answers_on call first.now) (R.state source.old) (R.state source.new)
+        W.state sink.old sink.new result }
 {
     let command = match call {
         Call::Score => CountsCommand::Score,

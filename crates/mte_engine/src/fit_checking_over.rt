@@ -48,7 +48,7 @@ pub(crate) fn check_after_moments(
     check_timeline(alloc, fit, &numbers, lines.rest(), number)
 }
 
-/// The answer to a fit with the rest of its text, which follows this many lines and is the line of the fit's moments, and a timeline's text.
+/// The answer to a fit, to what is left of its text after this many lines, which is the line of its moments, and to a timeline's text.
 pub(crate) fn check_beside_moments(
     alloc: Global,
     fit: &Fit,

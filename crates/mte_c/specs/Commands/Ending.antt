@@ -37,7 +37,8 @@ pub record Shows (ended : Ended) (ending : Ending) : Type 0 where
 pub record Answers (call : Call) (old : HandedText) (input : List ℕ) (new : HandedText) (ending : Ending) : Type 0 where
   pub ended : Ended
   pub shown : Shows ended ending
-  pub called : IsCalled old new ended (IsAnsweredIf (IsValid call) (IsAnsweredTo call (bytes_of old) input ended (bytes_of new)) ended (bytes_of new))
+  pub called : IsCalled old new ended
+      (IsAnsweredIf (IsValid call) (IsAnsweredTo call (bytes_of old) input ended (bytes_of new)) ended (bytes_of new))
 
 -- The same for the number of a command. One that no command has is a misuse, and the text stays as it is.
 abbrev pub AnswersIfCall : Option Call → HandedText → List ℕ → HandedText → Ending → Type 0

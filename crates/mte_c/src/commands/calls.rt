@@ -12,9 +12,9 @@ use handed_text::HandedText;
 use mte_engine::{Call, run_call, run_call_on};
 use std::alloc::Global;
 
-/// Runs the engine of a call on what the text holds and on `input`, and leaves the answer in the text. If the call's input is two texts, these
-/// are the two; else they are the pieces of one. The end is `Misuse`, and the text stays as it is, if it holds an answer; else `BadOption` if
-/// an option is out of its range.
+/// Runs the engine of a call on what the text holds and on `input`, and leaves the answer in the text. If the call's input is two texts,
+/// these are the two; else they are the pieces of one. The end is `Misuse`, and the text stays as it is, if it holds an answer; else
+/// `BadOption` if an option is out of its range.
 pub fn call(alloc: Global, call: Call, input: &[u8], text: &mut HandedText) -> Ended
     ensures { IsCalled text.old text.new result (IsAnsweredIf (IsValid call)
         (IsAnsweredTo call (bytes_of text.old) input.now result (bytes_of text.new)) result (bytes_of text.new)) }

@@ -24,7 +24,8 @@ returns-in_err-leading c =
     let ls = lines c.args.text.now in
     rw (error.1, error.2)
     (first_refused (sheet_part Waste (sheet_of_lines (leading_lines ls)))
-    (profile_part (length (leading_lines ls)) (profile_of_lines (lines_after ls))) says c.in_err-leading.field-0.0 c.in_err-leading.ensures.sheet)
+    (profile_part (length (leading_lines ls)) (profile_of_lines (lines_after ls))) says c.in_err-leading.field-0.0
+    c.in_err-leading.ensures.sheet)
 
 pub returns : goal.returns
 returns c =

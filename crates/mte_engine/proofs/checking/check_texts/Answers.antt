@@ -32,7 +32,8 @@ returns-in_err-leading c =
     let ls = lines c.args.sheet.now in
     rw (error.1, error.2)
     (first_refused (whole ls) (profile_part 0 (profile_of c.args.text.now)) says c.in_err-leading.field-0.0
-    (part_refused (part ls) (BadSheet (length (leading_lines ls) + 1)) (lines_after ls) c.in_err-leading.field-0.0 c.in_err-leading.ensures.sheet))
+    (part_refused (part ls) (BadSheet (length (leading_lines ls) + 1)) (lines_after ls) c.in_err-leading.field-0.0
+    c.in_err-leading.ensures.sheet))
 
 pub returns-in_err-end_text : goal.returns-in_err-end_text
 returns-in_err-end_text c =

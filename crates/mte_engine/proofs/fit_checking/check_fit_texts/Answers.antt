@@ -77,7 +77,8 @@ returns-in_err-end_text c =
     let fault = c.in_err-end_text.field-0.0 in
     let begins = sym c.begins_moments.ensures ∙ c.if-begins_moments.false in
     rw (error.1, error.2)
-    (other_answers text_left (by_moments ls text) (by_snapshots ls text) (begins_moments (lines_after ls)) (rw leading.rest at begins) (Err fault)
+    (other_answers text_left (by_moments ls text) (by_snapshots ls text) (begins_moments (lines_after ls)) (rw leading.rest at begins)
+    (Err fault)
     (first_refused (whole ls) (history text) checked fault
     (others_refused (part ls) (BadFit (length (leading_lines ls) + 1)) (sheet_of c.in_ok-leading.leading.sheet) (lines_after ls) fault
     leading.sheet (rw (leading.lines.0, leading.rest) at c.in_err-end_text.ensures))))
@@ -89,7 +90,8 @@ returns c =
     let ls = lines c.args.fit.now in
     let fit = sheet_of c.in_ok-leading.leading.sheet in
     let begins = sym c.begins_moments.ensures ∙ c.if-begins_moments.false in
-    other_answers text_left (by_moments ls text) (by_snapshots ls text) (begins_moments (lines_after ls)) (rw leading.rest at begins) c.check_history.result
+    other_answers text_left (by_moments ls text) (by_snapshots ls text) (begins_moments (lines_after ls)) (rw leading.rest at begins)
+    c.check_history.result
     (then_answered (whole ls) (history text) checked text_left fit
     (part_alone (part ls) (BadFit (length (leading_lines ls) + 1)) fit (lines_after ls) leading.sheet
     (rw leading.rest at c.in_ok-end_text.ensures)) c.check_history.result c.check_history.ensures)

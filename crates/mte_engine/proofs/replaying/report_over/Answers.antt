@@ -9,7 +9,8 @@ pub returns-in_err-end : goal.returns-in_err-end
 returns-in_err-end c = λ trace keeps.
     let error = err_from_is_err_and c.from_residual.result c.from_residual.ensures.1 in
     rw (error.1, error.2)
-    (trace_is_refused c.args.config c.args.table.now c.args.before trace c.args.reader keeps c.in_err-end.field-0.0 c.in_err-end.ensures.ended)
+    (trace_is_refused c.args.config c.args.table.now c.args.before trace c.args.reader keeps c.in_err-end.field-0.0
+    c.in_err-end.ensures.ended)
 
 pub returns : goal.returns
 returns c = λ trace keeps.
