@@ -39,7 +39,7 @@ function says(judged) {
   }
   if (!holds(judged)) return filled(`${kind}.other`, { given });
   const size = listed(forced.map((c) => grouped(GRANULE * c - GRANULE)));
-  return filled(`${kind}.says.${forced.length ? "forced" : "own"}`, { size, claim: claim(judged) });
+  return filled(`${kind}.says.${forced.length && !judged.byLine ? "forced" : "own"}`, { size, claim: claim(judged) });
 }
 
 /** Puts words into an element; those between backquotes are code. */

@@ -122,7 +122,9 @@ async function judge(slot, sheet, forcedOnes) {
   const found = answers.find(({ verdict }) => verdict === "optimal") ?? answers[0];
   // the engine took the sheet, so each number stands there in its one spelling
   const number = (name) => Number(new RegExp(`^${name} (\\d+)$`, "m").exec(sheet)?.[1] ?? 1);
-  return judgedAs(slot, sheet, { limit: number("limit"), step: number("step"), ...found });
+  // a line of the sheet itself may force class 1024
+  const byLine = /^forced/m.test(sheet) ? { forced: [LARGEST_CLASS], byLine: true } : {};
+  return judgedAs(slot, sheet, { limit: number("limit"), step: number("step"), ...found, ...byLine });
 }
 
 /** All tables: those of the slots beside Scudo's, and the user's own. Whether they are still those of what the slots hold. */

@@ -30,9 +30,9 @@ GRANULE = 16  # bytes
 
 # What `check` or `check-fit` judged. `kind` is profile, history or timeline. `verdict` is its answer, of a sheet or fit with this limit, step
 # and classes. `given` names what the user has, and `cost` is the table's waste or footprint on that. `forced` are the classes that one request
-# more, or one block more at each moment, forced into the table: empty where the user's own was judged. Where `fit` found no certificate for a
-# timeline, the verdict is `between L`, L being the bound that it proves for what was judged.
-Judged = namedtuple("Judged", "kind verdict limit step classes given cost forced")
+# more, or one block more at each moment, forced into the table, or a line of the certificate itself (`by_line`): empty where the user's own was
+# judged. Where `fit` found no certificate for a timeline, the verdict is `between L`, L being the bound that it proves for what was judged.
+Judged = namedtuple("Judged", "kind verdict limit step classes given cost forced by_line", defaults=(False,))
 # What `check-fit` judged of pools: its answer, of a fit with this limit over the runs in units of `unit` bytes. `given` names the runs, `cost`
 # are the pools' bytes, of whose blocks `overhead` bytes hold no request, and `is_sampled` says that some moments of the runs are known.
 Pools = namedtuple("Pools", "verdict limit unit overhead given cost is_sampled")
@@ -230,7 +230,7 @@ def says(judged: Judged) -> str:
         words = TEMPLATES[f"{judged.kind}.{name}"].format(verdict=judged.verdict, given=judged.given, meaning=refusal(judged))
         return words.rstrip()
     size = listed(f"{GRANULE * each - GRANULE:,}" for each in judged.forced) if judged.forced else ""
-    return TEMPLATES[f"{judged.kind}.says.{'forced' if judged.forced else 'own'}"].format(size=size, claim=claim(judged))
+    return TEMPLATES[f"{judged.kind}.says.{'forced' if judged.forced and not judged.by_line else 'own'}"].format(size=size, claim=claim(judged))
 
 
 def sentence(judged: Judged, trust: Trust) -> str:

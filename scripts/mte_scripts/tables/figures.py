@@ -88,7 +88,7 @@ def over_time(kind: str, text: bytes, largest: bool, limit: int, step: int) -> O
     status, answer = run(["fit", "--limit", str(limit), "--step", str(step)], fitted)
     if status == 1:
         classes, cost, bound = answer.split("\n")
-        fit = texts.Fit(texts.parse_class_line(classes), limit, step, int(cost.split()[-1]), [], [])
+        fit = texts.Fit(texts.parse_class_line(classes), limit, step, False, int(cost.split()[-1]), [], [])
         moments, verdict = timelines.peaks_of(text, fit.classes), f"between {bound.split()[-1]}"
     else:
         fit = texts.parse_fit(answer)
@@ -145,8 +145,8 @@ class Figures:
         if self.best.waste is None:
             unserved = f"the sheet's table does not serve {self.best.unserved} bytes, which the profile counts"
             raise texts.Refused(2, f"{unserved}: is it the sheet of another profile?")
-        self.tuned, verdict = self.checked(profile, sheet)
-        judged = [claims.Judged("profile", verdict, found.limit, found.step, found.classes, given, self.best.waste, self.forced)]
+        self.tuned, verdict = self.checked(profile, sheet, found.forced)
+        judged = [claims.Judged("profile", verdict, found.limit, found.step, found.classes, given, self.best.waste, self.forced, found.forced)]
         self.others = [Table(name, classes, profile) for name, classes in others]
         self.timed = timed
         self.fitted: Optional[Table] = None
@@ -167,11 +167,13 @@ class Figures:
         return claims.Judged(timed.kind, timed.verdict, fit.limit, fit.step, fit.classes, given, self.fitted.footprint, timed.forced)
 
     @staticmethod
-    def checked(profile: dict, sheet: str) -> tuple[dict, str]:
-        """The profile that the sheet is of, which may be the one with class 1024 forced, and what `check` says."""
+    def checked(profile: dict, sheet: str, is_forced: bool) -> tuple[dict, str]:
+        """The profile that the sheet is of, which may be the one with class 1024 forced, by its own line too, and what `check` says."""
         _, verdict = run(["check"], sheet + profile_text(profile))
+        forced = with_largest(profile)
+        if is_forced:
+            return forced, verdict
         if verdict != "optimal":
-            forced = with_largest(profile)
             if run(["check"], sheet + profile_text(forced))[1] == "optimal":
                 return forced, "optimal"
         return profile, verdict
