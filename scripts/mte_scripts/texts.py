@@ -436,6 +436,11 @@ def parse_fit(text: "str | bytes", name: str = "the fit") -> Fit:
     return Fit(*parts_of(text, name, "fit", b"footprint"), moments)
 
 
+def forced_classes(certificate: "Sheet | Fit") -> "tuple[int, ...]":
+    """The classes that a sheet or a fit forces."""
+    return (LARGEST_CLASS,) if certificate.forced else ()
+
+
 def parts_of(text: "str | bytes", name: str, kind: str, cost: bytes) -> tuple:
     """The classes, limit and step of a sheet or a fit, whether class 1024 is forced, its cost and its rows."""
     lines = lines_of(os.fsencode(text))
