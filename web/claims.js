@@ -15,13 +15,13 @@ function tablesWords({ kind, limit, step, forced }) {
   return filled(`tables.${forced.length ? "forced" : "own"}`, places);
 }
 
-/** Whether `optimal`, said of the larger counts, says the same of the user's own. */
+/** Whether the table has the classes that are forced. */
 const holds = ({ forced, step, classes }) => forced.every((c) => c % step === 0 && classes.includes(c));
 
-/** What a `fit` without a certificate says that each table takes of the user's own, or null. */
-function bound({ verdict, forced }) {
+/** What a `fit` without a certificate says that each table takes, or null. */
+function bound({ verdict }) {
   const [word, number] = verdict.split(" ");
-  return word === "between" ? exactly(BigInt(number) - BigInt(GRANULE * sumOf(forced))) : null;
+  return word === "between" ? exactly(BigInt(number)) : null;
 }
 
 /** Among which tables none costs less than this one, and what it costs; or than the bound. */
@@ -29,7 +29,7 @@ const claim = (judged) => filled(`${judged.kind}.claim`, { tables: tablesWords(j
 
 /** What the verdict means, as `says` of scripts/mte_scripts/claims.py has it. */
 function says(judged) {
-  const { kind, forced, verdict } = judged;
+  const { kind, verdict } = judged;
   const given = givenAs(kind);
   if (bound(judged) !== null) return filled("timeline.between", { cost: bytesText(judged.cost), given, claim: claim(judged) });
   if (verdict !== "optimal") {
@@ -38,8 +38,7 @@ function says(judged) {
     return filled(`${kind}.refused`, { given, verdict, meaning }).trimEnd();
   }
   if (!holds(judged)) return filled(`${kind}.other`, { given });
-  const size = listed(forced.map((c) => grouped(GRANULE * c - GRANULE)));
-  return filled(`${kind}.says.${forced.length ? "forced" : "own"}`, { size, claim: claim(judged) });
+  return filled(`${kind}.says`, { claim: claim(judged) });
 }
 
 /** Puts words into an element; those between backquotes are code. */

@@ -1,5 +1,4 @@
-// What a profile, a history or a timeline counts, as the engines took it: its sizes, what classes serve of them, and the same with class
-// 1024 forced.
+// What a profile, a history or a timeline counts, as the engines took it: its sizes, and what classes serve of them.
 "use strict";
 
 const sumOf = (numbers) => numbers.reduce((sum, n) => sum + n, 0);
@@ -33,10 +32,6 @@ class Counts {
     this.bytes = sumOfProducts(sizes);
   }
 
-  hasLargest() {
-    return this.sizes.at(-1)?.[0] === LARGEST_SIZE;
-  }
-
   /** For each class its sizes, what it serves of them, and what it loses; over time, the most of its blocks at once, and what they take. */
   byClass(classes) {
     const heights = this.heights(classes, 1);
@@ -68,14 +63,6 @@ class Rows extends Counts {
       const mine = this.lines.filter(([size]) => size >= least && size <= most).map(([, counts]) => counts);
       return (mine[0] ?? []).map((_, i) => sumOf(mine.map((counts) => counts[i])));
     });
-  }
-
-  /** The text with a request, or a block at each moment, that class 1024 alone serves. */
-  withLargest() {
-    const moments = Number(/^snapshots (\d+)/.exec(this.text)?.[1] ?? 1);
-    const large = this.text.search(/^large /m);
-    const at = large < 0 ? this.text.length : large;
-    return `${this.text.slice(0, at)}${LARGEST_SIZE}${" 1".repeat(moments)}\n${this.text.slice(at)}`;
   }
 }
 
@@ -141,11 +128,6 @@ class Events extends Counts {
     }
     const lines = [...rows].filter(([, counts]) => mostOf(counts)).map(([size, counts]) => `${size} ${counts.join(" ")}\n`);
     return `snapshots ${moments.length}\n${lines.join("")}`;
-  }
-
-  /** The text with a block that class 1024 alone serves, live from the first event on. */
-  withLargest() {
-    return this.text.replace("\n", `\n${LARGEST_SIZE}\n`);
   }
 }
 

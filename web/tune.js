@@ -16,16 +16,15 @@ const percent = (part, whole) => (whole ? shareOf(Number(part), Number(whole)) :
 const isOverTime = (slot) => slot.kind !== "profile";
 const options = () => ({ limit: Number($("limit").value), step: Number($("step").value) });
 const finderOf = (slot) => (isOverTime(slot) ? "fit" : "tune");
-const heldAs = (slot, forced) => `${slot.slot}${forced.length ? " forced" : ""}`;
 const filledSlots = () => slots.filter((slot) => slot.kind);
 /** What an engine says where it gives no answer. */
 const refusal = (answer) => (answer.status === 2 ? faultWords(answer.text).words : `${answer.ended}.`);
 
 /** What TUNE or FIT answers for a slot's counts, or with class 1024 forced. Answers are kept, since a slider goes back and forth. */
-async function made(slot, limit, step, forced) {
-  const key = `${limit} ${step} ${forced.length}`;
+async function made(slot, limit, step, largest_class) {
+  const key = `${limit} ${step} ${largest_class}`;
   if (!slot.answers.has(key)) {
-    slot.answers.set(key, await ask("call", { command: finderOf(slot), options: { limit, step }, of: heldAs(slot, forced) }));
+    slot.answers.set(key, await ask("call", { command: finderOf(slot), options: { limit, step, largest_class }, of: slot.slot }));
   }
   return slot.answers.get(key);
 }
@@ -45,7 +44,6 @@ async function takeCounts(text, name, refuse = (words) => sayRefused(name, words
   }
   slot.counts = countsOf(kind, whole);
   slot.answers.set(`${limit} ${step} 0`, answer);
-  if (!slot.counts.hasLargest()) ask("hold", { name: heldAs(slot, [LARGEST_CLASS]), input: slot.counts.withLargest() });
   slots[slots.findIndex((it) => it.slot === slot.slot)] = slot;
   tuner = slot;
   say(`${name}: a ${kind} of ${counted(slot.counts.sizes.length, "size")}.`, false, "tune");
@@ -53,9 +51,6 @@ async function takeCounts(text, name, refuse = (words) => sayRefused(name, words
   await tune();
   return true;
 }
-
-/** The classes that are forced: none where the counts have a size that class 1024 alone serves. */
-const forcedFor = (slot) => (slot.counts.hasLargest() ? [] : [LARGEST_CLASS]);
 
 /** What a table has over the counts of a slot: {total}, {unserved} or {refused}. */
 async function totalOf(line, slot) {
@@ -76,31 +71,30 @@ const tune = oneAtATime(async () => {
 /** Finds the table of a slot, its line over the number of classes, and what the checker says. */
 async function tuneSlot(slot) {
   const { limit, step } = options();
-  const forced = $("largest").checked ? forcedFor(slot) : [];
-  const answer = await made(slot, limit, step, forced);
+  const largest_class = Number($("largest").checked);
+  const answer = await made(slot, limit, step, largest_class);
   if (answer.status > 1) return sayRefused(slot.name, refusal(answer));
   const sheet = answer.text;
   // a fit without a certificate says what no table takes less than
   const verdict = `between ${/less than (\d+)/.exec(sheet)?.[1]}`;
-  const judged = await (answer.status === 0 ? judge(slot, sheet, [forced]) : judgedAs(slot, sheet, { limit, step, forced, verdict }));
-  const least = await lineOf(slot, sheet, step, forced);
+  const forced = largest_class ? [LARGEST_CLASS] : [];
+  const judged = await (answer.status === 0 ? judge(slot, sheet) : judgedAs(slot, sheet, { limit, step, forced, verdict }));
+  const least = await lineOf(slot, sheet, step, largest_class);
   return Object.assign(slot, { sheet, judged, classes: judged.classes, total: judged.cost, least });
 }
 
 /** The line over the number of classes: of a profile or a history over all of it, of a timeline over the moments of its fit. */
-async function lineOf(slot, sheet, step, forced) {
-  // a block of each forced class is not the user's own
-  const own = isOverTime(slot) ? GRANULE * sumOf(forced) : 0;
-  const { text } = slot.kind === "timeline" ? await madeAtMoments(slot, sheet, step, forced) : await made(slot, MOST_CLASSES, step, forced);
-  return text.split("\n").filter((line) => line.startsWith("row")).map((line) => exactly(BigInt(line.split(" ")[1] ?? 0) - BigInt(own)));
+async function lineOf(slot, sheet, step, largest_class) {
+  const isTimeline = slot.kind === "timeline";
+  const { text } = await (isTimeline ? madeAtMoments(slot, sheet, step, largest_class) : made(slot, MOST_CLASSES, step, largest_class));
+  return text.split("\n").filter((line) => line.startsWith("row")).map((line) => exactly(line.split(" ")[1] ?? 0));
 }
 
 /** The fit over the moments that a fit of a timeline names, of as many classes as can be. A fit without a certificate names none. */
-async function madeAtMoments(slot, fit, step, forced) {
+async function madeAtMoments(slot, fit, step, largest_class) {
   const moments = /^moments (.*)$/m.exec(fit)?.[1].split(" ").map(Number);
   if (!moments) return { text: "" };
-  const counts = forced.length ? countsOf("timeline", slot.counts.withLargest()) : slot.counts;
-  return ask("call", { command: "fit", options: { limit: MOST_CLASSES, step }, input: counts.historyAt(moments) });
+  return ask("call", { command: "fit", options: { limit: MOST_CLASSES, step, largest_class }, input: slot.counts.historyAt(moments) });
 }
 
 /** What was judged of a table, with what it costs. */
@@ -109,21 +103,14 @@ async function judgedAs(slot, sheet, judgement) {
   return { kind: slot.kind, classes: classesOf(line), cost: (await totalOf(line, slot)).total, ...judgement };
 }
 
-/** What the engine says of a sheet over a slot's counts with each of these classes forced: of the first over which it is optimal, else of the
- * first. What it refuses is {refused}. */
-async function judge(slot, sheet, forcedOnes) {
-  const command = isOverTime(slot) ? "check-fit" : "check";
-  const answers = [];
-  for (const forced of forcedOnes) {
-    const answer = await ask("call", { command, options: {}, first: sheet, of: heldAs(slot, forced) });
-    if (answer.status > 1) return { refused: refusal(answer) };
-    answers.push({ verdict: answer.text.trim(), forced });
-    if (answer.status === 0) break;
-  }
-  const found = answers.find(({ verdict }) => verdict === "optimal") ?? answers[0];
+/** What the engine says of a sheet over a slot's counts. What it refuses is {refused}. */
+async function judge(slot, sheet) {
+  const answer = await ask("call", { command: isOverTime(slot) ? "check-fit" : "check", options: {}, first: sheet, of: slot.slot });
+  if (answer.status > 1) return { refused: refusal(answer) };
   // the engine took the sheet, so each number stands there in its one spelling
   const number = (name) => Number(new RegExp(`^${name} (\\d+)$`, "m").exec(sheet)?.[1] ?? 1);
-  return judgedAs(slot, sheet, { limit: number("limit"), step: number("step"), ...found });
+  const forced = /^forced/m.test(sheet) ? [LARGEST_CLASS] : [];
+  return judgedAs(slot, sheet, { limit: number("limit"), step: number("step"), forced, verdict: answer.text.trim() });
 }
 
 /** All tables: those of the slots beside Scudo's, and the user's own. Whether they are still those of what the slots hold. */
@@ -253,15 +240,13 @@ function showClasses() {
   fillTable("classes", ["Block, bytes", "Sizes served", ...names, "Share"], rows);
 }
 
-/** What the engine says of the sheet as it stands, edited or not. One that was made with class 1024 forced is checked over the counts with
- * that, and any other over the counts. */
+/** What the engine says of the sheet as it stands, edited or not. */
 async function judgedSheet() {
   const sheet = $("sheet").value.replace(/\n*$/, "\n");
   if (sheet === tuner.sheet && bound(tuner.judged) !== null) return tuner.judged;
   const isFit = /^footprint/m.test(sheet);
   if (isFit !== isOverTime(tuner)) return { refused: `This is a ${isFit ? "fit: it wants a history or a timeline" : "sheet: it wants a profile"}.` };
-  const both = tuner.counts.hasLargest() ? [[]] : [[], [LARGEST_CLASS]];
-  return judge(tuner, sheet, $("largest").checked ? both.reverse() : both);
+  return judge(tuner, sheet);
 }
 
 async function checkSheet() {

@@ -11,17 +11,14 @@ them by these rules, KIND being profile, history or timeline:
   {forced}   forced.one where one class is forced, else forced.many; its {classes} are in granules, joined as in "1, 2 and 3"
   {tables}   tables.own where no class is forced, else tables.forced; its {given} names what the user has
   {claim}    KIND.claim; its {cost} is the table's waste or footprint on what the user has: "1 byte", "63,311 bytes"
-  says       where `holds`: KIND.says.own, or KIND.says.forced with the {size}s 16 * class - 16, joined and "1,234"
+  says       where `holds`: KIND.says
              a verdict that is no `optimal`: KIND.refused with the {verdict} and its {meaning}, which is refusal.CODE
              `optimal`, but not `holds`: KIND.other
              of a timeline whose `fit` found no certificate, timeline.between with the {bound} that it proves
   sentence   where `holds` and the program is proved: prefix.proved and says; where it is not: unproved with {why}, and the {command} that
              judged; else says
 
-The page prints says. A class is forced by one more request, or one more block at each moment, of 16 * class - 16 bytes: what that class
-holds; of a timeline, one before the first event. Each table that has the class serves the request without waste, and takes one more of its
-blocks. So the order of the tables that have the class stays: a table that is the first of all for what was judged, and has the class, is the
-first of these for the user's own. That needs a class that is a multiple of the step, or no table in question has it."""
+The page prints says. A forced class is a line of the sheet or the fit, and `optimal` then means the first of the tables that have it."""
 
 from collections import namedtuple
 from collections.abc import Iterable
@@ -29,9 +26,8 @@ from collections.abc import Iterable
 GRANULE = 16  # bytes
 
 # What `check` or `check-fit` judged. `kind` is profile, history or timeline. `verdict` is its answer, of a sheet or fit with this limit, step
-# and classes. `given` names what the user has, and `cost` is the table's waste or footprint on that. `forced` are the classes that one request
-# more, or one block more at each moment, forced into the table: empty where the user's own was judged. Where `fit` found no certificate for a
-# timeline, the verdict is `between L`, L being the bound that it proves for what was judged.
+# and classes. `given` names what the user has, and `cost` is the table's waste or footprint on that. `forced` are the classes that the sheet or
+# fit forces. Where `fit` found no certificate for a timeline, the verdict is `between L`, L being the bound that it proves.
 Judged = namedtuple("Judged", "kind verdict limit step classes given cost forced")
 # What `check-fit` judged of pools: its answer, of a fit with this limit over the runs in units of `unit` bytes. `given` names the runs, `cost`
 # are the pools' bytes, of whose blocks `overhead` bytes hold no request, and `is_sampled` says that some moments of the runs are known.
@@ -57,25 +53,19 @@ TEMPLATES = {
     "profile.claim": "of {tables}, none wastes less on it than {cost}.",
     "history.claim": "of {tables}, none takes less over it than {cost}.",
     "timeline.claim": "of {tables}, none takes less over all its moments than {cost}.",
-    "profile.says.own": "`check` says `optimal`, so {claim}",
-    "history.says.own": "`check-fit` says `optimal`, so {claim}",
-    "profile.says.forced": "`check` says `optimal` with a request of {size} bytes added, so {claim}",
-    "history.says.forced": "`check-fit` says `optimal` with a block of {size} bytes added at each moment, so {claim}",
-    "timeline.says.own": "`check-fit` says `optimal`, so {claim}",
-    "timeline.says.forced": "`check-fit` says `optimal` with a block of {size} bytes added before the first event, so {claim}",
+    "profile.says": "`check` says `optimal`, so {claim}",
+    "history.says": "`check-fit` says `optimal`, so {claim}",
+    "timeline.says": "`check-fit` says `optimal`, so {claim}",
     "timeline.between": "`fit` found no certificate: the table takes {cost} over all moments of {given}; {claim}",
     "prefix.proved": "Proved: ",
     "unproved": "Nothing is proved, since {why}. If its `{command}` is right, {claim}",
     # a profile whose counts are above what a text may have, and the machines of a fleet, each with a history of its own
     "scaled.claim": "of {tables}, none wastes less on it than {cost}.",
-    "scaled.says.own": "`check` says `optimal` of its counts, divided and rounded down, so {claim}",
-    "scaled.says.forced": "`check` says `optimal` of its counts, divided and rounded down, with a request of {size} bytes added, so {claim}",
+    "scaled.says": "`check` says `optimal` of its counts, divided and rounded down, so {claim}",
     "scaled.refused": "`check` says `{verdict}` of its counts, divided and rounded down: nothing bounds what a table wastes on {given}. {meaning}",
     "scaled.other": "`check` says `optimal` of another profile, of which nothing follows for {given}.",
     "histories.claim": "of {tables}, none takes less over its machines together than {cost}.",
-    "histories.says.own": "`check-fit` says `optimal` of moments over which no table takes more, so {claim}",
-    "histories.says.forced": "`check-fit` says `optimal` of moments over which no table takes more, with a block of {size} bytes added at each, "
-    "so {claim}",
+    "histories.says": "`check-fit` says `optimal` of moments over which no table takes more, so {claim}",
     "histories.refused": "`check-fit` says `{verdict}`: nothing bounds what a table takes over {given}. {meaning}",
     "histories.other": "`check-fit` says `optimal` of another history, of which nothing follows for {given}.",
     # a table that is none of those, beside what bounds them: {percent} is rounded up
@@ -85,8 +75,7 @@ TEMPLATES = {
     "regret.unserved": "{table} does not serve {size}, which {given} has.",
     # a table for several loads, {given}, by the worst of its percentages there; {percent} is rounded down
     "worst.claim": "of {tables}, none stays below {percent}% on all of them.",
-    "worst.says": "`{command}` says `optimal` of what bounds each load and of all joined{added}, so {claim}",
-    "worst.added": " with a {what} of {size} bytes added",
+    "worst.says": "`{command}` says `optimal` of what bounds each load and of all joined, so {claim}",
     "worst.refused": "`{command}` says `{verdict}` of the loads joined: nothing bounds the worst of a table.",
     "worst.exact": "This is the worst of this table, so none has a lower one.",
     "worst.chosen": "This table was chosen among candidates, and its worst is {percent}%: another one may stay below that.",
@@ -189,7 +178,7 @@ def holds(judged: Judged) -> bool:
 def bound(judged: Judged) -> "int | None":
     """What a `fit` without a certificate proves that each table takes of the user's own: the block that forces a class is not of that."""
     words = judged.verdict.split(" ")
-    return int(words[1]) - sum(GRANULE * each for each in judged.forced) if words[0] == "between" else None
+    return int(words[1]) if words[0] == "between" else None
 
 
 def claim(judged: Judged) -> str:
@@ -229,8 +218,7 @@ def says(judged: Judged) -> str:
         name = "other" if judged.verdict == "optimal" else "refused"
         words = TEMPLATES[f"{judged.kind}.{name}"].format(verdict=judged.verdict, given=judged.given, meaning=refusal(judged))
         return words.rstrip()
-    size = listed(f"{GRANULE * each - GRANULE:,}" for each in judged.forced) if judged.forced else ""
-    return TEMPLATES[f"{judged.kind}.says.{'forced' if judged.forced else 'own'}"].format(size=size, claim=claim(judged))
+    return TEMPLATES[f"{judged.kind}.says"].format(claim=claim(judged))
 
 
 def sentence(judged: Judged, trust: Trust) -> str:
@@ -262,10 +250,8 @@ def worst(judged: Judged, low: float, high: float, is_exact: bool, trust: Trust)
     if not holds(judged):
         return TEMPLATES["worst.refused"].format(command=command, verdict=judged.verdict)
     claim_ = TEMPLATES["worst.claim"].format(tables=tables_of(judged), percent=f"{low:,.2f}")
-    size = listed(f"{GRANULE * each - GRANULE:,}" for each in judged.forced) if judged.forced else ""
-    added = TEMPLATES["worst.added"].format(what="request" if is_profile else "block", size=size) if size else ""
     if trust.is_proved:
-        said = TEMPLATES["prefix.proved"] + TEMPLATES["worst.says"].format(command=command, added=added, claim=claim_)
+        said = TEMPLATES["prefix.proved"] + TEMPLATES["worst.says"].format(command=command, claim=claim_)
     else:
         said = TEMPLATES["unproved"].format(command=command, why=trust.why, claim=claim_)
     return f"{said} {TEMPLATES['worst.exact' if is_exact else 'worst.chosen'].format(percent=f'{high:,.2f}')}"

@@ -44,10 +44,11 @@ CERTIFICATE = re.compile(
     rb"classes(?:%(n)s)*\nlimit%(n)s\n(?:step%(n)s\n)?(?:forced%(n)s\n)?"
     rb"(?:waste%(n)s\n(?:row(?:%(n)s)*\n)*|footprint%(n)s\n(?:row(?:%(n)s)*\n)*(?:moments(?:%(n)s)+\n)?)" % {b"n": NUMBER}
 )
-SHEET_WORDS = (b"classes", b"limit", b"step", b"waste", b"footprint", b"row", b"moments")
+SHEET_WORDS = (b"classes", b"limit", b"step", b"forced", b"waste", b"footprint", b"row", b"moments")
 
-Sheet = namedtuple("Sheet", "classes limit step waste rows")
-Fit = namedtuple("Fit", "classes limit step footprint rows moments")  # the moments are None of a fit over a history
+# `forced` is whether the table has to have class 1024
+Sheet = namedtuple("Sheet", "classes limit step forced waste rows")
+Fit = namedtuple("Fit", "classes limit step forced footprint rows moments")  # the moments are None of a fit over a history
 History = namedtuple("History", "snapshots counts")  # how many snapshots; for each size, and `large`, its count at each of them
 
 
@@ -438,12 +439,16 @@ def parse_fit(text: "str | bytes", name: str = "the fit") -> Fit:
     if lines and (match := re.fullmatch(rb"moments((?: (?:0|[1-9][0-9]{0,9}))+)", lines[-1])):
         moments = [int(at) for at in match[1].split()]
         text = b"\n".join(lines[:-1])
-    classes, limit, step, footprint, rows = parts_of(text, name, "fit", b"footprint")
-    return Fit(classes, limit, step, footprint, rows, moments)
+    return Fit(*parts_of(text, name, "fit", b"footprint"), moments)
+
+
+def forced_classes(certificate: "Sheet | Fit") -> "tuple[int, ...]":
+    """The classes that a sheet or a fit forces."""
+    return (LARGEST_CLASS,) if certificate.forced else ()
 
 
 def parts_of(text: "str | bytes", name: str, kind: str, cost: bytes) -> tuple:
-    """The classes, limit, step, cost and rows of a sheet or a fit."""
+    """The classes, limit and step of a sheet or a fit, whether class 1024 is forced, its cost and its rows."""
     lines = lines_of(os.fsencode(text))
     classes = parse_class_line(lines[0] if lines else None, name)
     numbers = {b"step": 1}
@@ -453,13 +458,13 @@ def parts_of(text: "str | bytes", name: str, kind: str, cost: bytes) -> tuple:
         has_numbers = all(re.fullmatch(rb"0|[1-9][0-9]{0,19}", value) for value in values)
         if has_numbers and word == b"row":
             rows.append(list(map(int, values)))
-        elif has_numbers and word in (b"limit", b"step", cost) and len(values) == 1 and not rows:
+        elif has_numbers and word in (b"limit", b"step", b"forced", cost) and len(values) == 1 and not rows:
             numbers[word] = int(values[0])
         else:
             raise Refused(2, f"{name}: {encoding(line, at) or f'line {at} is no line of a {kind}: {shown(line)}'}")
     if b"limit" not in numbers or cost not in numbers:
         raise Refused(2, f"{name}: it is no whole {kind}: a line `limit` or `{cost.decode()}` is missing")
-    return classes, numbers[b"limit"], numbers[b"step"], numbers[cost], rows
+    return classes, numbers[b"limit"], numbers[b"step"], b"forced" in numbers, numbers[cost], rows
 
 
 def joined(first: "str | bytes", second: "str | bytes", name: str = "the first text") -> bytes:

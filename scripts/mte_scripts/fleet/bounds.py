@@ -11,9 +11,9 @@ from collections.abc import Iterable, Sequence
 from typing import Any, NamedTuple, Optional
 
 from mte_scripts import claims, texts
-from mte_scripts.fleet.loads import FORCED, GRANULE, Load
+from mte_scripts.fleet.loads import GRANULE, Load
 from mte_scripts.tables import figures
-from mte_scripts.texts import LARGEST_SIZE, MOST_COUNT, MOST_SNAPSHOTS, Refused
+from mte_scripts.texts import MOST_COUNT, MOST_SNAPSHOTS, Refused
 
 AMONG_HELP = """\
   --limit K          among tables of at most K classes, 1 to 32; 32 where it is left out
@@ -37,7 +37,7 @@ class Among(NamedTuple):
         return cls(options.limit, options.step, not options.no_largest)
 
     def words(self) -> list:
-        return ["--limit", str(self.limit), "--step", str(self.step)]
+        return figures.options(self.limit, self.step, self.largest)
 
 
 class Bound(NamedTuple):
@@ -51,8 +51,8 @@ class Bound(NamedTuple):
 
 
 class Certified(NamedTuple):
-    """A sheet or a fit, and the counts that it is of, both as texts; its cost without what forces a class; the table; and the command
-    that checks it, whose verdict is empty before that."""
+    """A sheet or a fit, and the counts that it is of, both as texts; its cost; the table; the command that checks it, whose verdict is
+    empty before that; and the classes that it forces."""
 
     command: str
     verdict: str
@@ -68,10 +68,9 @@ def of(load: Load, among: Among) -> Bound:
     if load.kind in ("history", "timeline") and load.most() <= MOST_COUNT:
         timed = figures.over_time(load.kind, load.text, among.largest, among.limit, among.step)
         cost = load.cost(timed.fit.classes) or 0
-        judged = claims.Judged(load.kind, timed.verdict, among.limit, among.step, timed.fit.classes, load.name, cost, timed.forced)
+        judged = claims.Judged(load.kind, timed.verdict, among.limit, among.step, timed.fit.classes, load.name, cost, texts.forced_classes(timed.fit))
         between = claims.bound(judged)
-        counts = figures.forced_into(load.kind, load.text) if among.largest else load.text
-        return shown(Bound(cost if between is None else between, judged, timed.fit.classes, timed.fit_text, counts))
+        return shown(Bound(cost if between is None else between, judged, timed.fit.classes, timed.fit_text, load.text))
     divisor = -(-load.most() // MOST_COUNT)
     if load.kind == "profile":
         kind, found = "profile" if divisor == 1 else "scaled", checked(sheet([(1, load)], divisor, among))
@@ -105,12 +104,10 @@ def sheet(parts: Iterable[tuple], divisor: int, among: Among) -> Certified:
     for factor, load in parts:
         texts.add_counts(sums, load.counts, factor)
     counts = {size: count // divisor for size, count in sums.items() if count >= divisor}
-    tuned = figures.with_largest(counts) if among.largest else counts
-    text = figures.profile_text(tuned)
+    text = figures.profile_text(counts)
     _, made = figures.run(["tune", *among.words()], text)
     found = texts.parse_sheet(made)
-    forced = () if tuned.get(LARGEST_SIZE) == counts.get(LARGEST_SIZE) else (FORCED,)
-    return Certified("check", "", found.waste, found.classes, f"{made}\n", text, forced)
+    return Certified("check", "", found.waste, found.classes, f"{made}\n", text, texts.forced_classes(found))
 
 
 def fit(parts: Sequence[tuple], divisor: int, among: Among, seen: list) -> Certified:
@@ -120,12 +117,11 @@ def fit(parts: Sequence[tuple], divisor: int, among: Among, seen: list) -> Certi
         seen += [each for each in first_tables(parts) if all(load.unserved(each) is None for _, load in parts)]
     best: Optional[Certified] = None
     for _ in range(ROUNDS):
-        text, forced = history(columns(parts, divisor, seen[-MOST_TABLES:]), among)
+        text = history(columns(parts, divisor, seen[-MOST_TABLES:]))
         _, made = figures.run(["fit", *among.words()], text)
         found = texts.parse_fit(made)
-        cost = found.footprint - sum(GRANULE * each for each in forced)
-        if best is None or cost > best.cost:
-            best = Certified("check-fit", "", cost, found.classes, f"{made}\n", text, forced)
+        if best is None or found.footprint > best.cost:
+            best = Certified("check-fit", "", found.footprint, found.classes, f"{made}\n", text, texts.forced_classes(found))
         if found.classes in seen[-MOST_TABLES:] or any(load.unserved(found.classes) is not None for _, load in parts):
             break
         seen.append(found.classes)
@@ -155,9 +151,7 @@ def columns(parts: Iterable[tuple], divisor: int, tables: list) -> list:
     return found
 
 
-def history(found: list, among: Among) -> tuple:
-    """The text of a history of these columns, with a block that forces class 1024 where it is wanted; and the classes that are forced."""
+def history(found: list) -> str:
+    """The text of a history of these columns."""
     sizes = sorted(set().union(*found))
-    made = texts.History(len(found), {size: [column.get(size, 0) for column in found] for size in sizes})
-    whole = figures.with_largest_block(made) if among.largest else made
-    return texts.history_text(whole), (FORCED,) if len(whole.counts) > len(sizes) else ()
+    return texts.history_text(texts.History(len(found), {size: [column.get(size, 0) for column in found] for size in sizes}))

@@ -15,8 +15,7 @@ Usage: report [--title TEXT] [--against TABLE].. PROFILE SHEET
   --title TEXT     what the page is about; the name of PROFILE where it is left out
   --against TABLE  a file with a class line: another table to compare with, besides Scudo's default and its table for Android
 
-PROFILE is a profile from anywhere, also one of merge_profiles. SHEET is what `mte_tool tune` wrote for it. The sheet may also be of
-PROFILE with class 1024 forced by a line of {texts.LARGEST_SIZE} bytes. One of the two may be `-`, for standard input.
+PROFILE is a profile from anywhere, also one of merge_profiles. SHEET is what `mte_tool tune` wrote for it. One of the two may be `-`, for standard input.
 
 The page has the waste of each table, what it can be by the number of classes, the requested bytes by size, the classes of the
 table and the command that checks the sheet. It is one file, without scripts, and takes nothing from elsewhere.
@@ -45,14 +44,12 @@ def report(words: list[str]) -> int:
     given = "the profile" if profile == "-" else os.path.basename(profile)
     found = figures.Figures(texts.read_profile(profile), texts.read(sheet).decode(errors="replace"), others, given=given)
     name = title or ("the profile" if profile == "-" else figures.without_ending(profile, ".profile"))
-    texts.write(report_page.page(found, name, "in the profile", [], [check_command(profile, sheet, found.forced)]))
+    texts.write(report_page.page(found, name, "in the profile", [], [check_command(profile, sheet)]))
     return 1 if found.unheld() else 0
 
 
-def check_command(profile: str, sheet: str, forced: tuple) -> str:
+def check_command(profile: str, sheet: str) -> str:
     """The shell's words that check the sheet again. merge_profiles brings the lines of any profile into their order."""
     names = ["PROFILE" if profile == "-" else texts.quoted(profile), "SHEET" if sheet == "-" else texts.quoted(sheet)]
     merged = f"{texts.as_called('scripts/merge_profiles')} -- {names[0]}"
-    if forced:
-        merged = f"echo '{texts.LARGEST_SIZE} 1' | {merged} -"
     return f"{merged} | cat {names[1]} - | {texts.as_called('scripts/mte_tool')} check"

@@ -57,7 +57,8 @@ def check(words: list[str]) -> int:
         raise texts.Refused(status if status in (2, 3) else 3, whose_fault(error, len(texts.lines_of(sheet_bytes)), names, kind))
     cost = sheet.footprint if is_fit else sheet.waste
     verdict = answer.decode(errors="replace").strip()
-    judged = claims.Judged(kind, verdict, sheet.limit, sheet.step, sheet.classes, texts.printable(names[1]), cost, ())
+    forced = texts.forced_classes(sheet)
+    judged = claims.Judged(kind, verdict, sheet.limit, sheet.step, sheet.classes, texts.printable(names[1]), cost, forced)
     if not claims.holds(judged):
         raise texts.Refused(1, f"{names[0]}: {verdict}. {claims.refusal(judged)}".rstrip())
     return texts.write(claims.answer(judged, texts.trust()) + "\n")

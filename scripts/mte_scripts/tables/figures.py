@@ -27,15 +27,9 @@ def profile_text(profile: dict) -> str:
     return "".join(f"{size} {count}\n" for size, count in lines)
 
 
-def with_largest(profile: dict) -> dict:
-    """The profile with a request that class 1024 alone serves, so that each table for it has this class. It adds no waste."""
-    return profile if profile.get(texts.LARGEST_SIZE) else {**profile, texts.LARGEST_SIZE: 1}
-
-
-def with_largest_block(history: texts.History) -> texts.History:
-    """The history with a block at each snapshot that class 1024 alone serves, so that each table for it has this class. It adds 16 KiB."""
-    counts = history.counts.get(texts.LARGEST_SIZE) or [1] * history.snapshots
-    return history._replace(counts={**history.counts, texts.LARGEST_SIZE: counts})
+def options(limit: int, step: int, largest: bool) -> "list[str]":
+    """The options of `tune` and `fit`: for tables with class 1024 where it is wanted."""
+    return ["--limit", str(limit), "--step", str(step), "--largest-class", str(int(largest))]
 
 
 def at_peak(history: texts.History) -> dict:
@@ -74,7 +68,6 @@ class OverTime(NamedTuple):
 
     kind: str
     text: bytes
-    forced: tuple  # the classes that a block more forces into the fitted table
     fit: texts.Fit
     fit_text: str  # or what `fit` printed in place of one
     verdict: str
@@ -83,26 +76,17 @@ class OverTime(NamedTuple):
 
 def over_time(kind: str, text: bytes, largest: bool, limit: int, step: int) -> OverTime:
     """The fit of a text, with class 1024 in its table if it is wanted. A timeline may have none: then the verdict is the bound that `fit` proves."""
-    fitted = forced_into(kind, text) if largest else text
-    forced = (texts.LARGEST_CLASS,) if fitted != text else ()
-    status, answer = run(["fit", "--limit", str(limit), "--step", str(step)], fitted)
+    status, answer = run(["fit", *options(limit, step, largest)], text)
     if status == 1:
         classes, cost, bound = answer.split("\n")
-        fit = texts.Fit(texts.parse_class_line(classes), limit, step, int(cost.split()[-1]), [], [])
+        fit = texts.Fit(texts.parse_class_line(classes), limit, step, largest, int(cost.split()[-1]), [], [])
         moments, verdict = timelines.peaks_of(text, fit.classes), f"between {bound.split()[-1]}"
     else:
         fit = texts.parse_fit(answer)
-        _, verdict = run(["check-fit"], texts.joined(answer, fitted))
-        moments = [at - bool(forced) for at in fit.moments or () if at > bool(forced)]
+        _, verdict = run(["check-fit"], texts.joined(answer, text))
+        moments = fit.moments or []
     history = texts.parse_history(text) if kind == "history" else timelines.history_at(text, moments)
-    return OverTime(kind, text, forced, fit, answer + "\n", verdict, history)
-
-
-def forced_into(kind: str, text: bytes) -> bytes:
-    """The text with one block more, so that each table for it has class 1024."""
-    if kind == "timeline":
-        return timelines.with_block(text, texts.LARGEST_SIZE)
-    return texts.history_text(with_largest_block(texts.parse_history(text))).encode()
+    return OverTime(kind, text, fit, answer + "\n", verdict, history)
 
 
 class Table:
@@ -145,8 +129,9 @@ class Figures:
         if self.best.waste is None:
             unserved = f"the sheet's table does not serve {self.best.unserved} bytes, which the profile counts"
             raise texts.Refused(2, f"{unserved}: is it the sheet of another profile?")
-        self.tuned, verdict = self.checked(profile, sheet)
-        judged = [claims.Judged("profile", verdict, found.limit, found.step, found.classes, given, self.best.waste, self.forced)]
+        self.profile = profile
+        _, verdict = run(["check"], texts.joined(sheet, profile_text(profile), "the sheet"))
+        judged = [claims.Judged("profile", verdict, found.limit, found.step, found.classes, given, self.best.waste, texts.forced_classes(found))]
         self.others = [Table(name, classes, profile) for name, classes in others]
         self.timed = timed
         self.fitted: Optional[Table] = None
@@ -164,22 +149,7 @@ class Figures:
         self.fitted = Table(claims.name(timed.kind), fit.classes, profile)
         for table in (self.best, self.fitted, *self.others):
             table.over(timed.text)
-        return claims.Judged(timed.kind, timed.verdict, fit.limit, fit.step, fit.classes, given, self.fitted.footprint, timed.forced)
-
-    @staticmethod
-    def checked(profile: dict, sheet: str) -> tuple[dict, str]:
-        """The profile that the sheet is of, which may be the one with class 1024 forced, and what `check` says."""
-        _, verdict = run(["check"], texts.joined(sheet, profile_text(profile), "the sheet"))
-        if verdict != "optimal":
-            forced = with_largest(profile)
-            if run(["check"], texts.joined(sheet, profile_text(forced)))[1] == "optimal":
-                return forced, "optimal"
-        return profile, verdict
-
-    @property
-    def forced(self) -> tuple:
-        """The classes that are forced: 1024, where the sheet is of the profile with a request that wants it, else none."""
-        return () if self.tuned.get(texts.LARGEST_SIZE) == self.counts.get(texts.LARGEST_SIZE) else (texts.LARGEST_CLASS,)
+        return claims.Judged(timed.kind, timed.verdict, fit.limit, fit.step, fit.classes, given, self.fitted.footprint, texts.forced_classes(fit))
 
     def made(self) -> list[Table]:
         """The tables that were made, the first by the objective before the other one."""
@@ -189,13 +159,12 @@ class Figures:
     def least_by_classes(self) -> list[int]:
         """The least cost of at most 1, 2, .. classes that serve what is given, and have the classes that are forced. A timeline is seen at the
         moments of its fit."""
-        options = ["--limit", "32", "--step", str(self.judged[0].step)]
+        words = options(texts.MOST_CLASSES, self.judged[0].step, bool(self.judged[0].forced))
         if self.objective == "waste":
-            return [row[0] for row in texts.parse_sheet(run(["tune", *options], profile_text(self.tuned))[1]).rows]
-        forced = self.timed.forced
-        history = with_largest_block(self.timed.history) if forced else self.timed.history
-        fit = texts.parse_fit(run(["fit", *options], texts.history_text(history))[1])
-        return [row[0] - sum(GRANULE * each for each in forced) for row in fit.rows]
+            found = texts.parse_sheet(run(["tune", *words], profile_text(self.profile))[1])
+        else:
+            found = texts.parse_fit(run(["fit", *words], texts.history_text(self.timed.history))[1])
+        return [row[0] if row else 0 for row in found.rows]
 
     def cost(self, table: Table) -> "int | None":
         """The waste or the footprint of a table, None where it does not serve all sizes."""

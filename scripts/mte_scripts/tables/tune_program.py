@@ -48,11 +48,10 @@ Where a program is run without --all, each request and each free is recorded: a 
 the run. Where the record is too long for that, it is a history of some moments; the summary says so. docs/TUNING.md says when to
 take which table.
 
-The folder is new. It has program.profile (what was counted), tuned.profile (what was tuned: with class 1024 forced), tuned.sheet
-(the table that loses little and its certificate), tuned_map.inc (a table for LLVM's Scudo), waste.svg (the waste by the number of
+The folder is new. It has program.profile (what was counted), tuned.sheet (the table that loses little and its certificate), tuned_map.inc (a table for LLVM's Scudo), waste.svg (the waste by the number of
 classes), report.html (all of it as a page), claims.txt (what is shown of each table, and the command that checks it) and
 summary.txt, which is printed too. Beside these it has program.timeline, fitted.fit (the other table and its certificate) and
-moments.history (the moments that the fit names, for merge_profiles); or program.history, fitted.history and fitted.fit. Where the
+moments.history (the moments that the fit names, for merge_profiles); or program.history and fitted.fit. Where the
 engines of scripts/page are at hand, page.html is its page of the same counts, to which report.html has a link. If a step fails,
 what was made before it stays.
 
@@ -72,12 +71,10 @@ WIDTH, HEIGHT = 80, 24
 MEASURED = (("glibc", "glibc's malloc now"), ("resident", "the process now"))
 FILES = [
     ("program.profile", "what was counted"),
-    ("tuned.profile", "what was tuned"),
     ("tuned.sheet", "table, certificate"),
     ("tuned_map.inc", "the table for Scudo"),
     ("program.timeline", "what was recorded"),
     ("program.history", "blocks over time"),
-    ("fitted.history", "what was fitted"),
     ("fitted.fit", "table, certificate"),
     ("moments.history", "the fit's moments"),
     ("claims.txt", "what is shown"),
@@ -409,9 +406,8 @@ def made(options: Options, folder: Folder, others: list, notes: list[str], measu
     profile = texts.read_profile(folder.at("program.profile")) if folder.has("program.profile") else {}
     if not any(size for size in profile if size != "large"):
         raise texts.Refused(3, figures.NOTHING)
-    tuned = figures.with_largest(profile) if options.largest else profile
-    folder.write("tuned.profile", figures.profile_text(tuned))
-    _, answer = figures.run(["tune", "--limit", str(options.limit), "--step", str(options.step)], figures.profile_text(tuned))
+    words = figures.options(options.limit, options.step, options.largest)
+    _, answer = figures.run(["tune", *words], figures.profile_text(profile))
     sheet = f"{answer}\n"
     folder.write("tuned.sheet", sheet)
     timed = fitted(options, folder)
@@ -431,7 +427,7 @@ def made(options: Options, folder: Folder, others: list, notes: list[str], measu
         except texts.Refused as refused:
             failed.append(f"{name} is not made: {refused.text}")
     noted = [*warnings(options, found, notes), *failed]
-    checks = [check_command(folder, "check", "tuned.sheet", "tuned.profile")]
+    checks = [check_command(folder, "check", "tuned.sheet", "program.profile")]
     if timed:
         checks.append(check_fit_command(folder, timed))
     if options.objective == "footprint":
@@ -478,7 +474,6 @@ def fitted(options: Options, folder: Folder) -> "figures.OverTime | None":
     text = texts.read(folder.at(f"program.{kind}"))
     if kind == "history":
         text = texts.history_text(texts.parse_history(text)).encode()
-        folder.write("fitted.history", figures.forced_into(kind, text) if options.largest else text)
     timed = figures.over_time(kind, text, options.largest, options.limit, options.step)
     folder.write("fitted.fit", timed.fit_text)
     if kind == "timeline":
@@ -491,13 +486,8 @@ def check_command(folder: Folder, command: str, *names: str) -> str:
 
 
 def check_fit_command(folder: Folder, timed: figures.OverTime) -> str:
-    """The command that checks the fit; the block that forces class 1024 is put before a timeline's first event."""
-    if timed.kind == "history":
-        return check_command(folder, "check-fit", "fitted.fit", "fitted.history")
-    if not timed.forced:
-        return check_command(folder, "check-fit", "fitted.fit", "program.timeline")
-    fit, timeline = (texts.quoted(folder.file(name)) for name in ("fitted.fit", "program.timeline"))
-    return f"sed '1s/$/\\n{texts.LARGEST_SIZE}/' {timeline} | cat {fit} - | {texts.as_called('scripts/mte_tool')} check-fit"
+    """The command that checks the fit."""
+    return check_command(folder, "check-fit", "fitted.fit", f"program.{timed.kind}")
 
 
 def tables(options: Options, folder: Folder, engines: dict[str, bytes]) -> str:
