@@ -51,7 +51,7 @@ def report(words: list[str]) -> int:
 
 def check_command(profile: str, sheet: str, forced: tuple) -> str:
     """The shell's words that check the sheet again. merge_profiles brings the lines of any profile into their order."""
-    names = ["PROFILE" if profile == "-" else texts.quoted(profile), "SHEET" if sheet == "-" else texts.quoted(sheet)]
+    names = ["PROFILE" if profile == "-" else texts.path_word(profile), "SHEET" if sheet == "-" else texts.path_word(sheet)]
     merged = f"{texts.as_called('scripts/merge_profiles')} -- {names[0]}"
     if forced:
         merged = f"echo '{texts.LARGEST_SIZE} 1' | {merged} -"
