@@ -36,7 +36,7 @@ use generator::Generator;
 use heap::Settings;
 use history::History;
 use lines::each_line;
-use options::Options;
+use options::{is_help, Options};
 use profile::Profile;
 use replay::Replay;
 use score::read_classes;
@@ -51,6 +51,19 @@ use trace::Event;
 static ALLOCATOR: allocator::OrEnds = allocator::OrEnds;
 
 const EVENTS: usize = 1_000_000;
+
+const COMMANDS: [&str; 10] = [
+    "events",
+    "score",
+    "tune",
+    "check",
+    "footprint",
+    "fit",
+    "check-fit",
+    "profile",
+    "replay",
+    "run",
+];
 
 const NO: ExitCode = ExitCode::FAILURE;
 
@@ -77,44 +90,56 @@ docs/FORMATS.md has the formats and the codes of faults, `error CODE NAME line L
 ";
 
 fn main() -> ExitCode {
-    let words: Vec<String> = std::env::args_os()
-        .skip(1)
-        .map(|word| word.to_string_lossy().into_owned())
-        .collect();
-    answer(words, &mut std::io::stdout().lock()).unwrap_or_else(|fault| {
-        eprintln!("{fault}");
-        ExitCode::from(fault.status())
-    })
+    let words = std::env::args_os().skip(1).map(|word| word.into_string());
+    let not_text = |_| Fault::Words("a word of the command line is not UTF-8".to_string());
+    let words = words.collect::<Result<Vec<String>, _>>().map_err(not_text);
+    let mut out = std::io::stdout().lock();
+    words
+        .and_then(|words| answer(words, &mut out))
+        .unwrap_or_else(|fault| {
+            eprintln!("{fault}");
+            ExitCode::from(fault.status())
+        })
 }
 
 fn answer(words: Vec<String>, out: &mut impl Write) -> Result<ExitCode, Fault> {
-    if words.iter().any(|word| word == "--help" || word == "-h") {
+    let mut words = words.into_iter();
+    let command = match words.next() {
+        Some(command) => command,
+        None => {
+            eprint!("{HELP}");
+            return Ok(ExitCode::from(2));
+        }
+    };
+    if command == "-V" || command == "--version" {
+        return written(out, b"plain 1.0.0\n");
+    }
+    let is_of_help = match words.as_slice() {
+        [] => command == "help",
+        [of] => command == "help" && COMMANDS.contains(&of.as_str()),
+        _ => false,
+    };
+    if is_help(&command) || is_of_help {
         return written(out, HELP.as_bytes());
     }
-    if words.is_empty() {
-        eprint!("{HELP}");
-        return Ok(ExitCode::from(2));
+    if !COMMANDS.contains(&command.as_str()) {
+        return Err(Fault::Words(format!("there is no command {command:?}")));
     }
-    let mut words = words.into_iter();
-    let command = words.next().unwrap_or_default();
-    let names = match command.as_str() {
-        "events" => &["--seed"],
-        command => formats::options_of(command),
+    let options = match Options::new(&command, words)? {
+        Some(options) => options,
+        None => return written(out, HELP.as_bytes()),
     };
-    let given = Options::new(names, words);
     match command.as_str() {
-        "-V" | "--version" => written(out, b"plain 1.0.0\n"),
-        "events" => events(&given?, out),
-        "score" => given.and_then(|_| score(out)),
-        "tune" => tune(&given?, out),
-        "check" => given.and_then(|_| check(out)),
-        "footprint" => given.and_then(|_| footprint(out)),
-        "fit" => fit(&given?, out),
-        "check-fit" => given.and_then(|_| check_fit(out)),
-        "profile" => given.and_then(|_| profile(out)),
-        "replay" => replay(&given?, out),
-        "run" => run(&given?, out),
-        _ => Err(Fault::Words(format!("there is no command {command:?}"))),
+        "events" => events(&options, out),
+        "score" => score(out),
+        "tune" => tune(&options, out),
+        "check" => check(out),
+        "footprint" => footprint(out),
+        "fit" => fit(&options, out),
+        "check-fit" => check_fit(out),
+        "profile" => profile(out),
+        "replay" => replay(&options, out),
+        _ => run(&options, out),
     }
 }
 

@@ -1,33 +1,68 @@
 //! The options of the command line: `--NAME N` or `--NAME=N` for each, in any order.
 
 use crate::faults::{Fault, BAD_OPTION};
-use crate::formats::NUMBERS;
+use crate::formats::{options_of, Number, NUMBERS};
 use crate::heap::Settings;
-use std::ops::RangeInclusive;
+
+/// The option of `events`.
+const SEED_OF_EVENTS: Number = Number {
+    name: "--seed",
+    least: 1,
+    most: u64::MAX,
+    default: Some(1),
+};
 
 pub struct Options {
-    given: Vec<(String, String)>,
+    numbers: Vec<&'static Number>,
+    given: Vec<(&'static str, u64)>,
+}
+
+/// Whether a word asks for help.
+pub fn is_help(word: &str) -> bool {
+    word == "--help" || word.starts_with("-h")
 }
 
 impl Options {
-    /// The words after the command, which has options of these names.
-    pub fn new(names: &[&str], mut words: impl Iterator<Item = String>) -> Result<Options, Fault> {
-        let mut given: Vec<(String, String)> = Vec::new();
+    /// The words after a command, or nothing where they ask for help before one is refused.
+    pub fn new(
+        command: &str,
+        mut words: impl Iterator<Item = String>,
+    ) -> Result<Option<Options>, Fault> {
+        let names = options_of(command);
+        let of_command = NUMBERS.iter().filter(|it| names.contains(&it.name));
+        let mut options = Options {
+            numbers: match command {
+                "events" => vec![&SEED_OF_EVENTS],
+                _ => of_command.collect(),
+            },
+            given: Vec::new(),
+        };
         while let Some(word) = words.next() {
-            let (name, value) = match word.split_once('=') {
-                Some((name, value)) => (name.to_string(), Some(value.to_string())),
-                None => (word, None),
-            };
-            if !names.contains(&name.as_str()) {
-                return Err(Fault::Words(format!("there is no argument {name:?} here")));
+            if is_help(&word) {
+                return Ok(None);
             }
-            if given.iter().any(|(other, _)| *other == name) {
+            if word == "--" {
+                return words
+                    .next()
+                    .map_or(Ok(Some(options)), |word| no_place(&word));
+            }
+            let (name, value) = match word.split_once('=') {
+                Some((name, value)) => (name, Some(value.to_string())),
+                None => (word.as_str(), None),
+            };
+            let number = match options.numbers.iter().find(|it| it.name == name) {
+                Some(number) => *number,
+                None => return no_place(name),
+            };
+            if options.given(name).is_some() {
                 return Err(Fault::Words(format!("{name} is there twice")));
             }
             let value = value.or_else(|| words.next()).unwrap_or_default();
-            given.push((name, value));
+            options
+                .given
+                .push((number.name, in_range(number, value.parse().ok())?));
         }
-        Ok(Options { given })
+        Ok(Some(options))
     }
 
     /// The most classes of a table.
@@ -52,7 +87,7 @@ impl Options {
 
     /// The seed of the events.
     pub fn seed(&self) -> Result<u64, Fault> {
-        self.number("--seed", 1..=u64::MAX, Some(1))
+        self.number_of("--seed")
     }
 
     /// What the heap is made with.
@@ -64,24 +99,28 @@ impl Options {
         })
     }
 
-    /// The number of an option, in its range.
-    pub fn number_of(&self, name: &str) -> Result<u64, Fault> {
-        let it = NUMBERS.iter().find(|it| it.name == name);
-        let it = it.expect("each option is in the table");
-        self.number(name, it.least..=it.most, it.default)
+    fn number_of(&self, name: &str) -> Result<u64, Fault> {
+        let it = self.numbers.iter().find(|it| it.name == name);
+        let it = it.expect("the command has this option");
+        in_range(it, self.given(name).or(it.default))
     }
 
-    fn number(
-        &self,
-        name: &str,
-        range: RangeInclusive<u64>,
-        default: Option<u64>,
-    ) -> Result<u64, Fault> {
-        let given = self.given.iter().find(|(other, _)| other == name);
-        let number = given.map_or(default, |(_, value)| value.parse().ok());
-        number.filter(|n| range.contains(n)).ok_or_else(|| {
-            let (least, most) = range.into_inner();
+    fn given(&self, name: &str) -> Option<u64> {
+        let found = self.given.iter().find(|(other, _)| *other == name);
+        found.map(|(_, number)| *number)
+    }
+}
+
+fn no_place<T>(word: &str) -> Result<T, Fault> {
+    Err(Fault::Words(format!("there is no argument {word:?} here")))
+}
+
+// the number of an option, where there is one in its range
+fn in_range(it: &Number, number: Option<u64>) -> Result<u64, Fault> {
+    number
+        .filter(|n| (it.least..=it.most).contains(n))
+        .ok_or_else(|| {
+            let (name, least, most) = (it.name, it.least, it.most);
             Fault::Words(format!("{name} wants a number from {least} to {most}"))
         })
-    }
 }

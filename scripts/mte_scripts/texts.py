@@ -82,6 +82,11 @@ def quoted(word: str) -> str:
     return "$'" + "".join(chr(b) if 32 <= b < 127 and b not in b"\\'" else f"\\x{b:02x}" for b in os.fsencode(word)) + "'"
 
 
+def path_word(path: str) -> str:
+    """A path as a word for the shell, which no command takes for an option."""
+    return quoted(f"./{path}" if path.startswith("-") else path)
+
+
 def help_text(text: str) -> str:
     """A help, so that its examples can be run as they stand, and the documents that it names are found."""
     if IS_PACKAGED:

@@ -5,10 +5,9 @@ import functools
 import os
 import subprocess
 from collections.abc import Callable, Iterable
-from pathlib import Path
 
 from mte_scripts import claims, html_safe, manifest, texts
-from mte_scripts.builds import webassembly
+from mte_scripts.places import ROOT
 from mte_scripts.tables import scudo_map
 from mte_scripts.words import Words
 
@@ -35,7 +34,7 @@ Example:
   scripts/page --trace examples/jq.trace > page.html
 """
 
-WEB = os.path.join(webassembly.ROOT, "web")
+WEB = os.path.join(ROOT, "web")
 KEPT = "page.wasm"  # the module in the folder `out` of its crate; not NAME.wasm, which rt lib removes
 # in the order in which they use one another
 WORKER = ("formats", "engine", "words", "users", "events", "worker")
@@ -54,7 +53,7 @@ EXAMPLES = {
 
 
 def source(name: str) -> str:
-    return Path(WEB, name).read_text(encoding="utf-8")
+    return texts.read(os.path.join(WEB, name)).decode()
 
 
 def scripts(names: "Iterable[str]") -> str:
@@ -68,8 +67,10 @@ def example(name: str) -> str:
 
 def newest_source() -> float:
     """When a source of the crates, or of the way to WebAssembly, was changed last."""
-    files = [os.path.join(webassembly.ROOT, "crates.txt"), webassembly.HEAP, webassembly.__file__]
-    for folder, below, names in os.walk(os.path.join(webassembly.ROOT, "crates")):
+    from mte_scripts.builds import webassembly
+
+    files = [os.path.join(ROOT, "crates.txt"), webassembly.HEAP, webassembly.__file__]
+    for folder, below, names in os.walk(os.path.join(ROOT, "crates")):
         below[:] = [name for name in below if name != "out"]
         files += [os.path.join(folder, name) for name in names if name.endswith((".rt", ".antt"))]
     return max(os.stat(file).st_mtime for file in files)
@@ -79,13 +80,13 @@ def kept_at(name: str) -> str:
     """Where a module is kept: in an installed package beside the sources of the page, else in its crate."""
     if texts.IS_PACKAGED:
         return os.path.join(WEB, f"{name}.wasm")
-    return os.path.join(webassembly.ROOT, "crates", MODULES[name][0], "out", KEPT)
+    return os.path.join(ROOT, "crates", MODULES[name][0], "out", KEPT)
 
 
 @functools.lru_cache(maxsize=None)
 def sources_at_first() -> str:
     """The hash of the sources, as they were when it was asked for first."""
-    return manifest.sources_of(webassembly.ROOT)
+    return manifest.sources_of(ROOT)
 
 
 def is_old(kept: str, newest: float) -> bool:
@@ -97,10 +98,10 @@ def is_old(kept: str, newest: float) -> bool:
 
 def keep(kept: str, data: bytes, newest: float, sources: str) -> None:
     """Keeps a module that was just built of sources with this hash, with its manifest; none where they have changed since."""
-    Path(f"{kept}.new").write_bytes(data)
+    texts.write_file(f"{kept}.new", data)
     os.utime(f"{kept}.new", (newest, newest))
     os.replace(f"{kept}.new", kept)
-    manifest.put(kept, sources, "", webassembly.ROOT)
+    manifest.put(kept, sources, "", ROOT)
 
 
 def at_hand() -> "dict[str, bytes] | None":
@@ -114,13 +115,15 @@ def at_hand() -> "dict[str, bytes] | None":
 
 def engines(tell: "Callable[[str], None]" = lambda words: None) -> "dict[str, bytes]":
     """The bytes of each module, built where it is none of these sources."""
+    from mte_scripts.builds import webassembly
+
     found, newest = {}, newest_source()
     for name, (crate, prefix) in MODULES.items():
         kept = kept_at(name)
         if is_old(kept, newest):
             tell(f"proving {crate} and compiling it to WebAssembly; the first time this takes as long as proving all")
             keep(kept, webassembly.wasm(crate, prefix), newest, sources_at_first())
-        found[name] = Path(kept).read_bytes()
+        found[name] = texts.read(kept)
     return found
 
 
@@ -130,6 +133,8 @@ def built(name: str) -> "dict[str, bytes]":
         if modules := at_hand():
             return modules
         raise texts.Refused(3, "this package was made without the page's engines")
+    from mte_scripts.builds import webassembly
+
     try:
         return engines(lambda words: texts.say(name, words))
     except webassembly.Missing as missing:

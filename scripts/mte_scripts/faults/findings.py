@@ -9,7 +9,6 @@ import functools
 import hashlib
 import json
 import os
-import pathlib
 from collections import Counter, namedtuple
 
 from mte_scripts import texts
@@ -85,7 +84,9 @@ def as_values(frames: list[Frame]) -> list[dict]:
 def root() -> str:
     """The folder that the paths of sources are told from: the repository that the working folder is in, or the working folder."""
     here = os.getcwd()
-    folders = (here, *map(str, pathlib.PurePath(here).parents))
+    folders = [here]
+    while folders[-1] != os.path.dirname(folders[-1]):
+        folders.append(os.path.dirname(folders[-1]))
     return next((folder for folder in folders if os.path.lexists(os.path.join(folder, ".git"))), here)
 
 

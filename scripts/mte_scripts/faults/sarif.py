@@ -1,8 +1,6 @@
 """Findings as SARIF 2.1.0 of OASIS, which code hosts and editors read; and as the annotations of a workflow of GitHub's."""
 
 import os
-import pathlib
-import urllib.parse
 from collections.abc import Iterator
 
 from mte_scripts.faults import fault_entries, findings
@@ -30,11 +28,23 @@ def rule(kind: str) -> dict:
             "defaultConfiguration": {"level": "error"}, "properties": {"tags": tags, "security-severity": SEVERITY}}
 
 
+def quoted(text: str) -> str:
+    """A text as a part of a URI."""
+    from urllib.parse import quote
+
+    return quote(text, errors="surrogateescape")
+
+
+def uri_of(path: str) -> str:
+    """The URI of a file's whole path."""
+    from pathlib import PurePosixPath
+
+    return PurePosixPath(path).as_uri()
+
+
 def artifact(path: str) -> dict[str, str]:
     """Where a file is: under the root, or by its whole path."""
-    if os.path.isabs(path):
-        return {"uri": pathlib.PurePosixPath(path).as_uri()}
-    return {"uri": urllib.parse.quote(path, errors="surrogateescape"), "uriBaseId": ROOT}
+    return {"uri": uri_of(path)} if os.path.isabs(path) else {"uri": quoted(path), "uriBaseId": ROOT}
 
 
 def location(frame: dict, message: "str | None" = None) -> dict:
@@ -95,8 +105,8 @@ def run(process: dict, answer: dict, kinds: list[str], has_baseline: bool) -> di
         invocation["exitCode"] = answer["ended"]
     return {
         "tool": {"driver": {"name": "find_faults", "rules": [rule(kind) for kind in kinds]}},
-        "automationDetails": {"id": f"find_faults/{urllib.parse.quote(process['name'], errors='surrogateescape')}/"},
-        "originalUriBaseIds": {ROOT: {"uri": pathlib.PurePosixPath(findings.root()).as_uri().rstrip("/") + "/"}},
+        "automationDetails": {"id": f"find_faults/{quoted(process['name'])}/"},
+        "originalUriBaseIds": {ROOT: {"uri": uri_of(findings.root()).rstrip("/") + "/"}},
         "invocations": [invocation | ({"toolExecutionNotifications": missing} if missing else {})],
         "columnKind": "utf16CodeUnits",
         "results": [result(each, kinds, has_baseline) for each in process["findings"]],

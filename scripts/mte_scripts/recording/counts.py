@@ -1,5 +1,6 @@
 """The profile and the history in a file of counts, as shims/sizes.c writes it: a page of notes, and counters of 64 bits for each snapshot."""
 
+import functools
 import operator
 from array import array
 
@@ -13,7 +14,12 @@ ALL, LIVE, HISTORY = 0x315A49534C4C41, 0x315A495345564C, 0x315A4953534948  # all
 FORMS = (0, ALL, LIVE, HISTORY)  # none yet
 UPDATED = 0x6465746164707521
 IN_FLIGHT = 64  # requests that were being counted where processes were killed
-WEIGHTS = [(2 * counter + 1) * ODD % WORD for counter in range(COUNTERS)]
+
+
+@functools.lru_cache(maxsize=None)
+def weights() -> "list[int]":
+    """What each counter is multiplied by in a checksum."""
+    return [(2 * counter + 1) * ODD % WORD for counter in range(COUNTERS)]
 
 
 class Counts:
@@ -42,7 +48,7 @@ class Counts:
         notes, taken = self.notes, self.notes.taken[k]
         if k and (not taken or taken != later.taken[k]) or not k and notes.updated == UPDATED:
             return True  # it is not there, or only half
-        return (sum(map(operator.mul, self.snapshots[k], WEIGHTS)) + taken * ODD - notes.sums[k]) % WORD == 0
+        return (sum(map(operator.mul, self.snapshots[k], weights())) + taken * ODD - notes.sums[k]) % WORD == 0
 
     def profile(self) -> dict:
         """The counts of the first snapshot by size."""

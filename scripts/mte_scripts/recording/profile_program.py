@@ -2,7 +2,6 @@
 
 import argparse
 import os
-import pathlib
 import stat
 import time
 from typing import Any
@@ -307,9 +306,11 @@ def installed(library: str, folder: str, work: private_folder.Folder) -> str:
 
 def refuse_unreachable(path: str) -> None:
     """Refuses a folder that a service's user can't enter, or one below such a folder."""
-    for folder in (pathlib.Path(path), *pathlib.Path(path).parents):
-        if not folder.stat().st_mode & stat.S_IXOTH:
+    folder, below = path, ""
+    while folder != below:
+        if not os.stat(folder).st_mode & stat.S_IXOTH:
             raise Refused(3, f"no other user can enter {folder}: {OPEN_PLACE}")
+        folder, below = os.path.dirname(folder), folder
 
 
 # ---- a run

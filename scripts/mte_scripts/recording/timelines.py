@@ -14,7 +14,7 @@ from typing import BinaryIO, NamedTuple, Optional
 
 from mte_scripts import texts
 from mte_scripts.checksum import ODD, WORD
-from mte_scripts.recording.counts import COUNTERS, WEIGHTS, Counts, named
+from mte_scripts.recording.counts import COUNTERS, Counts, named, weights
 from mte_scripts.recording.notes import PAGE, Mark
 
 FORM = 0x315A49534D4954
@@ -42,25 +42,24 @@ class Record(NamedTuple):
     class_bytes: int  # the classes of whose peaks the history has the moments are so wide; 0 where they are those of a table
 
 
-def lines() -> list[bytes]:
+@functools.lru_cache(maxsize=None)
+def event_lines() -> list[bytes]:
     """The line of each event, by its number."""
     sizes = [b"%d\n" % size for size in range(LARGE)] + [b"large\n"]
     requests = sizes + [b""] * (FREED - len(sizes))
     return requests + [b"-" + line for line in sizes]
 
 
-LINES = lines()
-
-
 def text_of(events: array) -> Iterator[bytes]:
     """The timeline of these events, in pieces."""
     yield b"timeline\n"
     for at in range(0, len(events), PIECE):
-        yield b"".join(map(LINES.__getitem__, events[at : at + PIECE]))
+        yield b"".join(map(event_lines().__getitem__, events[at : at + PIECE]))
 
 
 def weighed(by_counter: dict) -> int:
-    return sum(times * WEIGHTS[size] for size, times in by_counter.items()) % WORD
+    weight = weights()
+    return sum(times * weight[size] for size, times in by_counter.items()) % WORD
 
 
 def by_size(events: array) -> Counter:
@@ -99,7 +98,7 @@ def reduced(file: BinaryIO, mark: Mark, found: Counts) -> Optional[Record]:
     before, total, *rest = struct.unpack(f"{2 + COUNTERS}Q{COUNTERS}i", file.read(TOTALS))
     requested, live = rest[:COUNTERS], Counter({size: times for size, times in enumerate(rest[COUNTERS:]) if times})
     piece = array("H", file.read(2 * PIECE))[: max(mark.events - before, 0)]
-    if sum(map(operator.mul, requested, WEIGHTS)) % WORD != total or (weighed(live) + weighed(by_size(piece))) % WORD != mark.sum:
+    if sum(map(operator.mul, requested, weights())) % WORD != total or (weighed(live) + weighed(by_size(piece))) % WORD != mark.sum:
         return None
     left = file.read()
     kept = map(moment_of, struct.iter_unpack(FORM_OF_MOMENT, left[: len(left) // MOMENT * MOMENT]))
@@ -185,7 +184,7 @@ def events_of(text: bytes) -> Iterator[list[bytes]]:
 @functools.lru_cache(maxsize=1)
 def parsed(text: bytes) -> array:
     """The events of a timeline. Those of the last one are kept, since more than one thing is asked of it."""
-    code_of = {line[:-1]: code for code, line in enumerate(LINES) if line}
+    code_of = {line[:-1]: code for code, line in enumerate(event_lines()) if line}
     events = array("H")
     for lines in events_of(text):
         events.extend(map(code_of.__getitem__, lines))

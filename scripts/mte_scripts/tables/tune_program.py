@@ -296,7 +296,7 @@ def summary(options: Options, found: figures.Figures, folder: Folder, noted: lis
     lines += [f"  {left:40}{right}".rstrip() for left, right in zip(files[:half], files[half:] + [""])]
     if folder.has("tuned_map.inc"):
         lines.append("Next, with Scudo's sources in $SCUDO (docs/TUNING.md, section 6):")
-        lines.append(f"  cp {texts.quoted(folder.file('tuned_map.inc'))} $SCUDO/")
+        lines.append(f"  cp {texts.path_word(folder.file('tuned_map.inc'))} $SCUDO/")
     if len(lines) > HEIGHT:
         lines = [line for line in lines if line]
     return "".join(f"{printable(line)}\n" for line in lines)
@@ -482,7 +482,7 @@ def fitted(options: Options, folder: Folder) -> "figures.OverTime | None":
 
 
 def check_command(folder: Folder, command: str, *names: str) -> str:
-    return f"cat {' '.join(texts.quoted(folder.file(name)) for name in names)} | {texts.as_called('scripts/mte_tool')} {command}"
+    return f"cat {' '.join(texts.path_word(folder.file(name)) for name in names)} | {texts.as_called('scripts/mte_tool')} {command}"
 
 
 def check_fit_command(folder: Folder, timed: figures.OverTime) -> str:

@@ -3,7 +3,6 @@
 import glob
 import os
 import shutil
-import statistics
 import subprocess
 from typing import NamedTuple, Optional
 
@@ -101,6 +100,8 @@ class Verified(NamedTuple):
 
 def verified(runner: str, words: list, path: str, libraries: dict[str, Optional[str]], given: Optional[str]) -> Verified:
     """Runs the program in turn with each library, or none."""
+    import statistics
+
     found: dict[str, list[tuple[int, int]]] = {name: [] for name in libraries}
     for _ in range(RUNS):
         for name, library in libraries.items():

@@ -100,4 +100,4 @@ def made_of_run(events: array, peak_at: int, wanted: str, snapshots: int, told: 
 
 def length_of(events: array) -> int:
     """The bytes of the timeline."""
-    return sum(times * len(timelines.LINES[code]) for code, times in Counter(events).items())
+    return sum(times * len(timelines.event_lines()[code]) for code, times in Counter(events).items())

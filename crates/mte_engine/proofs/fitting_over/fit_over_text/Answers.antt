@@ -13,7 +13,7 @@ returns c =
         table = c.in-Between.table;
         takes = c.in-Between.takes;
         least = c.in-Between.least;
-        between = subst (λ (made : ℕ). IsBetween c.in_ok-timeline.timeline c.args.step c.args.limit made c.in-Between.table
+        between = subst (λ (made : ℕ). IsBetween c.in_ok-timeline.timeline c.args.step c.args.limit c.args.forced made c.in-Between.table
             c.in-Between.takes c.in-Between.least) found.0 found.1;
         written = ap (λ (t : List ℕ). record { text = t; status = No }) (c.in_ok-of_text-in-Between.ensures ∙ text);
       }),
