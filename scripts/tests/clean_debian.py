@@ -19,8 +19,8 @@ for turn in $(seq 600); do redis-cli -p 6399 ping >/dev/null 2>&1 && break; slee
 redis-benchmark -p 6399 -q -n 20000 -t set,lpush,hset -r 10000 -d 100 | tail -n 3
 redis-cli -p 6399 shutdown nosave
 wait $!
-cat redis/tuned.sheet redis/tuned.profile | mte_tool check
-sed "1s/$/\\n$((1023 * 16))/" redis/program.timeline | cat redis/fitted.fit - | mte_tool check-fit
+cat redis/tuned.sheet redis/program.profile | mte_tool check
+cat redis/fitted.fit redis/program.timeline | mte_tool check-fit
 ls redis
 
 mte_tool tune --limit 8 < examples/jq.profile > jq.sheet

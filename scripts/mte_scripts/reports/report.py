@@ -15,7 +15,8 @@ Usage: report [--title TEXT] [--against TABLE].. PROFILE SHEET
   --title TEXT     what the page is about; the name of PROFILE where it is left out
   --against TABLE  a file with a class line: another table to compare with, besides Scudo's default and its table for Android
 
-PROFILE is a profile from anywhere, also one of merge_profiles. SHEET is what `mte_tool tune` wrote for it. One of the two may be `-`, for standard input.
+PROFILE is a profile from anywhere, also one of merge_profiles. SHEET is what `mte_tool tune` wrote for it. One of the two may
+be `-`, for standard input.
 
 The page has the waste of each table, what it can be by the number of classes, the requested bytes by size, the classes of the
 table and the command that checks the sheet. It is one file, without scripts, and takes nothing from elsewhere.

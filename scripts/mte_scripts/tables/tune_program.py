@@ -48,12 +48,12 @@ Where a program is run without --all, each request and each free is recorded: a 
 the run. Where the record is too long for that, it is a history of some moments; the summary says so. docs/TUNING.md says when to
 take which table.
 
-The folder is new. It has program.profile (what was counted), tuned.sheet (the table that loses little and its certificate), tuned_map.inc (a table for LLVM's Scudo), waste.svg (the waste by the number of
-classes), report.html (all of it as a page), claims.txt (what is shown of each table, and the command that checks it) and
-summary.txt, which is printed too. Beside these it has program.timeline, fitted.fit (the other table and its certificate) and
-moments.history (the moments that the fit names, for merge_profiles); or program.history and fitted.fit. Where the
-engines of scripts/page are at hand, page.html is its page of the same counts, to which report.html has a link. If a step fails,
-what was made before it stays.
+The folder is new. It has program.profile (what was counted), tuned.sheet (the table that loses little and its certificate),
+tuned_map.inc (a table for LLVM's Scudo), waste.svg (the waste by the number of classes), report.html (all of it as a page),
+claims.txt (what is shown of each table, and the command that checks it) and summary.txt, which is printed too. Beside these it
+has program.timeline, fitted.fit (the other table and its certificate) and moments.history (the moments that the fit names, for
+merge_profiles); or program.history and fitted.fit. Where the engines of scripts/page are at hand, page.html is its page of the
+same counts, to which report.html has a link. If a step fails, what was made before it stays.
 
 MTE_TOOL=PATH in the environment takes the program at PATH in place of the built one; the summary and the page say so.
 
