@@ -10,7 +10,8 @@ FILES = os.path.join(os.path.dirname(os.path.realpath(__file__)), "files")
 def run() -> None:
     """Runs the command whose name the process has."""
     name = os.path.basename(sys.argv[0])
-    script = [] if name == "mte_tool" else [os.path.join(FILES, "scripts", name[len("mte_") :])]
+    # as their first line has it
+    script = [] if name == "mte_tool" else ["-ISXutf8", os.path.join(FILES, "scripts", name[len("mte_") :])]
     program = sys.executable if script else os.path.join(FILES, name)
     for each in (signal.SIGPIPE, signal.SIGXFSZ):  # which Python ignores, and a program would too
         signal.signal(each, signal.SIG_DFL)
