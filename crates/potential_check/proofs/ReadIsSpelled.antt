@@ -11,7 +11,7 @@ use Rattle.potential_check.specs.SheetText.{IsRow, IsWithinLimits, SpellsBy, cos
 use Rattle.potential_check.specs.declared.cost.Cost.{Cost}
 use Rattle.class_table.specs.NamedLines.{named_line}
 use Rattle.potential_check.specs.declared.reading.Head.{Head}
-use Rattle.potential_check.proofs.SheetLines.{forced_line, forced_line-is, line-cost_in, line-forced_in, line-limit_in, line-row_in, line-step_in, line-table_in}
+use Rattle.potential_check.proofs.SheetLines.{forced_line-is, line-cost_in, line-forced_in, line-limit_in, line-row_in, line-step_in, line-table_in}
 use Rattle.tuner_theory.specs.Sheets.{Sheet}
 
 -- ---- what a step of the reading gave

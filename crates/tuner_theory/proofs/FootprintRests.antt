@@ -1,5 +1,5 @@
 -- The numbers of a fit's rows are the least footprints of what is left above each place.
-use Rattle.std.proofs.Common.{◌≡◌, ℕ, ◌*◌, ◌%◌, ◌<◌, ◌≤◌, max, Bool, true, false, List, [], ◌∷◌, length, map, slice_index, cond, ltb, leb, arith, refl, ap, sym, ◌∙◌}
+use Rattle.std.proofs.Common.{◌≡◌, ℕ, ◌*◌, ◌%◌, ◌<◌, ◌≤◌, max, Bool, false, List, [], ◌∷◌, length, map, slice_index, cond, ltb, leb, arith, refl, ap, sym, ◌∙◌}
 use Rattle.std.proofs.lemmas.Bool.Decides.{nat_tests}
 use Rattle.std.proofs.lemmas.List.Sums.{sum_by-cons}
 use Rattle.class_table.proofs.LawLemmas.{AreClassesAbove}

@@ -6,7 +6,7 @@ use crate::commands::shared_help::{About, Words, about, help_text};
 pub const NAME: &str = "check";
 
 const ABOUT: About = about!(
-    "Check whether a sheet proves that no table within its limit wastes less",
+    "Check whether a sheet proves that no table within its limit and step wastes less",
     ", whoever wrote it."
 );
 

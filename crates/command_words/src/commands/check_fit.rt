@@ -6,7 +6,7 @@ use crate::commands::shared_help::{About, Words, about, help_text};
 pub const NAME: &str = "check-fit";
 
 const ABOUT: About = about!(
-    "Check whether a fit proves that no table within its limit takes less",
+    "Check whether a fit proves that no table within its limit and step takes less",
     ", whoever wrote it."
 );
 

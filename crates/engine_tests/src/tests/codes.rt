@@ -1,7 +1,7 @@
 //! The code and the name of each error, as a user of the libraries sees it.
 use super::support::same;
 use class_table::TableError;
-use history_count::{HistoryError, HistoryFault};
+use history_count::{HistoryError, HistoryFault, TimelineError, TimelineFault};
 use potential_check::SheetError;
 use profile_count::{CountFull, ProfileError, ProfileFault};
 use std::fmt::Display;
@@ -93,6 +93,18 @@ const HISTORIES: &[(HistoryError, &str)] = &[
     ),
 ];
 
+const TIMELINES: &[(TimelineError, &str)] = &[
+    (TimelineError::OutOfMemory, "1 OutOfMemory"),
+    (
+        TimelineError::Line(1, TimelineFault::BadTimeline),
+        "37 BadTimeline line 1",
+    ),
+    (
+        TimelineError::Line(40, TimelineFault::NotLive),
+        "38 NotLive line 40",
+    ),
+];
+
 const SHEETS: &[(SheetError, &str)] = &[
     (SheetError::OutOfMemory, "1 OutOfMemory"),
     (SheetError::BadSheet(4), "48 BadSheet line 4"),
@@ -140,6 +152,7 @@ fn faults_of_texts(rt: HostRuntime) -> Result<(), Fail> {
     shown(&rt, PROFILES)?;
     shown(&rt, COUNTS)?;
     shown(&rt, HISTORIES)?;
+    shown(&rt, TIMELINES)?;
     shown(&rt, SHEETS)?;
     shown(&rt, FITS)?;
     shown(&rt, TRACES)
