@@ -195,8 +195,11 @@ def output(path: str, is_new: bool = False) -> Place:
     if not is_new:
         os.makedirs(above, exist_ok=True)
     with Place(os.open(above, os.O_PATH | os.O_DIRECTORY | os.O_CLOEXEC), above) as place:
-        with contextlib.suppress(() if is_new else FileExistsError):
+        try:
             os.mkdir(name, 0o755, dir_fd=place.descriptor)
+        except FileExistsError:
+            if is_new:
+                raise
         made = Place(os.open(name, LIST, dir_fd=place.descriptor), path)
     if not is_owned(os.fstat(made.descriptor)) or is_new and os.listdir(made.descriptor):
         made.close()

@@ -8,14 +8,17 @@ import random
 from collections.abc import Iterator
 from typing import Callable
 
+from mte_scripts.formats import LARGEST_SIZE
 
-EDGES = [0, 1, 2, 15, 16, 17, 31, 32, 33, 63, 64, 65, 80, 1023, 1024, 1025, 16368, 16369, 1_048_576, 1_048_577, 10**9, 10**9 + 1, 2**31 - 1, 2**31,
-         2**32, 2**32 + 7, 10**18, 10**19 - 1, 10**19, 2**63, 2**64 - 1, 2**64, 2**64 + 16, 10**20, 2**80 + 5, 2**128 - 1, 2**128, 2**128 + 40, 10**60]
+EDGES = [0, 1, 2, 15, 16, 17, 31, 32, 33, 63, 64, 65, 80, 1023, 1024, 1025, LARGEST_SIZE, LARGEST_SIZE + 1, 1_048_576, 1_048_577, 10**9, 10**9 + 1,
+         2**31 - 1, 2**31, 2**32, 2**32 + 7, 10**18, 10**19 - 1, 10**19, 2**63, 2**64 - 1, 2**64, 2**64 + 16,
+         10**20, 2**80 + 5, 2**128 - 1, 2**128, 2**128 + 40, 10**60]
 COMMANDS = "score tune check footprint fit check-fit profile replay run".split()
-VALUES = ("8", "1", "0", "33", "+8", "08", "8 ", "", "-1", "0x8", "1e1", "64", "65535", "65536", "18446744073709551616", "\uff15", "--", "-h", "\udcff")
+VALUES = ("8", "1", "0", "33", "+8", "08", "8 ", "", "-1", "0x8", "1e1", "64", "65535", "65536", "18446744073709551616", "\uff15", "--", "-h",
+          "\udcff")
 WORDS = ("--", "-", "x", "-h", "--help", "-V", "--version", "help", "score", "-l", "--limit=8=8", "\udcff")
-PIECES = [b"", b" ", b"  ", b"\t", b"\r", b"\0", b"+", b"-", b"-0", b"00", b"01", b"0x1", b"1e3", b"1.0", b"a", b"A0", b"ff", b"\xff", b"large", b"-large",
-          b"row", b"step", b"limit", b"waste", b"footprint", b"moments", b"classes", b"snapshots", b"timeline", b"malloc", b"free", b"touch", b"\n"]
+PIECES = [b"", b" ", b"  ", b"\t", b"\r", b"\0", b"+", b"-", b"-0", b"00", b"01", b"0x1", b"1e3", b"1.0", b"a", b"A0", b"ff", b"\xff", b"large",
+          b"-large", b"row", b"step", b"limit", b"waste", b"footprint", b"moments", b"classes", b"snapshots", b"timeline", b"malloc", b"free", b"touch", b"\n"]
 
 
 def number(draw: random.Random) -> bytes:
@@ -31,7 +34,7 @@ def count(draw: random.Random) -> int:
 
 def sizes(draw: random.Random) -> "list":
     """Ascending sizes, and perhaps `large`."""
-    most = draw.choice((40, 200, 16369))
+    most = draw.choice((40, 200, LARGEST_SIZE + 1))
     taken = sorted(draw.sample(range(most), draw.randrange(min(most, 14))))
     return [*taken, *["large"] * draw.choice((0, 0, 1))]
 
@@ -78,7 +81,8 @@ def trace(draw: random.Random) -> bytes:
         name = draw.choice(("malloc", "malloc", "calloc", "realloc", "free", "load", "load", "store", "addg", "subg"))
         words = {
             "free": lambda: (), "load": lambda: (place(), length()), "store": lambda: (place(), length(), f"{draw.randrange(256):02x}"),
-            "addg": lambda: (variable(), draw.randrange(64), draw.randrange(16)), "subg": lambda: (variable(), draw.randrange(64), draw.randrange(16)),
+            "addg": lambda: (variable(), draw.randrange(64), draw.randrange(16)),
+            "subg": lambda: (variable(), draw.randrange(64), draw.randrange(16)),
         }.get(name, lambda: (request(),))()
         made.append((name, variable(), *words))
     return lines(*made)
