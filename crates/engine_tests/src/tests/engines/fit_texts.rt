@@ -235,7 +235,10 @@ const GROUPS: &[(Call, &[Case])] = &[
     (Call::Footprint, FOOTPRINTS),
     (Call::Fit(Limits { limit: 2, step: 1 }, 0), FITS_OF_TWO),
     (Call::Fit(Limits { limit: 1, step: 1 }, 0), FITS_OF_ONE),
-    (Call::Fit(Limits { limit: 2, step: 4 }, 0), FITS_FOR_STEP_FOUR),
+    (
+        Call::Fit(Limits { limit: 2, step: 4 }, 0),
+        FITS_FOR_STEP_FOUR,
+    ),
     (
         Call::Fit(Limits { limit: 2, step: 1 }, 1),
         FITS_WITH_THE_LARGEST_CLASS,

@@ -51,7 +51,12 @@ fn taking_a_footprint(rt: HostRuntime) -> Result<(), Fail> {
 
 #[test]
 fn fitting(rt: HostRuntime) -> Result<(), Fail> {
-    answers(&rt, Call::Fit(Limits { limit: 2, step: 1 }, 0), HISTORY, FIT)
+    answers(
+        &rt,
+        Call::Fit(Limits { limit: 2, step: 1 }, 0),
+        HISTORY,
+        FIT,
+    )
 }
 
 #[test]

@@ -16,5 +16,9 @@ returns-clause-few c =
     let first = get_or_from_slice_get c.args.rows.now 0 c.row.result.now [] c.row.ensures in
     let long : length c.row.result.now ≡ places (served c.args.forced c.args.profile.now.counts) c.args.step =
     ap length (sym first) ∙ c.requires.shape 0 [] c.requires.some in
-    omega (arith, long, few_places (served c.args.forced c.args.profile.now.counts) c.args.step c.requires.step
-        (served_are_counts c.args.forced c.args.profile.now.counts c.requires.counts))
+    omega (
+      arith,
+      long,
+      few_places (served c.args.forced c.args.profile.now.counts) c.args.step c.requires.step
+          (served_are_counts c.args.forced c.args.profile.now.counts c.requires.counts),
+    )
