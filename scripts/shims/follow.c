@@ -50,7 +50,7 @@ static struct reading {
 } readings[RINGS];
 static int64_t all[COUNTERS];
 static const char *only, *wanted;
-static pid_t child, main_process;  // the program; the process that is followed
+static pid_t child, main_process;  // the program; the process that is followed, 0 where there is none yet, and -1 where it has ended
 static int has_ended, looks;       // whether it has; samples since processes were looked for that nobody waits for
 static volatile sig_atomic_t asked, ends;
 
@@ -195,9 +195,9 @@ static int read_ring(int k) {
     if (!reading->since) reading->since = now();
     return 0;
   }
-  for (uint64_t k = from; k < i;) {  // 0 again
-    uint64_t at = k & (RING - 1), many = i - k < RING - at ? i - k : RING - at;
-    memset(reading->records + at, 0, many * 8), k += many;
+  for (uint64_t j = from; j < i;) {  // 0 again
+    uint64_t at = j & (RING - 1), many = i - j < RING - at ? i - j : RING - at;
+    memset(reading->records + at, 0, many * 8), j += many;
   }
   reading->read = i, reading->since = now();
   __atomic_store_n(&ring->read, i, __ATOMIC_RELEASE);
@@ -236,16 +236,19 @@ static void end_ring(int k) {
   for (uint64_t j = 0; j < number_of_rings && !has_next; j++)
     has_next = stream->rings[j].process == ring->process && stream->rings[j].start > ring->start;
   if ((reading->is_main || reading->is_counted) && ring->executed && !has_next) notes->executed++;
+  if (reading->is_main && !has_next) main_process = -1;  // another one may get its number
   if (ring->overrun || ring->next != ring->read) memset(reading->records, 0, RING * 8);
   ring->start = ring->next = ring->read = ring->overrun = ring->executed = 0, memset(ring->name, 0, sizeof ring->name);
   *reading = (struct reading){.records = reading->records};
   __atomic_store_n(&ring->process, 0, __ATOMIC_RELEASE);
 }
 
-// Reads what is there, by the turns of the rings: one of the same process comes before the next. Whether there was some.
-static int read_all(void) {
+// Reads what is there, by the turns of the rings: one of the same process comes before the next. How many records; and 1 for each ring that is
+// over.
+static uint64_t read_all(void) {
   static int order[RINGS];
-  int more = 0, number = 0, last = stream->turn < number_of_rings ? stream->turn : number_of_rings;
+  uint64_t more = 0;
+  int number = 0, last = stream->turn < number_of_rings ? stream->turn : number_of_rings;
   if (stream->form != FORM || stream->number != number_of_rings) notes->spoiled = 1;
   for (int k = 0; k < last && !notes->spoiled; k++) {
     if (!stream->rings[k].start) continue;
@@ -257,9 +260,10 @@ static int read_all(void) {
     int k = order[a];
     struct ring *ring = &stream->rings[k];
     int was_over = is_over(k, last);  // before it is read to its end
-    for (int n = 0; n < 64 && read_ring(k); n++) more = 1;
+    uint64_t before = readings[k].start == ring->start ? readings[k].read : 0;
+    for (int n = 0; n < 64 && read_ring(k); n++) ;
+    more += readings[k].read - before + was_over;
     if (!was_over) continue;
-    more = 1;
     if (readings[k].read == ring->next || ring->overrun) end_ring(k);
     else if ((readings[k].is_over = 1) && readings[k].is_main) break;  // its next program waits
   }
@@ -278,7 +282,7 @@ static void note_resident(uint64_t kibibytes) {
 static void sample_resident(void) {
   char path[64], line[256];
   snprintf(path, sizeof path, "/proc/%d/status", main_process);
-  FILE *file = main_process ? fopen(path, "re") : NULL;
+  FILE *file = main_process > 0 ? fopen(path, "re") : NULL;
   unsigned long kibibytes;
   while (file && fgets(line, sizeof line, file))
     if (sscanf(line, "VmHWM: %lu", &kibibytes) == 1) note_resident(kibibytes);
@@ -389,7 +393,8 @@ static void follow(void) {
   uint64_t ended = 0, sampled = 0;
   for (int idle = 0;;) {
     wait_for_program(WNOHANG), looks %= LOOKS;
-    int is_last = ended && now() - ended > ABOUT_TO_END, has_more = read_all();
+    int is_last = ended && now() - ended > ABOUT_TO_END;
+    uint64_t more = read_all();
     if (notes->spoiled) stream->closed = 1;  // nobody waits
     if (notes->spoiled && (child < 0 ? ends != 0 : has_ended)) break;
     if (asked) asked = 0, write_texts();
@@ -397,10 +402,10 @@ static void follow(void) {
     if (!ended && (child < 0 ? ends != 0 : has_ended)) ended = now();
     int rings = 0;
     for (uint64_t k = 0; k < number_of_rings && !rings; k++) rings = stream->rings[k].process != 0;
-    if (ended && !has_more && (!rings || is_last)) break;
-    idle = has_more ? 0 : idle + 1;
-    // some way behind the writers, so that they do not share a line of the cache with the reader
-    if (!ended || !has_more) usleep(has_more ? 2000 : idle < 20 ? 200 : 5000);
+    if (ended && (is_last || (!more && !rings))) break;
+    idle = more ? 0 : idle + 1;
+    // some way behind the writers, so that they do not share a line of the cache with the reader; but not far
+    if (more < (ended ? 1 : RING / 4)) usleep(more ? 2000 : idle < 20 ? 200 : 5000);
   }
 }
 

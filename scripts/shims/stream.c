@@ -169,21 +169,37 @@ static inline uint64_t add(uint64_t *to, uint64_t number) {
   return __atomic_fetch_add(to, number, __ATOMIC_RELAXED);
 }
 
-static inline void put(int number, uint64_t one, uint64_t two, uint64_t three) {
-  struct place *place = here;
-  if (__builtin_expect(place->state != WRITES, 0)) {
-    reached = 1;
-    if (place->state == UNSTARTED) begin();
-    if (place->state != WRITES) return;
-  }
-  struct ring *ring = place->ring;
-  uint64_t i = add(&ring->next, number), last = i + number, mask = place->size - 1;
-  if (__builtin_expect(last - __atomic_load_n(&ring->read, __ATOMIC_ACQUIRE) > place->size, 0) && !wait_for(ring, last, place->size)) return;
-  __builtin_prefetch(&place->records[(i + 64) & mask], 1);
-  // from the last: where the first one is there, all are
+// from the last: where the first one is there, all are
+static inline void store(const struct place *place, uint64_t i, int number, uint64_t one, uint64_t two, uint64_t three) {
+  uint64_t mask = place->size - 1;
   if (number > 2) __atomic_store_n(&place->records[(i + 2) & mask], three, __ATOMIC_RELEASE);
   if (number > 1) __atomic_store_n(&place->records[(i + 1) & mask], two, __ATOMIC_RELEASE);
   __atomic_store_n(&place->records[i & mask], one, __ATOMIC_RELEASE);
+}
+
+static __attribute__((noinline, cold)) void put_late(const struct place *place, uint64_t i, int number, uint64_t one, uint64_t two, uint64_t three) {
+  if (wait_for(place->ring, i + number, place->size)) store(place, i, number, one, two, three);
+}
+
+static __attribute__((noinline, cold)) void put_first(int number, uint64_t one, uint64_t two, uint64_t three) {
+  reached = 1;
+  if (here->state == UNSTARTED) begin();
+  if (here->state == WRITES) put_late(here, add(&here->ring->next, number), number, one, two, three);
+}
+
+static inline void put(int number, uint64_t one, uint64_t two, uint64_t three) {
+  const struct place *place = here;
+  if (__builtin_expect(place->state != WRITES, 0)) {
+    put_first(number, one, two, three);
+    return;
+  }
+  uint64_t i = add(&place->ring->next, number);
+  if (__builtin_expect(i + number - __atomic_load_n(&place->ring->read, __ATOMIC_ACQUIRE) > place->size, 0)) {
+    put_late(place, i, number, one, two, three);
+    return;
+  }
+  __builtin_prefetch(&place->records[(i + 64) & (place->size - 1)], 1);
+  store(place, i, number, one, two, three);
 }
 
 // Another allocator may call its own functions by their public names, also as the last thing that it does: that is no request of the program.
@@ -400,7 +416,7 @@ static int can_follow(void) {
   int is_whole = is_same(from, (void *)next.free) && is_same(from, (void *)next.realloc) && is_same(from, (void *)next.calloc);
   int follows = is_ours && is_whole && !dl_iterate_phdr(calls_otherwise, from);
   char path[PATH_MAX];
-  snprintf(stream->allocator, NAME, "%s", realpath(file_of(from), path) ? path : file_of(from));
+  snprintf(stream->allocator, NAME, "%.*s", NAME - 1, realpath(file_of(from), path) ? path : file_of(from));
   __atomic_fetch_add(follows ? &stream->foreign : &stream->untouched, 1, __ATOMIC_RELAXED);
   return follows;
 }

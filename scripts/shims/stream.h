@@ -33,5 +33,5 @@ struct stream {
   struct ring rings[RINGS];
 };
 static const uint64_t FORM = 0x324D4145525453;
-enum { PAGE = 4096, HEAD = (sizeof(struct stream) + PAGE - 1) & -PAGE };
+enum { PAGE = 4096, LARGEST_PAGE = 65536, HEAD = (sizeof(struct stream) + LARGEST_PAGE - 1) & -LARGEST_PAGE };
 #endif

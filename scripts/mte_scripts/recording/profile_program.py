@@ -1,7 +1,6 @@
 """Runs a program and prints its profile: how often it requested each size. `profile_program --help` says all."""
 
 import argparse
-import contextlib
 import os
 import pathlib
 import signal
@@ -100,7 +99,7 @@ Examples:
 """
 
 LIBRARY = "mte_tool_stream.so"  # for services
-FORM, OF_READER = b"STREAM2\0", struct.Struct("<8sQQ")  # of a stream: its form, its reader and the descriptor of what that found
+FORM, HEAD = b"STREAM2\0", struct.Struct("<8sQQ")  # of shims/stream.h: the form, the reader and its descriptor of what it found
 ANSWERED = 20  # seconds
 CLOSED_PLACE = "choose a place that only you and root can change, such as /usr/local/lib"
 OPEN_PLACE = "choose a place that all can reach, such as /usr/local/lib"
@@ -168,20 +167,28 @@ def write_peak(peak: "str | None", profile: str) -> None:
         texts.write_file(peak, profile)
 
 
-def write_measured(path: "str | None", notes: Notes) -> None:
-    if path:
-        measured = {"large": notes.large, "resident": notes.resident}
-        texts.write_file(path, "".join(f"{name} {value}\n" for name, value in measured.items() if value))
-
-
 def say_uncounted(speaker: recording.Speaker, notes: Notes, live: str, program: str) -> None:
     """What the counts are not of."""
+    if notes.wrong:
+        speaker.say("one free is of no live block" if notes.wrong == 1 else f"{notes.wrong} frees are of no live block")
     if notes.foreign:
         speaker.say(recording.foreign(program, notes, "counted"))
     if notes.other_requests:
         others = f"(processes: {notes.others}, requests: {notes.other_requests})"
         remedy = f"run it as one process, name one by --only, or count all requests, without {live}"
         speaker.say(f"{live} counted one process. Others requested too, and are not counted {others}: {remedy}")
+
+
+def print_run(options: Options, speaker: recording.Speaker, run: recording.Found, program: str) -> bool:
+    """Prints what was counted, and says what that is not of. False where nothing was."""
+    notes = run.notes()
+    recording.refuse_spoiled(notes, program)
+    say_uncounted(speaker, notes, options.live or "--live", program)
+    recording.say_lost(speaker, notes)
+    if options.measured:
+        measured = {"large": notes.large, "resident": notes.resident}
+        texts.write_file(options.measured, "".join(f"{name} {value}\n" for name, value in measured.items() if value))
+    return print_found(speaker, notes, *run.texts(), options.peak)
 
 
 # ---- a service
@@ -191,24 +198,18 @@ def follow(options: Options, speaker: recording.Speaker, work: private_folder.Fo
     if options.words:
         raise Refused(2, "--follow takes one file, and runs no program")
     with recording.Run(speaker, work, options.wanted(), options.only, options.classes_line()) as run:
-        status = run.follow(os.path.abspath(options.follow), "", [])
-        notes = run.found.notes()
+        status, notes = run.follow(os.path.abspath(options.follow), "", []), run.found.notes()
         if status or not notes.version:
             raise Refused(3, f"{options.follow} can't be followed: {notes.why or 'the reader was ended'}")
-        return print_service(options, speaker, notes, *run.found.texts())
+        return print_service(options, speaker, run.found, options.follow)
 
 
-def print_service(options: Options, speaker: recording.Speaker, notes: Notes, profile: bytes, text: bytes) -> int:
-    program = "the service"
-    recording.refuse_spoiled(notes, program)
-    say_uncounted(speaker, notes, options.live or "--live", program)
-    recording.say_lost(speaker, notes)
-    write_measured(options.measured, notes)
-    if print_found(speaker, notes, profile, text, options.peak):
+def print_service(options: Options, speaker: recording.Speaker, run: recording.Found, stream: str) -> int:
+    if print_run(options, speaker, run, "the service"):
         return 0
-    if notes.untouched:
-        recording.refuse_nothing(program, notes, "counted")
-    raise Refused(3, f"nothing was counted in {options.follow or options.read} yet")
+    if run.notes().untouched:
+        recording.refuse_nothing("the service", run.notes(), "counted")
+    raise Refused(3, f"nothing was counted in {stream} yet")
 
 
 def read_only(options: Options, speaker: recording.Speaker) -> int:
@@ -218,21 +219,26 @@ def read_only(options: Options, speaker: recording.Speaker) -> int:
     path = os.path.realpath(options.read)
     try:
         with open(path, "rb", opener=private_folder.look_at) as file:
-            form, reader, descriptor = OF_READER.unpack(file.read(OF_READER.size))
-        is_followed = form == FORM and os.fsencode(path) in pathlib.Path(f"/proc/{reader}/maps").read_bytes()
+            form, reader, descriptor = HEAD.unpack(file.read(HEAD.size))
+        if form != FORM or os.fsencode(path) not in pathlib.Path(f"/proc/{reader}/maps").read_bytes():
+            raise Refused(3, f"{options.read} is no stream, or nobody follows it: `profile_program --follow` does")
+        with open(f"/proc/{reader}/fd/{descriptor}", "rb") as shared:
+            return print_service(options, speaker, asked(reader, recording.Found(shared.fileno()), options.read), options.read)
     except OSError as error:
         raise Refused(3, f"{options.read} can't be read: {error.strerror}") from None
     except struct.error:
         raise Refused(3, f"{options.read} is no stream") from None
-    if not is_followed:
-        raise Refused(3, f"{options.read} is no stream, or nobody follows it: `profile_program --follow` does")
-    with open(f"/proc/{reader}/fd/{descriptor}", "rb") as shared:
-        seen = recording.Found(shared.fileno())
-        before, end = seen.notes().version, time.monotonic() + ANSWERED
-        os.kill(reader, signal.SIGUSR1)
-        while seen.notes().version == before and time.monotonic() < end:
-            time.sleep(0.01)
-        return print_service(options, speaker, seen.notes(), *seen.texts())
+
+
+def asked(reader: int, run: recording.Found, stream: str) -> recording.Found:
+    """What a reader found, once it has written that anew."""
+    before, end = run.notes().version, time.monotonic() + ANSWERED
+    os.kill(reader, signal.SIGUSR1)
+    while run.notes().version == before:
+        if time.monotonic() > end:
+            raise Refused(3, f"the reader of {stream} does not answer")
+        time.sleep(0.01)
+    return run
 
 
 def import_file(options: Options, speaker: recording.Speaker) -> int:
@@ -306,13 +312,10 @@ def run_program(options: Options, speaker: recording.Speaker, path: str, work: p
     program = options.words[0]
     with recording.Run(speaker, work, options.wanted(), options.only, options.classes_line()) as run:
         notes = run.run(options.words, path)
-        say_uncounted(speaker, notes, options.live, program)
-        recording.say_lost(speaker, notes)
         if notes.left:
             say_left(speaker, options, notes)
             run.library.keep()
-        write_measured(options.measured, notes)
-        if not print_found(speaker, notes, *run.found.texts(), options.peak):
+        if not print_run(options, speaker, run.found, program):
             recording.refuse_nothing(program, notes, "counted")
         if notes.untouched:
             whose = f"the last one in {notes.allocator}"

@@ -203,7 +203,7 @@ def refuse_spoiled(notes: Notes, program: str) -> None:
 def say_lost(speaker: Speaker, notes: Notes) -> None:
     """Says of calls that have no record, and of processes that have none."""
     if notes.lost:
-        speaker.say(f"{notes.lost} calls have no whole record: a signal's handler jumped out of them, or their thread was ended")
+        speaker.say(f"calls without a whole record: {notes.lost}; a signal's handler jumped out of them, or the program or a thread ended in them")
     if reasons := notes.reasons():
         speaker.say(f"some processes are not counted: {', '.join(reasons)}")
 
