@@ -2,13 +2,15 @@
 //
 //   follow FOUND LIBRARIES WANTED ONLY TABLE STREAM PATH WORD..
 //
-// LIBRARIES are those that the program has by LD_PRELOAD, stream.c's first. FOUND is a descriptor: a page of notes, and then the texts that they give the lengths of. WANTED is `all`: all requests of all processes;
-// or of the first process, with what it runs in its own place: `live`, the blocks live at the peak; `history N`, these and N snapshots;
-// `timeline`, the record of the run; `classes`, its history for the classes of TABLE; `trace N`, at most N events; `-` before it: a realloc
-// leaves a block where Scudo does. ONLY: processes whose program has this name. PATH is the program's file, the words its own. With STREAM in place of a program the stream is that file, of processes that something else starts.
-// WANTED `none`: nothing is followed, and only the most resident memory is noted.
+// FOUND is a descriptor: a page of notes, and then the texts that they give the lengths of. LIBRARIES are those of the program's
+// LD_PRELOAD, stream.c's first. WANTED is `all`: all requests of all processes; or of the first process, with what it runs in its own
+// place: `live`, the blocks live at the peak; `history N`, these and N snapshots; `timeline`, the record of the run; `classes`, its history
+// for the classes of TABLE; `trace N`, at most N events. With `-` before it a realloc leaves a block where Scudo does. `none`: nothing is followed,
+// and only the most resident memory is noted. ONLY: processes whose program has this name. PATH is the program's file, the words its own.
+// Without a program the stream is the file STREAM, of processes that something else starts.
 //
-// The texts are written when the program ends, or at SIGTERM where there is none; and meanwhile at SIGUSR1.
+// The texts are written when the program ends, or at SIGTERM where there is none; and meanwhile at SIGUSR1. Where nothing can be recorded
+// the program runs on, and the notes say why.
 #define _GNU_SOURCE
 #include <errno.h>
 #include <fcntl.h>
@@ -54,9 +56,12 @@ static pid_t child, main_process;  // the program; the process that is followed,
 static int has_ended, looks;       // whether it has; samples since processes were looked for that nobody waits for
 static volatile sig_atomic_t asked, ends;
 
+static void wait_for_program(int how);
+
 static void give_up(const char *why) {
   if (stream) stream->closed = 1;
   snprintf(notes->why, sizeof notes->why, "%s", why);
+  while (child > 0 && !has_ended) wait_for_program(0);
   exit(3);
 }
 
@@ -68,8 +73,8 @@ static uint64_t now(void) {  // milliseconds
 
 // ---- the records
 
-// Whether a realloc leaves a block as it is: one to more bytes than there can be; and with Scudo one that fits in the block, and makes it larger,
-// or smaller by less than a page. (Scudo also leaves it where a larger size has the same class, which does not show.)
+// Whether a realloc leaves a block as it is: one to more bytes than there can be; and with Scudo one that fits in the block, and makes it
+// larger, or smaller by less than a page. (Scudo also leaves it where a larger size has the same class, which does not show.)
 static int stays(const struct block *block, uint64_t size) {
   int fits = size <= block->size && block->size - size < 1 << SIZE_BITS;
   if (size >> 46) return 1;
@@ -132,12 +137,11 @@ static int take(struct reading *reading, uint64_t i, uint64_t end) {
   int kind = one & 15, is_large = size == LARGE && kind != OLD && kind != SIZE, number = 1 + (kind == REALLOC) + is_large;
   if (!one || end - i < (uint64_t)number) return 0;
   uint64_t last = AT(i + number - 1);
-  int has_size = kind != FREE && kind != OLD && kind != SIZE;
-  if (kind < MALLOC || kind > SIZE || (kind != SIZE && size > (has_size ? LARGE : 0)) || (is_large && ((last & 15) != SIZE || last >> 4 < LARGE)) ||
-      (kind == REALLOC && (AT(i + 1) & 15) != OLD)) {
-    notes->spoiled = 1;
-    return number;
-  }
+  int has_size = kind != FREE && kind != OLD && kind != SIZE, is_whole = kind >= MALLOC && kind <= SIZE;
+  if (kind != SIZE) is_whole &= size <= (has_size ? LARGE : 0);
+  if (is_large) is_whole &= (last & 15) == SIZE && last >> 4 >= LARGE;
+  if (kind == REALLOC) is_whole &= (AT(i + 1) & 15) == OLD;
+  if (!is_whole) return notes->spoiled = 1, number;
   if (is_large) size = last >> 4;
   int is_request = kind < FREE || kind == MOVES;
   if (is_request) {
@@ -243,8 +247,8 @@ static void end_ring(int k) {
   __atomic_store_n(&ring->process, 0, __ATOMIC_RELEASE);
 }
 
-// Reads what is there, by the turns of the rings: one of the same process comes before the next. How many records; and 1 for each ring that is
-// over.
+// Reads what is there, by the turns of the rings: one of the same process comes before the next. How many records; and 1 for each ring that
+// is over.
 static uint64_t read_all(void) {
   static int order[RINGS];
   uint64_t more = 0;
@@ -341,33 +345,34 @@ static void run_program(const char *libraries, const char *path, char **words) {
   char place[64];
   snprintf(place, sizeof place, "/proc/%d/fd/%d", getppid(), opened);
   if (*libraries) setenv("LD_PRELOAD", libraries, 1);
-  if (opened >= 0) setenv("MTE_STREAM", place, 1);
+  if (stream) setenv("MTE_STREAM", place, 1);
   execv(path, words);
   notes->error = errno;
   _exit(127);
 }
 
-static void make_stream(const char *file) {
+// Makes the stream, as a file that has its name once it is whole where there is one. Null, or why that can't be.
+static const char *make_stream(const char *file) {
   struct rlimit limit;
-  number_of_rings = RINGS;
-  if (!getrlimit(RLIMIT_FSIZE, &limit) && limit.rlim_cur != RLIM_INFINITY)
-    number_of_rings = limit.rlim_cur < HEAD ? 0 : (limit.rlim_cur - HEAD) / (RING * 8L) < RINGS ? (limit.rlim_cur - HEAD) / (RING * 8L) : RINGS;
-  if (!number_of_rings) give_up("there is no room for a stream: a file may not be so large (ulimit -f)");
-  char made[PATH_MAX];  // it has its name once it is whole
+  char made[PATH_MAX];
   snprintf(made, sizeof made, "%s.new", file);
+  number_of_rings = RINGS;
+  if (!getrlimit(RLIMIT_FSIZE, &limit) && limit.rlim_cur < HEAD + RINGS * RING * 8ULL)
+    number_of_rings = limit.rlim_cur < HEAD ? 0 : (limit.rlim_cur - HEAD) / (RING * 8);
+  if (!number_of_rings) return "there is no room for a stream: files may not be so large (ulimit -f)";
   opened = *file ? open(made, O_RDWR | O_CREAT | O_EXCL | O_NOFOLLOW | O_CLOEXEC, 0600) : memfd_create("mte_stream", MFD_CLOEXEC);
-  if (opened < 0) give_up(strerror(errno));
-  int has_room = !ftruncate(opened, HEAD + number_of_rings * RING * 8) && (!*file || !fallocate(opened, 0, 0, HEAD + RING * 8));
-  if (*file && !has_room) unlink(made);
-  if (!has_room) give_up("there is no room for a stream");
-  stream = mmap(NULL, HEAD, PROT_READ | PROT_WRITE, MAP_SHARED, opened, 0);
-  if (stream == MAP_FAILED) give_up("it has no memory");
-  stream->number = number_of_rings, stream->reader = getpid(), stream->found = found;
-  stream->form = FORM;
-  if (*file && renameat2(AT_FDCWD, made, AT_FDCWD, file, RENAME_NOREPLACE)) {
-    int error = errno;
-    unlink(made), give_up(strerror(error));
+  if (opened < 0) return strerror(errno);
+  const char *why = NULL;
+  if (ftruncate(opened, HEAD + number_of_rings * RING * 8) || (*file && fallocate(opened, 0, 0, HEAD + RING * 8))) {
+    why = "there is no room for a stream";
+  } else if ((stream = mmap(NULL, HEAD, PROT_READ | PROT_WRITE, MAP_SHARED, opened, 0)) == MAP_FAILED) {
+    stream = NULL, why = "it has no memory";
+  } else {
+    stream->number = number_of_rings, stream->reader = getpid(), stream->found = found, stream->form = FORM;
+    if (*file && renameat2(AT_FDCWD, made, AT_FDCWD, file, RENAME_NOREPLACE)) why = strerror(errno);
   }
+  if (why && *file) unlink(made);
+  return why;
 }
 
 static void wait_for_program(int how) {
@@ -378,14 +383,13 @@ static void wait_for_program(int how) {
   if (main_process == child || !main_process) note_resident(used.ru_maxrss);
 }
 
-static int is_wanted(char *word) {
-  wanted = word + (as_scudo = *word == '-');
+static void begin_wanted(const char *table) {
   long number = strtol(wanted + strcspn(wanted, " "), NULL, 10);
   if (*wanted == 'h') snapshots = some((number_of_snapshots = number - 1) * sizeof *snapshots + 1);
   if (!strcmp(wanted, "timeline")) record_of = RECORDS;
   if (!strcmp(wanted, "classes")) record_of = REDUCES;
   if (*wanted == 't' && number) most_traced = number;
-  return strcmp(wanted, "none");
+  begin_groups(*table ? table : NULL), begin_kept();
 }
 
 // until the program has ended, or one that has no end is told to; then those that are about to end
@@ -411,23 +415,22 @@ static void follow(void) {
 
 int main(int argc, char **argv) {
   if (argc < 7) return 2;
-  found = atoi(argv[1]), only = *argv[4] ? argv[4] : NULL;
+  static struct notes nowhere;
+  found = atoi(argv[1]), only = *argv[4] ? argv[4] : NULL, as_scudo = *argv[3] == '-', wanted = argv[3] + as_scudo;
   fcntl(found, F_SETFD, FD_CLOEXEC);
-  handle(SIGXFSZ);
-  if (ftruncate(found, PAGE)) return 4;
-  notes = mmap(NULL, PAGE, PROT_READ | PROT_WRITE, MAP_SHARED, found, 0);
-  if (notes == MAP_FAILED) return 4;
+  handle(SIGINT), handle(SIGTERM), handle(SIGHUP), handle(SIGUSR1), handle(SIGXFSZ);
+  int has_notes = !ftruncate(found, PAGE) && (notes = mmap(NULL, PAGE, PROT_READ | PROT_WRITE, MAP_SHARED, found, 0)) != MAP_FAILED;
+  if (!has_notes) notes = &nowhere;
   memset(notes, 0, sizeof *notes);
-  int follows = is_wanted(argv[3]);
-  begin_groups(*argv[5] ? argv[5] : NULL), begin_kept();
-  if (follows) make_stream(argv[6]);
-  handle(SIGINT), handle(SIGTERM), handle(SIGHUP), handle(SIGUSR1);
+  int follows = strcmp(wanted, "none");
+  const char *why = !has_notes ? "there is no room for what is recorded" : follows ? make_stream(argv[6]) : NULL;
   child = argc > 7 ? fork() : -1;
   if (!child) run_program(argv[2], argv[7], argv + 8);
-  if (child < 0 && argc > 7) give_up(strerror(errno));
+  if (child < 0 && argc > 7) why = strerror(errno);
   if (child > 0 && ends) kill(child, ends);  // one that came before
+  if (why) give_up(why);
   if (!follows) return wait_for_program(0), 0;
-  follow();
+  begin_wanted(argv[5]), follow();
   for (uint64_t k = 0; k < number_of_rings; k++) {
     pid_t process = stream->rings[k].process;
     if (!stream->rings[k].start || notes->spoiled) continue;

@@ -5,8 +5,8 @@
 //                  nothing at the end. A request is put down after it has its block, a free before the block is given back: so the order
 //                  of the indices is one in which the calls could have come one after the other.
 //
-// Each call goes on to the function that it would have reached without the library, so a program with another allocator keeps that. A process
-// is left untouched where its allocator can't be followed, and the stream names the file that has it.
+// Each call goes on to the function that it would have reached without the library, so a program with another allocator keeps that. A
+// process is left untouched where its allocator can't be followed, and the stream names the file that has it.
 #define _GNU_SOURCE
 #include <dlfcn.h>
 #include <elf.h>
@@ -50,12 +50,13 @@ static int found;
 static __attribute__((noinline, cold)) void find(void) {
   found = 1;
   FIND(execve), FIND(execvpe), FIND(fexecve), FIND(execv), FIND(execvp);
-  FIND(posix_memalign), FIND(aligned_alloc), FIND(memalign), FIND(valloc), FIND(pvalloc), FIND(calloc), FIND(realloc), FIND(free), FIND(malloc);
+  FIND(posix_memalign), FIND(aligned_alloc), FIND(memalign), FIND(valloc), FIND(pvalloc);
+  FIND(calloc), FIND(realloc), FIND(free), FIND(malloc);
 }
 #define TO(function) (*(__builtin_expect(!found, 0) ? find() : (void)0, &next.function))
 
-// Where this process writes. `here` is on a page that a forked child sees empty, however it is forked; a child of vfork shares the heap, and
-// so the ring. What comes before the file is mapped is early.
+// Where this process writes. `here` is on a page that a forked child sees empty, however it is forked; a child of vfork shares the heap,
+// and so the ring. What comes before the file is mapped is early.
 enum { EARLY = 1 << 15 };
 enum { PATIENCE = 1 << 27 };  // turns
 enum { UNSTARTED, STARTING, WRITES, OFF };
@@ -170,24 +171,25 @@ static inline uint64_t add(uint64_t *to, uint64_t number) {
 }
 
 // from the last: where the first one is there, all are
-static inline void store(const struct place *place, uint64_t i, int number, uint64_t one, uint64_t two, uint64_t three) {
+#define RECORDS uint64_t one, uint64_t two, uint64_t three
+static inline void store(const struct place *place, uint64_t i, int number, RECORDS) {
   uint64_t mask = place->size - 1;
   if (number > 2) __atomic_store_n(&place->records[(i + 2) & mask], three, __ATOMIC_RELEASE);
   if (number > 1) __atomic_store_n(&place->records[(i + 1) & mask], two, __ATOMIC_RELEASE);
   __atomic_store_n(&place->records[i & mask], one, __ATOMIC_RELEASE);
 }
 
-static __attribute__((noinline, cold)) void put_late(const struct place *place, uint64_t i, int number, uint64_t one, uint64_t two, uint64_t three) {
+static __attribute__((noinline, cold)) void put_late(const struct place *place, uint64_t i, int number, RECORDS) {
   if (wait_for(place->ring, i + number, place->size)) store(place, i, number, one, two, three);
 }
 
-static __attribute__((noinline, cold)) void put_first(int number, uint64_t one, uint64_t two, uint64_t three) {
+static __attribute__((noinline, cold)) void put_first(int number, RECORDS) {
   reached = 1;
   if (here->state == UNSTARTED) begin();
   if (here->state == WRITES) put_late(here, add(&here->ring->next, number), number, one, two, three);
 }
 
-static inline void put(int number, uint64_t one, uint64_t two, uint64_t three) {
+static inline void put(int number, RECORDS) {
   const struct place *place = here;
   if (__builtin_expect(place->state != WRITES, 0)) {
     put_first(number, one, two, three);
@@ -202,14 +204,16 @@ static inline void put(int number, uint64_t one, uint64_t two, uint64_t three) {
   store(place, i, number, one, two, three);
 }
 
-// Another allocator may call its own functions by their public names, also as the last thing that it does: that is no request of the program.
+// Another allocator may call its own functions by their public names, also as the last thing that it does: that is no request of the
+// program.
 struct part { uintptr_t from, bytes; };
 static struct part allocator;  // another one's; empty for glibc's
 extern const char __ehdr_start[] __attribute__((visibility("hidden"))), _end[] __attribute__((visibility("hidden")));
 
 static inline int is_inner(void *caller) {
   if (__builtin_expect(!allocator.bytes, 1)) return 0;
-  return (uintptr_t)caller - allocator.from < allocator.bytes || (uintptr_t)caller - (uintptr_t)__ehdr_start < (uintptr_t)(_end - __ehdr_start);
+  uintptr_t at = (uintptr_t)caller;
+  return at - allocator.from < allocator.bytes || at - (uintptr_t)__ehdr_start < (uintptr_t)(_end - __ehdr_start);
 }
 #define IS_INNER is_inner(__builtin_return_address(0))
 
@@ -241,8 +245,7 @@ void free(void *block) {
   TO(free)(block);
 }
 
-// Of a realloc the reader sees before it that the block may move, and after it where it is. One to 0 bytes is a free; one that asks for more
-// than there can be leaves the block.
+// Of a realloc the reader sees before it that the block may move, and after it where it is. One to 0 bytes is a free.
 void *realloc(void *block, size_t size) {
   if (IS_INNER) return TO(realloc)(block, size);
   if (!block) return request(MALLOC, TO(realloc)(block, size), size);
@@ -346,8 +349,8 @@ static const char *file_of(void *function) {
 
 static int is_same(void *one, void *other) { return !strcmp(file_of(one), file_of(other)); }
 
-// Other calls of an allocator that get or free blocks. Whoever makes them is not seen, so neither are his requests. The last five are of the
-// C library, which calls malloc in them; an allocator may have them too.
+// Other calls of an allocator that get or free blocks. Whoever makes them is not seen, so neither are his requests. The last five are of
+// the C library, which calls malloc in them; an allocator may have them too.
 static int is_other_call(const char *name) {
   static const char *const prefixes[] = {"_Zn", "_Zd", "je_", "tc_", "mi_", "smallocx", "free_"};
   static const char *const names[] = {"mallocx", "rallocx", "xallocx", "dallocx", "sdallocx", "cfree",
@@ -376,7 +379,8 @@ static int calls_otherwise(struct dl_phdr_info *object, size_t size, void *of) {
   const ElfW(Rela) *bound[2] = {NULL, NULL};  // the relocations name the symbols that the object uses
   size_t bytes[2] = {0, 0};
   for (; dynamic->d_tag != DT_NULL; dynamic++) {
-    const void *at = (const void *)(dynamic->d_un.d_ptr < object->dlpi_addr ? object->dlpi_addr + dynamic->d_un.d_ptr : dynamic->d_un.d_ptr);
+    uintptr_t bias = dynamic->d_un.d_ptr < object->dlpi_addr ? object->dlpi_addr : 0;
+    const void *at = (const void *)(dynamic->d_un.d_ptr + bias);
     if (dynamic->d_tag == DT_SYMTAB) symbols = at;
     if (dynamic->d_tag == DT_STRTAB) strings = at;
     if (dynamic->d_tag == DT_RELA) bound[0] = at;

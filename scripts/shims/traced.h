@@ -16,7 +16,8 @@ static uint64_t most_traced;  // events; 0 where no trace is wanted
 // Whether there is room for an event, with the two that it may have beside it; else the trace ends here.
 static int has_room(void) {
   if (trace.has_ended || (trace.has_ended = trace.events + 3 > most_traced)) return 0;
-  if (trace.length + 3 * LINE > trace.room && !(trace.text = realloc(trace.text, trace.room = trace.room * 2 + PIECE))) give_up("it has no memory");
+  if (trace.length + 3 * LINE > trace.room) trace.text = realloc(trace.text, trace.room = trace.room * 2 + PIECE);
+  if (!trace.text) give_up("it has no memory");
   return 1;
 }
 #define LINE_OF(...) (trace.length += snprintf(trace.text + trace.length, LINE, __VA_ARGS__), trace.events++)

@@ -25,6 +25,7 @@ RECORDERS = os.path.join(texts.ROOT, "recorders")  # of a package
 FLAGS = {"stream": ["-O2", "-fno-builtin", "-shared", "-fPIC", "-Wall"], "follow": ["-O2", "-Wall"]}
 ENDINGS = {"stream": ".so", "follow": ""}
 WATCHED = 1  # a line on a terminal every so many seconds
+NO_NOTES = {3: "there is no room for what is recorded"}  # the reader's status, where it could not note it
 ANOTHER_PLACE = "set XDG_CACHE_HOME to another place"
 
 
@@ -280,7 +281,7 @@ class Run:
     def refuse_unfollowed(self, notes: Notes, status: int, word: str) -> None:
         """Says why there is no record, where there is none."""
         if status or not notes.version:
-            raise Refused(3, f"nothing can be recorded: {notes.why or 'the reader was ended'}")
+            raise Refused(3, f"nothing can be recorded: {notes.why or NO_NOTES.get(status, 'the reader was ended')}")
         refuse_spoiled(notes, word)
         if notes.started:
             return
