@@ -368,7 +368,8 @@ static const char *make_stream(const char *file) {
   } else if ((stream = mmap(NULL, HEAD, PROT_READ | PROT_WRITE, MAP_SHARED, opened, 0)) == MAP_FAILED) {
     stream = NULL, why = "it has no memory";
   } else {
-    stream->number = number_of_rings, stream->reader = getpid(), stream->found = found, stream->form = FORM;
+    stream->number = number_of_rings, stream->reader = getpid(), stream->found = found;
+    stream->space = own_space(), stream->form = FORM;
     if (*file && renameat2(AT_FDCWD, made, AT_FDCWD, file, RENAME_NOREPLACE)) why = strerror(errno);
   }
   if (why && *file) unlink(made);

@@ -68,6 +68,7 @@ static struct place at_first = {&early_ring, early, EARLY, WRITES, 0}, *here = &
 static char file[PATH_MAX];  // as MTE_STREAM has it
 static int is_service;       // whether something else than the reader started the program
 static struct stream *stream;
+static struct stat status_of;  // of the file
 static uint64_t *mapped;     // in a forked child: the records of its parent
 static volatile int reached; // whether a call came to the library's malloc while it may not record
 static volatile int sealed;  // whether the process gave up system calls: a fork can't open the file
@@ -111,18 +112,23 @@ static void say(const char *what) {
   if (name) *name = 0;  // the processes that this one starts don't say it again
 }
 
-// Maps the table of the file that is open. Null, or why that can't be.
+// Maps the table of the file that is open, if it is not mapped yet. Null, or why that can't be.
 static const char *map_stream(int opened) {
   struct stat status;
   if (fstat(opened, &status) || !S_ISREG(status.st_mode) || status.st_size <= HEAD) return "it is another file";
+  if (stream && (status.st_dev != status_of.st_dev || status.st_ino != status_of.st_ino)) return "it is another file";
+  if (stream) return is_service && stream->space != own_space() ? "its reader is elsewhere" : NULL;
   // another user could cut it off, and so end the program
   if (is_service && status.st_uid && status.st_uid != geteuid()) return "it is another user's file";
   if (is_service && (status.st_mode & 022 || status.st_nlink > 1)) return "others can change it, or it has another name too";
-  stream = mmap(NULL, HEAD, PROT_READ | PROT_WRITE, MAP_SHARED, opened, 0);
-  if (stream != MAP_FAILED && stream->form == FORM) return NULL;
-  if (stream != MAP_FAILED) munmap(stream, HEAD);
-  int is_other = stream != MAP_FAILED;
-  return stream = NULL, is_other ? "it is another file" : "it can't be mapped";
+  struct stream *table = mmap(NULL, HEAD, PROT_READ | PROT_WRITE, MAP_SHARED, opened, 0);
+  if (table == MAP_FAILED) return "it can't be mapped";
+  const char *wrong = NULL;
+  if (table->form != FORM) wrong = "it is another file";
+  else if (is_service && table->space != own_space()) wrong = "its reader is in another namespace of processes: run it in this one";
+  if (wrong) munmap(table, HEAD);
+  else stream = table, status_of = status;
+  return wrong;
 }
 
 // At the start, and in a forked child. A call that comes meanwhile, from a handler or another thread, is not recorded.
@@ -134,8 +140,8 @@ static void begin(void) {
   } else if ((opened = open(file, O_RDWR | O_CLOEXEC | O_NONBLOCK | O_NOCTTY | (is_service ? O_NOFOLLOW : 0))) < 0) {
     if (stream) refuse(NO_FILE); else say(strerror(errno));
   } else {
-    const char *wrong = stream ? NULL : map_stream(opened);
-    if (wrong) say(wrong);
+    const char *wrong = map_stream(opened);
+    if (wrong && stream) refuse(NO_FILE); else if (wrong) say(wrong);
     if (mapped) munmap(mapped, RING * 8), mapped = NULL;
     taken = !wrong && !stream->closed && take_ring(opened);
     close(opened);

@@ -5,6 +5,8 @@
 #ifndef STREAM_H
 #define STREAM_H
 #include <stdint.h>
+#include <stdlib.h>
+#include <unistd.h>
 #include "formats.h"
 
 enum { RINGS = 1024, RING = 1 << 17, LARGE = LARGEST_SIZE + 1, COUNTERS = LARGE + 1, SIZE_BITS = 14, ADDRESS = 18, NAME = 1024 };
@@ -24,6 +26,7 @@ struct ring {
 };
 struct stream {
   uint64_t form, reader, found; // the reader's process, and its descriptor of what it found
+  uint64_t space;               // the reader's namespace of processes
   uint64_t number, turn;        // how many rings there are, and how many were taken
   uint64_t closed;              // whether nobody reads on
   uint64_t refused[REASONS];    // how many processes have no ring
@@ -32,6 +35,12 @@ struct stream {
   char allocator[NAME];         // the file that has the allocator of the last process that has another one
   struct ring rings[RINGS];
 };
+// the namespace of this process, 0 where it can't be seen
+static inline uint64_t own_space(void) {
+  char text[64] = "";
+  return readlink("/proc/self/ns/pid", text, sizeof text - 1) > 5 ? strtoull(text + 5, NULL, 10) : 0;
+}
+
 static const uint64_t FORM = 0x324D4145525453;
 enum { PAGE = 4096, LARGEST_PAGE = 65536, HEAD = (sizeof(struct stream) + LARGEST_PAGE - 1) & -LARGEST_PAGE };
 #endif

@@ -7,7 +7,7 @@ PAGE, RINGS, SNAPSHOTS = 4096, 1024, 64
 REASONS = (
     f"more than {RINGS:,} run at once",
     "a limit of their address space (ulimit -v) leaves no room for the stream",
-    "they can't open the stream from where they are (chroot)",
+    "they can't open the stream from where they are (chroot, another user or namespace)",
     "they began in a program that gave up system calls (seccomp)",
 )
 

@@ -243,13 +243,13 @@ class Run:
         self.words = [wanted, only or "", table]
         self.status = 0
 
-    def environment(self, path: str) -> "tuple[dict, bytes]":
+    def environment(self, path: str) -> "tuple[dict, str]":
         """That of the reader, which is the program's but for LD_PRELOAD; and that."""
         found = programs.environment()
         libraries = b":".join(filter(None, (os.fsencode(self.library.name), found.pop(b"LD_PRELOAD", None))))
         if path and has_sanitizer(path):  # gcc's wants to be the first library, and ends the program else
             found[b"ASAN_OPTIONS"] = b":".join(filter(None, (found.get(b"ASAN_OPTIONS"), b"verify_asan_link_order=0")))
-        return found, libraries
+        return found, os.fsdecode(libraries)
 
     def follow(self, stream: str, path: str, words: "list[str]") -> int:
         """Runs the reader to its end. An interrupt reaches the program too; then what was recorded up to there counts."""

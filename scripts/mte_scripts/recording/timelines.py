@@ -59,7 +59,9 @@ def need_of(size: int) -> int:
 def peaks(events: array, groups: tuple) -> dict:
     """The moments at which a group of classes has more blocks than at any before, by the number of events; the same as shims/kept.h has."""
     groups = tuple(group + 1 for group in groups)  # an event of a large block has 0
-    most, now, at = Counter(), Counter(), {}
+    most: Counter = Counter()
+    now: Counter = Counter()
+    at: dict = {}
     for place, group in enumerate(map(by_code(lambda size: groups[need_of(size)]).__getitem__, events), 1):
         if group < 0:
             now[-group] -= 1

@@ -87,7 +87,7 @@ def peak(runner: str, words: list, path: str, library: Optional[str], given: Opt
     libraries = b":".join(filter(None, (os.fsencode(library or ""), variables.pop(b"LD_PRELOAD", None))))
     with open(given or os.devnull, "rb") as file, open(found, "rb") as noted:
         streams: dict = {"stdin": file if given else None, "stdout": subprocess.DEVNULL, "stderr": subprocess.DEVNULL}
-        done = subprocess.run([runner, str(found), libraries, "none", "", "", "", path, *words], env=variables, close_fds=False, **streams)
+        done = subprocess.run([runner, str(found), os.fsdecode(libraries), "none", "", "", "", path, *words], env=variables, close_fds=False, **streams)
         notes = Notes.of(noted.read(PAGE))
     if done.returncode or notes.error:
         raise Refused(3, f"{words[0]} can't be run again")
