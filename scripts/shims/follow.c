@@ -23,7 +23,7 @@
 #include "kept.h"
 #include "traced.h"
 
-enum { PATIENCE = 2000, ABOUT_TO_END = 200, SAMPLES = 20, LOOKS = 10, LEFT = 32 };  // milliseconds, samples, processes
+enum { PATIENCE = 2000, WHILE_FULL = 500, ABOUT_TO_END = 200, SAMPLES = 20, LOOKS = 10, LEFT = 32 };  // milliseconds, samples, processes
 // mte_scripts/recording/notes.py reads it
 static struct notes {
   uint64_t version;                            // how often the texts were written; 0 while there are none
@@ -190,7 +190,8 @@ static int read_ring(int k) {
       __builtin_prefetch(&blocks.at[place_from(reading->records[ahead & (RING - 1)] >> ADDRESS << 3)]);
     int number = take(reading, i, whole);
     if (!number) {  // not there yet: the thread waits, or was ended, or jumped out of a handler
-      if (i > from || (now() - reading->since < PATIENCE && !reading->is_over)) break;
+      uint64_t patience = whole - from > RING / 2 ? WHILE_FULL : PATIENCE;
+      if (i > from || (now() - reading->since < patience && !reading->is_over)) break;
       notes->lost += reading->is_main || reading->is_counted, number = 1;
     }
     i += number, reading->since = 0;

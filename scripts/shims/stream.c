@@ -58,7 +58,7 @@ static __attribute__((noinline, cold)) void find(void) {
 // Where this process writes. `here` is on a page that a forked child sees empty, however it is forked; a child of vfork shares the heap,
 // and so the ring. What comes before the file is mapped is early.
 enum { EARLY = 1 << 15 };
-enum { PATIENCE = 1 << 27 };  // turns
+enum { PATIENCE = 1 << 26 };  // turns, of some 100 ticks
 enum { UNSTARTED, STARTING, WRITES, OFF };
 struct place { struct ring *ring; uint64_t *records, size; int state; pid_t process; };
 static uint64_t early[EARLY];
