@@ -53,7 +53,8 @@ that, no lock is taken, and nothing changes in the blocks. The program runs as e
 output goes to standard error; where that is a terminal, a line there says each second how far it is. It may have threads, fork, and
 be killed. Without --live all processes that it starts are counted with it, also those of a script; with --live only the first
 process is, with what it runs in its own place. A calloc that overflows counts as a large request, and so does any other above
-{texts.LARGEST_SIZE:,} bytes; a realloc to 0 bytes is a free. An aligned request counts as its bytes plus its alignment minus 16.
+{texts.LARGEST_SIZE:,} bytes; a realloc to 0 bytes is a free. An aligned request counts as its bytes plus its alignment minus 16. A program
+that fills its blocks up to malloc_usable_size, as redis does, requests what the sizes of its present allocator leave it.
 
 A timeline is the input of `mte_tool fit`, which then counts each moment of the run. Its events are in an order in which the calls
 could have come one after the other, of all threads: a request as soon as it has its block, a free before the block is given back, a
