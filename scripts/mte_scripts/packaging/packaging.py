@@ -14,6 +14,7 @@ from mte_scripts import helps, manifest, texts
 from mte_scripts.builds import web_page
 from mte_scripts.packaging import completions, manual
 from mte_scripts.packaging.tree import Tree, run, source, tracked
+from mte_scripts.recording.recording import ENDINGS, FLAGS
 from mte_scripts.texts import Refused
 
 NAME = "mte-tool"
@@ -26,7 +27,7 @@ Memory Tagging Extension."""
 AT_HOME = "bench crates edits library mte_tool package plants refuse_memory release statement step".split()
 COMMANDS = sorted(name for name in os.listdir(texts.SCRIPTS) if re.fullmatch(r"[a-z_]+(\+\+)?", name)
                   and os.path.isfile(os.path.join(texts.SCRIPTS, name)) and name not in AT_HOME)
-RECORDERS = ("sizes", "trace")
+RECORDERS = {name: f"{name}{ending}" for name, ending in ENDINGS.items()}
 MULTIARCH = "x86_64-linux-gnu"  # what the toolchain builds for
 SHARE, PRIVATE, LIBRARIES = f"usr/share/{NAME}", f"usr/lib/{NAME}", f"usr/lib/{MULTIARCH}"
 DOCUMENTS = f"usr/share/doc/{NAME}"
@@ -147,18 +148,17 @@ def put_scripts(tree: Tree) -> None:
 
 
 def put_recorders(tree: Tree) -> "str | None":
-    """The libraries that record a program, compiled, so that no compiler is needed where they are used."""
+    """The library that records a program, and its reader, compiled, so that no compiler is needed where they are used."""
     compiler = os.environ.get("CC", "cc")
     if not shutil.which(compiler):
         where = "the commands that record a program compile them, and want one"
         return f"the recorders in compiled form: the C compiler {compiler} is missing; {where}"
-    for name in RECORDERS:
-        at = f"{PRIVATE}/recorders/{name}.so"
+    for name, file in RECORDERS.items():
+        at = f"{PRIVATE}/recorders/{file}"
         # in the folder, so that no path of this machine can be in it
-        words = [compiler, "-O2", "-fno-builtin", "-shared", "-fPIC", "-Wall", *HARDENED, f"{name}.c", "-o", tree.path(at)]
-        run([*words, "-pthread", "-ldl"], cwd=source("scripts/shims"))
+        run([compiler, *FLAGS[name], *HARDENED, f"{name}.c", "-o", tree.path(at), "-ldl"], cwd=source("scripts/shims"))
         tree.stripped(at)
-        os.chmod(tree.path(at), 0o644)
+        os.chmod(tree.path(at), 0o644 if ENDINGS[name] else 0o755)
     return None
 
 

@@ -3,15 +3,15 @@
 import signal
 import subprocess
 import threading
-from collections.abc import Callable
+from typing import Any
 
 HANDED_ON = (signal.SIGTERM, signal.SIGHUP)
 
 
-def run(words: "list[str]", grace: "float | None" = None, start: Callable = subprocess.Popen, **how: object) -> int:
+def run(words: "list[str]", grace: "float | None" = None, **how: Any) -> int:
     """The status of a program, which is negative where a signal ended it. Ctrl-C reaches the program too, and is left to it; SIGTERM and
     SIGHUP are handed on to it. The script goes on then: what the program did until its end counts. With GRACE, it is killed where it is
-    still there so many seconds after a signal that was handed on. START starts it."""
+    still there so many seconds after a signal that was handed on."""
     child: list = []
     asked: list = []
     kept: dict = {}
@@ -30,7 +30,7 @@ def run(words: "list[str]", grace: "float | None" = None, start: Callable = subp
         for each in (signal.SIGINT, *HANDED_ON):
             if signal.getsignal(each) != signal.SIG_IGN:
                 kept[each] = signal.signal(each, hand_on if each in HANDED_ON else lambda *_: None)
-        started = start(words, **how)
+        started = subprocess.Popen(words, **how)
         child.append(started)
         early, asked[:] = list(asked), []
         for number in early:

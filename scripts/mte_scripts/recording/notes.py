@@ -1,37 +1,33 @@
-"""The first page of the file that a recording library writes: struct notes of shims/recorder.h."""
+"""What the reader of a stream found: struct notes of shims/follow.c, and the texts after it."""
 
 import ctypes
 import os
-from typing import Optional
 
-from mte_scripts.checksum import folded
-
-PAGE, SNAPSHOTS = 4096, 64
+PAGE, RINGS, SNAPSHOTS = 4096, 1024, 64
+REASONS = (
+    f"more than {RINGS:,} run at once",
+    "a limit of their address space (ulimit -v) leaves no room for the stream",
+    "they can't open the stream from where they are (chroot, another user or namespace)",
+    "they began in a program that gave up system calls (seccomp)",
+)
 
 
 def numbers(names: str) -> list:
     return [(name, ctypes.c_uint64) for name in names.split()]
 
 
-class Mark(ctypes.Structure):
-    """What the library noted last of a trace or of a record. Its sum is the text's, or that of the live blocks, each size by its weight."""
-
-    _fields_ = numbers("length events ended sum check")
-
-
 class Notes(ctypes.Structure):
-    """What the library noted; the file's form is tested by the caller."""
+    """What the reader noted; the texts are there once `version` is not 0."""
 
     _fields_ = [
-        *numbers("form process others other_requests untouched foreign most length events variables shared wrong ended"),
-        ("taken", ctypes.c_uint64 * SNAPSHOTS),
-        *numbers("seal all updated"),
-        ("sums", ctypes.c_uint64 * SNAPSHOTS),
-        *numbers("turn"),
-        ("marks", Mark * 2),
-        *numbers("requests live large resident system executed"),
-        ("room", ctypes.c_uint64 * 95),
+        *numbers("version profile text status error started executed requests live large resident others other_requests untouched foreign"),
+        ("refused", ctypes.c_uint64 * len(REASONS)),
+        *numbers("lost wrong spoiled gaps events snapshots is_cut variables shared left"),
+        ("processes", ctypes.c_uint64 * 32),
+        ("words", ctypes.c_char * 128),
+        ("room", ctypes.c_char * 408),
         ("name", ctypes.c_char * 1024),
+        ("rest", ctypes.c_char * (PAGE - 2048)),
     ]
 
     @classmethod
@@ -44,11 +40,15 @@ class Notes(ctypes.Structure):
         """The file that has the allocator of the last process that has another one than glibc's."""
         return os.fsdecode(self.name)
 
-    def is_sealed(self, room: int) -> bool:
-        """Whether the form, and the bytes after the page, are those that the library noted."""
-        return self.seal == folded((self.form, room))
+    @property
+    def why(self) -> str:
+        """Why nothing could be followed."""
+        return os.fsdecode(self.words)
 
-    def mark(self) -> Optional[Mark]:
-        """The mark that is whole; None where the program wrote over it."""
-        mark = self.marks[self.turn] if self.turn < 2 else None
-        return mark if mark and mark.check == folded((mark.length, mark.events, mark.ended, mark.sum)) else None
+    def remaining(self) -> list:
+        """The processes that run on, or some of them."""
+        return list(self.processes[: self.left])
+
+    def reasons(self) -> list:
+        """Why some processes are not counted, and how many."""
+        return [f"{number} for {reason}" for number, reason in zip(self.refused, REASONS) if number]

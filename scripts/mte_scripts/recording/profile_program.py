@@ -2,15 +2,17 @@
 
 import argparse
 import os
+import pathlib
+import signal
 import stat
+import struct
 import time
-from typing import Any
 
 from mte_scripts import private_folder, texts
 from mte_scripts.private_folder import NotPrivate
-from mte_scripts.recording import counts, recording, timelines
+from mte_scripts.recording import recording, timelines
 from mte_scripts.recording.imports import found, importing
-from mte_scripts.recording.notes import PAGE, SNAPSHOTS, Notes
+from mte_scripts.recording.notes import SNAPSHOTS, Notes
 from mte_scripts.running import Refused
 from mte_scripts.words import ProgramWords, between, named
 
@@ -20,7 +22,8 @@ Run a program, and print how often it requested each size: a profile, the input 
 Usage: profile_program [--live] [--only NAME] [--said FILE] PROGRAM ARGS..
        profile_program --timeline|--history[=T]|--classes TABLE [--peak FILE] [--measured FILE] [--only NAME] PROGRAM ARGS..
        profile_program --library [DIR]
-       profile_program --read COUNTS
+       profile_program --follow STREAM [the options above]
+       profile_program --read STREAM
        profile_program --import FILE [--as FORMAT] [--live|--timeline|--history[=T]] [--peak FILE]
 
   --live         count only the blocks that are live at the peak: when the most bytes are live
@@ -32,30 +35,32 @@ Usage: profile_program [--live] [--only NAME] [--said FILE] PROGRAM ARGS..
   --peak FILE    with these three: write the profile of the blocks live at the peak into FILE too, as --live counts them
   --measured FILE
                  with these and --live: write into FILE what the process took of memory at most, in bytes, as lines
-                 `large N`, blocks above {texts.LARGEST_SIZE:,} bytes; `resident N`, its resident set; and `glibc N`, what glibc's malloc had of
-                 the system. The last two are looked at from time to time; what the recorder takes is left out, by an estimate
+                 `large N`, blocks above {texts.LARGEST_SIZE:,} bytes, and `resident N`, its resident set without what the recorder takes
   --as-scudo     with these and --live: a realloc leaves a block as it was where LLVM's Scudo does, which makes it smaller by up to
                  4,095 bytes in its place, and as large again as it had been
   --only NAME    count only processes whose program has this name, as NAME of /usr/bin/NAME
-  --library      print the path of the library that counts, and run nothing; with DIR, put it there for services
-  --read COUNTS  print the profile, the history or the timeline of the counts in the file COUNTS, also while they are still made
+  --library      print the path of the library that is preloaded, and run nothing; with DIR, put it there for services
+  --follow STREAM
+                 make the file STREAM, and follow what something else starts with it, until Ctrl-C or SIGTERM; then print
+  --read STREAM  print what the script that follows STREAM has so far
   --import FILE  print the profile of a file that another tool wrote (standard input for `-`); standard error says what it tells
   --as FORMAT    of --import: the format, where it is not found by itself
   --said FILE    write what this script says of the run into FILE too, a line for each, apart from what the program says
 
-The program is run with a library (LD_PRELOAD) that counts its calls of malloc, calloc, realloc, memalign, aligned_alloc, valloc,
-pvalloc and posix_memalign, and so C++'s new. It runs as ever: its standard input is its own, its standard output goes to standard
-error; where that is a terminal, a line there says each second how far it is. It may have threads, fork, and be killed. Without
---live all processes that it starts are counted with it, also those of a script; with --live only the first process is, with what
-it runs in its own place. A calloc that overflows counts as a large request, and so does any other above {texts.LARGEST_SIZE:,} bytes; a
-realloc to 0 bytes is a free. An aligned request counts as its bytes plus its alignment minus 16.
+The program is run with a library (LD_PRELOAD) that notes its calls of malloc, calloc, realloc, free, memalign, aligned_alloc,
+valloc, pvalloc and posix_memalign, and so C++'s new, in memory that a reader outside the program follows: nothing is called for
+that, no lock is taken, and nothing changes in the blocks. The program runs as ever: its standard input is its own, its standard
+output goes to standard error; where that is a terminal, a line there says each second how far it is. It may have threads, fork, and
+be killed. Without --live all processes that it starts are counted with it, also those of a script; with --live only the first
+process is, with what it runs in its own place. A calloc that overflows counts as a large request, and so does any other above
+{texts.LARGEST_SIZE:,} bytes; a realloc to 0 bytes is a free. An aligned request counts as its bytes plus its alignment minus 16. A program
+that fills its blocks up to malloc_usable_size, as redis does, requests what the sizes of its present allocator leave it.
 
-A timeline is the input of `mte_tool fit`, which then counts each moment of the run. Its events are in the order in which the calls
-came to the library, one after the other, of all threads: a request as soon as it has its block, a free before the block is given
-back, a realloc as a free and a request. While the program runs, the record takes 69 MB of disk, or less where there is no more.
-Where its text would have more than {timelines.MOST_TEXT:,} bytes, some 15 million events, a history is printed in its place, and
-standard error says so: of the peak, and of the moments at which each class of 16 bytes had the most blocks. With less disk this
-happens earlier, and the classes are wider. All else is as with --live.
+A timeline is the input of `mte_tool fit`, which then counts each moment of the run. Its events are in an order in which the calls
+could have come one after the other, of all threads: a request as soon as it has its block, a free before the block is given back, a
+realloc as a free and a request. Where its text would have more than {timelines.MOST_TEXT:,} bytes, some 15 million events, a history is
+printed in its place, and standard error says so: of the peak, and of the moments at which each class of 16 bytes had the most
+blocks. All else is as with --live.
 
 A history is an input of `fit` too. Its snapshots are in the order of time. One is of the peak, the others are taken at evenly
 spaced requests: where T are full, every second one goes, and the spacing doubles. So at the end they are about T/2 to T, and fewer
@@ -67,12 +72,13 @@ before by merge_profiles, and `mte_tool fit` finds the table for all of them.
 
 A program with another allocator, such as jemalloc, keeps it, and its calls are counted. Where it gets blocks in other ways too,
 such as by mallocx, nothing of it is counted, and standard error names the file that has the allocator. Not seen are a static or
-set-user-id program, a C library other than glibc, and an allocator inside the program (Go, jemalloc linked in).
+set-user-id program, a C library other than glibc, and an allocator inside the program (Go, jemalloc linked in). Standard error
+says which forks can't be followed: after a chroot, under seccomp, or with an address space that leaves no room. Nothing is counted
+of a program that overwrites the stream, or requests faster than the machine can follow.
 
-For a service that something else starts: set LD_PRELOAD to the path that --library DIR prints, SIZES to a file that does not exist
-yet and that the service may write (and SIZES_LIVE=1 for --live, SIZES_TIMELINE=1 for --timeline, SIZES_HISTORY=T for --history=T,
-SIZES_CLASSES='2 4 ..' for --classes, with the table's numbers, SIZES_SCUDO=1 for --as-scudo, SIZES_ONLY=NAME for --only); then read
-the file with --read.
+For a service that something else starts: run `profile_program --follow STREAM` as the service's user, with what is to be counted.
+STREAM is a file that does not exist yet, best in /run or /dev/shm, of which the disk gives 1 MB for each process. Start the service
+with LD_PRELOAD set to the path that --library DIR prints, and MTE_STREAM to STREAM's. Meanwhile --read STREAM prints what is there.
 
 --import takes these formats, packed by gzip or zstd or not:
 {importing.HELP}
@@ -85,8 +91,7 @@ Exit status:
   0  the profile, the history or the timeline is printed
   1  the same; the program itself ended with another status than 0, which standard error has
   2  the words are refused
-  3  there is no profile: no compiler, no such program, nothing was counted, or the program overwrote the counts; or it could not be
-     written
+  3  there is no profile: no compiler, no such program, nothing was counted, or it counts for nothing; or it could not be written
 
 Examples:
   profile_program sort /etc/services > sort.profile
@@ -94,8 +99,9 @@ Examples:
   profile_program --timeline --import heaptrack.sort.4711.zst > sort.timeline
 """
 
-LIBRARY = "mte_tool_sizes.so"  # for services
-READINGS = 50  # of a file that is written meanwhile
+LIBRARY = "mte_tool_stream.so"  # for services
+FORM, HEAD = b"STREAM2\0", struct.Struct("<8sQQ")  # of shims/stream.h: the form, the reader and its descriptor of what it found
+ANSWERED = 20  # seconds
 CLOSED_PLACE = "choose a place that only you and root can change, such as /usr/local/lib"
 OPEN_PLACE = "choose a place that all can reach, such as /usr/local/lib"
 FOREGROUND = "run it in the foreground (nginx: daemon off)"
@@ -125,62 +131,36 @@ class Options(argparse.Namespace):
             raise Refused(2, "--as goes with --import")
 
     def refuse_beside_import(self) -> None:
-        others = {"--read": self.read, "--only": self.only, "--measured": self.measured, "--classes": self.table,
+        others = {"--read": self.read, "--follow": self.follow, "--only": self.only, "--measured": self.measured, "--classes": self.table,
                   "--as-scudo": self.as_scudo, "--library": self.library}
         if given := [name for name, value in others.items() if value]:
             raise Refused(2, f"--import reads a file, and {given[0]} is for a run")
         if self.words:
             raise Refused(2, f"--import takes one file, and runs no program: there is no place for {self.words[0]}")
 
-    def settings(self) -> "dict[str, str | None]":
-        """The library's variables; those without a value are unset."""
-        chosen = {"SIZES_LIVE": self.live == "--live", "SIZES_TIMELINE": self.timeline, "SIZES_SCUDO": self.as_scudo}
-        found = {name: "1" if is_so else None for name, is_so in chosen.items()}
-        found["SIZES_CLASSES"] = None if self.table is None else " ".join(map(str, self.table))
-        return {**found, "SIZES_ONLY": self.only, "SIZES_HISTORY": str(self.history) if self.history else None}
+    def classes_line(self) -> str:
+        return " ".join(map(str, self.table or []))
 
-    def form(self) -> int:
-        """That of the file of counts."""
-        forms = {"--history": counts.HISTORY, "--live": counts.LIVE, None: counts.ALL}
-        return forms.get(self.live, timelines.FORM)
+    def wanted(self) -> str:
+        """What the reader is asked for."""
+        kinds = {None: "all", "--live": "live", "--history": f"history {self.history}", "--timeline": "timeline", "--classes": "classes"}
+        return ("-" if self.as_scudo else "") + kinds[self.live]
 
 
-# ---- counts
+# ---- what was found
 
-def print_counts(speaker: recording.Speaker, notes: Notes, found: Any, file: str, peak: "str | None" = None) -> bool:
-    """Prints what was counted, of a Counts whose file may still be written, or of a Record. False where that is nothing."""
-    if notes.form == timelines.FORM:
-        return print_record(speaker, found, peak)
-    profile = texts.profile_text(found.profile())
-    if notes.form == counts.HISTORY:
-        return print_history(found.history(read_counts(file, PAGE).notes), profile, peak)
-    if profile:
-        recording.write("the profile", profile)
-    return bool(profile)
-
-
-def print_history(history: texts.History, profile: str, peak: "str | None") -> bool:
-    if history.counts:
-        recording.write("the history", texts.history_text(history))
-        write_peak(peak, profile)
-    return bool(history.counts)
-
-
-def print_record(speaker: recording.Speaker, record: timelines.Record, peak: "str | None") -> bool:
-    """Prints a timeline, or the history that is there in its place."""
-    if record.history:
-        if wide := record.class_bytes:
-            moments = f"the {record.history.snapshots} moments at which each class of {wide} bytes had the most blocks"
-            speaker.say(f"the timeline would have more than {timelines.MOST_TEXT:,} bytes: a history is made in its place, of {moments}")
-        return print_history(record.history, texts.profile_text(record.peak), peak)
-    if not record.events:
-        return False
-    if record.mark.ended == timelines.NO_ROOM:
-        speaker.say(f"there is no more memory for the record: the timeline is of the first {record.mark.events:,} events of the run")
-    for piece in timelines.text_of(record.events):
-        recording.write("the timeline", piece)
-    write_peak(peak, texts.profile_text(record.peak))
-    return True
+def print_found(speaker: recording.Speaker, notes: Notes, profile: bytes, text: bytes, peak: "str | None" = None) -> bool:
+    """Prints what was counted. False where that is nothing."""
+    counts = {size if size == "large" else int(size): int(count) for size, count in map(str.split, profile.decode().splitlines())}
+    if notes.is_cut:
+        moments = f"the {notes.snapshots} moments at which each class of 16 bytes had the most blocks"
+        speaker.say(f"the timeline would have more than {timelines.MOST_TEXT:,} bytes: a history is made in its place, of {moments}")
+    if text:
+        recording.write("the history" if notes.snapshots else "the timeline", text)
+        write_peak(peak, texts.profile_text(counts))
+    elif counts:
+        recording.write("the profile", texts.profile_text(counts))
+    return bool(text or counts)
 
 
 def write_peak(peak: "str | None", profile: str) -> None:
@@ -188,14 +168,10 @@ def write_peak(peak: "str | None", profile: str) -> None:
         texts.write_file(peak, profile)
 
 
-def write_measured(path: "str | None", notes: Notes) -> None:
-    if path:
-        found = {"large": notes.large, "resident": notes.resident, "glibc": notes.system}
-        texts.write_file(path, "".join(f"{name} {value}\n" for name, value in found.items() if value))
-
-
 def say_uncounted(speaker: recording.Speaker, notes: Notes, live: str, program: str) -> None:
     """What the counts are not of."""
+    if notes.wrong:
+        speaker.say("one free is of no live block" if notes.wrong == 1 else f"{notes.wrong} frees are of no live block")
     if notes.foreign:
         speaker.say(recording.foreign(program, notes, "counted"))
     if notes.other_requests:
@@ -204,53 +180,66 @@ def say_uncounted(speaker: recording.Speaker, notes: Notes, live: str, program: 
         speaker.say(f"{live} counted one process. Others requested too, and are not counted {others}: {remedy}")
 
 
-def read_counts(path: str, most: int = counts.MOST + 1) -> counts.Counts:
-    """What a file of counts has, or so many bytes of it."""
-    try:
-        with open(os.open(path, os.O_RDONLY | os.O_NONBLOCK | os.O_CLOEXEC), "rb") as file:
-            if not stat.S_ISREG(os.fstat(file.fileno()).st_mode):
-                raise Refused(3, f"{path} is no file of counts")
-            return counts.Counts(file.read(most))
-    except OSError as error:
-        raise Refused(3, f"{path} can't be read: {error.strerror}") from None
-    except ValueError:  # it ends inside a word
-        raise Refused(3, f"{path} is no file of counts") from None
+def print_run(options: Options, speaker: recording.Speaker, run: recording.Found, program: str) -> bool:
+    """Prints what was counted, and says what that is not of. False where nothing was."""
+    notes = run.notes()
+    recording.refuse_spoiled(notes, program)
+    say_uncounted(speaker, notes, options.live or "--live", program)
+    recording.say_lost(speaker, notes)
+    if options.measured:
+        measured = {"large": notes.large, "resident": notes.resident}
+        texts.write_file(options.measured, "".join(f"{name} {value}\n" for name, value in measured.items() if value))
+    return print_found(speaker, notes, *run.texts(), options.peak)
 
 
-def sound_counts(path: str, forms: "list[int]") -> "counts.Counts | timelines.Record | None":
-    """The Counts of a file of one of these forms, or the Record in it. The library may still write there. None where it is none, or was
-    overwritten."""
-    for _ in range(READINGS):
-        form = read_counts(path, PAGE).notes.form
-        if form == timelines.FORM and form in forms:
-            if record := timelines.read(path):
-                return record
-        elif form in forms:
-            found = read_counts(path)
-            if not found.is_whole():
-                return None
-            if found.notes.form in forms and found.is_sound(read_counts(path, PAGE).notes):
-                return found
-        if not recording.having(os.path.realpath(path)):
-            return None
-        time.sleep(0.02)
-    return None
+# ---- a service
+
+def follow(options: Options, speaker: recording.Speaker, work: private_folder.Folder) -> int:
+    """Follows what something else starts, until it is told to end."""
+    if options.words:
+        raise Refused(2, "--follow takes one file, and runs no program")
+    with recording.Run(speaker, work, options.wanted(), options.only, options.classes_line()) as run:
+        status, notes = run.follow(os.path.abspath(options.follow), "", []), run.found.notes()
+        if status or not notes.version:
+            raise Refused(3, f"{options.follow} can't be followed: {notes.why or 'the reader was ended'}")
+        return print_service(options, speaker, run.found, options.follow)
+
+
+def print_service(options: Options, speaker: recording.Speaker, run: recording.Found, stream: str) -> int:
+    if print_run(options, speaker, run, "the service"):
+        return 0
+    if run.notes().untouched:
+        recording.refuse_nothing("the service", run.notes(), "counted")
+    raise Refused(3, f"nothing was counted in {stream} yet")
 
 
 def read_only(options: Options, speaker: recording.Speaker) -> int:
-    """Prints what --read names; the library may still write there."""
+    """Prints what the reader of --read's stream has so far."""
     if options.words:
         raise Refused(2, "--read takes one file, and runs no program")
-    found = sound_counts(options.read, [*counts.FORMS, timelines.FORM])
-    if not found:
-        raise Refused(3, f"{options.read} is no file of counts, or the program overwrote it, or it changes too fast: nothing is read of it")
-    notes = read_counts(options.read, PAGE).notes
-    say_uncounted(speaker, notes, {counts.HISTORY: "--history", timelines.FORM: "--timeline"}.get(notes.form, "--live"), "the program")
-    if print_counts(speaker, notes, found, options.read):
-        return 0
-    if notes.untouched:
-        raise Refused(3, f"the program has an allocator of its own, in {notes.allocator}, that can't be followed: nothing was counted")
-    raise Refused(3, f"nothing was counted in {options.read} yet")
+    path = os.path.realpath(options.read)
+    try:
+        with open(path, "rb", opener=private_folder.look_at) as file:
+            form, reader, descriptor = HEAD.unpack(file.read(HEAD.size))
+        if form != FORM or os.fsencode(path) not in pathlib.Path(f"/proc/{reader}/maps").read_bytes():
+            raise Refused(3, f"{options.read} is no stream, or nobody follows it: `profile_program --follow` does")
+        with open(f"/proc/{reader}/fd/{descriptor}", "rb") as shared:
+            return print_service(options, speaker, asked(reader, recording.Found(shared.fileno()), options.read), options.read)
+    except OSError as error:
+        raise Refused(3, f"{options.read} can't be read: {error.strerror}") from None
+    except struct.error:
+        raise Refused(3, f"{options.read} is no stream") from None
+
+
+def asked(reader: int, run: recording.Found, stream: str) -> recording.Found:
+    """What a reader found, once it has written that anew."""
+    before, end = run.notes().version, time.monotonic() + ANSWERED
+    os.kill(reader, signal.SIGUSR1)
+    while run.notes().version == before:
+        if time.monotonic() > end:
+            raise Refused(3, f"the reader of {stream} does not answer")
+        time.sleep(0.01)
+    return run
 
 
 def import_file(options: Options, speaker: recording.Speaker) -> int:
@@ -271,9 +260,9 @@ def print_library(options: Options, speaker: recording.Speaker) -> int:
     if len(options.words) > 1:
         raise Refused(2, "--library takes one folder, and runs no program")
     with private_folder.temporary_folder() as work:
-        library = recording.make_library("sizes", work)
+        library = recording.make("stream", work)
         if options.words:
-            library = installed(library, options.words[0], work)
+            library = installed(library, options.words[0])
         work.keep = library.startswith(f"{work.path}/")
     if not recording.is_plain(library):
         speaker.say("the loader takes no path with a space, a colon or a dollar sign: put the library elsewhere by --library DIR")
@@ -281,7 +270,7 @@ def print_library(options: Options, speaker: recording.Speaker) -> int:
     return 0
 
 
-def installed(library: str, folder: str, work: private_folder.Folder) -> str:
+def installed(library: str, folder: str) -> str:
     """Puts the library where a service may read it."""
     if not os.path.isdir(folder):
         raise Refused(3, f"there is no folder {folder}")
@@ -297,9 +286,7 @@ def installed(library: str, folder: str, work: private_folder.Folder) -> str:
         raise Refused(3, f"{found}: {CLOSED_PLACE}") from None
     except OSError as error:
         raise Refused(3, f"{folder} can't be written: {error.strerror}") from None
-    alone = work.file("alone")
-    recording.tried({"SIZES": alone, "LD_PRELOAD": path})
-    if not os.path.exists(alone):
+    if recording.tried("stream", path):
         raise Refused(3, f"the library can't be loaded from {folder}: perhaps it is mounted with noexec")
     return path
 
@@ -315,37 +302,24 @@ def refuse_unreachable(path: str) -> None:
 
 # ---- a run
 
-def say_left(speaker: recording.Speaker, run: recording.Run, options: Options, left: list) -> bool:
-    """What a program that goes on has of its counts; whether they are kept."""
-    if not left:
-        return False
-    begin = f"{options.words[0]} ended but left process {' '.join(map(str, left))} running"
+def say_left(speaker: recording.Speaker, options: Options, notes: Notes) -> None:
+    """Says of a program that goes on."""
+    begin = f"{options.words[0]} ended but left process {' '.join(map(str, notes.remaining()))} running"
     if options.live:
         speaker.say(f"{begin}, which {options.live} does not count: {FOREGROUND}, or count all requests, without {options.live}")
-        return False
-    read = f"profile_program --read {run.recorded}"
-    speaker.say(f"{begin}: counted is what was requested until now. R{FOREGROUND[1:]}, or read later: {read}")
-    return True
+    else:
+        speaker.say(f"{begin}: counted is what was requested until now. R{FOREGROUND[1:]}, or follow it as a service, by --follow")
 
 
 def run_program(options: Options, speaker: recording.Speaker, path: str, work: private_folder.Folder) -> int:
     program = options.words[0]
-    with recording.Library(recording.make_library("sizes", work), work) as library:
-        run = recording.Run(speaker, "SIZES", work, library, options.settings())
+    with recording.Run(speaker, work, options.wanted(), options.only, options.classes_line()) as run:
         notes = run.run(options.words, path)
-        say_uncounted(speaker, notes, options.live, program)
-        left = run.left()
-        if say_left(speaker, run, options, left):
-            work.keep = True
-            library.keep()
-        found = sound_counts(run.recorded, [options.form()])
-        if not found:
-            raise Refused(3, f"{program} overwrote what was recorded: nothing of it counts")
-        write_measured(options.measured, notes)
-        if not print_counts(speaker, notes, found, run.recorded, options.peak):
+        if notes.left:
+            say_left(speaker, options, notes)
+            run.library.keep()
+        if not print_run(options, speaker, run.found, program):
             recording.refuse_nothing(program, notes, "counted")
-        if left and options.live:
-            run.keep_library()
         if notes.untouched:
             whose = f"the last one in {notes.allocator}"
             speaker.say(f"{notes.untouched} processes with an allocator of their own, {whose}, are not counted")
@@ -361,6 +335,9 @@ def profile(words: list[str], speaker: recording.Speaker) -> int:
         return import_file(options, speaker)
     if options.read:
         return read_only(options, speaker)
+    if options.follow:
+        with private_folder.temporary_folder() as work:
+            return follow(options, speaker, work)
     if not options.words:
         return recording.print_usage(HELP)
     path = recording.find_program(options.words[0])

@@ -1,13 +1,11 @@
-"""What profile_program and trace_program share: the library that records, the run of a program with it, and its notes."""
+"""What profile_program and trace_program share: the library that is preloaded, its reader, and the run of a program with both."""
 
 import contextlib
 import errno
-import glob
 import mmap
 import os
 import re
 import shutil
-import stat
 import subprocess
 import sys
 import threading
@@ -23,10 +21,11 @@ from mte_scripts.recording.shims import SHIMS, compile_alone, sum_of
 from mte_scripts.running import Refused
 
 RECORDERS = os.path.join(texts.ROOT, "recorders")  # of a package
-# without -fno-builtin gcc makes a calloc of a malloc and a memset, also inside calloc
-FLAGS = ["-O2", "-fno-builtin", "-shared", "-fPIC", "-Wall"]
-VARIABLES = re.compile("(SIZES|TRACE)(_|$)")  # of the environment, which the libraries read
+# The library, and its reader. Without -fno-builtin gcc makes a calloc of a malloc and a memset, also inside calloc.
+FLAGS = {"stream": ["-O2", "-fno-builtin", "-shared", "-fPIC", "-Wall"], "follow": ["-O2", "-Wall"]}
+ENDINGS = {"stream": ".so", "follow": ""}
 WATCHED = 1  # a line on a terminal every so many seconds
+NO_NOTES = {3: "there is no room for what is recorded"}  # the reader's status, where it could not note it
 ANOTHER_PLACE = "set XDG_CACHE_HOME to another place"
 
 
@@ -73,27 +72,34 @@ def is_plain(path: str) -> bool:
     return not re.search(r"[:$\s]", path)
 
 
-# ---- the library
+# ---- the library and its reader
 
-def make_library(name: str, work: private_folder.Folder) -> str:
+def make(name: str, work: private_folder.Folder) -> str:
     """The path of shims/NAME.c compiled. A package brings it, for its own glibc or a later one. Else it stays in the cache, or in WORK if
     there is no cache that nobody else can change."""
     if texts.IS_PACKAGED and (path := packaged(name)):
         return path
     source = os.path.join(SHIMS, f"{name}.c")
-    file = f"{name}-{sum_of(FLAGS, [source])}.so"
+    file = f"{name}-{sum_of(FLAGS[name], [source])}{ENDINGS[name]}"
     with cache_or(work, file) as place:
-        return place.kept(file, lambda new: compile_library(source, new))
+        return place.kept(file, lambda new: compile_source(name, source, new))
 
 
 def packaged(name: str) -> "str | None":
-    path = os.path.realpath(os.path.join(RECORDERS, f"{name}.so"))
+    path = os.path.realpath(os.path.join(RECORDERS, f"{name}{ENDINGS[name]}"))
     try:
         with private_folder.closed(os.path.dirname(path)) as place:
-            good = place.has(os.path.basename(path)) and is_plain(path)
+            return path if place.has(os.path.basename(path)) and is_plain(path) and not tried(name, path) else None
     except (NotPrivate, OSError):
         return None
-    return path if good and not tried({"LD_PRELOAD": path})[1] else None
+
+
+def tried(name: str, path: str) -> bytes:
+    """What the loader says against it: the reader ends without a word where it gets none."""
+    small = shutil.which("cat", path=f"{os.defpath}:{os.environ.get('PATH', '')}") or sys.executable
+    words, more = ([path], {}) if name == "follow" else ([small, os.devnull], {"LD_PRELOAD": path, "MTE_STREAM": ""})
+    how: dict = {"stdin": subprocess.DEVNULL, "stdout": subprocess.PIPE, "stderr": subprocess.STDOUT, "env": {**os.environ, **more}}
+    return subprocess.run(words, **how).stdout
 
 
 def cache_or(work: private_folder.Folder, file: str) -> private_folder.Place:
@@ -106,30 +112,21 @@ def cache_or(work: private_folder.Folder, file: str) -> private_folder.Place:
     return private_folder.closed(work.path)
 
 
-def compile_library(source: str, to: str) -> None:
+def compile_source(name: str, source: str, to: str) -> None:
     compiler = os.environ.get("CC") or "cc"
     if not shutil.which(compiler):
         install = "install one, for example by `apt-get install gcc libc6-dev`, or set CC"
         raise Refused(3, f"there is no C compiler `{compiler}`: {install}")
-    words = [compiler, *FLAGS, source, "-o", to, "-pthread", "-ldl"]
-    compile_alone(words, f"{source} could not be compiled: it needs glibc, and room in {os.path.dirname(to)}")
-
-
-def tried(more: dict) -> tuple:
-    """What a small program prints with these variables, and its standard error."""
-    variables = {name: value for name, value in os.environ.items() if not VARIABLES.match(name)}
-    small = shutil.which("cat", path=f"{os.defpath}:{os.environ.get('PATH', '')}") or sys.executable
-    done = subprocess.run([small, os.devnull], env={**variables, **more}, stdin=subprocess.DEVNULL, stdout=subprocess.PIPE, stderr=subprocess.STDOUT)
-    return done.returncode, done.stdout.decode(errors="replace").strip()
+    compile_alone([compiler, *FLAGS[name], source, "-o", to, "-ldl"], f"{source} could not be compiled: it needs glibc, and room in {os.path.dirname(to)}")
 
 
 class Library:
     """The library and a name of it that the loader takes, in a folder of its own where there has to be one."""
 
-    def __init__(self, path: str, work: private_folder.Folder) -> None:
-        self.path, self.work = path, work
+    def __init__(self, work: private_folder.Folder) -> None:
+        self.path, self.work = make("stream", work), work
         self.link: "private_folder.Folder | None" = None
-        self.name = path if is_plain(path) else self.linked()
+        self.name = self.path if is_plain(self.path) else self.linked()
 
     def linked(self) -> str:
         for where in (self.work.path, "/tmp", "/var/tmp", "/dev/shm"):
@@ -196,6 +193,22 @@ def refuse_nothing(program: str, notes: Notes, done: str) -> NoReturn:
     raise Refused(3, f"{program} requested nothing from malloc; perhaps it has an allocator of its own inside")
 
 
+def refuse_spoiled(notes: Notes, program: str) -> None:
+    """Says why what there is of a record does not count."""
+    if notes.spoiled:
+        raise Refused(3, f"{program} overwrote what was recorded: nothing of it counts")
+    if notes.gaps:
+        raise Refused(3, f"{program} requested faster than could be followed on this machine: nothing of it counts")
+
+
+def say_lost(speaker: Speaker, notes: Notes) -> None:
+    """Says of calls that have no record, and of processes that have none."""
+    if notes.lost:
+        speaker.say(f"calls without a whole record: {notes.lost}; a signal's handler jumped out of them, or the program or a thread ended in them")
+    if reasons := notes.reasons():
+        speaker.say(f"some processes are not counted: {', '.join(reasons)}")
+
+
 def has_sanitizer(path: str) -> bool:
     with contextlib.suppress(OSError, ValueError), open(path, "rb") as file:
         with mmap.mmap(file.fileno(), 0, access=mmap.ACCESS_READ) as data:
@@ -203,74 +216,94 @@ def has_sanitizer(path: str) -> bool:
     return False
 
 
-class Run:
-    """The run of a program with a library, which records in the file `recorded`."""
+class Found:
+    """What a reader finds, in memory that it shares: its notes, and the texts after them."""
 
-    def __init__(self, speaker: Speaker, variable: str, work: private_folder.Folder, library: Library, settings: dict) -> None:
-        self.speaker, self.variable, self.work, self.library = speaker, variable, work, library
-        self.recorded = work.file(variable)
-        self.settings = settings
+    def __init__(self, descriptor: int) -> None:
+        self.descriptor = descriptor
+
+    def notes(self) -> Notes:
+        return Notes.of(os.pread(self.descriptor, PAGE, 0))
+
+    def texts(self) -> "tuple[bytes, bytes]":
+        """The profile, and what else was wanted."""
+        notes = self.notes()
+        with open(os.dup(self.descriptor), "rb") as file:
+            file.seek(PAGE)
+            return file.read(notes.profile), file.read(notes.text)
+
+
+class Run:
+    """The run of a program with the library, and what its reader finds. WANTED, ONLY and TABLE are the words of shims/follow.c."""
+
+    def __init__(self, speaker: Speaker, work: private_folder.Folder, wanted: str, only: "str | None" = None, table: str = "") -> None:
+        self.speaker, self.only = speaker, only
+        self.library, self.reader = Library(work), make("follow", work)
+        self.found = Found(os.memfd_create("mte_found", 0))
+        self.words = [wanted, only or "", table]
         self.status = 0
 
-    def environment(self, path: str) -> dict:
+    def environment(self, path: str) -> "tuple[dict, str]":
+        """That of the reader, which is the program's but for LD_PRELOAD; and that."""
         found = programs.environment()
-        for name, value in {**self.settings, "RECORDING_QUIET": "1", self.variable: self.recorded}.items():
-            found.pop(os.fsencode(name), None)
-            if value:
-                found[os.fsencode(name)] = os.fsencode(value)
-        found[b"LD_PRELOAD"] = b":".join(filter(None, (os.fsencode(self.library.name), found.get(b"LD_PRELOAD"))))
-        if has_sanitizer(path):  # gcc's wants to be the first library, and ends the program else
+        libraries = b":".join(filter(None, (os.fsencode(self.library.name), found.pop(b"LD_PRELOAD", None))))
+        if path and has_sanitizer(path):  # gcc's wants to be the first library, and ends the program else
             found[b"ASAN_OPTIONS"] = b":".join(filter(None, (found.get(b"ASAN_OPTIONS"), b"verify_asan_link_order=0")))
-        return found
+        return found, os.fsdecode(libraries)
 
-    def run(self, words: list, path: str) -> Notes:
-        """Runs the program to its end. An interrupt reaches it too; then what was recorded up to there counts."""
-        with watched(self.page):
-            self.status = ended(words, path, self.environment(path))
+    def follow(self, stream: str, path: str, words: "list[str]") -> int:
+        """Runs the reader to its end. An interrupt reaches the program too; then what was recorded up to there counts."""
+        variables, libraries = self.environment(path)
+        reader = [self.reader, str(self.found.descriptor), libraries, *self.words, stream, *([path, *words] if path else [])]
+        try:
+            return children.run(reader, stdout=2, close_fds=False, env=variables)
+        except OSError as error:
+            raise Refused(3, f"nothing can be recorded: {self.reader} can't be run: {error.strerror}") from None
+
+    def run(self, words: "list[str]", path: str) -> Notes:
+        """Runs the program to its end."""
+        with watched(self.found.notes):
+            status = self.follow("", path, words)
+            if self.found.notes().error == errno.ENOEXEC and begins(path) != b"\x7fELF":  # it has no line `#!`: a shell reads it
+                status = self.follow("", "/bin/sh", ["/bin/sh", path, *words[1:]])
+        notes = self.found.notes()
+        if notes.error:
+            raise Refused(3, f"{words[0]} can't be run: {os.strerror(notes.error)}")
+        self.status = notes.status
         if self.status:
             self.speaker.say(f"{words[0]} ended with status {self.status}")
-        page = self.page()
-        if not page:
-            self.refuse_no_record(words[0])
-        notes = Notes.of(page)
-        if notes.executed and not self.settings[f"{self.variable}_ONLY"]:
-            self.speaker.say(f"{words[0]} ran another program in its own place, without the recorder: what that requested is not counted")
+        self.refuse_unfollowed(notes, status, words[0])
+        if notes.executed and not self.only:
+            which = words[0] if notes.executed == 1 else f"{notes.executed} processes"
+            self.speaker.say(f"{which} ran another program in its own place, without the recorder: what that requested is not counted")
         return notes
 
-    def page(self) -> bytes:
-        """The first page of the record, or nothing. The program may have put a link or a pipe in its place."""
-        with contextlib.suppress(OSError), open(self.recorded, "rb", opener=private_folder.look_at) as file:
-            return file.read(PAGE) if stat.S_ISREG(os.fstat(file.fileno()).st_mode) else b""
-        return b""
+    def refuse_unfollowed(self, notes: Notes, status: int, word: str) -> None:
+        """Says why there is no record, where there is none."""
+        if status or not notes.version:
+            raise Refused(3, f"nothing can be recorded: {notes.why or NO_NOTES.get(status, 'the reader was ended')}")
+        refuse_spoiled(notes, word)
+        if notes.started:
+            return
+        if notes.refused[:] != [0] * len(notes.refused):
+            raise Refused(3, f"{word} can't be recorded: {', '.join(notes.reasons())}")
+        if self.only:
+            raise Refused(3, f"no process that could be recorded has the name {self.only}")
+        if why := tried("stream", self.library.name).decode(errors="replace").strip():
+            raise Refused(3, f"nothing can be recorded: {why}")
+        raise Refused(3, f"{word} can't be recorded: it is static or set-user-id, its C library is not this machine's glibc, or its memory is limited")
 
-    def refuse_no_record(self, word: str) -> None:
-        """Says why there is no record: the library itself is tried alone."""
-        alone = self.work.file("alone")
-        _, why = tried({self.variable: alone, "LD_PRELOAD": self.library.name})
-        if not os.path.exists(alone) or not os.path.getsize(alone):
-            raise Refused(3, f"nothing can be recorded: {why or f'the library can not be loaded from {self.library.path}'}")
-        if only := self.settings[f"{self.variable}_ONLY"]:
-            raise Refused(3, f"no process that could be recorded has the name {only}")
-        raise Refused(3, f"{word} can't be recorded: it is static or set-user-id, or its C library is not this machine's glibc")
+    def __enter__(self) -> "Run":
+        return self
 
-    def keep_library(self) -> None:
-        """For processes that are left, without what is recorded."""
-        with contextlib.suppress(OSError):
-            os.unlink(self.recorded)
-        self.library.keep()
-
-    def left(self) -> list:
-        """The processes that still have the record."""
-        found = having(self.recorded)
-        if found:
-            time.sleep(0.2)  # those that are about to end
-            found = having(self.recorded)
-        return found
+    def __exit__(self, *_: object) -> None:
+        os.close(self.found.descriptor)
+        self.library.__exit__()
 
 
 @contextlib.contextmanager
-def watched(page: "Callable[[], bytes]") -> "Iterator[None]":
-    """While the program runs, a line on a terminal says how far it is. PAGE() is the first page of the record."""
+def watched(notes: "Callable[[], Notes]") -> "Iterator[None]":
+    """While the program runs, a line on a terminal says how far it is, by the reader's notes."""
     if not os.isatty(2):
         yield
         return
@@ -278,9 +311,9 @@ def watched(page: "Callable[[], bytes]") -> "Iterator[None]":
 
     def watch() -> None:
         while not end.wait(WATCHED):
-            notes = Notes.of(page())
-            live = f", {notes.live / 2**20:,.1f} MiB live" if notes.requests else ""
-            line = f"{time.monotonic() - begin:,.0f} s, {notes.requests or notes.all:,} requests{live}"
+            seen = notes()
+            live = f", {seen.live / 2**20:,.1f} MiB live" if seen.live else ""
+            line = f"{time.monotonic() - begin:,.0f} s, {seen.requests:,} requests{live}"
             os.write(2, f"\r{line}\033[K\r".encode())
 
     watcher = threading.Thread(target=watch, daemon=True)
@@ -291,33 +324,6 @@ def watched(page: "Callable[[], bytes]") -> "Iterator[None]":
         end.set()
         watcher.join()
         os.write(2, b"\r\033[K")
-
-
-def ended(words: list, path: str, variables: dict) -> int:
-    """The status of the program, as a shell says it. Its standard output goes to standard error; all else is its own."""
-    status = children.run(words, start=started, path=path, variables=variables)
-    return status if status >= 0 else 128 - status
-
-
-def started(words: list, path: str, variables: dict) -> subprocess.Popen:
-    how: dict = {"stdout": 2, "close_fds": False, "env": variables}
-    try:
-        return subprocess.Popen(words, executable=path, **how)
-    except OSError as error:
-        if error.errno == errno.ENOEXEC and begins(path) != b"\x7fELF":  # it has no line `#!`: a shell reads it
-            return subprocess.Popen(["/bin/sh", path, *words[1:]], **how)
-        raise Refused(3, f"{words[0]} can't be run: {error.strerror}") from None
-
-
-def having(file: str) -> list:
-    """The processes that have the file mapped."""
-    name = os.fsencode(file)
-    found = []
-    for maps in glob.glob("/proc/[0-9]*/maps"):
-        with contextlib.suppress(OSError), open(maps, "rb") as lines:
-            if name in lines.read():
-                found.append(int(maps.split("/")[2]))
-    return sorted(found)
 
 
 def spoken(name: str, script: "Callable[[list[str], Speaker], int]") -> "Callable[[list[str]], int]":

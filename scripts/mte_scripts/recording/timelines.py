@@ -1,45 +1,24 @@
-"""The record of a run: in a file of counts, as shims/timeline.h writes it, which is a timeline or the history that it went on as; and what
-a timeline's text says of moments."""
+"""What a timeline's text says of moments."""
 
 import bisect
 import functools
 import itertools
-import operator
-import os
-import struct
 from array import array
 from collections import Counter
 from collections.abc import Callable, Iterator
-from typing import BinaryIO, NamedTuple, Optional
 
 from mte_scripts import texts
-from mte_scripts.checksum import ODD, WORD
-from mte_scripts.recording.counts import COUNTERS, Counts, named, weights
-from mte_scripts.recording.notes import PAGE, Mark
 
-FORM = 0x315A49534D4954
 FREED, SIZE = 1 << 15, (1 << 14) - 1  # the parts of an event
 PIECE = 1 << 20  # events
 CLASSES = texts.LARGEST_CLASS + 1
-WHOLE, REDUCED, BEING_REDUCED, NO_ROOM = range(4)  # what the file has of the run
 LARGE = texts.LARGEST_SIZE + 1
 MOST_TEXT = texts.MOST_INPUT - (1 << 20)  # in bytes: a command takes a table or a fit beside it
 
-FIRST = PAGE + 8 * COUNTERS  # where the record begins
-GROUPS = struct.calcsize(f"{CLASSES + 3}H")
-TOTALS = struct.calcsize(f"{2 + COUNTERS}Q{COUNTERS}i")
-FORM_OF_MOMENT = f"2Q{COUNTERS}i"
-MOMENT = struct.calcsize(FORM_OF_MOMENT)
 
-
-class Record(NamedTuple):
-    """What was recorded: the events, or a history in their place."""
-
-    mark: Mark
-    peak: dict  # the profile of the blocks live at the peak
-    events: array
-    history: Optional[texts.History]
-    class_bytes: int  # the classes of whose peaks the history has the moments are so wide; 0 where they are those of a table
+def named(by_counter: dict) -> dict:
+    """What counters have, by size, with `large` as the word."""
+    return {"large" if size == LARGE else size: found for size, found in by_counter.items() if found}
 
 
 @functools.lru_cache(maxsize=None)
@@ -57,11 +36,6 @@ def text_of(events: array) -> Iterator[bytes]:
         yield b"".join(map(event_lines().__getitem__, events[at : at + PIECE]))
 
 
-def weighed(by_counter: dict) -> int:
-    weight = weights()
-    return sum(times * weight[size] for size, times in by_counter.items()) % WORD
-
-
 def by_size(events: array) -> Counter:
     """What the events add to the live blocks."""
     found: Counter = Counter()
@@ -75,85 +49,30 @@ def requested(events: array) -> Counter:
     return Counter({code: times for code, times in Counter(events).items() if not code & FREED})
 
 
-def read(path: str) -> Optional[Record]:
-    """The record in a file of counts of this form; None where it was overwritten, or is written just now."""
-    with open(path, "rb") as file:
-        found = Counts(file.read(FIRST))
-        mark = found.notes.mark()
-        if not found.is_whole() or not found.notes.is_sealed(os.fstat(file.fileno()).st_size - PAGE):
-            return None
-        if not mark or mark.ended == BEING_REDUCED or not found.is_sound_snapshot(0, found.notes):
-            return None
-        if mark.ended == REDUCED:
-            return reduced(file, mark, found)
-        events = array("H", file.read(2 * mark.events))
-        if len(events) != mark.events or weighed(by_size(events)) != mark.sum:
-            return None
-        return Record(mark, found.profile(), events, None, 0)
-
-
-def reduced(file: BinaryIO, mark: Mark, found: Counts) -> Optional[Record]:
-    """The history of a record that goes on as one. In the last piece the moments are still to be found."""
-    groups = struct.unpack(f"{CLASSES + 3}H", file.read(GROUPS))
-    before, total, *rest = struct.unpack(f"{2 + COUNTERS}Q{COUNTERS}i", file.read(TOTALS))
-    requested, live = rest[:COUNTERS], Counter({size: times for size, times in enumerate(rest[COUNTERS:]) if times})
-    piece = array("H", file.read(2 * PIECE))[: max(mark.events - before, 0)]
-    if sum(map(operator.mul, requested, weights())) % WORD != total or (weighed(live) + weighed(by_size(piece))) % WORD != mark.sum:
-        return None
-    left = file.read()
-    kept = map(moment_of, struct.iter_unpack(FORM_OF_MOMENT, left[: len(left) // MOMENT * MOMENT]))
-    moments: dict = dict(filter(None, kept))
-    moments.update(peaks(piece, before, live, groups, list(moments.values())))
-    moments[found.notes.taken[0]] = found.profile()
-    width = groups.count(groups[CLASSES - 2])
-    is_even = all(groups[each] == each // width for each in range(2, CLASSES))
-    return Record(mark, found.profile(), piece, history_of(moments), 16 * width if is_even else 0)
-
-
-def moment_of(words: tuple) -> Optional[tuple]:
-    """The number of events before it, and the live blocks. None where there is none, or it was being written."""
-    at, total, *live = words
-    if not at:
-        return None
-    found = {size: times for size, times in enumerate(live) if times}
-    return (at, named(found)) if (weighed(found) + at * ODD) % WORD == total else None
-
-
 def need_of(size: int) -> int:
     """The least class that serves a size, in granules."""
     return max(-(-size // 16), 1) + 1
 
 
-def in_groups(groups: tuple, live: dict) -> Counter:
-    """How many blocks each group of classes has."""
-    found: Counter = Counter()
-    for size, times in live.items():
-        if size not in ("large", LARGE):
-            found[groups[need_of(size)]] += times
-    return found
-
-
-def peaks(piece: array, before: int, live: Counter, groups: tuple, moments: list) -> dict:
-    """The moments of a piece at which a group has more blocks than at any before, by the number of events; the same as mark_peaks of
-    shims/timeline.h, and what follows it there."""
+def peaks(events: array, groups: tuple) -> dict:
+    """The moments at which a group of classes has more blocks than at any before, by the number of events; the same as shims/kept.h has."""
     groups = tuple(group + 1 for group in groups)  # an event of a large block has 0
     most: Counter = Counter()
-    for each in moments:
-        most |= in_groups(groups, each)
-    now, at = in_groups(groups, live), {}
-    for place, group in enumerate(map(by_code(lambda size: groups[need_of(size)]).__getitem__, piece), 1):
+    now: Counter = Counter()
+    at: dict = {}
+    for place, group in enumerate(map(by_code(lambda size: groups[need_of(size)]).__getitem__, events), 1):
         if group < 0:
             now[-group] -= 1
         elif group:
             now[group] += 1
             if now[group] > most[group]:
                 most[group], at[group] = now[group], place
-    return {before + place: blocks for place, blocks in live_at(piece, sorted(at.values()), live).items()}
+    return live_at(events, sorted(at.values()))
 
 
-def live_at(events: array, moments: list, before: "dict | None" = None) -> dict:
-    """The live blocks at these ascending moments, each the number of events before it. BEFORE is what is live before them all."""
-    live: Counter = Counter(before)
+def live_at(events: array, moments: list) -> dict:
+    """The live blocks at these ascending moments, each the number of events before it."""
+    live: Counter = Counter()
     at, begin = {}, 0
     for moment in moments:
         live.update(by_size(events[begin:moment]))
@@ -226,7 +145,7 @@ def most_of(text: bytes, amount: Callable[[int], int]) -> tuple[int, int]:
 def peaks_of(text: bytes, classes: list) -> list:
     """The first moments at which each class of a table that serves the timeline has the most blocks, in the order of time."""
     groups = tuple(bisect.bisect_left(classes, need) for need in range(CLASSES + 1))
-    return sorted(peaks(parsed(text), 0, Counter(), groups, []))
+    return sorted(peaks(parsed(text), groups))
 
 
 def most_and_freed(text: bytes, classes: list) -> tuple[list[int], int]:

@@ -1,15 +1,12 @@
 """Runs a program and prints what it does with its allocator as a trace. `trace_program --help` says all."""
 
 import argparse
-import contextlib
-import os
 from collections.abc import Iterator
 
 from mte_scripts import private_folder
-from mte_scripts.checksum import crc
 from mte_scripts.formats import MOST_EVENTS
 from mte_scripts.recording import recording
-from mte_scripts.recording.notes import PAGE, Notes
+from mte_scripts.recording.notes import Notes
 from mte_scripts.running import Refused
 from mte_scripts.words import ProgramWords, between
 
@@ -37,36 +34,31 @@ Exit status:
   0  the trace is printed
   1  the trace is printed; the program itself ended with another status than 0, which standard error has
   2  the words are refused
-  3  there is no trace: no compiler, no such program, it requested nothing, or it overwrote the trace; or the trace could not be
-     written, or had no room to its end
+  3  there is no trace: no compiler, no such program, it requested nothing, or it counts for nothing; or the trace could not be
+     written
 
 Example:
   trace_program sort /etc/services > sort.trace
 """
 
-FORM = 0x3145434152544C
-MOST_TEXT = 32 * MOST_EVENTS  # bytes
-NO_ROOM = 2  # why a trace ended
 REASON = "So a replay is of a sample; for a whole one trace a smaller job, one program of it (--only), or its start (--first N)"
 
 
-def remarks(options: argparse.Namespace, notes: Notes, work: private_folder.Folder, left: "list[int]") -> "Iterator[str]":
+def remarks(options: argparse.Namespace, notes: Notes) -> "Iterator[str]":
     """What is to be said of the trace."""
     program = options.words[0]
-    if left:
-        still = " ".join(map(str, left))
+    if notes.left:
+        still = " ".join(map(str, notes.remaining()))
         yield f"{program} ended but left process {still} running, which is not traced: run it in the foreground (nginx: daemon off)"
     if notes.other_requests:
         others = f"(processes: {notes.others}, requests: {notes.other_requests})"
         yield f"one process is traced. Others requested too {others}: --only NAME traces another"
     if notes.foreign:
         yield recording.foreign(program, notes, "traced")
-    if notes.untouched or not notes.length:
+    if notes.untouched or not notes.text:
         recording.refuse_nothing(program, notes, "traced")
-    if notes.ended == 1:
+    if notes.is_cut:
         yield f"the trace is cut at {options.first or 'a million'} events"
-    if notes.ended == NO_ROOM:
-        yield f"the trace is cut after {notes.events} events: there was no more room in {os.path.dirname(work.path)}"
     yield variables(notes)
     if notes.wrong:
         frees = "one free is of no live block, and a replay refuses it"
@@ -83,36 +75,16 @@ def variables(notes: Notes) -> str:
     return f"{own}; the other {notes.shared} are never freed in the trace{sample}"
 
 
-def recorded(file: str, notes: Notes) -> "bytes | None":
-    """The trace, or None where it is not as the library wrote it. The notes get its length, its events and why it ended from the mark that is
-    whole."""
-    with contextlib.suppress(OSError), open(file, "rb", opener=private_folder.look_at) as found:
-        written, room = Notes.of(found.read(PAGE)), os.fstat(found.fileno()).st_size - PAGE
-        mark = written.mark()
-        if written.form == FORM and written.is_sealed(room) and mark and mark.length <= min(room, MOST_TEXT):
-            notes.length, notes.events, notes.ended = mark.length, mark.events, mark.ended
-            text = found.read(mark.length)
-            return text if len(text) == mark.length and crc(text) == mark.sum else None
-    return None
-
-
 def run_program(options: argparse.Namespace, speaker: recording.Speaker, path: str, work: private_folder.Folder) -> int:
-    with recording.Library(recording.make_library("trace", work), work) as library:
-        settings = {"TRACE_ONLY": options.only, "TRACE_FIRST": str(options.first) if options.first else None}
-        run = recording.Run(speaker, "TRACE", work, library, settings)
+    with recording.Run(speaker, work, f"trace {options.first or MOST_EVENTS}", options.only) as run:
         notes = run.run(options.words, path)
-        text = recorded(run.recorded, notes)
-        if text is None:
-            raise Refused(3, f"{options.words[0]} overwrote what was recorded: nothing of it is printed")
-        left = run.left()
-        for remark in remarks(options, notes, work, left):
+        if notes.left:
+            run.library.keep()
+        for remark in remarks(options, notes):
             speaker.say(remark)
-        try:
-            recording.write("the trace", text)
-        finally:
-            if left:
-                run.keep_library()
-    return 3 if notes.ended == NO_ROOM else 1 if run.status else 0
+        recording.say_lost(speaker, notes)
+        recording.write("the trace", run.found.texts()[1])
+    return 1 if run.status else 0
 
 
 def trace(words: list[str], speaker: recording.Speaker) -> int:

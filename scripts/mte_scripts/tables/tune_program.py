@@ -68,7 +68,6 @@ Example:
 """
 
 WIDTH, HEIGHT = 80, 24
-MEASURED = (("glibc", "glibc's malloc now"), ("resident", "the process now"))
 FILES = [
     ("program.profile", "what was counted"),
     ("tuned.sheet", "table, certificate"),
@@ -312,7 +311,8 @@ def recorded(timed: figures.OverTime) -> str:
 def over_time(found: figures.Figures, measured: dict[str, int]) -> list[str]:
     """The footprint of each table beside what the process takes now, and what is predicted of it."""
     rows = [(table.name, table.footprint, found.saved_footprint(table)) for table in (found.first, *found.rest) if table.footprint is not None]
-    rows += [(words, measured[name], None) for name, words in MEASURED if measured.get(name)]
+    if measured.get("resident"):
+        rows.append(("the process now", measured["resident"], None))
     width = max(len(name) for name, *_ in rows)
     lines = ["Footprint, the most memory of the classes over time:"]
     for name, taken_, saved in rows:

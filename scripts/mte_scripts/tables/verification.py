@@ -8,6 +8,7 @@ from typing import NamedTuple, Optional
 
 from mte_scripts import texts
 from mte_scripts.recording import programs
+from mte_scripts.recording.notes import PAGE, Notes
 from mte_scripts.running import Refused
 from mte_scripts.tables import scudo_map
 
@@ -68,7 +69,7 @@ def keep_input(to: str) -> bool:
 
 def build_runner(scudo: Place, to: str, work: str) -> None:
     """Compiles the small program that measures others."""
-    words = [scudo.compiler, "-x", "c", "-O1", os.path.join(texts.SCRIPTS, "shims", "peak.c"), "-o", to]
+    words = [scudo.compiler, "-x", "c", "-O1", os.path.join(texts.SCRIPTS, "shims", "follow.c"), "-o", to]
     compile_with(words, work, "what measures the program")
 
 
@@ -81,14 +82,15 @@ def compile_with(words: list, work: str, what: str) -> None:
 
 def peak(runner: str, words: list, path: str, library: Optional[str], given: Optional[str]) -> tuple[int, int]:
     """The status of one run, and its most resident memory in bytes. What the program prints is not kept."""
-    found = f"{runner}.found"
-    with open(given or os.devnull, "rb") as file:
+    found, variables = os.memfd_create("mte_found", 0), programs.environment()
+    libraries = b":".join(filter(None, (os.fsencode(library or ""), variables.pop(b"LD_PRELOAD", None))))
+    with open(given or os.devnull, "rb") as file, open(found, "rb") as noted:
         streams: dict = {"stdin": file if given else None, "stdout": subprocess.DEVNULL, "stderr": subprocess.DEVNULL}
-        done = subprocess.run([runner, found, library or "", path, *words], env=programs.environment(), close_fds=False, **streams)
-    if done.returncode:
+        done = subprocess.run([runner, str(found), os.fsdecode(libraries), "none", "", "", "", path, *words], env=variables, close_fds=False, **streams)
+        notes = Notes.of(noted.read(PAGE))
+    if done.returncode or notes.error:
         raise Refused(3, f"{words[0]} can't be run again")
-    status, size = read(found).split()
-    return int(status), 1024 * int(size)
+    return notes.status, notes.resident
 
 
 class Verified(NamedTuple):

@@ -88,7 +88,7 @@ def made_of_run(events: array, peak_at: int, wanted: str, snapshots: int, told: 
         return Imported("the timeline", timelines.text_of(events), texts.profile_text(peak), told)
     if wanted == found.TIMELINE:
         groups = tuple(range(timelines.CLASSES + 1))
-        moments = {**timelines.peaks(events, 0, Counter(), groups, []), peak_at: peak}
+        moments = {**timelines.peaks(events, groups), peak_at: peak}
         of = f"of the {len(moments)} moments at which each class of 16 bytes had the most blocks"
         told.append(f"the timeline would have more than {timelines.MOST_TEXT:,} bytes: a history is made in its place, {of}")
     else:

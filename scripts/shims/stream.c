@@ -1,0 +1,452 @@
+// Appends each call of malloc, free and the like to a stream. A library for LD_PRELOAD and glibc; scripts/profile_program and trace_program
+// build and use it.
+//
+// MTE_STREAM=FILE  the file that the reader made. Nothing is called for a record: no lock, no system call; there is no word in a block, and
+//                  nothing at the end. A request is put down after it has its block, a free before the block is given back: so the order
+//                  of the indices is one in which the calls could have come one after the other.
+//
+// Each call goes on to the function that it would have reached without the library, so a program with another allocator keeps that. A
+// process is left untouched where its allocator can't be followed, and the stream names the file that has it.
+#define _GNU_SOURCE
+#include <dlfcn.h>
+#include <elf.h>
+#include <errno.h>
+#include <fcntl.h>
+#include <limits.h>
+#include <link.h>
+#include <stdarg.h>
+#include <stddef.h>
+#include <stdio.h>
+#include <stdlib.h>
+#include <string.h>
+#include <sys/mman.h>
+#include <sys/prctl.h>
+#include <sys/stat.h>
+#include <sys/syscall.h>
+#include <unistd.h>
+#include "stream.h"
+#if __has_include(<sys/single_threaded.h>)
+#include <sys/single_threaded.h>
+#else
+#define __libc_single_threaded 0
+#endif
+
+extern void *__libc_malloc(size_t), *__libc_calloc(size_t, size_t), *__libc_realloc(void *, size_t), *__libc_memalign(size_t, size_t);
+extern void __libc_free(void *);
+
+// The functions that the calls go on to. Those of glibc serve only what finding them requests itself.
+static struct {
+  void *(*malloc)(size_t), *(*calloc)(size_t, size_t), *(*realloc)(void *, size_t);
+  void (*free)(void *);
+  void *(*memalign)(size_t, size_t), *(*aligned_alloc)(size_t, size_t), *(*valloc)(size_t), *(*pvalloc)(size_t);
+  int (*posix_memalign)(void **, size_t, size_t);
+  int (*execve)(const char *, char *const[], char *const[]), (*execvpe)(const char *, char *const[], char *const[]);
+  int (*fexecve)(int, char *const[], char *const[]), (*execv)(const char *, char *const[]), (*execvp)(const char *, char *const[]);
+} next = {.malloc = __libc_malloc, .calloc = __libc_calloc, .realloc = __libc_realloc, .free = __libc_free, .memalign = __libc_memalign};
+
+// At the first call, and not in a constructor, which others come before: a block stays with one allocator.
+static int found;
+#define FIND(function) (next.function = (__typeof__(next.function))dlsym(RTLD_NEXT, #function))
+static __attribute__((noinline, cold)) void find(void) {
+  found = 1;
+  FIND(execve), FIND(execvpe), FIND(fexecve), FIND(execv), FIND(execvp);
+  FIND(posix_memalign), FIND(aligned_alloc), FIND(memalign), FIND(valloc), FIND(pvalloc);
+  FIND(calloc), FIND(realloc), FIND(free), FIND(malloc);
+}
+#define TO(function) (*(__builtin_expect(!found, 0) ? find() : (void)0, &next.function))
+
+// Where this process writes. `here` is on a page that a forked child sees empty, however it is forked; a child of vfork shares the heap,
+// and so the ring. What comes before the file is mapped is early.
+enum { EARLY = 1 << 15 };
+enum { PATIENCE = 1 << 26 };  // turns, of some 100 ticks
+enum { UNSTARTED, STARTING, WRITES, OFF };
+struct place { struct ring *ring; uint64_t *records, size; int state; pid_t process; };
+static uint64_t early[EARLY];
+static struct ring early_ring;
+static struct place at_first = {&early_ring, early, EARLY, WRITES, 0}, *here = &at_first;
+
+static char file[PATH_MAX];  // as MTE_STREAM has it
+static int is_service;       // whether something else than the reader started the program
+static struct stream *stream;
+static struct stat status_of;  // of the file
+static uint64_t *mapped;     // in a forked child: the records of its parent
+static volatile int reached; // whether a call came to the library's malloc while it may not record
+static volatile int sealed;  // whether the process gave up system calls: a fork can't open the file
+
+static void refuse(int reason) { __atomic_fetch_add(&stream->refused[reason], 1, __ATOMIC_RELAXED); }
+
+// the process as the reader sees it: /proc is the reader's, also in a namespace of processes
+static pid_t own_process(void) {
+  char text[24];
+  ssize_t length = readlink("/proc/self", text, sizeof text - 1);
+  if (length <= 0) return getpid();
+  text[length] = 0;
+  return atoi(text);
+}
+
+// Takes the first ring that is free. On a disk it gets its room first: a write to a page that has none would end the program.
+static int take_ring(int opened) {
+  uint64_t process = own_process(), bytes = RING * 8;
+  for (uint64_t k = 0; k < stream->number && k < RINGS; k++) {
+    struct ring *ring = &stream->rings[k];
+    uint64_t none = 0;
+    if (ring->process || !__atomic_compare_exchange_n(&ring->process, &none, process, 0, __ATOMIC_ACQ_REL, __ATOMIC_RELAXED)) continue;
+    void *records = MAP_FAILED;
+    int has_room = !is_service || !fallocate(opened, 0, HEAD + k * bytes, bytes);
+    if (has_room) records = mmap(NULL, bytes, PROT_READ | PROT_WRITE, MAP_SHARED | MAP_NORESERVE, opened, HEAD + k * bytes);
+    if (records == MAP_FAILED) return refuse(NO_MEMORY), __atomic_store_n(&ring->process, 0, __ATOMIC_RELEASE), 0;
+    madvise(records, bytes, MADV_DONTDUMP);
+    strncpy(ring->name, program_invocation_short_name, sizeof ring->name - 1);
+    mapped = records, *here = (struct place){ring, records, RING, STARTING, getpid()};
+    __atomic_store_n(&ring->start, __atomic_add_fetch(&stream->turn, 1, __ATOMIC_ACQ_REL), __ATOMIC_RELEASE);
+    return 1;
+  }
+  return refuse(NO_RING), 0;
+}
+
+static void say(const char *what) {
+  char line[PATH_MAX + 256];
+  int length = snprintf(line, sizeof line, "MTE_STREAM=%s: %s; nothing is recorded\n", file, what);
+  if (is_service && write(STDERR_FILENO, line, length) < 0) return;
+  char *name = getenv("MTE_STREAM");
+  if (name) *name = 0;  // the processes that this one starts don't say it again
+}
+
+// Maps the table of the file that is open, if it is not mapped yet. Null, or why that can't be.
+static const char *map_stream(int opened) {
+  struct stat status;
+  if (fstat(opened, &status) || !S_ISREG(status.st_mode) || status.st_size <= HEAD) return "it is another file";
+  if (stream && (status.st_dev != status_of.st_dev || status.st_ino != status_of.st_ino)) return "it is another file";
+  if (stream) return is_service && stream->space != own_space() ? "its reader is elsewhere" : NULL;
+  // another user could cut it off, and so end the program
+  if (is_service && status.st_uid && status.st_uid != geteuid()) return "it is another user's file";
+  if (is_service && (status.st_mode & 022 || status.st_nlink > 1)) return "others can change it, or it has another name too";
+  struct stream *table = mmap(NULL, HEAD, PROT_READ | PROT_WRITE, MAP_SHARED, opened, 0);
+  if (table == MAP_FAILED) return "it can't be mapped";
+  const char *wrong = NULL;
+  if (table->form != FORM) wrong = "it is another file";
+  else if (is_service && table->space != own_space()) wrong = "its reader is in another namespace of processes: run it in this one";
+  if (wrong) munmap(table, HEAD);
+  else stream = table, status_of = status;
+  return wrong;
+}
+
+// At the start, and in a forked child. A call that comes meanwhile, from a handler or another thread, is not recorded.
+static void begin(void) {
+  int error = errno, unstarted = UNSTARTED, opened = -1, taken = 0;
+  if (!__atomic_compare_exchange_n(&here->state, &unstarted, STARTING, 0, __ATOMIC_ACQUIRE, __ATOMIC_RELAXED)) return;
+  if (stream && sealed) {
+    refuse(SEALED);
+  } else if ((opened = open(file, O_RDWR | O_CLOEXEC | O_NONBLOCK | O_NOCTTY | (is_service ? O_NOFOLLOW : 0))) < 0) {
+    if (stream) refuse(NO_FILE); else say(strerror(errno));
+  } else {
+    const char *wrong = map_stream(opened);
+    if (wrong && stream) refuse(NO_FILE); else if (wrong) say(wrong);
+    if (mapped) munmap(mapped, RING * 8), mapped = NULL;
+    taken = !wrong && !stream->closed && take_ring(opened);
+    close(opened);
+  }
+  __atomic_store_n(&here->state, taken ? WRITES : OFF, __ATOMIC_RELEASE);
+  errno = error;
+}
+
+// The reader is a ring behind: waits as long as it goes on, and at most some seconds for each step. Else the stream of this process ends.
+static __attribute__((noinline, cold)) int wait_for(struct ring *ring, uint64_t last, uint64_t size) {
+  uint64_t read = __atomic_load_n(&ring->read, __ATOMIC_ACQUIRE);
+  for (long turns = 0; last - read > size; turns++) {
+    for (int k = 0; k < 100; k++) __asm__ volatile("" : : : "memory");  // some time, without a call, a clock or a store
+    uint64_t now = __atomic_load_n(&ring->read, __ATOMIC_ACQUIRE);
+    if (now != read) read = now, turns = 0;
+    if (!stream || stream->closed || ring->overrun || turns > PATIENCE) {
+      if (stream) here->state = OFF;
+      return ring->overrun = 1, 0;
+    }
+  }
+  return 1;
+}
+
+// One instruction either way, so that a handler's records come before or after; the bus is locked only where there is another thread.
+static inline uint64_t add(uint64_t *to, uint64_t number) {
+#ifdef __x86_64__
+  if (__libc_single_threaded) {
+    __asm__ volatile("xaddq %0, %1" : "+r"(number), "+m"(*to) : : "memory");
+    return number;
+  }
+#endif
+  return __atomic_fetch_add(to, number, __ATOMIC_RELAXED);
+}
+
+// from the last: where the first one is there, all are
+#define RECORDS uint64_t one, uint64_t two, uint64_t three
+static inline void store(const struct place *place, uint64_t i, int number, RECORDS) {
+  uint64_t mask = place->size - 1;
+  if (number > 2) __atomic_store_n(&place->records[(i + 2) & mask], three, __ATOMIC_RELEASE);
+  if (number > 1) __atomic_store_n(&place->records[(i + 1) & mask], two, __ATOMIC_RELEASE);
+  __atomic_store_n(&place->records[i & mask], one, __ATOMIC_RELEASE);
+}
+
+static __attribute__((noinline, cold)) void put_late(const struct place *place, uint64_t i, int number, RECORDS) {
+  if (wait_for(place->ring, i + number, place->size)) store(place, i, number, one, two, three);
+}
+
+static __attribute__((noinline, cold)) void put_first(int number, RECORDS) {
+  reached = 1;
+  if (here->state == UNSTARTED) begin();
+  if (here->state == WRITES) put_late(here, add(&here->ring->next, number), number, one, two, three);
+}
+
+static inline void put(int number, RECORDS) {
+  const struct place *place = here;
+  if (__builtin_expect(place->state != WRITES, 0)) {
+    put_first(number, one, two, three);
+    return;
+  }
+  uint64_t i = add(&place->ring->next, number);
+  if (__builtin_expect(i + number - __atomic_load_n(&place->ring->read, __ATOMIC_ACQUIRE) > place->size, 0)) {
+    put_late(place, i, number, one, two, three);
+    return;
+  }
+  __builtin_prefetch(&place->records[(i + 64) & (place->size - 1)], 1);
+  store(place, i, number, one, two, three);
+}
+
+// Another allocator may call its own functions by their public names, also as the last thing that it does: that is no request of the
+// program.
+struct part { uintptr_t from, bytes; };
+static struct part allocator;  // another one's; empty for glibc's
+extern const char __ehdr_start[] __attribute__((visibility("hidden"))), _end[] __attribute__((visibility("hidden")));
+
+static inline int is_inner(void *caller) {
+  if (__builtin_expect(!allocator.bytes, 1)) return 0;
+  uintptr_t at = (uintptr_t)caller;
+  return at - allocator.from < allocator.bytes || at - (uintptr_t)__ehdr_start < (uintptr_t)(_end - __ehdr_start);
+}
+#define IS_INNER is_inner(__builtin_return_address(0))
+
+static inline uint64_t record(int kind, void *block, size_t size) {
+  return kind | (size <= LARGEST_SIZE ? size : LARGE) << 4 | (uintptr_t)block >> 3 << ADDRESS;
+}
+static inline uint64_t whole(size_t size) { return SIZE | (size >> 60 ? ~0ULL : size) << 4; }
+
+static inline void *request(int kind, void *block, size_t size) {
+  if (__builtin_expect(size <= LARGEST_SIZE, 1)) put(1, record(kind, block, size), 0, 0);
+  else put(2, record(kind, block, size), whole(size), 0);
+  return block;
+}
+
+void *malloc(size_t size) {
+  void *block = TO(malloc)(size);
+  return IS_INNER ? block : request(MALLOC, block, size);
+}
+
+void *calloc(size_t number, size_t each) {
+  size_t size;
+  if (__builtin_mul_overflow(number, each, &size)) size = -1;
+  void *block = TO(calloc)(number, each);
+  return IS_INNER ? block : request(CALLOC, block, size);
+}
+
+void free(void *block) {
+  if (block && !IS_INNER) put(1, record(FREE, block, 0), 0, 0);
+  TO(free)(block);
+}
+
+// Of a realloc the reader sees before it that the block may move, and after it where it is. One to 0 bytes is a free.
+void *realloc(void *block, size_t size) {
+  if (IS_INNER) return TO(realloc)(block, size);
+  if (!block) return request(MALLOC, TO(realloc)(block, size), size);
+  if (!size) {
+    put(1, record(FREE, block, 0), 0, 0);
+    void *other = TO(realloc)(block, size);
+    return other ? request(MALLOC, other, size) : other;
+  }
+  if (size <= LARGEST_SIZE) put(1, record(MOVES, block, size), 0, 0);
+  else put(2, record(MOVES, block, size), whole(size), 0);
+  void *moved = TO(realloc)(block, size);
+  if (size <= LARGEST_SIZE) put(2, record(REALLOC, moved, size), record(OLD, block, 0), 0);
+  else put(3, record(REALLOC, moved, size), record(OLD, block, 0), whole(size));
+  return moved;
+}
+
+// an aligned request counts as the bytes that an allocator with 16-byte granules sets aside for it
+static inline void *aligned(size_t alignment, size_t size, void *block, int inner) {
+  size_t all = size;
+  if (alignment > 16 && __builtin_add_overflow(size, alignment - 16, &all)) all = -1;
+  return inner ? block : request(ALIGNED, block, all);
+}
+
+void *memalign(size_t alignment, size_t size) { return aligned(alignment, size, TO(memalign)(alignment, size), IS_INNER); }
+void *aligned_alloc(size_t alignment, size_t size) { return aligned(alignment, size, TO(aligned_alloc)(alignment, size), IS_INNER); }
+void *valloc(size_t size) { return aligned(getpagesize(), size, TO(valloc)(size), IS_INNER); }
+
+void *pvalloc(size_t size) {
+  size_t page = getpagesize(), all = size <= -page ? (size + page - 1) / page * page : size;
+  return aligned(page, all, TO(pvalloc)(size), IS_INNER);
+}
+
+int posix_memalign(void **result, size_t alignment, size_t size) {
+  int refused = TO(posix_memalign)(result, alignment, size);
+  if (refused != EINVAL) aligned(alignment, size, refused ? NULL : *result, IS_INNER);
+  return refused;
+}
+
+// A program that runs next in the place of this process takes a ring of its own, where it has the library.
+static int note_program(void) { return here->state == WRITES && here->process == getpid() ? here->ring->executed = 1 : 0; }
+
+#define EXECUTES(name, parameters, words) \
+  int name parameters { \
+    int noted = note_program(), status = TO(name) words; \
+    if (noted) here->ring->executed = 0; \
+    return status; \
+  }
+EXECUTES(execve, (const char *path, char *const words[], char *const variables[]), (path, words, variables))
+EXECUTES(execvpe, (const char *name, char *const words[], char *const variables[]), (name, words, variables))
+EXECUTES(fexecve, (int opened, char *const words[], char *const variables[]), (opened, words, variables))
+EXECUTES(execv, (const char *path, char *const words[]), (path, words))
+EXECUTES(execvp, (const char *name, char *const words[]), (name, words))
+
+#define WORDS \
+  va_list more; \
+  size_t number = 1; \
+  va_start(more, word); \
+  while (va_arg(more, char *)) number++; \
+  va_end(more); \
+  char *words[number + 1]; \
+  words[0] = (char *)word; \
+  va_start(more, word); \
+  for (size_t i = 1; i <= number; i++) words[i] = va_arg(more, char *);
+
+int execl(const char *path, const char *word, ...) { WORDS return va_end(more), execv(path, words); }
+int execlp(const char *name, const char *word, ...) { WORDS return va_end(more), execvp(name, words); }
+
+int execle(const char *path, const char *word, ...) {
+  WORDS
+  char *const *variables = va_arg(more, char *const *);
+  return va_end(more), execve(path, words, variables);
+}
+
+// A process may give up system calls: from then on none of its forks may make one for us. On x86-64 that is seen of `syscall` too, which is
+// here as glibc has it: it can't go on to that by a frame of its own, since some calls come back twice, or on another stack.
+int prctl(int option, ...) {
+  va_list more;
+  va_start(more, option);
+  unsigned long words[4];
+  for (int i = 0; i < 4; i++) words[i] = va_arg(more, unsigned long);
+  va_end(more);
+  if (option == PR_SET_SECCOMP) sealed = 1;
+  return syscall(SYS_prctl, option, words[0], words[1], words[2], words[3]);
+}
+#ifdef __x86_64__
+__asm__(".globl syscall\n.type syscall, @function\nsyscall:\n"
+        "  cmpl $317, %edi\n  jne 1f\n  movl $1, sealed(%rip)\n"  // seccomp
+        "1:  movq %rdi, %rax\n  movq %rsi, %rdi\n  movq %rdx, %rsi\n  movq %rcx, %rdx\n  movq %r8, %r10\n  movq %r9, %r8\n"
+        "  movq 8(%rsp), %r9\n  syscall\n  cmpq $-4095, %rax\n  jae 2f\n  ret\n"
+        "2:  negl %eax\n  pushq %rax\n  call __errno_location@PLT\n  popq %rcx\n  movl %ecx, (%rax)\n  movq $-1, %rax\n  ret\n"
+        ".size syscall, . - syscall\n");
+#endif
+
+// ---- whether the allocator can be followed
+
+static const char *file_of(void *function) {
+  Dl_info info;
+  int known = dladdr(function, &info) && info.dli_fname && *info.dli_fname;
+  return known && strcmp(info.dli_fname, program_invocation_name) ? info.dli_fname : "/proc/self/exe";
+}
+
+static int is_same(void *one, void *other) { return !strcmp(file_of(one), file_of(other)); }
+
+// Other calls of an allocator that get or free blocks. Whoever makes them is not seen, so neither are his requests. The last five are of
+// the C library, which calls malloc in them; an allocator may have them too.
+static int is_other_call(const char *name) {
+  static const char *const prefixes[] = {"_Zn", "_Zd", "je_", "tc_", "mi_", "smallocx", "free_"};
+  static const char *const names[] = {"mallocx", "rallocx", "xallocx", "dallocx", "sdallocx", "cfree",
+                                     "strdup",  "strndup", "realpath", "reallocarray", "reallocf"};
+  for (size_t i = 0; i < sizeof prefixes / sizeof *prefixes; i++)
+    if (!strncmp(name, prefixes[i], strlen(prefixes[i]))) return 1;
+  for (size_t i = 0; i < sizeof names / sizeof *names; i++)
+    if (!strcmp(name, names[i])) return 1;
+  return 0;
+}
+
+// whether an object that is loaded, other than the allocator's own, calls the allocator in a way that is not seen; of that, its place
+static int calls_otherwise(struct dl_phdr_info *object, size_t size, void *of) {
+  (void)size;
+  const ElfW(Dyn) *dynamic = NULL;
+  struct part part = {object->dlpi_addr, 0};
+  for (int i = 0; i < object->dlpi_phnum; i++) {
+    const ElfW(Phdr) *header = &object->dlpi_phdr[i];
+    if (header->p_type == PT_DYNAMIC) dynamic = (const void *)(object->dlpi_addr + header->p_vaddr);
+    if (header->p_type == PT_LOAD) part.bytes = header->p_vaddr + header->p_memsz;
+  }
+  if ((uintptr_t)of - part.from < part.bytes) return allocator = part, 0;
+  if (!dynamic || !strcmp(object->dlpi_name, "linux-vdso.so.1")) return 0;
+  const ElfW(Sym) *symbols = NULL;
+  const char *strings = NULL;
+  const ElfW(Rela) *bound[2] = {NULL, NULL};  // the relocations name the symbols that the object uses
+  size_t bytes[2] = {0, 0};
+  for (; dynamic->d_tag != DT_NULL; dynamic++) {
+    uintptr_t bias = dynamic->d_un.d_ptr < object->dlpi_addr ? object->dlpi_addr : 0;
+    const void *at = (const void *)(dynamic->d_un.d_ptr + bias);
+    if (dynamic->d_tag == DT_SYMTAB) symbols = at;
+    if (dynamic->d_tag == DT_STRTAB) strings = at;
+    if (dynamic->d_tag == DT_RELA) bound[0] = at;
+    if (dynamic->d_tag == DT_RELASZ) bytes[0] = dynamic->d_un.d_val;
+    if (dynamic->d_tag == DT_JMPREL) bound[1] = at;
+    if (dynamic->d_tag == DT_PLTRELSZ) bytes[1] = dynamic->d_un.d_val;
+  }
+  for (int k = 0; symbols && strings && k < 2; k++)
+    for (size_t i = 0; bound[k] && i < bytes[k] / sizeof(ElfW(Rela)); i++) {
+      const ElfW(Sym) *symbol = symbols + ELF64_R_SYM(bound[k][i].r_info);
+      if (symbol->st_shndx != SHN_UNDEF || !is_other_call(strings + symbol->st_name)) continue;
+      void *other = dlsym(RTLD_NEXT, strings + symbol->st_name);
+      if (other && is_same(other, of)) return 1;
+    }
+  return 0;
+}
+
+// Whether the program's malloc is the library's: of two, the loader takes the first. A program at a fixed place may have a stub of its own,
+// which leads to the one that it lacks; where that is tells a call.
+static int is_reached(void *bound) {
+  Dl_info info;
+  const ElfW(Sym) *symbol = NULL;
+  if (is_same(bound, (void *)begin)) return 1;
+  if (!dladdr1(bound, &info, (void **)&symbol, RTLD_DL_SYMENT) || !symbol || symbol->st_shndx != SHN_UNDEF) return 0;
+  reached = 0;
+  void *block = ((void *(*)(size_t))bound)(1);
+  if (reached) next.free(block);
+  return reached;
+}
+
+// Whether the allocator can be followed; notes another one than glibc's.
+static int can_follow(void) {
+  void *libc = dlsym(RTLD_NEXT, "gnu_get_libc_version"), *bound = dlsym(RTLD_DEFAULT, "malloc"), *from = (void *)next.malloc;
+  int is_ours = is_reached(bound);
+  if (is_ours && libc && is_same(libc, from)) return 1;
+  if (!is_ours) from = bound;
+  int is_whole = is_same(from, (void *)next.free) && is_same(from, (void *)next.realloc) && is_same(from, (void *)next.calloc);
+  int follows = is_ours && is_whole && !dl_iterate_phdr(calls_otherwise, from);
+  char path[PATH_MAX];
+  snprintf(stream->allocator, NAME, "%.*s", NAME - 1, realpath(file_of(from), path) ? path : file_of(from));
+  __atomic_fetch_add(follows ? &stream->foreign : &stream->untouched, 1, __ATOMIC_RELAXED);
+  return follows;
+}
+
+__attribute__((constructor)) static void start(void) {
+  const char *name = getenv("MTE_STREAM");
+  if (!found) find();
+  at_first.state = OFF;
+  if (!name || !*name || strlen(name) >= sizeof file) return;
+  strcpy(file, name), is_service = strncmp(file, "/proc/", 6) != 0;
+  struct place *own = mmap(NULL, PAGE, PROT_READ | PROT_WRITE, MAP_PRIVATE | MAP_ANONYMOUS, -1, 0);
+  if (own == MAP_FAILED || madvise(own, PAGE, MADV_WIPEONFORK)) return;
+  here = own;
+  begin();
+  int writes = own->state == WRITES;
+  own->state = OFF;
+  if (!writes || !can_follow()) {
+    here = &at_first;  // in its forks too
+    return;
+  }
+  own->ring->overrun = early_ring.overrun, own->state = WRITES;
+  for (uint64_t i = 0; i < early_ring.next && i < EARLY; i++) put(1, early[i], 0, 0);
+}
