@@ -1,8 +1,7 @@
 -- How the program ends, by what its parts have done.
 use Rattle.std.proofs.Common.{◌≡◌, ◌∙◌, ◌≤◌, ◌<◌, ◌+◌, ◌⊎◌, ◌↔◌, inl, inr, ℕ, Bool, MatchBool, true, false, List, [], ◌++◌, Result, Ok, Err, length, ap, arith, refl, subst, sym}
 use Rattle.byte_streams.specs.Streams.{SinkState, SourceState}
-use Rattle.byte_streams.specs.Transfer.{HasTaken, HasWritten, most_input}
-use Rattle.byte_streams.specs.declared.streams.Failure.{Failure}
+use Rattle.byte_streams.specs.Transfer.{HasTaken, most_input}
 use Rattle.clap.specs.Words.{kind_of}
 use Rattle.clap.specs.declared.error.Error.{Error}
 use Rattle.command_words.specs.declared.refusal.Refusal.{Refusal}
@@ -23,10 +22,6 @@ use Rattle.mte_tool.specs.declared.end.End.TheVariants.{Shown, Refused, Ended}
 use Rattle.tool_call.specs.declared.call.Call.{Call}
 
 -- ---- what was told
-
-pub written_is_told : (text : List ℕ) (old new : SinkState) (r : Result (Unit {0}) Failure) → HasWritten text old new r → Tells text old new
-written_is_told text old new (Ok done) has = inl has.0.all
-written_is_told text old new (Err failure) has = inr (omega (arith, has.4))
 
 told_in_all : (text : List ℕ) (old new : SinkState) → Tells text old new → WasTold new text
 told_in_all text old new (inl all) = inl (old.written, all)
@@ -115,12 +110,6 @@ run_of_call means refused call s s' state sink sink' first errors result new is 
   write_fault = fault_is_end result (Err WriteFault) (state sink).failed (state sink').failed new.no_write_failed runs.write_fault;
   ends = ends_by means refused call s s' state sink sink' errors result new.given new.written is runs told;
 }
-
-pub run_done : {W : Type 0} (means : Call → Type 0) (refused : Refusal → Type 0) (call : Call) (s s' : SourceState) (state : W → SinkState) (sink sink' : W)
-    (first errors : SinkState) (status : Status) → AreNew s (state sink) first → means call
-    → Runs (answers_of call) s s' state sink sink' (Ok status) → HasRun means refused s' (state sink') errors (Ended (Ok status))
-run_done means refused call s s' state sink sink' first errors status new is runs =
-    run_of_call means refused call s s' state sink sink' first errors (Ok status) new is runs (λ fault e. absurd cc)
 
 fault_of : Result Status ToolFault → ToolFault
 fault_of (Ok status) = OutOfMemory

@@ -6,8 +6,6 @@ use Rattle.command_words.specs.Words.{AreRefused, Mean}
 use Rattle.command_words.specs.declared.refusal.Refusal.{Refusal}
 use Rattle.mte_engine.specs.Calls.{answers_of}
 use Rattle.mte_engine.specs.Outcome.{Runs}
-use Rattle.mte_engine.specs.declared.engine.Status.{Status}
-use Rattle.mte_engine.specs.declared.fault.ToolFault.{ToolFault}
 use Rattle.mte_tool.specs.Calls.{MatchEnd}
 use Rattle.mte_tool.specs.declared.running.CallEnd.{CallEnd}
 use Rattle.mte_tool.specs.declared.running.CallEnd.TheVariants.{Done, Failed, Refused}

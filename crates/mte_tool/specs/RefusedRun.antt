@@ -1,5 +1,5 @@
 -- How the program ends where no call runs, and what it writes then.
-use Rattle.std.specs.Prelude.{◌≡◌, ◌⊎◌, ◌+◌, ◌<◌, ℕ, List, ◌++◌, MatchBool, Err, codes}
+use Rattle.std.specs.Prelude.{◌≡◌, ◌⊎◌, ◌+◌, ℕ, List, ◌++◌, MatchBool, Err, codes}
 use Rattle.byte_streams.specs.Streams.{SinkState}
 use Rattle.byte_streams.specs.Transfer.{HasTaken}
 use Rattle.clap.specs.Words.{kind_of}

@@ -10,7 +10,7 @@ use Rattle.mte_engine.specs.Calls.{answers_of}
 use Rattle.mte_engine.specs.Outcome.{Answer, AnswersInput}
 use Rattle.command_words.specs.declared.refusal.Refusal.{Refusal}
 use Rattle.mte_tool.specs.Exit.{AsksForText, IsMistake}
-use Rattle.mte_tool.specs.Told.{IsFaultText, fault_line}
+use Rattle.mte_tool.specs.Told.{IsFaultText}
 use Rattle.mte_tool.specs.declared.end.End.{End}
 use Rattle.mte_tool.specs.declared.end.End.TheVariants.{Shown, Refused, Ended}
 use Rattle.tool_call.specs.declared.call.Call.{Call}

@@ -22,7 +22,7 @@ pub(crate) const FORCED: &[u8] = b"forced";
 /// The first word of each line with a row.
 pub(crate) const ROW: &[u8] = b"row";
 
-// the only class that is forced
+/// The only class that is forced, in granules.
 pub(crate) const FORCED_CLASS: u64 = LARGEST_CLASS as u64;
 
 // no table has more classes than this
