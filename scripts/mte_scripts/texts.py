@@ -479,9 +479,11 @@ def joined(first: "str | bytes", second: "str | bytes", name: str = "the first t
     if len(lines) < 2:
         parse_class_line(lines[0] if lines else None, name)
     elif not CERTIFICATE.fullmatch(b"".join(line + b"\n" for line in lines)):
-        parse = parse_fit if any(line.startswith(b"footprint ") for line in lines) else parse_sheet
+        kind, parse = ("fit", parse_fit) if any(line.startswith(b"footprint ") for line in lines) else ("sheet", parse_sheet)
         parse(b"\n".join(lines), name)
-        raise Refused(2, f"{name}: its lines are not in the order of a sheet or a fit")
+        places = [SHEET_WORDS.index(line.split(b" ", 1)[0]) for line in lines]
+        at = next((k for k in range(1, len(lines)) if places[k] < places[k - 1] or places[k] == places[k - 1] and lines[k][:4] != b"row "), 0)
+        raise Refused(2, f"{name}: line {at + 1}: no {kind} has this line here")
     if second.split(b"\n", 1)[0].split(b" ", 1)[0] in (b"row", b"moments"):
         raise Refused(2, f"what comes after {name} begins with a line of a sheet: {shown(lines_of(second)[0])}")
     return b"".join(line + b"\n" for line in lines) + second

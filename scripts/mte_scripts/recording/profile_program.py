@@ -77,8 +77,8 @@ says which forks can't be followed: after a chroot, under seccomp, or with an ad
 of a program that overwrites the stream, or requests faster than the machine can follow.
 
 For a service that something else starts: run `profile_program --follow STREAM` as the service's user, with what is to be counted.
-STREAM is a file that does not exist yet, best in /run or /dev/shm, of which the disk gives 1 MB for each process. Start the service
-with LD_PRELOAD set to the path that --library DIR prints, and MTE_STREAM to STREAM's. Meanwhile --read STREAM prints what is there.
+STREAM is a new file in /run or /dev/shm, where it takes 1 MB for each process; a disk will do. Start the service with LD_PRELOAD
+set to the path that --library DIR prints, and MTE_STREAM to STREAM's. Meanwhile --read STREAM prints what is there.
 
 --import takes these formats, packed by gzip or zstd or not:
 {importing.HELP}
