@@ -444,7 +444,8 @@ def parse_fit(text: "str | bytes", name: str = "the fit") -> Fit:
     if lines and (match := re.fullmatch(rb"moments((?: (?:0|[1-9][0-9]{0,9}))+)", lines[-1])):
         moments = [int(at) for at in match[1].split()]
         text = b"\n".join(lines[:-1])
-    return Fit(*parts_of(text, name, "fit", b"footprint"), moments)
+    classes, limit, step, forced, footprint, rows = parts_of(text, name, "fit", b"footprint")
+    return Fit(classes, limit, step, forced, footprint, rows, moments)
 
 
 def forced_classes(certificate: "Sheet | Fit") -> "tuple[int, ...]":

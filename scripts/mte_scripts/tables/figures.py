@@ -161,10 +161,10 @@ class Figures:
         moments of its fit."""
         words = options(texts.MOST_CLASSES, self.judged[0].step, bool(self.judged[0].forced))
         if self.objective == "waste":
-            found = texts.parse_sheet(run(["tune", *words], profile_text(self.profile))[1])
+            rows = texts.parse_sheet(run(["tune", *words], profile_text(self.profile))[1]).rows
         else:
-            found = texts.parse_fit(run(["fit", *words], texts.history_text(self.timed.history))[1])
-        return [row[0] if row else 0 for row in found.rows]
+            rows = texts.parse_fit(run(["fit", *words], texts.history_text(self.timed.history))[1]).rows
+        return [row[0] if row else 0 for row in rows]
 
     def cost(self, table: Table) -> "int | None":
         """The waste or the footprint of a table, None where it does not serve all sizes."""
