@@ -31,7 +31,7 @@ PROMISES = {
         [("mte_engine", "law_one_answer"), *(("class_tuner", name) for name in ("fill_rows", "fill_places", "tune", "fit", "fit_over"))],
     ),
 }
-PROGRAM = {"program": ("The whole program, on its own streams", [("mte_tool", "program.run")])}
+PROGRAM = {"program": ("The whole program, on its own streams", [("mte_tool", "program.run"), ("mte_tool", "laws.law_exit_status")])}
 TOPICS: dict = {**COMMANDS, **PROMISES, **PROGRAM}
 # of the promise that no definition carries
 NO_CONTRACT = "The prover demands it of every function, with or without a contract; it cites no definition. docs/PROOFS.md says more."
