@@ -483,7 +483,8 @@ def joined(first: "str | bytes", second: "str | bytes", name: str = "the first t
         kind, parse = ("fit", parse_fit) if any(line.startswith(b"footprint ") for line in lines) else ("sheet", parse_sheet)
         parse(b"\n".join(lines), name)
         places = [SHEET_WORDS.index(line.split(b" ", 1)[0]) for line in lines]
-        at = next((k for k in range(1, len(lines)) if places[k] < places[k - 1] or places[k] == places[k - 1] and lines[k][:4] != b"row "), 0)
+        rows = SHEET_WORDS.index(b"row")
+        at = next((k for k in range(1, len(lines)) if places[k] < places[k - 1] or places[k] == places[k - 1] != rows), 0)
         raise Refused(2, f"{name}: line {at + 1}: no {kind} has this line here")
     if second.split(b"\n", 1)[0].split(b" ", 1)[0] in (b"row", b"moments"):
         raise Refused(2, f"what comes after {name} begins with a line of a sheet: {shown(lines_of(second)[0])}")
