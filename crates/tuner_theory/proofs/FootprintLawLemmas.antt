@@ -192,7 +192,7 @@ pub snapshot_more : (snapshot : List ℕ) (snapshots : List (List ℕ)) (classes
 snapshot_more snapshot snapshots classes =
     sum-more _ _ classes (λ class. mul-le-mul_left (16 * class) (le-max_right (blocks classes class snapshot) _))
 
-counts-more : (f m : List ℕ) → AllZip (λ a b. a ≤ b) f m → (length f ≡ length m) × ((n : ℕ) → slice_index f n ≤ slice_index m n)
+pub counts-more : (f m : List ℕ) → AllZip (λ a b. a ≤ b) f m → (length f ≡ length m) × ((n : ℕ) → slice_index f n ≤ slice_index m n)
 counts-more [] [] each = (refl, λ n. omega arith)
 counts-more [] (y ∷ ys) each = absurd each
 counts-more (x ∷ xs) [] each = absurd each
@@ -202,7 +202,7 @@ counts-more (x ∷ xs) (y ∷ ys) each = let later = counts-more xs ys each.1 in
     go later zero = each.0
     go later (suc n) = later n
 
-blocks-more : (classes : List ℕ) (class : ℕ) (f m : List ℕ) → AllZip (λ a b. a ≤ b) f m → blocks classes class f ≤ blocks classes class m
+pub blocks-more : (classes : List ℕ) (class : ℕ) (f m : List ℕ) → AllZip (λ a b. a ≤ b) f m → blocks classes class f ≤ blocks classes class m
 blocks-more classes class f m each = grind (arith, counts-more, sum_at_most)
 
 most-more : (classes : List ℕ) (class : ℕ) (fewer more : List (List ℕ)) → AllZip (λ f m. AllZip (λ a b. a ≤ b) f m) fewer more

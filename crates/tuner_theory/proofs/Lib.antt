@@ -26,3 +26,4 @@ pub mod TimelineCanonical
 pub mod TimelineSteps
 pub mod Timelines
 pub mod TunedTable
+pub mod Windows

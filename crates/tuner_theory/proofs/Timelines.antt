@@ -132,11 +132,11 @@ serves-served forced events numbers classes some all n counted = elim (served-ca
 
 -- ---- fits
 
-pub fit_bounds_timeline : (events : List SizeEvent) (numbers : List ℕ) (fit : Sheet) (other : List ℕ) → IsTimeline events
-    → AreMoments events numbers → IsLegalTable 1 fit.table → IsFitVerdict (history_at events numbers) fit Optimal
+pub fit_bounds_run : (events : List SizeEvent) (numbers : List ℕ) (fit : Sheet) (other : List ℕ) → AreMoments events numbers
+    → AreSnapshots (history_at events numbers) → IsLegalTable 1 fit.table → IsFitVerdict (history_at events numbers) fit Optimal
     → IsCandidate (served fit.forced (peaks (moments events))) fit.step fit.limit other → fit.cost ≤ footprint_over events other
-fit_bounds_timeline events numbers fit other timeline are legal meets candidate =
-    let best = optimal_fit_is_least (history_at events numbers) fit (moments_are_snapshots events numbers timeline are) legal meets in
+fit_bounds_run events numbers fit other are snapshots legal meets candidate =
+    let best = optimal_fit_is_least (history_at events numbers) fit snapshots legal meets in
     let says : fit.cost ≡ footprint_of (history_at events numbers) fit.table = meets WasteWrong in
     omega (
       arith,
@@ -144,6 +144,12 @@ fit_bounds_timeline events numbers fit other timeline are legal meets candidate 
       best.least other (candidate-before fit.forced events numbers fit.step fit.limit other are candidate),
       some_moments_take_less events numbers other are,
     )
+
+pub fit_bounds_timeline : (events : List SizeEvent) (numbers : List ℕ) (fit : Sheet) (other : List ℕ) → IsTimeline events
+    → AreMoments events numbers → IsLegalTable 1 fit.table → IsFitVerdict (history_at events numbers) fit Optimal
+    → IsCandidate (served fit.forced (peaks (moments events))) fit.step fit.limit other → fit.cost ≤ footprint_over events other
+fit_bounds_timeline events numbers fit other timeline are =
+    fit_bounds_run events numbers fit other are (moments_are_snapshots events numbers timeline are)
 
 pub least_over_timeline : (events : List SizeEvent) (numbers : List ℕ) (fit : Sheet) → IsTimeline events → AreMoments events numbers
     → IsLegalTable 1 fit.table → IsFitVerdict (history_at events numbers) fit Optimal → Serves (peaks (moments events)) fit.table

@@ -17,3 +17,4 @@ pub mod Spans
 pub mod Timelines
 pub mod Tuned
 pub mod Waste
+pub mod Windows

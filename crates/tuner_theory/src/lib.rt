@@ -10,6 +10,7 @@ mod most_snapshots;
 mod size_event;
 pub mod timeline_laws;
 mod verdict;
+pub mod window_laws;
 
 pub use greatest_count::GREATEST_COUNT;
 pub use most_snapshots::MOST_SNAPSHOTS;
