@@ -2,8 +2,9 @@
 ghost use Rattle.mte_tool.specs.ExitLaw.{AnswerLaw, CheckFitLaw, CheckLaw, ShownLaw};
 
 /// Of words that mean `check`, status 0 says that the sheet in the input is of least waste for its profile, and of words that mean `check-fit`,
-/// that the fit is of least footprint for its history or timeline; of words that mean any call, status 0 or 1 says that its answer to the
-/// whole input was written; and only words that ask for a text are shown one.
+/// that the fit is of least footprint for its history or timeline, each for its limit and step, and where it forces the largest class of the
+/// tables that have it; of words that mean any call, status 0 or 1 says that its answer to the whole input was written; and only words that
+/// ask for a text are shown one.
 pub fn law_exit_status()
     ensures check { CheckLaw }
     ensures check_fit { CheckFitLaw }

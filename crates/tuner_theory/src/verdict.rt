@@ -63,7 +63,8 @@ impl fmt::Display for FitRefusal {
 /// What a checker says of a sheet, or of a fit.
 #[derive(Debug, Clone, Copy, PartialEq, Eq)]
 pub enum Verdict {
-    /// Nothing is refused: for the limit and the step, the table of a sheet wastes least, and the table of a fit has the least footprint.
+    /// Nothing is refused: for the limit and the step, the table of a sheet wastes least, and the table of a fit has the least footprint;
+    /// where the largest class is forced, of the tables that have it.
     Optimal,
     /// It is refused, and shows nothing.
     Refused(Refusal),
