@@ -10,7 +10,7 @@ from mte_scripts.builds import web_page
 from mte_scripts.claims import numbered
 from mte_scripts.recording import children, recording, timelines
 from mte_scripts.reports import report_page
-from mte_scripts.tables import draw_waste, figures, scudo_map, verification
+from mte_scripts.tables import draw_waste, figures, scudo_map, verdict, verification
 from mte_scripts.tables.figures import kibibytes, number, percent
 from mte_scripts.texts import printable, wrapped
 from mte_scripts.words import TABLES, ProgramWords, named, some
@@ -29,9 +29,11 @@ Usage: tune_program [OPTION..] PROGRAM ARGS..
                    which of the two tables Scudo's map is of: that of the footprint where this is left out and there is a timeline
                    or a history, else that of the waste
   --verify SCUDO   build Scudo from LLVM's sources, of which SCUDO is the folder compiler-rt/lib/scudo/standalone, with its own map
-                   and with this one; run the program three times with glibc, Scudo and the map each, and say what was predicted and
-                   what was measured. For a program that ends by itself and does the same each time. Its standard input is kept for
-                   that; what these runs print is not shown. It wants LLVM 19 or a later one, and clang++ or what CXX names
+                   and with this one; run the program five times each, in random order, as it is, with each other allocator that is
+                   installed, with Scudo and with the map; and say what hardening costs it in memory and what of that the map pays
+                   back. For a program that ends by itself and does the same each time. Its standard input is kept for that; what
+                   these runs print is not shown. The tuned Scudo stays in the folder, as a library for LD_PRELOAD, with its header.
+                   It wants LLVM 19 or a later one, and clang++ or what CXX names
   --only NAME      count only processes whose program has this name, as NAME of /usr/bin/NAME
   --against TABLE  a file with a class line: another table to compare with, besides Scudo's default and its table for Android
   --output FOLDER  the folder to make; without it, the name of the program or of FILE with `.tuned`, in the current folder
@@ -446,24 +448,34 @@ def made(options: Options, folder: Folder, others: list, notes: list[str], measu
 
 def verify(options: Options, folder: Folder, found: figures.Figures, scudo: verification.Place, work: str,
            kept: "str | None") -> None:
-    """Runs the program in the real Scudo, and adds to the summary what was measured."""
-    default, path = found.others[0].name, recording.find_program(options.words[0])
-    libraries = {"glibc": None, default: os.path.join(work, "default.so"), found.first.name: os.path.join(work, "tuned.so")}
-    verification.build(scudo, libraries[default], None, work)
-    verification.build(scudo, libraries[found.first.name], found.first.classes, work)
+    """Runs the program in the real Scudo, leaves the tuned one in the folder, and adds to the summary what was measured."""
+    tuned, path, made = found.first.name, recording.find_program(options.words[0]), f"libscudo_{options.name()}.so"
+    own = verdict.present(path)
+    libraries = {own: None, **{name: file for name, file in verdict.installed().items() if name != own}}
+    for name, classes in ((verdict.DEFAULT, None), (tuned, found.first.classes)):
+        texts.say("tune_program", f"compiling Scudo with {'its own table' if classes is None else 'this one'}; that takes about half a minute")
+        libraries[name] = os.path.join(work, "default.so" if classes is None else made)
+        verification.build(scudo, libraries[name], classes, work)
+    folder.write(made, texts.read(libraries[tuned]))
+    folder.write(verification.CONFIG, scudo_map.config(found.first.classes))
     runner = os.path.join(work, "peak")
     verification.build_runner(scudo, runner, work)
-    done = verification.verified(runner, options.words, path, libraries, kept)
-    width = max(map(len, libraries))
-    lines = ["", f"Measured, the peak of the resident set, the middle of {verification.RUNS} runs each:"]
-    lines += [f"  {name:{width}}  {kibibytes(peak):>14}" for name, peak in done.peaks.items()]
-    fell = done.peaks[default] - done.peaks[found.first.name]
-    lines += wrapped(f"With the map it falls by {kibibytes(fell)}, {percent(fell, done.peaks[default])}, against {default}. {predicted(found)}")
-    for name in done.strange:
-        lines += wrapped(f"! With {name} the program ended otherwise than with glibc at first.", indent="  ")
-    text = "".join(f"{printable(line)}\n" for line in lines)
+    rows = verdict.measured(runner, options.words, path, libraries, kept)
+    text = "".join(f"{printable(line)}\n" for line in measured_lines(options, folder, found, rows, made))
     folder.write("summary.txt", texts.read(folder.at("summary.txt")) + text.encode())
     texts.write(text)
+
+
+def measured_lines(options: Options, folder: Folder, found: figures.Figures, rows: "list[verdict.Row]", made: str) -> list[str]:
+    """The verdict, and what it follows from."""
+    lines = ["", *wrapped(f"Verdict on {options.name()}: {verdict.verdict(rows, found.first.name)}", indent="  ")]
+    lines += ["", f"Measured: peak of the resident set and processor time, {verdict.RUNS} runs each:", *verdict.lines(rows)]
+    lines += wrapped(predicted(found))
+    for row in rows:
+        if row.strange:
+            lines += wrapped(f"! With {row.name} the program ended otherwise than with {rows[0].name}.", indent="  ")
+    lines += ["", "To run it in Scudo with this table, which is in the folder beside its header:"]
+    return [*lines, f"  LD_PRELOAD={texts.path_word(os.path.abspath(folder.file(made)))} {texts.path_word(options.words[0])} .."]
 
 
 def fitted(options: Options, folder: Folder) -> "figures.OverTime | None":
