@@ -123,6 +123,8 @@ FOREGROUND = "run it in the foreground (nginx: daemon off)"
 
 
 class Options(argparse.Namespace):
+    live: "str | None"
+
     def __init__(self, words: list[str]) -> None:
         kinds: dict = {"history": {"type": between(1, SNAPSHOTS), "nargs": "?", "const": 32}, "live": {"action": "store_const", "const": "--live"}}
         kinds["windows"] = {"type": between(1, WINDOWS), "nargs": "?", "const": USUAL_WINDOWS}
