@@ -80,6 +80,7 @@ def page(figures: Figures, name: str, counted: str, warnings: list[str], checks:
 <p class="lead">{escape(lead(figures))}</p>
 <p id="proof" data-verdict="{escape(judged.verdict)}" data-proved="{proved}">{with_code(known[0])}</p>
 {lines(f'<p id="proof-other">{with_code(words)}</p>' for words in known[1:])}
+{lines(f'<p>{escape(words)}</p>' for words in figures.interval())}
 {lines(f'<p class="warning">{escape(text)}</p>' for text in warnings)}
 {f'<p><a href="{tables}">Try other tables for these counts</a>, in a page that tunes and checks as you turn its knobs.</p>' * bool(tables)}
 <dl>
@@ -132,7 +133,10 @@ def lead(figures: Figures) -> str:
             words += f" {default.name} loses {numbered(default.waste, 'byte')}, {share(figures, default)}."
         return words
     seen = "every moment of the run" if figures.timed.kind == "timeline" else numbered(figures.timed.history.snapshots, "moment")
-    words = f"{begin} takes {numbered(first.footprint, 'byte')} over {seen}."
+    most = ""
+    if interval := figures.timed.interval:
+        seen, most = numbered(interval.events, "event") if interval.events else "the whole run", "at most "
+    words = f"{begin} takes {most}{numbered(first.footprint, 'byte')} over {seen}."
     if default.footprint is not None:
         saving = figures.saving(default)
         less = f"{percent(abs(saving), default.footprint)} {'less' if saving >= 0 else 'more'}"
