@@ -9,7 +9,7 @@ from mte_scripts import private_folder, texts
 from mte_scripts.builds import web_page
 from mte_scripts.claims import numbered
 from mte_scripts.recording import recording, timelines
-from mte_scripts.reports import report_page
+from mte_scripts.reports import measured_section, report_page
 from mte_scripts.tables import draw_waste, figures, long_runs, scudo_map, verdict, verification
 from mte_scripts.tables.figures import kibibytes, number, percent
 from mte_scripts.texts import printable, wrapped
@@ -395,9 +395,9 @@ def tuned_in(options: Options, folder: Folder, others: list, given: "dict | None
     status = recorded.status
     try:
         timed, recorded = long_runs.narrowed(options, folder, runs, recorded, others)
-        found = made(options, folder, others, recorded, timed)
+        found, report = made(options, folder, others, recorded, timed)
         if scudo:
-            verify(options, folder, found, scudo, work.path, kept)
+            verify(options, folder, found, report, scudo, work.path, kept)
     except texts.Refused as refused:
         raise texts.Refused(refused.status, f"{refused.text}; what was made until then is in {folder.path}") from None
     except KeyboardInterrupt:
@@ -406,8 +406,10 @@ def tuned_in(options: Options, folder: Folder, others: list, given: "dict | None
     return status
 
 
-def made(options: Options, folder: Folder, others: list, recorded: long_runs.Recorded, timed: "figures.OverTime | None") -> figures.Figures:
-    """All that follows from program.profile, and from the record over time, whose fit may be there already."""
+def made(options: Options, folder: Folder, others: list, recorded: long_runs.Recorded,
+         timed: "figures.OverTime | None") -> tuple[figures.Figures, Callable[[str], None]]:
+    """All that follows from program.profile, and from the record over time, whose fit may be there already; and what writes report.html anew, with
+    a further part."""
     profile = texts.read_profile(folder.at("program.profile")) if folder.has("program.profile") else {}
     if not any(size for size in profile if size != "large"):
         raise texts.Refused(3, figures.NOTHING)
@@ -440,19 +442,23 @@ def made(options: Options, folder: Folder, others: list, recorded: long_runs.Rec
     said = [f"{known}\n\n    {command}\n\n" for known, command in zip(found.known(), checks)]
     folder.write("claims.txt", "".join([*said, *(f"{text}\n\n" for text in found.interval())]))
     beside = "page.html" if folder.has("page.html") else None
-    folder.write("report.html", report_page.page(found, options.name(), counted(options, timed), noted, checks, beside))
+
+    def report(measured: str = "") -> None:
+        folder.write("report.html", report_page.page(found, options.name(), counted(options, timed), noted, checks, beside, measured))
+
+    report()
     text = summary(options, found, folder, noted, recorded.measured)
     folder.write("summary.txt", text)
     texts.write(text)
     failed += found.unheld()
     if failed:
         raise texts.Refused(3, "; ".join(failed))
-    return found
+    return found, report
 
 
-def verify(options: Options, folder: Folder, found: figures.Figures, scudo: verification.Place, work: str,
+def verify(options: Options, folder: Folder, found: figures.Figures, report: Callable[[str], None], scudo: verification.Place, work: str,
            kept: "str | None") -> None:
-    """Runs the program in the real Scudo, leaves the tuned one in the folder, and adds to the summary what was measured."""
+    """Runs the program in the real Scudo, leaves the tuned one in the folder, and adds to summary and report what was measured."""
     tuned, path, made = found.first.name, recording.find_program(options.words[0]), f"libscudo_{options.name()}.so"
     own = verdict.present(path)
     libraries = {own: None, **{name: file for name, file in verdict.installed().items() if name != own}}
@@ -465,14 +471,16 @@ def verify(options: Options, folder: Folder, found: figures.Figures, scudo: veri
     runner = os.path.join(work, "peak")
     verification.build_runner(scudo, runner, work)
     rows = verdict.measured(runner, options.words, path, libraries, kept)
-    text = "".join(f"{printable(line)}\n" for line in measured_lines(options, folder, found, rows, made))
+    said = f"{options.name()}: {verdict.verdict(rows, tuned)}"
+    report(measured_section.section(said, rows, tuned, found.saved_in_scudo))
+    text = "".join(f"{printable(line)}\n" for line in measured_lines(options, folder, found, rows, made, said))
     folder.write("summary.txt", texts.read(folder.at("summary.txt")) + text.encode())
     texts.write(text)
 
 
-def measured_lines(options: Options, folder: Folder, found: figures.Figures, rows: "list[verdict.Row]", made: str) -> list[str]:
+def measured_lines(options: Options, folder: Folder, found: figures.Figures, rows: "list[verdict.Row]", made: str, said: str) -> list[str]:
     """The verdict, and what it follows from."""
-    lines = ["", *wrapped(f"Verdict on {options.name()}: {verdict.verdict(rows, found.first.name)}", indent="  ")]
+    lines = ["", *wrapped(f"Verdict on {said}", indent="  ")]
     lines += ["", f"Measured: peak of the resident set and processor time, {verdict.RUNS} runs each:", *verdict.lines(rows)]
     lines += wrapped(predicted(found))
     for row in rows:
