@@ -104,6 +104,12 @@ TEMPLATES = {
     "refusal.47": "The rows do not show that no other table {costs} less.",
     "refusal.49": "The table does not take what the fit says: the fit is of another {counts}, or one of the two was changed.",
     "refusal.53": "A moment of the fit is after the last event: the fit is of another {counts}.",
+    # of a run of which a history has moments: {over} is interval.events or interval.run, {low} is rounded down and {high} up
+    "interval.events": "all {events} events",
+    "interval.run": "the whole run",
+    "interval.one": "Over {over} no table takes less than {low}; this one takes at most {high}.",
+    "interval.rests": "The moments are the run's own, so over {over} no table takes less either; the first one takes at most {high} there. That "
+    "rests on the recorder, which is tested and not proved.",
     # pools: {what} is pools.runs or pools.snapshots, and {pools} is "1 pool" or "4 pools"
     "pools.claim": "of the sets of at most {pools} that serve {what}, with blocks of a multiple of {unit} bytes of which {overhead} hold no "
     "request, none takes less than {cost}.",
@@ -260,6 +266,23 @@ def worst(judged: Judged, low: float, high: float, is_exact: bool, trust: Trust)
 def answer(judged: Judged, trust: Trust) -> str:
     """The last line of a script that checks one sheet, where the claim holds."""
     return TEMPLATES["answer.proved" if trust.is_proved else "answer.unproved"].format(why=trust.why, claim=claim(judged))
+
+
+def interval(low: int, high: int, events: int, trust: Trust) -> "tuple[str, str]":
+    """Of a run, over a history of whose moments no table takes less than LOW bytes: in one sentence what that means for the run, and on what it
+    rests. Without a number of events it is not known."""
+    over = TEMPLATES["interval.events" if events else "interval.run"].format(events=f"{events:,}")
+    one = TEMPLATES["interval.one"].format(over=over, low=mebibytes(low, 0), high=mebibytes(high, 1))
+    unproved = "" if trust.is_proved else "If the program is right: "
+    return f"{unproved}{one}", TEMPLATES["interval.rests"].format(over=over, high=byte_text(high))
+
+
+def mebibytes(count: int, up: int) -> str:
+    """So many bytes in MiB, rounded down, or up where UP is 1: as exactly as tells an interval of a hundredth."""
+    digits = 1 if count >= 16 << 20 else 3
+    tens: int = 10**digits
+    rounded = (count * tens + ((1 << 20) - 1) * up) >> 20
+    return f"{rounded // tens:,}.{rounded % tens:0{digits}} MiB"
 
 
 def pools_claim(judged: Pools) -> str:

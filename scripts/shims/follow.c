@@ -1,13 +1,15 @@
 // Follows the stream of a program (stream.c), and writes what is wanted of it. scripts/profile_program and trace_program build and run it.
 //
-//   follow FOUND LIBRARIES WANTED ONLY TABLE STREAM PATH WORD..
+//   follow FOUND LIBRARIES WANTED ONLY TABLES STREAM PATH WORD..
 //
 // FOUND is a descriptor: a page of notes, and then the texts that they give the lengths of. LIBRARIES are those of the program's
 // LD_PRELOAD, stream.c's first. WANTED is `all`: all requests of all processes; or of the first process, with what it runs in its own
-// place: `live`, the blocks live at the peak; `history N`, these and N snapshots; `timeline`, the record of the run; `classes`, its history
-// for the classes of TABLE; `trace N`, at most N events. With `-` before it a realloc leaves a block where Scudo does. `none`: nothing is followed,
+// place: `live`, the blocks live at the peak; `history N`, these and N snapshots; `timeline`, the record of the run; `windows N`, its moments
+// and N windows, and a history of the windows' most after that; `classes`, its moments for the classes of TABLES alone, class lines with a
+// comma between them; `trace N`, at most N events. With `-` before it a realloc leaves a block where Scudo does. `none`: nothing is followed,
 // and only the most resident memory is noted. ONLY: processes whose program has this name. PATH is the program's file, the words its own.
-// Without a program the stream is the file STREAM, of processes that something else starts.
+// Without a program the stream is the file STREAM, of processes that something else starts; or for `-` it is the timeline, of any length, on
+// standard input.
 //
 // The texts are written when the program ends, or at SIGTERM where there is none; and meanwhile at SIGUSR1. Where nothing can be recorded
 // the program runs on, and the notes say why.
@@ -21,13 +23,14 @@
 #include <sys/wait.h>
 #include <time.h>
 #include "kept.h"
+#include "timeline_text.h"
 #include "traced.h"
 
 enum { PATIENCE = 2000, WHILE_FULL = 500, ABOUT_TO_END = 200, SAMPLES = 20, LOOKS = 10, LEFT = 32 };  // milliseconds, samples, processes
 // mte_scripts/recording/notes.py reads it
 static struct notes {
   uint64_t version;                            // how often the texts were written; 0 while there are none
-  uint64_t profile, text;                      // the bytes of the profile, and of what else is wanted after it
+  uint64_t profile, text, upper;               // the bytes of the profile, of what else is wanted after it, and of the upper history
   uint64_t status, error;                      // the program's, as a shell has it; why it could not be run
   uint64_t started, executed;                  // whether there is a process that is followed; how many ran another program at last, unseen
   uint64_t requests, live;                     // of all that are counted; the bytes that are live
@@ -38,6 +41,7 @@ static struct notes {
   uint64_t events, snapshots, is_cut;          // of a timeline, and whether it became a history; of a trace, and whether it is cut
   uint64_t variables, shared;                  // of a trace: blocks with a variable of their own and without
   uint64_t left, processes[LEFT];              // those that run on; as many of them as there is room for
+  int64_t taken[TABLES];                       // the bytes that each table of TABLES takes over the run
   char why[128];                               // why nothing is followed
   char allocator[NAME] __attribute__((aligned(NAME)));
 } *notes;
@@ -296,7 +300,9 @@ static void sample_resident(void) {
 
 static void note(void) {
   if (strcmp(wanted, "all")) notes->requests = kept.requests, notes->live = kept.bytes;
-  notes->large = kept.most_large, notes->untouched = stream->untouched, notes->foreign = stream->foreign;
+  notes->large = kept.most_large;
+  if (!stream) return;
+  notes->untouched = stream->untouched, notes->foreign = stream->foreign;
   memcpy(notes->refused, stream->refused, sizeof notes->refused), memcpy(notes->allocator, stream->allocator, NAME);
 }
 
@@ -316,15 +322,19 @@ static void write_texts(void) {
     notes->is_cut = trace.has_ended, notes->wrong = trace.wrong;
   } else if (record_of && kept.is_reduced) {
     reduce_pieces();
-    notes->snapshots = write_history(to, moments, moments ? groups : 0);
+    notes->snapshots = write_moments(to, 0);
+    for (int t = 0; t < given_tables; t++) notes->taken[t] = taken_by(&tables[number_of_tables - given_tables + t]);
   } else if (record_of) {
     if (kept.events) write_timeline(to);
   } else if (*wanted == 'h') {
-    notes->snapshots = write_history(to, snapshots, number_of_snapshots);
+    choose_all(snapshots, number_of_snapshots), choose(&kept.peak);
+    notes->snapshots = write_history(to);
   }
-  long end = ftell(to);
+  long text = ftell(to) - PAGE - profile;
+  if (windows.wanted && kept.is_reduced) write_moments(to, 1);
+  long upper = ftell(to) - PAGE - profile - text;
   if (fclose(to)) give_up("there is no room for what is recorded");
-  notes->profile = profile, notes->text = end - PAGE - profile;
+  notes->profile = profile, notes->text = text, notes->upper = upper;
   note();
   __atomic_fetch_add(&notes->version, 1, __ATOMIC_RELEASE);
 }
@@ -385,13 +395,15 @@ static void wait_for_program(int how) {
   if (main_process == child || !main_process) note_resident(used.ru_maxrss);
 }
 
-static void begin_wanted(const char *table) {
+static void begin_wanted(const char *words) {
   long number = strtol(wanted + strcspn(wanted, " "), NULL, 10);
   if (*wanted == 'h') snapshots = some((number_of_snapshots = number - 1) * sizeof *snapshots + 1);
-  if (!strcmp(wanted, "timeline")) record_of = RECORDS;
-  if (!strcmp(wanted, "classes")) record_of = REDUCES;
-  if (*wanted == 't' && number) most_traced = number;
-  begin_groups(*table ? table : NULL), begin_kept();
+  if (*wanted == 'w' || !strcmp(wanted, "classes")) record_of = REDUCES;
+  if (!strncmp(wanted, "timeline", 8)) record_of = RECORDS;
+  if (*wanted == 'w' || record_of == RECORDS) windows.wanted = number ? number : USUAL_WINDOWS, begin_table(&tables[number_of_tables++], NULL);
+  if (!strncmp(wanted, "trace", 5)) most_traced = number;
+  while (words && *words && number_of_tables < TABLES) words = begin_table(&tables[number_of_tables++], words), given_tables++;
+  begin_kept();
 }
 
 // until the program has ended, or one that has no end is told to; then those that are about to end
@@ -424,15 +436,17 @@ int main(int argc, char **argv) {
   int has_notes = !ftruncate(found, PAGE) && (notes = mmap(NULL, PAGE, PROT_READ | PROT_WRITE, MAP_SHARED, found, 0)) != MAP_FAILED;
   if (!has_notes) notes = &nowhere;
   memset(notes, 0, sizeof *notes);
-  int follows = strcmp(wanted, "none");
-  const char *why = !has_notes ? "there is no room for what is recorded" : follows ? make_stream(argv[6]) : NULL;
+  int is_text = !strcmp(argv[6], "-"), follows = strcmp(wanted, "none");
+  const char *why = !has_notes ? "there is no room for what is recorded" : follows && !is_text ? make_stream(argv[6]) : NULL;
   child = argc > 7 ? fork() : -1;
   if (!child) run_program(argv[2], argv[7], argv + 8);
   if (child < 0 && argc > 7) why = strerror(errno);
   if (child > 0 && ends) kill(child, ends);  // one that came before
   if (why) give_up(why);
   if (!follows) return wait_for_program(0), 0;
-  begin_wanted(argv[5]), follow();
+  begin_wanted(argv[5]);
+  if (is_text) return read_timeline(&ends), write_texts(), 0;
+  follow();
   for (uint64_t k = 0; k < number_of_rings; k++) {
     pid_t process = stream->rings[k].process;
     if (!stream->rings[k].start || notes->spoiled) continue;

@@ -1,25 +1,12 @@
 // What the reader of a stream keeps of the process that it follows: its live blocks; and of these the profile at the peak, and snapshots at
 // evenly spaced requests, or the record of the run.
 //
-// The record: its events, two bytes each, as long as a command takes their text. Then, or from the start where a table is given, it goes on
-// as a history: of each piece of events those moments are kept at which the classes of a table have more blocks than ever before. That
-// table is the finest one, in which a class is a granule wide, or the one that is given.
+// The record: its events, two bytes each, as long as a command takes their text. Then, or from the start where that is wanted, it goes on as
+// a history, a piece of events at a time (moments.h, windows.h).
 #ifndef KEPT_H
 #define KEPT_H
-#include <stdio.h>
-#include <stdlib.h>
-#include <string.h>
-#include <sys/mman.h>
 #include <unistd.h>
-#include "stream.h"
-
-static void give_up(const char *why);
-
-static void *some(size_t bytes) {  // pages of zeros
-  void *all = mmap(NULL, bytes, PROT_READ | PROT_WRITE, MAP_PRIVATE | MAP_ANONYMOUS | MAP_NORESERVE, -1, 0);
-  if (all == MAP_FAILED) give_up("it has no memory");
-  return all;
-}
+#include "windows.h"
 
 // ---- the live blocks: a table by address. A block that moves has another key, since its address may be another's before the realloc ends.
 
@@ -64,43 +51,23 @@ static void remove_block(struct block *at) {
 
 // ---- what is kept
 
-enum { PIECE = 1 << 20, PIECES = 64, CLASSES = LARGEST_SIZE / 16 + 2, MOST_TEXT = MOST_INPUT - (1 << 20), SNAPSHOTS = 64 };
-enum { FREED = 1 << 15, AT_PEAK = 1 << 14 };  // of an event; the other bits are the counter of its size. AT_PEAK is its own
+#ifndef PIECE
+#define PIECE (1 << 20)
+#endif
+enum { PIECES = 64, MOST_TEXT = MOST_INPUT - (1 << 20), SNAPSHOTS = 64 };
 enum { RECORDS = 1, REDUCES = 2 };
-struct moment { uint64_t at; int live[COUNTERS]; };  // the events, or requests, before it; 0 where there is none
 static struct kept {
   int64_t bytes, most, large, most_large, events, requests;
   int live[COUNTERS];
   struct moment peak;
   int is_open, changes, is_changed[COUNTERS], changed[COUNTERS];  // whether the last event was the peak's; the counters in which it differs
-  uint64_t spacing;                      // of the snapshots
+  uint64_t spacing, text;                // of the snapshots; the bytes of the record's text
   int is_reduced, piece;                 // whether the record is a history; of its events, in the pieces
-  uint64_t text, before;                 // the bytes of their text; the events before the piece, where it is a history
-  int before_live[COUNTERS];
-  int64_t in_group[CLASSES], most_in_group[CLASSES];
 } kept;
-static struct moment *snapshots, *moments;  // of the classes
+static struct moment *snapshots;
 static uint16_t *pieces[PIECES];
 static int number_of_snapshots, record_of;   // 0, RECORDS or REDUCES
 static int as_scudo;
-static int groups, group_of[CLASSES + 1];     // of a class
-
-static int counter_of(uint64_t size) { return size < LARGE ? size : LARGE; }
-static int class_of(int counter) { return counter ? (counter + 31) / 16 : 2; }
-
-// The groups of the classes of a table, whose words are granules; those above its last class are one more. Without one each is a group.
-static void begin_groups(const char *table) {
-  char *rest = (char *)table;
-  long last = table ? strtol(rest, &rest, 10) : 0;
-  for (int class = 2, group = 0; class < CLASSES; class++) {
-    for (const char *at = rest; table && class > last; at = rest) {
-      group++, last = strtol(rest, &rest, 10);
-      if (rest == at) last = CLASSES;
-    }
-    group_of[class] = table ? group : class - 2;
-  }
-  groups = group_of[CLASSES - 1] + 1;
-}
 
 static void follow_peak(void) {
   for (int i; kept.changes; kept.is_changed[i] = 0) i = kept.changed[--kept.changes], kept.peak.live[i] = kept.live[i];
@@ -122,33 +89,12 @@ static void take_snapshot(void) {
   }
 }
 
-// Marks the event of the piece after which a group has the most blocks, where these are more than before; and keeps those moments.
-static void reduce(uint16_t *piece, int number) {
-  static int at[CLASSES];
-  if (!moments) moments = some(groups * sizeof *moments);
-  memset(at, -1, sizeof at);
-  for (int i = 0; i < number; i++) {
-    int counter = piece[i] & (AT_PEAK - 1);
-    if (counter == LARGE) continue;
-    int group = group_of[class_of(counter)];
-    kept.in_group[group] += piece[i] & FREED ? -1 : 1;
-    if (kept.in_group[group] > kept.most_in_group[group]) kept.most_in_group[group] = kept.in_group[group], at[group] = i;
-  }
-  for (int group = 0; group < groups; group++)
-    if (at[group] >= 0) piece[at[group]] |= AT_PEAK;
-  for (int i = 0; i < number; i++) {
-    int counter = piece[i] & (AT_PEAK - 1);
-    kept.before_live[counter] += piece[i] & FREED ? -1 : 1, kept.before++;
-    if (!(piece[i] & AT_PEAK)) continue;
-    struct moment *moment = &moments[group_of[class_of(counter)]];
-    moment->at = kept.before, memcpy(moment->live, kept.before_live, sizeof moment->live);
-  }
-}
-
 static void reduce_pieces(void) {
-  for (int k = 0; k * PIECE < kept.piece; k++) reduce(pieces[k], kept.piece - k * PIECE < PIECE ? kept.piece - k * PIECE : PIECE);
-  for (int k = 1; k < PIECES; k++)
-    if (pieces[k]) munmap(pieces[k], PIECE * sizeof **pieces), pieces[k] = NULL;
+  for (int k = 0; k * PIECE < kept.piece; k++) {
+    int number = kept.piece - k * PIECE < PIECE ? kept.piece - k * PIECE : PIECE;
+    keep_peaks(pieces[k], number), add_to_windows(pieces[k], number);
+    if (k) munmap(pieces[k], PIECE * sizeof **pieces), pieces[k] = NULL;
+  }
   kept.is_reduced = 1, kept.piece = 0;
 }
 
@@ -185,12 +131,10 @@ static void begin_kept(void) {
   memset(&kept, 0, sizeof kept);
   kept.spacing = 1, kept.is_reduced = record_of == REDUCES, kept.text = strlen("timeline\n");
   for (int k = 0; k < number_of_snapshots; k++) snapshots[k].at = 0;
-  for (int group = 0; moments && group < groups; group++) moments[group].at = 0;
+  begin_moments(), begin_windows();
 }
 
 // ---- its texts
-
-static void write_size(FILE *to, int counter) { counter == LARGE ? fputs("large", to) : fprintf(to, "%d", counter); }
 
 static void write_profile(FILE *to, const int *counts, const int64_t *long_counts) {
   for (int i = 0; i < COUNTERS; i++) {
@@ -199,35 +143,17 @@ static void write_profile(FILE *to, const int *counts, const int64_t *long_count
   }
 }
 
-static int is_later(const void *one, const void *other) {
-  uint64_t a = (*(struct moment *const *)one)->at, b = (*(struct moment *const *)other)->at;
-  return (a > b) - (a < b);
-}
-
-// Writes the moments in the order of time, one for each time, but for those without a block; returns how many.
-static int write_history(FILE *to, struct moment *of, int number) {
-  static struct moment *chosen[CLASSES + 1];
-  int last = 0, chosen_ones = 0;
-  for (int k = 0; k <= number; k++) {
-    struct moment *each = k < number ? &of[k] : &kept.peak;
-    if (each->at) chosen[last++] = each;
-  }
-  qsort(chosen, last, sizeof *chosen, is_later);
-  for (int k = 0; k < last; k++) {
-    int has_block = 0;
-    for (int i = 0; i < COUNTERS && !has_block; i++) has_block = chosen[k]->live[i] != 0;
-    if (has_block && (!chosen_ones || chosen[chosen_ones - 1]->at != chosen[k]->at)) chosen[chosen_ones++] = chosen[k];
-  }
-  if (chosen_ones) fprintf(to, "snapshots %d\n", chosen_ones);
-  for (int i = 0; i < COUNTERS; i++) {
-    int has_some = 0;
-    for (int k = 0; k < chosen_ones && !has_some; k++) has_some = chosen[k]->live[i] != 0;
-    if (!has_some) continue;
-    write_size(to, i);
-    for (int k = 0; k < chosen_ones; k++) fprintf(to, " %d", chosen[k]->live[i]);
-    fputc('\n', to);
-  }
-  return chosen_ones;
+// Writes the history of a run without a record, or with IS_UPPER the one over which no table takes less than over the run; how many moments
+// it has. What the tables need comes first: there may be no more room for the windows.
+static int write_moments(FILE *to, int is_upper) {
+  join_windows(windows.wanted);
+  struct moment *all = windows_of(is_upper);
+  for (int t = number_of_tables; t-- && !is_upper;) choose_all(tables[t].moments, tables[t].groups);
+  if (!is_upper) choose(&kept.peak);
+  for (int k = 0; k < windows.number; k++) choose_unlike(&all[k]);
+  int number = write_history(to);
+  drop_windows(all);
+  return number;
 }
 
 static void write_timeline(FILE *to) {

@@ -311,7 +311,7 @@ def options_of_plain():
 # ---- the recorders and the page
 
 def header_of_recorders():
-    names = "LARGEST_SIZE MOST_CLASSES MOST_INPUT LARGEST_REQUEST MOST_EVENTS LAST_VARIABLE FARTHEST_ACCESS FARTHEST_MOVE".split()
+    names = "LARGEST_SIZE MOST_CLASSES MOST_SNAPSHOTS MOST_INPUT LARGEST_REQUEST MOST_EVENTS LAST_VARIABLE FARTHEST_ACCESS FARTHEST_MOVE".split()
     lines = "".join(f"  {name} = {getattr(formats, name)},\n" for name in names)
     return f"// {WRITTEN}\nenum {{\n{lines}}};\n"
 

@@ -8,16 +8,18 @@ from typing import Any
 HANDED_ON = (signal.SIGTERM, signal.SIGHUP)
 
 
-def run(words: "list[str]", grace: "float | None" = None, **how: Any) -> int:
+def run(words: "list[str]", grace: "float | None" = None, signals: "list | None" = None, **how: Any) -> int:
     """The status of a program, which is negative where a signal ended it. Ctrl-C reaches the program too, and is left to it; SIGTERM and
     SIGHUP are handed on to it. The script goes on then: what the program did until its end counts. With GRACE, it is killed where it is
-    still there so many seconds after a signal that was handed on."""
+    still there so many seconds after a signal that was handed on. SIGNALS takes those that came."""
     child: list = []
     asked: list = []
+    came: list = [] if signals is None else signals
     kept: dict = {}
 
     def hand_on(number: int, _: object) -> None:
         asked.append(number)
+        came.append(number)
         for one in child:
             one.send_signal(number)
             if grace is not None and len(asked) == 1:
@@ -29,7 +31,7 @@ def run(words: "list[str]", grace: "float | None" = None, **how: Any) -> int:
         # the handlers are set before the start, so that no signal falls in between; a program that is started does not inherit them
         for each in (signal.SIGINT, *HANDED_ON):
             if signal.getsignal(each) != signal.SIG_IGN:
-                kept[each] = signal.signal(each, hand_on if each in HANDED_ON else lambda *_: None)
+                kept[each] = signal.signal(each, hand_on if each in HANDED_ON else lambda number, _: came.append(number))
         started = subprocess.Popen(words, **how)
         child.append(started)
         early, asked[:] = list(asked), []

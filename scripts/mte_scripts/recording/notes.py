@@ -3,7 +3,7 @@
 import ctypes
 import os
 
-PAGE, RINGS, SNAPSHOTS = 4096, 1024, 64
+PAGE, RINGS, SNAPSHOTS, WINDOWS, TABLES = 4096, 1024, 64, 512, 15
 REASONS = (
     f"more than {RINGS:,} run at once",
     "a limit of their address space (ulimit -v) leaves no room for the stream",
@@ -20,12 +20,13 @@ class Notes(ctypes.Structure):
     """What the reader noted; the texts are there once `version` is not 0."""
 
     _fields_ = [
-        *numbers("version profile text status error started executed requests live large resident others other_requests untouched foreign"),
+        *numbers("version profile text upper status error started executed requests live large resident others other_requests untouched foreign"),
         ("refused", ctypes.c_uint64 * len(REASONS)),
         *numbers("lost wrong spoiled gaps events snapshots is_cut variables shared left"),
         ("processes", ctypes.c_uint64 * 32),
+        ("taken", ctypes.c_int64 * (TABLES + 1)),
         ("words", ctypes.c_char * 128),
-        ("room", ctypes.c_char * 408),
+        ("room", ctypes.c_char * 272),
         ("name", ctypes.c_char * 1024),
         ("rest", ctypes.c_char * (PAGE - 2048)),
     ]

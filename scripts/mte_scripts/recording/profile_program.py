@@ -12,30 +12,41 @@ from mte_scripts import private_folder, texts
 from mte_scripts.private_folder import NotPrivate
 from mte_scripts.recording import recording, timelines
 from mte_scripts.recording.imports import found, importing
-from mte_scripts.recording.notes import SNAPSHOTS, Notes
+from mte_scripts.recording.notes import SNAPSHOTS, TABLES, WINDOWS, Notes
 from mte_scripts.running import Refused
-from mte_scripts.words import ProgramWords, between, named
+from mte_scripts.texts import MOST_SNAPSHOTS
+from mte_scripts.words import ProgramWords, between, named, some
+
+USUAL_WINDOWS = 64
 
 HELP = f"""\
 Run a program, and print how often it requested each size: a profile, the input of `mte_tool tune`.
 
 Usage: profile_program [--live] [--only NAME] [--said FILE] PROGRAM ARGS..
-       profile_program --timeline|--history[=T]|--classes TABLE [--peak FILE] [--measured FILE] [--only NAME] PROGRAM ARGS..
+       profile_program --timeline|--history[=T]|--windows[=N]|--classes TABLE [--peak FILE] [--upper FILE] [--measured FILE]
+                       [--only NAME] PROGRAM ARGS..
        profile_program --library [DIR]
        profile_program --follow STREAM [the options above]
        profile_program --read STREAM
        profile_program --import FILE [--as FORMAT] [--live|--timeline|--history[=T]] [--peak FILE]
+       profile_program --import TIMELINE --windows[=N]|--classes TABLE [--peak FILE] [--upper FILE] [--measured FILE]
 
   --live         count only the blocks that are live at the peak: when the most bytes are live
   --timeline     print a timeline instead: each request and each free of the run, by size
   --history[=T]  print a history instead: the live blocks at T moments of the run, 1 to 64; 32 where T is left out
+  --windows[=N]  print a history of a run of any length, over which each table takes at most what it takes over the run: of moments in
+                 N windows of the run, 1 to {WINDOWS}, and others; {USUAL_WINDOWS} where N is left out
+  --upper FILE   with --windows, or a timeline that is too long: write into FILE a history over which each table takes at least what
+                 it takes over the run
   --classes TABLE
                  print a history of the moments at which each class of a table has the most blocks. TABLE is a file whose first line
-                 is a class line, such as a sheet or a fit
-  --peak FILE    with these three: write the profile of the blocks live at the peak into FILE too, as --live counts them
+                 is a class line, such as a sheet or a fit. With --windows these moments are among the others; up to {TABLES} times
+  --peak FILE    with these four: write the profile of the blocks live at the peak into FILE too, as --live counts them
   --measured FILE
                  with these and --live: write into FILE what the process took of memory at most, in bytes, as lines
-                 `large N`, blocks above {texts.LARGEST_SIZE:,} bytes, and `resident N`, its resident set without what the recorder takes
+                 `large N`, blocks above {texts.LARGEST_SIZE:,} bytes, and `resident N`, its resident set without what the recorder takes;
+                 how many requests and frees there were, `events N`; and of each TABLE `footprint N`, what it takes over the whole
+                 run, or `footprint none` where it does not serve a size
   --as-scudo     with these and --live: a realloc leaves a block as it was where LLVM's Scudo does, which makes it smaller by up to
                  4,095 bytes in its place, and as large again as it had been
   --only NAME    count only processes whose program has this name, as NAME of /usr/bin/NAME
@@ -58,13 +69,17 @@ that fills its blocks up to malloc_usable_size, as redis does, requests what the
 
 A timeline is the input of `mte_tool fit`, which then counts each moment of the run. Its events are in an order in which the calls
 could have come one after the other, of all threads: a request as soon as it has its block, a free before the block is given back, a
-realloc as a free and a request. Where its text would have more than {timelines.MOST_TEXT:,} bytes, some 15 million events, a history is
-printed in its place, and standard error says so: of the peak, and of the moments at which each class of 16 bytes had the most
-blocks. All else is as with --live.
+realloc as a free and a request. Where its text would have more than {timelines.MOST_TEXT:,} bytes, some 15 million events, what
+--windows prints is in its place, and standard error says so. All else is as with --live.
 
 A history is an input of `fit` too. Its snapshots are in the order of time. One is of the peak, the others are taken at evenly
 spaced requests: where T are full, every second one goes, and the spacing doubles. So at the end they are about T/2 to T, and fewer
 where the program makes fewer requests. All else is as with --live.
+
+--windows is for a run of any length, in memory that does not grow with it. Its snapshots are moments of the run: of each window that
+of the most bytes, those at which a class of 16 bytes or a class of a TABLE has the most blocks, and the peak; {MOST_SNAPSHOTS:,} at most, and
+windows are left out first. The history of --upper has for each window the most blocks of each size at any of its moments. Windows
+begin with some thousand events, and are joined where that changes least. --import takes a timeline of any length for it.
 
 --classes is for a program that runs for long, with the table that it has now: no record is kept, and over the history this table
 takes what it takes over the whole run. Another table may take more than the history shows. Merge each day's history with those
@@ -108,64 +123,95 @@ FOREGROUND = "run it in the foreground (nginx: daemon off)"
 
 
 class Options(argparse.Namespace):
+    live: "str | None"
+
     def __init__(self, words: list[str]) -> None:
-        history = {"type": between(1, SNAPSHOTS), "nargs": "?", "const": 32}
-        live = {"action": "store_const", "const": "--live"}
-        ProgramWords(HELP, history=history, live=live, as_=named(*importing.NAMES)).take(words, into=self)
-        self.table = None if self.classes is None else texts.class_line(self.classes)
-        if self.classes is not None and not self.table:
+        kinds: dict = {"history": {"type": between(1, SNAPSHOTS), "nargs": "?", "const": 32}, "live": {"action": "store_const", "const": "--live"}}
+        kinds["windows"] = {"type": between(1, WINDOWS), "nargs": "?", "const": USUAL_WINDOWS}
+        kinds["classes"] = {"action": "append", "type": some, "default": []}
+        ProgramWords(HELP, as_=named(*importing.NAMES), **kinds).take(words, into=self)
+        self.tables = [texts.class_line(path) for path in self.classes]
+        if not all(self.tables):
             raise Refused(2, "the table of --classes has no class")
-        over_time = [f"--{name}" for name in ("timeline", "history", "classes") if getattr(self, name)]
-        if len(over_time) > 1:
-            raise Refused(2, f"take one of {' and '.join(over_time)}")
-        if over_time:
-            self.live = over_time[0]
-        elif self.peak:
-            raise Refused(2, "--peak goes with --timeline, --history or --classes")
-        for name in ("measured", "as_scudo"):
-            if getattr(self, name) and not self.live:
-                raise Refused(2, f"--{name.replace('_', '-')} goes with --live, --timeline, --history or --classes")
+        self.choose()
         if self.import_ is not None:
             self.refuse_beside_import()
         elif self.as_ is not None:
             raise Refused(2, "--as goes with --import")
 
+    def choose(self) -> None:
+        """What is printed, and what does not go with that."""
+        over_time = [f"--{name}" for name in ("timeline", "history", "windows") if getattr(self, name)]
+        if len(over_time) > 1 or (self.tables and over_time == ["--history"]):
+            raise Refused(2, f"take one of {' and '.join([*over_time, *['--classes'] * (len(over_time) < 2)])}")
+        if len(self.tables) > (TABLES if over_time else 1):
+            raise Refused(2, f"there are {len(self.tables)} tables of --classes: it takes {TABLES if over_time else 'one without --windows'}")
+        over_time += ["--classes"] * bool(self.tables)
+        self.live = over_time[0] if over_time else self.live
+        if not over_time and self.peak:
+            raise Refused(2, "--peak goes with --timeline, --history, --windows or --classes")
+        if self.upper and not self.read and self.live not in ("--timeline", "--windows"):
+            raise Refused(2, "--upper goes with --windows, --timeline or --read")
+        for name in ("measured", "as_scudo"):
+            if getattr(self, name) and not self.live:
+                raise Refused(2, f"--{name.replace('_', '-')} goes with --live, --timeline, --history, --windows or --classes")
+
     def refuse_beside_import(self) -> None:
-        others = {"--read": self.read, "--follow": self.follow, "--only": self.only, "--measured": self.measured, "--classes": self.table,
-                  "--as-scudo": self.as_scudo, "--library": self.library}
+        others = {"--read": self.read, "--follow": self.follow, "--only": self.only, "--as-scudo": self.as_scudo, "--library": self.library}
+        if not self.is_timeline():
+            others |= {"--measured": self.measured, "--classes": self.tables, "--upper": self.upper}
         if given := [name for name, value in others.items() if value]:
             raise Refused(2, f"--import reads a file, and {given[0]} is for a run")
         if self.words:
             raise Refused(2, f"--import takes one file, and runs no program: there is no place for {self.words[0]}")
+        if self.as_ and self.is_timeline():
+            raise Refused(2, f"{self.live} takes a timeline, and no file of {self.as_}")
 
-    def classes_line(self) -> str:
-        return " ".join(map(str, self.table or []))
+    def is_timeline(self) -> bool:
+        """Whether what --import names is a timeline."""
+        return self.live in ("--windows", "--classes")
+
+    def table_words(self) -> str:
+        return ",".join(" ".join(map(str, table)) for table in self.tables)
 
     def wanted(self) -> str:
         """What the reader is asked for."""
-        kinds = {None: "all", "--live": "live", "--history": f"history {self.history}", "--timeline": "timeline", "--classes": "classes"}
+        kinds = {None: "all", "--live": "live", "--history": f"history {self.history}", "--timeline": "timeline", "--classes": "classes",
+                 "--windows": f"windows {self.windows}"}
         return ("-" if self.as_scudo else "") + kinds[self.live]
 
 
 # ---- what was found
 
-def print_found(speaker: recording.Speaker, notes: Notes, profile: bytes, text: bytes, peak: "str | None" = None) -> bool:
+def print_found(options: Options, speaker: recording.Speaker, notes: Notes, profile: bytes, text: bytes, upper: bytes) -> bool:
     """Prints what was counted. False where that is nothing."""
     counts = {size if size == "large" else int(size): int(count) for size, count in map(str.split, profile.decode().splitlines())}
+    if options.measured:
+        texts.write_file(options.measured, "".join(f"{line}\n" for line in measured(options, notes)))
     if notes.is_cut:
-        moments = f"the {notes.snapshots} moments at which each class of 16 bytes had the most blocks"
-        speaker.say(f"the timeline would have more than {timelines.MOST_TEXT:,} bytes: a history is made in its place, of {moments}")
+        instead = f"a history of {notes.snapshots} of its moments is made in its place"
+        speaker.say(f"the timeline of {notes.events:,} events would have more than {timelines.MOST_TEXT:,} bytes: {instead}")
     if text:
         recording.write("the history" if notes.snapshots else "the timeline", text)
-        write_peak(peak, texts.profile_text(counts))
+        write_beside(options.peak, texts.profile_text(counts))
     elif counts:
         recording.write("the profile", texts.profile_text(counts))
+    if upper:
+        write_beside(options.upper, upper)
     return bool(text or counts)
 
 
-def write_peak(peak: "str | None", profile: str) -> None:
-    if peak:
-        texts.write_file(peak, profile)
+def measured(options: Options, notes: Notes) -> "list[str]":
+    """What was measured of the run. The footprints are counted where there is a history."""
+    found_ = {"large": notes.large, "resident": notes.resident, "events": notes.events}
+    lines = [f"{name} {value}" for name, value in found_.items() if value]
+    taken = notes.taken[: len(options.tables)] if notes.snapshots else []
+    return [*lines, *(f"footprint {'none' if each < 0 else each}" for each in taken)]
+
+
+def write_beside(path: "str | None", text: "str | bytes") -> None:
+    if path:
+        texts.write_file(path, text)
 
 
 def say_uncounted(speaker: recording.Speaker, notes: Notes, live: str, program: str) -> None:
@@ -186,10 +232,7 @@ def print_run(options: Options, speaker: recording.Speaker, run: recording.Found
     recording.refuse_spoiled(notes, program)
     say_uncounted(speaker, notes, options.live or "--live", program)
     recording.say_lost(speaker, notes)
-    if options.measured:
-        measured = {"large": notes.large, "resident": notes.resident}
-        texts.write_file(options.measured, "".join(f"{name} {value}\n" for name, value in measured.items() if value))
-    return print_found(speaker, notes, *run.texts(), options.peak)
+    return print_found(options, speaker, notes, *run.texts())
 
 
 # ---- a service
@@ -198,7 +241,7 @@ def follow(options: Options, speaker: recording.Speaker, work: private_folder.Fo
     """Follows what something else starts, until it is told to end."""
     if options.words:
         raise Refused(2, "--follow takes one file, and runs no program")
-    with recording.Run(speaker, work, options.wanted(), options.only, options.classes_line()) as run:
+    with recording.Run(speaker, work, options.wanted(), options.only, options.table_words()) as run:
         status, notes = run.follow(os.path.abspath(options.follow), "", []), run.found.notes()
         if status or not notes.version:
             raise Refused(3, f"{options.follow} can't be followed: {notes.why or 'the reader was ended'}")
@@ -243,14 +286,19 @@ def asked(reader: int, run: recording.Found, stream: str) -> recording.Found:
 
 
 def import_file(options: Options, speaker: recording.Speaker) -> int:
-    """Prints what a file of another tool counts, and says what that is."""
+    """Prints what a file of another tool counts, and says what that is; or what is kept of a timeline."""
+    if options.is_timeline():
+        with private_folder.temporary_folder() as work, recording.of_timeline(options.import_, work, options.wanted(), options.table_words()) as run:
+            if print_found(options, speaker, run.notes(), *run.texts()):
+                return 0
+        raise Refused(3, f"{texts.named(options.import_)}: it counts nothing")
     wanted = options.live.removeprefix("--") if options.live else found.ALL
     got = importing.imported(options.import_, options.as_, wanted, options.history)
     for line in got.told:
         speaker.say(line)
     for piece in got.text:
         recording.write(got.what, piece)
-    write_peak(options.peak, got.peak)
+    write_beside(options.peak, got.peak)
     return 0
 
 
@@ -313,7 +361,7 @@ def say_left(speaker: recording.Speaker, options: Options, notes: Notes) -> None
 
 def run_program(options: Options, speaker: recording.Speaker, path: str, work: private_folder.Folder) -> int:
     program = options.words[0]
-    with recording.Run(speaker, work, options.wanted(), options.only, options.classes_line()) as run:
+    with recording.Run(speaker, work, options.wanted(), options.only, options.table_words()) as run:
         notes = run.run(options.words, path)
         if notes.left:
             say_left(speaker, options, notes)

@@ -225,22 +225,38 @@ class Found:
     def notes(self) -> Notes:
         return Notes.of(os.pread(self.descriptor, PAGE, 0))
 
-    def texts(self) -> "tuple[bytes, bytes]":
-        """The profile, and what else was wanted."""
+    def texts(self) -> "tuple[bytes, bytes, bytes]":
+        """The profile, what else was wanted, and the upper history."""
         notes = self.notes()
         with open(os.dup(self.descriptor), "rb") as file:
             file.seek(PAGE)
-            return file.read(notes.profile), file.read(notes.text)
+            return file.read(notes.profile), file.read(notes.text), file.read(notes.upper)
+
+
+@contextlib.contextmanager
+def of_timeline(path: str, work: private_folder.Folder, wanted: str, tables: str) -> "Iterator[Found]":
+    """What a reader finds in a timeline of any length."""
+    shared = os.memfd_create("mte_found", 0)
+    try:
+        words = [make("follow", work), str(shared), "", wanted, "", tables, "-"]
+        with texts.opened(path) as file:
+            status = children.run(words, stdin=file, stdout=2, close_fds=False)
+        notes = Found(shared).notes()
+        if status or not notes.version:
+            raise Refused(2 if notes.why else 3, f"{texts.named(path)}: {notes.why or 'the reader was ended'}")
+        yield Found(shared)
+    finally:
+        os.close(shared)
 
 
 class Run:
-    """The run of a program with the library, and what its reader finds. WANTED, ONLY and TABLE are the words of shims/follow.c."""
+    """The run of a program with the library, and what its reader finds. WANTED, ONLY and TABLES are the words of shims/follow.c."""
 
-    def __init__(self, speaker: Speaker, work: private_folder.Folder, wanted: str, only: "str | None" = None, table: str = "") -> None:
+    def __init__(self, speaker: Speaker, work: private_folder.Folder, wanted: str, only: "str | None" = None, tables: str = "") -> None:
         self.speaker, self.only = speaker, only
         self.library, self.reader = Library(work), make("follow", work)
         self.found = Found(os.memfd_create("mte_found", 0))
-        self.words = [wanted, only or "", table]
+        self.words = [wanted, only or "", tables]
         self.status = 0
 
     def environment(self, path: str) -> "tuple[dict, str]":

@@ -67,9 +67,11 @@ SIZE_TICKS = [(16, "16"), (64, "64"), (256, "256"), (1024, "1 KiB"), (4096, "4 K
 FIRST_OCTAVE, OCTAVES = 3, 11  # the sizes from 8 bytes to 16 KiB
 
 
-def page(figures: Figures, name: str, counted: str, warnings: list[str], checks: list[str], tables: "str | None" = None) -> str:
+def page(figures: Figures, name: str, counted: str, warnings: list[str], checks: list[str], tables: "str | None" = None,
+         measured: str = "") -> str:
     """The page for a program or a profile of this name. COUNTED says what was counted, CHECKS are the commands that check the sheet or the fit of
-    the first table, and that of the other one, if there is one. TABLES is the file beside it with the page of scripts/page, if that is made."""
+    the first table, and that of the other one, if there is one. TABLES is the file beside it with the page of scripts/page, if that is made, and
+    MEASURED the part on what was measured."""
     first, judged = figures.first, figures.judged[0]
     known = figures.known()
     proved = int(claims.holds(judged) and texts.trust().is_proved)
@@ -80,6 +82,7 @@ def page(figures: Figures, name: str, counted: str, warnings: list[str], checks:
 <p class="lead">{escape(lead(figures))}</p>
 <p id="proof" data-verdict="{escape(judged.verdict)}" data-proved="{proved}">{with_code(known[0])}</p>
 {lines(f'<p id="proof-other">{with_code(words)}</p>' for words in known[1:])}
+{lines(f'<p>{escape(words)}</p>' for words in figures.interval())}
 {lines(f'<p class="warning">{escape(text)}</p>' for text in warnings)}
 {f'<p><a href="{tables}">Try other tables for these counts</a>, in a page that tunes and checks as you turn its knobs.</p>' * bool(tables)}
 <dl>
@@ -88,7 +91,7 @@ def page(figures: Figures, name: str, counted: str, warnings: list[str], checks:
 {card("large", "Large requests", figures.large, f"above {texts.LARGEST_SIZE:,} bytes; in no other figure here")}
 {card("limit", "Limit of classes", judged.limit, f"in steps of {GRANULE * judged.step} bytes")}
 </dl>
-<h2>Each table</h2>
+{measured}<h2>Each table</h2>
 <div class="scroll"><table id="tables">
 {headings("Table", "Classes", *FOOTPRINT * bool(figures.timed), "Waste, bytes", "The first one saves")}
 <tbody>{table_row(figures, first, "first")}
@@ -132,7 +135,10 @@ def lead(figures: Figures) -> str:
             words += f" {default.name} loses {numbered(default.waste, 'byte')}, {share(figures, default)}."
         return words
     seen = "every moment of the run" if figures.timed.kind == "timeline" else numbered(figures.timed.history.snapshots, "moment")
-    words = f"{begin} takes {numbered(first.footprint, 'byte')} over {seen}."
+    most = ""
+    if interval := figures.timed.interval:
+        seen, most = numbered(interval.events, "event") if interval.events else "the whole run", "at most "
+    words = f"{begin} takes {most}{numbered(first.footprint, 'byte')} over {seen}."
     if default.footprint is not None:
         saving = figures.saving(default)
         less = f"{percent(abs(saving), default.footprint)} {'less' if saving >= 0 else 'more'}"

@@ -15,6 +15,8 @@ from mte_scripts.recording import timelines
 from mte_scripts.tables import scudo_map, scudo_memory
 
 GRANULE = claims.GRANULE  # bytes; a block begins with a header of one granule
+NARROW = 100  # an interval is narrow where its width is at most a hundredth of its lower end
+Classes = tuple[int, ...]
 NOTHING = f"no bytes are counted in requests of at most {texts.LARGEST_SIZE:,} bytes: there is nothing to tune"
 OTHERS = [("Scudo's default", "scudo.classes"), ("Scudo's for Android", "scudo_android.classes")]
 
@@ -51,6 +53,12 @@ def run(words: list[str], given: "str | bytes") -> tuple[int, str]:
     return status, out.decode("ascii", "replace").strip()
 
 
+def footprint(classes: "list[int]", text: bytes) -> "int | None":
+    """What a table takes over a history or a timeline; None where it does not serve a size."""
+    status, answer = run(["footprint"], texts.joined(class_text(classes), text))
+    return int(answer.split()[-1]) if status == 0 else None
+
+
 def refuse_timeline(data: bytes, name: str) -> None:
     """Refuses a timeline at its first faulty line, which the program finds."""
     status, _, error = texts.mte_tool(["footprint"], texts.joined(class_text([texts.LARGEST_CLASS]), data))
@@ -63,6 +71,19 @@ def refuse_timeline(data: bytes, name: str) -> None:
         raise texts.Refused(2 if status == 2 else 3, f"`mte_tool footprint` of {name} failed: {error or f'its status is {status}'}")
 
 
+class Interval(NamedTuple):
+    """Over a run no table takes less than `low`; the one of these classes takes at most `high`."""
+
+    classes: list[int]
+    low: int
+    high: int
+    events: int  # 0 where it is not known how many
+    counted: dict[Classes, Optional[int]]  # what tables take over the run
+
+    def is_narrow(self) -> bool:
+        return (self.high - self.low) * NARROW <= self.low
+
+
 class OverTime(NamedTuple):
     """What was recorded over time, a history or a timeline, and its fit."""
 
@@ -72,6 +93,7 @@ class OverTime(NamedTuple):
     fit_text: str  # or what `fit` printed in place of one
     verdict: str
     history: texts.History  # what was recorded, or of a timeline the moments that its fit names: at these each class has its most blocks
+    interval: Optional[Interval] = None  # of a run that is longer than a timeline may be, of which the history has some moments
 
 
 def over_time(kind: str, text: bytes, largest: bool, limit: int, step: int) -> OverTime:
@@ -99,10 +121,13 @@ class Table:
         number = int(answer.split()[-1])
         self.waste, self.unserved = (number, None) if status == 0 else (None, number)
         self.footprint: Optional[int] = None  # over a history or a timeline whose sizes it serves
+        self.takes_more = False  # whether it takes that or more over the run
 
-    def over(self, text: bytes) -> None:
-        status, answer = run(["footprint"], texts.joined(class_text(self.classes), text))
-        self.footprint = int(answer.split()[-1]) if status == 0 else None
+    def over(self, timed: OverTime) -> None:
+        """What it takes over time. Of a run that is longer than its history, what was counted, or what it takes over the moments."""
+        counted = timed.interval.counted if timed.interval else {}
+        self.takes_more = bool(timed.interval) and tuple(self.classes) not in counted
+        self.footprint = footprint(self.classes, timed.text) if tuple(self.classes) not in counted else counted[tuple(self.classes)]
 
 
 def block_of(classes: list[int], size: int) -> int:
@@ -145,11 +170,14 @@ class Figures:
 
     def take_fit(self, timed: OverTime, profile: dict[int, int], given: str) -> claims.Judged:
         """The table of the fit, the footprint of each, and what is judged of the fit."""
-        fit = timed.fit
-        self.fitted = Table(claims.name(timed.kind), fit.classes, profile)
+        fit, interval = timed.fit, timed.interval
+        self.fitted = Table(claims.name(timed.kind), interval.classes if interval else fit.classes, profile)
         for table in (self.best, self.fitted, *self.others):
-            table.over(timed.text)
-        return claims.Judged(timed.kind, timed.verdict, fit.limit, fit.step, fit.classes, given, self.fitted.footprint, texts.forced_classes(fit))
+            table.over(timed)
+        cost = interval.low if interval else self.fitted.footprint
+        if interval:
+            self.fitted.footprint, self.fitted.takes_more = interval.high, False
+        return claims.Judged(timed.kind, timed.verdict, fit.limit, fit.step, fit.classes, given, cost, texts.forced_classes(fit))
 
     def made(self) -> list[Table]:
         """The tables that were made, the first by the objective before the other one."""
@@ -276,6 +304,13 @@ class Figures:
         """What is known of the table that is the first by the objective, and of the other one that is made."""
         return [claims.sentence(each, texts.trust()) for each in self.judged]
 
+    def interval(self) -> "list[str]":
+        """What is known of the footprint over a run that is longer than its history: in a sentence, and on what that rests."""
+        timed = self.timed
+        if not timed or not timed.interval or timed.verdict != "optimal":
+            return []
+        return list(claims.interval(timed.interval.low, timed.interval.high, timed.interval.events, texts.trust()))
+
     def unheld(self) -> list[str]:
         """What `check` and `check-fit` say where nothing follows."""
         return [claims.says(each) for each in self.judged if claims.bound(each) is None and not claims.holds(each)]
@@ -299,7 +334,8 @@ def number(value: int) -> str:
 
 
 def percent(part: int, whole: int) -> str:
-    return f"{100 * part / whole:.1f}%" if whole else "0.0%"
+    # no share is -0.0%
+    return f"{round(100 * part / whole, 1) + 0.0:.1f}%" if whole else "0.0%"
 
 
 def kibibytes(count: int) -> str:

@@ -8,19 +8,19 @@ from typing import Any
 from mte_scripts import private_folder, texts
 from mte_scripts.builds import web_page
 from mte_scripts.claims import numbered
-from mte_scripts.recording import children, recording, timelines
-from mte_scripts.reports import report_page
-from mte_scripts.tables import draw_waste, figures, scudo_map, verification
+from mte_scripts.recording import recording, timelines
+from mte_scripts.reports import measured_section, report_page
+from mte_scripts.tables import draw_waste, figures, long_runs, scudo_map, verdict, verification
 from mte_scripts.tables.figures import kibibytes, number, percent
 from mte_scripts.texts import printable, wrapped
-from mte_scripts.words import TABLES, ProgramWords, named, some
+from mte_scripts.words import TABLES, ProgramWords, between, named, some
 
 HELP = """\
 Run a program, make two tables of size classes for it, check both, and say what they save. One is made to take little memory over
 time, the other to lose little by rounding. The summary says among which tables each is the first, and whether that is shown.
 
 Usage: tune_program [OPTION..] PROGRAM ARGS..
-       tune_program [OPTION..] --read FILE
+       tune_program [OPTION..] --read FILE [--upper UPPER]
 
   --limit K        the most classes that the table may have, 1 to 32; 32 where it is left out
   --step S         each class is a multiple of S granules of 16 bytes: 1, 2, 4 or 8; 1 where it is left out
@@ -29,9 +29,11 @@ Usage: tune_program [OPTION..] PROGRAM ARGS..
                    which of the two tables Scudo's map is of: that of the footprint where this is left out and there is a timeline
                    or a history, else that of the waste
   --verify SCUDO   build Scudo from LLVM's sources, of which SCUDO is the folder compiler-rt/lib/scudo/standalone, with its own map
-                   and with this one; run the program three times with glibc, Scudo and the map each, and say what was predicted and
-                   what was measured. For a program that ends by itself and does the same each time. Its standard input is kept for
-                   that; what these runs print is not shown. It wants LLVM 19 or a later one, and clang++ or what CXX names
+                   and with this one; run the program five times each, in random order, as it is, with each other allocator that is
+                   installed, with Scudo and with the map; and say what hardening costs it in memory and what of that the map pays
+                   back. For a program that ends by itself and does the same each time. Its standard input is kept for that; what
+                   these runs print is not shown. The tuned Scudo stays in the folder, as a library for LD_PRELOAD, with its header.
+                   It wants LLVM 19 or a later one, and clang++ or what CXX names
   --only NAME      count only processes whose program has this name, as NAME of /usr/bin/NAME
   --against TABLE  a file with a class line: another table to compare with, besides Scudo's default and its table for Android
   --output FOLDER  the folder to make; without it, the name of the program or of FILE with `.tuned`, in the current folder
@@ -40,20 +42,24 @@ Usage: tune_program [OPTION..] PROGRAM ARGS..
   --no-largest     do not force it: a table serves the counted sizes, and perhaps no larger one
   --read FILE      run no program: take a profile, a history or a timeline from anywhere, also what merge_profiles prints. With
                    --all, a profile counts all requests. Of the others the moment of the most requested bytes is the profile
+  --upper UPPER    with a history that `profile_program --windows` printed: the one that it wrote beside it
+  --runs N         run the program N times at most, 1 to {MOST_RUNS}, where one run is too long for a timeline; 4 where it is left out
 
 The program runs once, under scripts/profile_program, and as ever: its standard input is its own, its standard output goes to
 standard error. Ctrl-C ends it early; what it did up to then counts. A server counts until it is stopped.
 
 Where a program is run without --all, each request and each free is recorded: a timeline. The footprint is then over each moment of
-the run. Where the record is too long for that, it is a history of some moments; the summary says so. docs/TUNING.md says when to
-take which table.
+the run. Where the record is too long for that, it is of some moments, and of the most blocks between them: the summary says what
+each table takes over the run, and this one at most. If these differ by more than 1%, and the program ended by itself and reads a
+file or nothing, it is run again, and the table counted over that whole run; what is said is of the last run alone. docs/TUNING.md
+says when to take which table.
 
 The folder is new. It has program.profile (what was counted), tuned.sheet (the table that loses little and its certificate),
 tuned_map.inc (a table for LLVM's Scudo), waste.svg (the waste by the number of classes), report.html (all of it as a page),
 claims.txt (what is shown of each table, and the command that checks it) and summary.txt, which is printed too. Beside these it
 has program.timeline, fitted.fit (the other table and its certificate) and moments.history (the moments that the fit names, for
-merge_profiles); or program.history and fitted.fit. Where the engines of scripts/page are at hand, page.html is its page of the
-same counts, to which report.html has a link. If a step fails, what was made before it stays.
+merge_profiles); or program.history, fitted.fit and, of a long run, upper.history. Where the engines of scripts/page are at hand,
+page.html is its page of the same counts, to which report.html has a link. If a step fails, what was made before it stays.
 
 MTE_TOOL=PATH in the environment takes the program at PATH in place of the built one; the summary and the page say so.
 
@@ -65,7 +71,7 @@ Exit status:
 
 Example:
   tune_program sqlite3 :memory: < examples/sqlite_large.sql
-"""
+""".replace("{MOST_RUNS}", str(long_runs.MOST_RUNS))
 
 WIDTH, HEIGHT = 80, 24
 FILES = [
@@ -74,6 +80,7 @@ FILES = [
     ("tuned_map.inc", "the table for Scudo"),
     ("program.timeline", "what was recorded"),
     ("program.history", "blocks over time"),
+    ("upper.history", "most of each window"),
     ("fitted.fit", "table, certificate"),
     ("moments.history", "the fit's moments"),
     ("claims.txt", "what is shown"),
@@ -89,8 +96,8 @@ class Options(argparse.Namespace):
     def __init__(self, words: list[str]) -> None:
         kinds: dict[str, Any] = {**TABLES, "objective": named("footprint", "waste")}
         kinds |= {"largest": {"action": "store_true", "default": True}, "no_largest": {"action": "store_false", "dest": "largest"}}
-        kinds |= {"against": {"action": "append", "type": some, "default": []}}
-        ProgramWords(HELP, defaults={"limit": 32, "step": 1}, **kinds).take(words, into=self)
+        kinds |= {"against": {"action": "append", "type": some, "default": []}, "runs": between(1, long_runs.MOST_RUNS)}
+        ProgramWords(HELP, defaults={"limit": 32, "step": 1, "runs": 4}, **kinds).take(words, into=self)
         self.agree()
 
     def agree(self) -> None:
@@ -100,6 +107,8 @@ class Options(argparse.Namespace):
             raise texts.Refused(2, f"--read runs no program, so there is no place for {self.words[0]}")
         if self.read is not None and self.only is not None:
             raise texts.Refused(2, "--read runs no program, so there is no process that --only could name")
+        if self.upper is not None and self.read is None:
+            raise texts.Refused(2, "--upper goes with --read")
         if self.verify is not None and (self.read is not None or self.all or self.only is not None):
             raise texts.Refused(2, "--verify runs the program itself, so there is no place for --read, --all or --only")
         if self.limit == 1 and self.largest:
@@ -151,7 +160,7 @@ class Folder:
     def drop_empty(self) -> None:
         """Without a profile nothing is worth keeping: then the next run finds its folder free."""
         try:
-            for name in ("program.profile", "program.timeline", "program.history", "measured"):
+            for name in ("program.profile", "program.timeline", "program.history"):
                 if self.has(name) and not os.path.getsize(self.at(name)):
                     os.remove(self.at(name))
             os.rmdir(self.path)
@@ -159,43 +168,21 @@ class Folder:
             pass  # there is something in it
 
 
-def count(options: Options, folder: Folder, given: "str | None") -> tuple[int, list[str], dict[str, int]]:
-    """Runs the program and writes its profile. Returns the status of the run, 0 or 1, what profile_program said of it, and what it measured."""
-    said, measured, profile = (folder.at(name) for name in ("said", "measured", "program.profile"))
-    name = "program.profile" if options.all else "program.timeline"
-    printed, shown = folder.at(name), folder.file(name)
-    words = [] if options.all else ["--timeline", "--as-scudo", "--peak", profile, "--measured", measured]
-    words += [] if options.only is None else ["--only", options.only]
-    try:
-        with open(printed, "wb") as file:
-            command = [os.path.join(texts.SCRIPTS, "profile_program"), *words, "--said", said, "--", *options.words]
-            with open(given or os.devnull, "rb") as again:
-                status = children.run(command, stdout=file, stdin=again if given else None)
-        if not options.all and texts.is_history(texts.read(printed, 100)):
-            os.rename(printed, folder.at("program.history"))
-    except OSError as error:
-        raise texts.Refused(3, f"{shown} can't be made: {error.strerror}") from None
-    notes = [line for line in taken(said).splitlines() if line]
-    found = {name: int(value) for name, value in map(str.split, taken(measured).splitlines())}
-    if status not in (0, 1):
-        # it said why on standard error itself
-        kept = f"; what it wrote is in {shown}" if os.path.exists(printed) and os.path.getsize(printed) else ""
-        raise texts.Refused(2 if status == 2 else 3, f"there is no profile of {options.words[0]}, and nothing to tune{kept}")
-    return status, notes, found
-
-
-def taken(path: str) -> str:
-    """The text of a file that is no longer needed, empty where there is none."""
-    if not os.path.isfile(path):
-        return ""
-    text = texts.read(path).decode(errors="replace")
-    os.remove(path)
-    return text
+def is_long(options: Options) -> bool:
+    """Whether --read names a timeline that is too long to be read at once."""
+    if options.read == "-" or not os.path.isfile(options.read) or os.path.getsize(options.read) <= texts.MOST_INPUT:
+        return False
+    if not texts.is_timeline(texts.read(options.read, 100)):
+        return False
+    options.agree_on(True)
+    return True
 
 
 def read_given(options: Options) -> "dict[str, str | bytes]":
     """The files of the profile, of the history or of the timeline, that --read names."""
     data, name = texts.read(options.read), texts.named(options.read)
+    if options.upper is not None and not texts.is_history(data):
+        raise texts.Refused(2, f"--upper goes with a history of `profile_program --windows`, and {name} is none")
     if not data:
         raise texts.Refused(3, f"{name} is empty: did the command that writes it fail?")
     files: "dict[str, str | bytes]" = {}
@@ -208,6 +195,8 @@ def read_given(options: Options) -> "dict[str, str | bytes]":
         history = texts.parse_history(data, name)
         options.agree_on(history)
         profile, files["program.history"] = figures.at_peak(history), texts.history_text(history)
+        if options.upper is not None:
+            files["upper.history"] = texts.history_text(texts.parse_history(texts.read(options.upper), texts.named(options.upper)))
     else:
         profile = texts.parse_profile(data, name)
         options.agree_on(None)
@@ -220,6 +209,8 @@ def warnings(options: Options, found: figures.Figures, notes: list[str]) -> Iter
     """Where the result means little: a line for each reason."""
     default = found.others[0]
     saving = found.saving(default)
+    if seen := [table.name for table in (found.first, *found.rest) if table.takes_more and table.footprint is not None]:
+        yield f"Of {' and '.join(seen)} the footprint is that over the recorded moments: over the run it may be more."
     if found.bytes < 1 << 20 and not options.all:
         yield f"Less than 1 MiB counts here ({figures.byte_text(found.bytes)}): the resident set may not change."
     elif saving is not None and 0 <= saving < 1 << 20 and not options.all:
@@ -256,19 +247,25 @@ def counted(options: Options, timed: "figures.OverTime | None" = None) -> str:
     return "the blocks live at the peak" if timed or options.read is None else "as the profile has them"
 
 
-def headline(options: Options, found: figures.Figures) -> str:
-    """What the table of the map is, and what it saves."""
+def headline(options: Options, found: figures.Figures, process: int) -> str:
+    """What the table of the map is, and what it saves: of the bytes of the process, where these were measured."""
     default = found.others[0]
     saving = found.saving(default)
     if saving is None:
         return f"{options.name()}: {found.first.name}"
-    saved = f"{kibibytes(abs(saving))} ({percent(abs(saving), found.whole(default))}) {'less' if saving >= 0 else 'more'}"
-    return f"{options.name()}: {found.first.name}, {saved} than {default.name}"
+    share = "" if process else f" ({percent(abs(saving), found.whole(default))})"
+    saved = f"{kibibytes(abs(saving))}{share} {'less' if saving >= 0 else 'more'} than {default.name}"
+    if not process:
+        return f"{options.name()}: {found.first.name}, {saved}"
+    helps = "" if abs(saving) >= verdict.SHARE * process else "no table helps this program; "
+    return f"{options.name()}: {helps}{found.first.name}, {saved}, {percent(abs(saving), process)} of the process"
 
 
 def summary(options: Options, found: figures.Figures, folder: Folder, noted: list[str], measured: dict[str, int]) -> str:
     """The summary: it fits a terminal of 80 columns and 24 lines, unless there are many tables, warnings or a record over time."""
-    lines = [*wrapped(headline(options, found), indent="  "), ""]
+    lines = [*wrapped(headline(options, found, measured.get("resident", 0)), indent="  "), ""]
+    for text in found.interval()[:1]:
+        lines += wrapped(text)
     if found.timed:
         lines += wrapped(recorded(found.timed))
     what = f"{numbered(found.requests, 'request')} of {numbered(found.bytes, 'byte')}"
@@ -284,7 +281,7 @@ def summary(options: Options, found: figures.Figures, folder: Folder, noted: lis
         "Saving: by the first table, with its share of all blocks with that table."
         + (" Of all requests, these are sums over time, and no memory." if options.all else "")
     )
-    for known in found.known():
+    for known in [*found.known(), *found.interval()[1:]]:
         lines += wrapped(known)
     for text in noted:
         lines += wrapped(f"! {text}", indent="  ")
@@ -303,6 +300,8 @@ def summary(options: Options, found: figures.Figures, folder: Folder, noted: lis
 
 def recorded(timed: figures.OverTime) -> str:
     """What was seen of the run."""
+    if timed.interval:
+        return f"Recorded: {numbered(timed.history.snapshots, 'moment')} of the run, and the most blocks between them."
     if timed.kind == "timeline":
         return f"Recorded: each moment of the run, {numbered(timed.text.rstrip(bytes([10])).count(bytes([10])), 'event')}."
     return f"Recorded: {numbered(timed.history.snapshots, 'moment')} of the run, and not what lies between."
@@ -345,10 +344,14 @@ def predicted(found: figures.Figures) -> str:
     at_once = found.most_live(default) - found.most_live(found.first)
     rests = "each moment of the run" if found.timed.kind == "timeline" else "the recorded moments"
     return (
-        f"Predicted of Scudo from {rests}, and not proved: against {default.name} the peak memory falls by "
-        f"{kibibytes(found.saved_in_scudo)} where it gives nothing back, in whole pages and with its lists of free blocks, and by "
-        f"{kibibytes(at_once)} where it gives back each block as it is freed."
+        f"Predicted of Scudo from {rests}, and not proved: against {default.name} the peak memory {moved(found.saved_in_scudo)} "
+        f"where it gives nothing back, in whole pages and with its lists of free blocks, and {moved(at_once)} where it gives back each "
+        "block as it is freed."
     )
+
+
+def moved(saved: int) -> str:
+    return f"{'falls' if saved >= 0 else 'rises'} by {kibibytes(abs(saved))}"
 
 
 def comparison(found: figures.Figures) -> list[str]:
@@ -367,7 +370,7 @@ def comparison(found: figures.Figures) -> list[str]:
 def tune(words: list[str]) -> int:
     options = Options(words)
     others = figures.other_tables(options.against)
-    given = None if options.read is None else read_given(options)
+    given = None if options.read is None or is_long(options) else read_given(options)
     scudo = None if options.verify is None else verification.place(options.verify)
     folder = Folder(options.output or options.name() + ".tuned")
     with private_folder.temporary_folder() as work:
@@ -377,22 +380,24 @@ def tune(words: list[str]) -> int:
 def tuned_in(options: Options, folder: Folder, others: list, given: "dict | None", scudo: "verification.Place | None",
              work: private_folder.Folder) -> int:
     """All steps in a new folder, with one for what is needed meanwhile."""
-    status, kept = 0, None
-    notes: list[str] = []
-    measured: dict[str, int] = {}
+    recorded, runs, kept = long_runs.Recorded(0, [], {}, {}, b""), None, None
     try:
         if given is None:
             kept = work.file("input") if scudo and verification.keep_input(work.file("input")) else None
-            status, notes, measured = count(options, folder, kept)
+            runs = long_runs.runs_of(options, work, kept)
+            recorded = long_runs.count(options, folder, runs, others)
         else:
+            recorded = recorded._replace(upper=given.pop("upper.history", "").encode())
             for name, text in given.items():
                 folder.write(name, text)
     finally:
         folder.drop_empty()
+    status = recorded.status
     try:
-        found = made(options, folder, others, notes, measured)
+        timed, recorded = long_runs.narrowed(options, folder, runs, recorded, others)
+        found, report = made(options, folder, others, recorded, timed)
         if scudo:
-            verify(options, folder, found, scudo, work.path, kept)
+            verify(options, folder, found, report, scudo, work.path, kept)
     except texts.Refused as refused:
         raise texts.Refused(refused.status, f"{refused.text}; what was made until then is in {folder.path}") from None
     except KeyboardInterrupt:
@@ -401,8 +406,10 @@ def tuned_in(options: Options, folder: Folder, others: list, given: "dict | None
     return status
 
 
-def made(options: Options, folder: Folder, others: list, notes: list[str], measured: dict[str, int]) -> figures.Figures:
-    """All that follows from program.profile."""
+def made(options: Options, folder: Folder, others: list, recorded: long_runs.Recorded,
+         timed: "figures.OverTime | None") -> tuple[figures.Figures, Callable[[str], None]]:
+    """All that follows from program.profile, and from the record over time, whose fit may be there already; and what writes report.html anew, with
+    a further part."""
     profile = texts.read_profile(folder.at("program.profile")) if folder.has("program.profile") else {}
     if not any(size for size in profile if size != "large"):
         raise texts.Refused(3, figures.NOTHING)
@@ -410,7 +417,7 @@ def made(options: Options, folder: Folder, others: list, notes: list[str], measu
     _, answer = figures.run(["tune", *words], figures.profile_text(profile))
     sheet = f"{answer}\n"
     folder.write("tuned.sheet", sheet)
-    timed = fitted(options, folder)
+    timed = fitted(options, folder, timed)
     given = "program.timeline" if timed and timed.kind == "timeline" else "program.history"
     found = figures.Figures(profile, sheet, others, timed, options.objective, "program.profile", given)
     # none of these is needed for what follows
@@ -426,55 +433,73 @@ def made(options: Options, folder: Folder, others: list, notes: list[str], measu
             folder.write(name, make())
         except texts.Refused as refused:
             failed.append(f"{name} is not made: {refused.text}")
-    noted = [*warnings(options, found, notes), *failed]
+    noted = [*warnings(options, found, recorded.notes), *failed]
     checks = [check_command(folder, "check", "tuned.sheet", "program.profile")]
     if timed:
         checks.append(check_fit_command(folder, timed))
     if options.objective == "footprint":
         checks.reverse()
-    folder.write("claims.txt", "".join(f"{known}\n\n    {command}\n\n" for known, command in zip(found.known(), checks)))
+    said = [f"{known}\n\n    {command}\n\n" for known, command in zip(found.known(), checks)]
+    folder.write("claims.txt", "".join([*said, *(f"{text}\n\n" for text in found.interval())]))
     beside = "page.html" if folder.has("page.html") else None
-    folder.write("report.html", report_page.page(found, options.name(), counted(options, timed), noted, checks, beside))
-    text = summary(options, found, folder, noted, measured)
+
+    def report(measured: str = "") -> None:
+        folder.write("report.html", report_page.page(found, options.name(), counted(options, timed), noted, checks, beside, measured))
+
+    report()
+    text = summary(options, found, folder, noted, recorded.measured)
     folder.write("summary.txt", text)
     texts.write(text)
     failed += found.unheld()
     if failed:
         raise texts.Refused(3, "; ".join(failed))
-    return found
+    return found, report
 
 
-def verify(options: Options, folder: Folder, found: figures.Figures, scudo: verification.Place, work: str,
+def verify(options: Options, folder: Folder, found: figures.Figures, report: Callable[[str], None], scudo: verification.Place, work: str,
            kept: "str | None") -> None:
-    """Runs the program in the real Scudo, and adds to the summary what was measured."""
-    default, path = found.others[0].name, recording.find_program(options.words[0])
-    libraries = {"glibc": None, default: os.path.join(work, "default.so"), found.first.name: os.path.join(work, "tuned.so")}
-    verification.build(scudo, libraries[default], None, work)
-    verification.build(scudo, libraries[found.first.name], found.first.classes, work)
+    """Runs the program in the real Scudo, leaves the tuned one in the folder, and adds to summary and report what was measured."""
+    tuned, path, made = found.first.name, recording.find_program(options.words[0]), f"libscudo_{options.name()}.so"
+    own = verdict.present(path)
+    libraries = {own: None, **{name: file for name, file in verdict.installed().items() if name != own}}
+    for name, classes in ((verdict.DEFAULT, None), (tuned, found.first.classes)):
+        texts.say("tune_program", f"compiling Scudo with {'its own table' if classes is None else 'this one'}; that takes about half a minute")
+        libraries[name] = os.path.join(work, "default.so" if classes is None else made)
+        verification.build(scudo, libraries[name], classes, work)
+    folder.write(made, texts.read(libraries[tuned]))
+    folder.write(verification.CONFIG, scudo_map.config(found.first.classes))
     runner = os.path.join(work, "peak")
     verification.build_runner(scudo, runner, work)
-    done = verification.verified(runner, options.words, path, libraries, kept)
-    width = max(map(len, libraries))
-    lines = ["", f"Measured, the peak of the resident set, the middle of {verification.RUNS} runs each:"]
-    lines += [f"  {name:{width}}  {kibibytes(peak):>14}" for name, peak in done.peaks.items()]
-    fell = done.peaks[default] - done.peaks[found.first.name]
-    lines += wrapped(f"With the map it falls by {kibibytes(fell)}, {percent(fell, done.peaks[default])}, against {default}. {predicted(found)}")
-    for name in done.strange:
-        lines += wrapped(f"! With {name} the program ended otherwise than with glibc at first.", indent="  ")
-    text = "".join(f"{printable(line)}\n" for line in lines)
+    rows = verdict.measured(runner, options.words, path, libraries, kept)
+    said = f"{options.name()}: {verdict.verdict(rows, tuned)}"
+    report(measured_section.section(said, rows, tuned, found.saved_in_scudo))
+    text = "".join(f"{printable(line)}\n" for line in measured_lines(options, folder, found, rows, made, said))
     folder.write("summary.txt", texts.read(folder.at("summary.txt")) + text.encode())
     texts.write(text)
 
 
-def fitted(options: Options, folder: Folder) -> "figures.OverTime | None":
+def measured_lines(options: Options, folder: Folder, found: figures.Figures, rows: "list[verdict.Row]", made: str, said: str) -> list[str]:
+    """The verdict, and what it follows from."""
+    lines = ["", *wrapped(f"Verdict on {said}", indent="  ")]
+    lines += ["", f"Measured: peak of the resident set and processor time, {verdict.RUNS} runs each:", *verdict.lines(rows)]
+    lines += wrapped(predicted(found))
+    for row in rows:
+        if row.strange:
+            lines += wrapped(f"! With {row.name} the program ended otherwise than with {rows[0].name}.", indent="  ")
+    lines += ["", "To run it in Scudo with this table, which is in the folder beside its header:"]
+    return [*lines, f"  LD_PRELOAD={texts.path_word(os.path.abspath(folder.file(made)))} {texts.path_word(options.words[0])} .."]
+
+
+def fitted(options: Options, folder: Folder, timed: "figures.OverTime | None") -> "figures.OverTime | None":
     """The fit of the timeline or of the history, if there is one, and its files."""
     kind = next((kind for kind in ("timeline", "history") if folder.has(f"program.{kind}")), None)
     if kind is None:
         return None
-    text = texts.read(folder.at(f"program.{kind}"))
-    if kind == "history":
-        text = texts.history_text(texts.parse_history(text)).encode()
-    timed = figures.over_time(kind, text, options.largest, options.limit, options.step)
+    if not timed:
+        text = texts.read(folder.at(f"program.{kind}"))
+        if kind == "history":
+            text = texts.history_text(texts.parse_history(text)).encode()
+        timed = figures.over_time(kind, text, options.largest, options.limit, options.step)
     folder.write("fitted.fit", timed.fit_text)
     if kind == "timeline":
         folder.write("moments.history", texts.history_text(timed.history))

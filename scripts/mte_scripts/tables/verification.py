@@ -2,6 +2,7 @@
 
 import glob
 import os
+import resource
 import shutil
 import subprocess
 from typing import NamedTuple, Optional
@@ -13,7 +14,6 @@ from mte_scripts.running import Refused
 from mte_scripts.tables import scudo_map
 
 CONFIG = "custom_scudo_config.h"
-RUNS = 3
 FLAGS = "-std=c++17 -O3 -fPIC -fvisibility=hidden -fno-exceptions -fno-rtti -nostdinc++ -shared -nostdlib++ -pthread".split()
 # of other systems, and C++'s `new`, which then goes through malloc
 LEFT_OUT = ("fuchsia", "trusty", "bionic", "wrappers_cpp")
@@ -80,34 +80,24 @@ def compile_with(words: list, work: str, what: str) -> None:
         raise Refused(3, f"{what} could not be built: {why[0].strip()}")
 
 
-def peak(runner: str, words: list, path: str, library: Optional[str], given: Optional[str]) -> tuple[int, int]:
-    """The status of one run, and its most resident memory in bytes. What the program prints is not kept."""
+class Run(NamedTuple):
+    """How a run ended, its most resident memory in bytes, and its processor time in seconds."""
+
+    status: int
+    peak: int
+    spent: float
+
+
+def once(runner: str, words: list, path: str, library: Optional[str], given: Optional[str]) -> Run:
+    """One run with a library before all others, or none. What the program prints is not kept."""
     found, variables = os.memfd_create("mte_found", 0), programs.environment()
     libraries = b":".join(filter(None, (os.fsencode(library or ""), variables.pop(b"LD_PRELOAD", None))))
     with open(given or os.devnull, "rb") as file, open(found, "rb") as noted:
         streams: dict = {"stdin": file if given else None, "stdout": subprocess.DEVNULL, "stderr": subprocess.DEVNULL}
+        before = resource.getrusage(resource.RUSAGE_CHILDREN)
         done = subprocess.run([runner, str(found), os.fsdecode(libraries), "none", "", "", "", path, *words], env=variables, close_fds=False, **streams)
+        after = resource.getrusage(resource.RUSAGE_CHILDREN)
         notes = Notes.of(noted.read(PAGE))
     if done.returncode or notes.error:
         raise Refused(3, f"{words[0]} can't be run again")
-    return notes.status, notes.resident
-
-
-class Verified(NamedTuple):
-    """The middle of each one's peaks in bytes, and those that ended with another status than in the first run."""
-
-    peaks: dict[str, int]
-    strange: list[str]
-
-
-def verified(runner: str, words: list, path: str, libraries: dict[str, Optional[str]], given: Optional[str]) -> Verified:
-    """Runs the program in turn with each library, or none."""
-    import statistics
-
-    found: dict[str, list[tuple[int, int]]] = {name: [] for name in libraries}
-    for _ in range(RUNS):
-        for name, library in libraries.items():
-            found[name].append(peak(runner, words, path, library, given))
-    usual = next(iter(found.values()))[0][0]
-    strange = [name for name, runs in found.items() if any(status != usual for status, _ in runs)]
-    return Verified({name: int(statistics.median(size for _, size in runs)) for name, runs in found.items()}, strange)
+    return Run(notes.status, notes.resident, after.ru_utime + after.ru_stime - before.ru_utime - before.ru_stime)
