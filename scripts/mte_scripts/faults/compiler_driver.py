@@ -106,7 +106,7 @@ def kept(folder: str, name: str, build_new: "Callable[[str], None]") -> str:
 def build(plain: str, to: str) -> None:
     # else a loop over bytes calls memset, which is the program's
     own = [] if is_clang(plain) else ["-fno-tree-loop-distribute-patterns"]
-    words = [plain, *RUNTIME_FLAGS, *own, *(path for path in SOURCES if path.endswith(".c")), "-o", to, "-ldl", "-pthread"]
+    words = [plain, *RUNTIME_FLAGS, *own, *(path for path in SOURCES if path.endswith(".c")), "-o", to, "-Wl,--no-as-needed", "-lm", "-ldl", "-pthread"]
     compile_alone(words, f"the runtime could not be compiled: it needs glibc, and room in {os.path.dirname(to)}")
 
 
