@@ -134,13 +134,13 @@ def links(words: list) -> bool:
 
 def leave_recipe(plain: str, compiler: str, library: str, link: list, flags: list) -> None:
     """Leaves what the next call does as commands of a shell, which the driver reads before it runs Python. They return where anything is not
-    as it is now: the environment, the compilers, or a file that this program reads. Without a place there is no recipe."""
+    as it is now: the driver, the environment, the compilers, or a file that this program reads. Without a place there is no recipe."""
     names = [os.environ.get(name, "") for name in ("TRACED_CC", "TRACED_CXX")]
     name = ".".join([os.path.basename(sys.argv[0]), *map(os.path.basename, names)])
     files = [os.path.abspath(sys.argv[0]), __file__, os.path.join(SHIMS, "accesses"), *SOURCES, *HEADERS, *map(which, (plain, compiler)), library]
     listed = " ".join(map(quoted, files))
     lines = [f'[ "${{{name}-}}" = {quoted(os.environ.get(name, ""))} ] || return 0' for name in ("TRACED_CC", "TRACED_CXX")]
-    lines.append(f"is_private {quoted(library)} || return 0")
+    lines += [f'[ "$0" = {quoted(files[0])} ] || return 0', f"is_private {quoted(library)} || return 0"]
     for each in {plain, compiler}:  # the first of its name on the path
         lines.append(f'[ "$(command -v {quoted(each if each in names else os.path.basename(each))})" = {quoted(which(each))} ] || return 0')
     try:

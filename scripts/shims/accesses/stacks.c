@@ -4,11 +4,12 @@
 #include <errno.h>
 #include <fcntl.h>
 #include <string.h>
+#include <sys/mman.h>
 #include <sys/syscall.h>
 #include <unistd.h>
 #include <unwind.h>
 
-enum { STACKS = 1 << 18, MODULES = 256, MOST_SKIPPED = 64, FRAMES_OF_UNNUMBERED = 4 };
+enum { STACKS = 1 << 18, MODULES = 256, MOST_SKIPPED = 64, FRAMES_OF_UNNUMBERED = 4, KNOWN_STACKS = 64 };
 static struct module modules[MODULES];
 static int number_of_modules;
 static char paths[1 << 16];
@@ -64,6 +65,56 @@ static void find_bounds(const struct mapping *new, void *at) {
   if (new->low <= (address)at && (address)at < new->high) stack_low = new->low, stack_high = new->high;
 }
 
+// The stacks that a thread was on, as fibers have theirs: of the last ones it is known where they end. What unmaps or protects memory makes all
+// unknown.
+struct bounds { address low, high; };
+static __thread struct bounds stacks_known[KNOWN_STACKS] __attribute__((tls_model("initial-exec")));
+static __thread unsigned next_known __attribute__((tls_model("initial-exec"))), known_at __attribute__((tls_model("initial-exec")));
+static unsigned changes;                          // of the mappings,
+static address lowest = -(address)1, highest;     // among which all these stacks lie
+
+static void change_stack(address to) {
+  stack_low = stack_high = 0;
+  if (known_at != changes) fill_bytes(stacks_known, 0, sizeof stacks_known), known_at = changes;
+  for (int i = 0; i < KNOWN_STACKS; i++)
+    if (stacks_known[i].low <= to && to < stacks_known[i].high) {
+      stack_low = stacks_known[i].low, stack_high = stacks_known[i].high;
+      return;
+    }
+  see_mappings(find_bounds, (void *)to);
+  stacks_known[next_known++ % KNOWN_STACKS] = (struct bounds){stack_low, stack_high};
+  if (stack_low < lowest) lowest = stack_low;
+  if (stack_high > highest) highest = stack_high;
+}
+
+static void forget_stacks(address from, size_t size) {
+  if (from >= highest || from + size <= lowest) return;
+  __atomic_add_fetch(&changes, 1, __ATOMIC_RELAXED);
+  stack_low = stack_high = 0;
+}
+
+SHOWN int munmap(void *at, size_t size) {
+  forget_stacks((address)at, size);
+  return syscall(SYS_munmap, at, size);
+}
+
+SHOWN int mprotect(void *at, size_t size, int mode) {
+  forget_stacks((address)at, size);
+  return syscall(SYS_mprotect, at, size, mode);
+}
+
+// the program says where the stack is that it goes to
+SHOWN void __sanitizer_start_switch_fiber(void **fake, const void *bottom, size_t size) {
+  if (fake) *fake = NULL;
+  (void)bottom, (void)size;
+}
+
+SHOWN void __sanitizer_finish_switch_fiber(void *fake, const void **bottom, size_t *size) {
+  (void)fake;
+  if (bottom) *bottom = (const void *)stack_low;
+  if (size) *size = stack_high - stack_low;
+}
+
 const struct module *module_of(address pc) {
   for (int i = 0; i < number_of_modules; i++)
     if (modules[i].low <= pc && pc < modules[i].high) return &modules[i];
@@ -82,7 +133,7 @@ static void find_module(address pc) {
 // the return addresses on the stack above an address in it, by its frames
 void walk(struct caller from, address below, struct stack *to) {
   address *frame = from.frame;
-  if (below < stack_low || below >= stack_high) stack_low = stack_high = 0, see_mappings(find_bounds, (void *)below);
+  if (below < stack_low || below >= stack_high) change_stack(below);
   to->pcs[to->count++] = from.pc;
   while (to->count < FRAMES && (address)frame > below && (address)frame % sizeof *frame == 0 && (address)(frame + 2) <= stack_high) {
     if (frame[1] < 4096) break;
