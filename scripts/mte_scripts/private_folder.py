@@ -99,6 +99,11 @@ class Place:
                 raise Refused(3, f"{self.path} can't be written: {error.strerror}{remedy}") from None
         return self.file(name)
 
+    def replace(self, name: str, text: str) -> None:
+        """A file of this name, in the place of what has the name, all at once."""
+        with self.new_file(name) as new, open(new, "w", encoding="utf-8", errors="surrogateescape") as file:
+            file.write(text)
+
     def fill(self, folder: str) -> None:
         """Copies the files of another folder into it. None may have a name that is taken."""
         for name in os.listdir(folder):

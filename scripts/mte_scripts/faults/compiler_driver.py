@@ -4,11 +4,12 @@ runtime.
 They run for each file of a build and each question of a `configure`, so what takes long to import is imported where it is needed."""
 
 import os
+import sys
 from _collections_abc import Callable
 
 from mte_scripts import private_folder
 from mte_scripts.recording import programs
-from mte_scripts.recording.shims import SHIMS, compile_alone, sources_in, sum_of
+from mte_scripts.recording.shims import HEADERS, SHIMS, compile_alone, sources_in, sum_of
 from mte_scripts.running import Refused
 
 HELP = """\
@@ -106,7 +107,7 @@ def kept(folder: str, name: str, build_new: "Callable[[str], None]") -> str:
 def build(plain: str, to: str) -> None:
     # else a loop over bytes calls memset, which is the program's
     own = [] if is_clang(plain) else ["-fno-tree-loop-distribute-patterns"]
-    words = [plain, *RUNTIME_FLAGS, *own, *(path for path in SOURCES if path.endswith(".c")), "-o", to, "-ldl", "-pthread"]
+    words = [plain, *RUNTIME_FLAGS, *own, *(path for path in SOURCES if path.endswith(".c")), "-o", to, "-Wl,--no-as-needed", "-lm", "-ldl", "-pthread"]
     compile_alone(words, f"the runtime could not be compiled: it needs glibc, and room in {os.path.dirname(to)}")
 
 
@@ -129,6 +130,35 @@ def links(words: list) -> bool:
     """Whether the words link a program or a library. With -v they may, where they name a file."""
     has_input = any(not word.startswith("-") for word in words)
     return has_input and not any(word in WITHOUT_LINK or word.startswith(("-dump", "-print", "-q")) for word in words)
+
+
+def leave_recipe(plain: str, compiler: str, library: str, link: list, flags: list) -> None:
+    """Leaves what the next call does as commands of a shell, which the driver reads before it runs Python. They return where anything is not
+    as it is now: the driver, the environment, the compilers, or a file that this program reads. Without a place there is no recipe."""
+    names = [os.environ.get(name, "") for name in ("TRACED_CC", "TRACED_CXX")]
+    name = ".".join([os.path.basename(sys.argv[0]), *map(os.path.basename, names)])
+    files = [os.path.abspath(sys.argv[0]), __file__, os.path.join(SHIMS, "accesses"), *SOURCES, *HEADERS, *map(which, (plain, compiler)), library]
+    listed = " ".join(map(quoted, files))
+    lines = [f'[ "${{{name}-}}" = {quoted(os.environ.get(name, ""))} ] || return 0' for name in ("TRACED_CC", "TRACED_CXX")]
+    lines += [f'[ "$0" = {quoted(files[0])} ] || return 0', f"is_private {quoted(library)} || return 0"]
+    for each in {plain, compiler}:  # the first of its name on the path
+        lines.append(f'[ "$(command -v {quoted(each if each in names else os.path.basename(each))})" = {quoted(which(each))} ] || return 0')
+    try:
+        now = "\n".join(f"{status.st_ino}.{status.st_size}.{int(status.st_ctime)}" for status in map(os.stat, files))
+        lines.append(f'[ "$(stat -L -c %i.%s.%Z -- {listed} 2>&1)" = {quoted(now)} ] || return 0')
+        run = f"exec {quoted(compiler)}", f'"$@" {" ".join(map(quoted, flags))}'
+        endings = "|".join([*map(quoted, WITHOUT_LINK), "-dump*", "-print*", "-q*"])
+        lines += ['[ "$*" != --help ] || return 0', "link=", f"for word; do case $word in {endings}) link=; break ;; -*) ;; *) link=yes ;; esac; done",
+                  f'[ ! "$link" ] || {run[0]} {" ".join(map(quoted, link))} {run[1]}', " ".join(run)]
+        with private_folder.cache("recipes") as place:
+            place.replace(name, "\n".join(lines) + "\n")
+    except (OSError, Refused):
+        pass
+
+
+def quoted(text: str) -> str:
+    """A text as a word of a shell."""
+    return "'" + text.replace("'", "'\\''") + "'"
 
 
 def drive_c(words: list) -> None:
@@ -158,8 +188,10 @@ def compile_traced(words: list, is_for_cxx: bool) -> None:
     compiler = found("TRACED_CXX", "g++", "clang++") if is_for_cxx else plain
     library = runtime(plain)
     # the runtime comes before libc, so that its malloc is the program's
-    link = ["-Wl,--push-state,--no-as-needed", library, "-Wl,--pop-state", f"-Wl,-rpath,{os.path.dirname(library)}"] if links(words) else []
+    link = ["-Wl,--push-state,--no-as-needed", library, "-Wl,--pop-state", f"-Wl,-rpath,{os.path.dirname(library)}"]
+    flags = traced_flags(compiler, is_for_cxx)
+    leave_recipe(plain, compiler, library, link, flags)
     try:
-        programs.take_place([compiler, *link, *words, *traced_flags(compiler, is_for_cxx)])
+        programs.take_place([compiler, *(link if links(words) else []), *words, *flags])
     except OSError as error:
         raise Refused(3, f"{compiler} can't be run: {error.strerror}") from None

@@ -7,8 +7,9 @@ from collections import Counter, namedtuple
 from collections.abc import Iterator
 
 from mte_scripts.faults import fault_report, findings, sarif, tombstone
-from mte_scripts.faults.fault_entries import RESULTS, Entry
+from mte_scripts.faults.fault_entries import RESULTS, Entry, cause_of
 from mte_scripts.faults.fault_log import Log
+from mte_scripts.faults.fault_report import MOST_USES
 
 PROCESS = re.compile(r"[0-9]{1,10}(\.[2-9])?")  # the name of a log of one of many processes
 
@@ -45,25 +46,40 @@ def of_one(judged: Judged, options: argparse.Namespace) -> list[str]:
 
 def of_many(processes: list[Judged], options: argparse.Namespace) -> list[str]:
     """The text of many processes: each cause is told for the first of them, and how many more have it."""
-    having = Counter(each["id"] for judged in processes for each in judged.values if each["state"] == "new")
-    results: Counter = Counter()
-    lines, told = [], set()
+    causes: "dict[tuple, list[tuple[Judged, Entry]]]" = {}
     for judged in processes:
-        own = [(entry, value["id"]) for entry, value in zip(judged.found, judged.values) if value["state"] == "new" and value["id"] not in told]
-        if own:
+        for entry in new(judged):
+            causes.setdefault(cause_of(entry, judged.log, judged.places), []).append((judged, entry))
+    results: Counter = Counter()
+    lines, last = [], None
+    for (judged, entry), *others in causes.values():
+        if judged is not last:
             lines.append(f"process {judged.name}, {judged.program}:")
-        for entry, id in own:
-            if options.seeds:
-                lines += fault_report.tell_seeds(judged.log, [entry], judged.places, judged.reports, judged.odds)
-            else:
-                lines += fault_report.tell(judged.log, [entry], judged.places, judged.odds)
-            if having[id] > 1:
-                lines.append(f"    in {fault_report.count(having[id] - 1, 'process')} more".replace("processs", "processes"))
-            results[entry.result] += 1
-            told.add(id)
-    lines += [f"processes {len(processes)}", f"errors {len(told)}", *(f"{result} {results[result]}" for result in RESULTS)]
+            last = judged
+        if options.seeds:
+            lines += fault_report.tell_seeds(judged.log, [entry], judged.places, judged.reports, judged.odds)
+        else:
+            lines += fault_report.tell(judged.log, [entry], judged.places, judged.odds) + other_ways(judged, entry, others)
+        more = len({other.name for other, _ in others} - {judged.name})
+        if more:
+            lines.append(f"    in {fault_report.count(more, 'process')} more".replace("processs", "processes"))
+        results[entry.result] += 1
+    lines += [f"processes {len(processes)}", f"errors {len(causes)}", *(f"{result} {results[result]}" for result in RESULTS)]
     crashes = sum(judged.log.crash is not None for judged in processes)
     return lines + ([f"crashed {crashes}"] if crashes else [])
+
+
+def other_ways(judged: Judged, entry: Entry, others: "list[tuple[Judged, Entry]]") -> list[str]:
+    """Lines on the callers that led other processes to the same cause."""
+    told = {judged.places.show(stack) for stack in (entry.stack, *entry.ways)}
+    lines = []
+    for other, its in others:
+        for stack in (its.stack, *its.ways):
+            way = other.places.show(stack)
+            if way not in told:
+                told.add(way)
+                lines.append(f"    also, in process {other.name}: {way}")
+    return lines[:MOST_USES]
 
 
 def incomplete(judged: Judged, names: list[str]) -> list:

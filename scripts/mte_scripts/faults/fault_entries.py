@@ -11,11 +11,15 @@
                                   resized (0 where that is not known); places.frames(number) are the frames of one
     found[0].crash                of a CRASH, fault_log.Crash; it has no uses, and no result
     found[0].numbers              of all errors of the log that are of this cause, from 0
+    found[0].ways                 the stacks that lead to the same line as .stack by other callers
 
 An access of a live block beyond its bounds has one cause with those that come from the same source line and the same allocation, on the same
 side of the block. An access of a freed or resized block has one with each other of that block, of blocks that were freed from the same
 callers and first wrongly used at the same line, and of what is one object with it (its_calls). Whoever called the function of the wrong
-access does not count where it made or freed the block itself (within). A free has one with those from the same line."""
+access does not count where it made or freed the block itself (within). A second free has one with those whose two frees come from the same
+lines (apart). Another wrong free has one with those from the same line, and so has a size that no object can have, with all blocks of its
+call and with the crash that it brings. A use of poisoned memory has one with all uses of what
+one call poisoned."""
 
 import functools
 import itertools
@@ -26,19 +30,25 @@ from mte_scripts.faults.fault_places import Frame, Places
 
 OVERFLOW, UNDERFLOW, USE_AFTER_FREE, USE_AFTER_REALLOC = "overflow", "underflow", "use after free", "use after realloc"
 DOUBLE_FREE, INVALID_FREE, WILD = "double free", "invalid free", "access of no block"
-KINDS = (OVERFLOW, UNDERFLOW, USE_AFTER_FREE, USE_AFTER_REALLOC, DOUBLE_FREE, INVALID_FREE, WILD)
-CRASH = "crash"
+TOO_LARGE, POISON, OVERLAP = "impossible size", "use of poisoned memory", "overlapping copy"
+KINDS = (OVERFLOW, UNDERFLOW, USE_AFTER_FREE, USE_AFTER_REALLOC, DOUBLE_FREE, INVALID_FREE, WILD, TOO_LARGE, POISON, OVERLAP)
+CRASH, UNFREED = "crash", "memory leak"
 CAUGHT, NOT_CAUGHT, NOT_REPLAYED = "caught", "not caught", "not replayed"
 RESULTS = (CAUGHT, NOT_CAUGHT, NOT_REPLAYED)
 SAME_CALLERS = 3  # innermost frames that two stacks share which have the same callers
 
 Use = namedtuple("Use", "at error verdict result why times")  # at: the number of the error in the log, from 0
-Entry = namedtuple("Entry", "kind uses result stack made ended crash numbers")
+Entry = namedtuple("Entry", "kind uses result stack made ended crash numbers ways left", defaults=([], None))
+Left = namedtuple("Left", "blocks bytes")  # of an UNFREED: how much was lost
 
 
 def kind_of(error: Error) -> str:
     if error.is_free():
         return DOUBLE_FREE if error.letter == "o" or error.block and error.state != "live" and not error.offset else INVALID_FREE
+    if error.is_too_large():
+        return TOO_LARGE
+    if error.is_inside():
+        return POISON if error.is_of_poison() else OVERLAP
     if not error.block:
         return WILD if error.offset else USE_AFTER_FREE
     if error.state != "live":
@@ -46,9 +56,15 @@ def kind_of(error: Error) -> str:
     return UNDERFLOW if error.offset < 0 else OVERFLOW
 
 
+def block_of(error: Error) -> int:
+    """The block by which a use is told apart from others of its place: a call with a wrong size may have two."""
+    return error.block if error.is_too_large() else 0
+
+
 def stacks_of(log: Log, errors: list[Error]) -> set[int]:
     """The numbers of the stacks that tell of some errors."""
     numbers = {number for error in errors for number in (error.stack, log.made[error.block], max(log.ended[error.block], 0))}
+    numbers |= {mark.stack for error in errors for mark in (error.poisoned, error.unpoisoned) if mark}
     return numbers | ({log.crash.stack} if log.crash else set())
 
 
@@ -73,6 +89,33 @@ def within(frames: list[Frame], others: list[Frame]) -> int:
     return names.index((frames[0].function, frames[0].source)) + 1 if frames and (frames[0].function, frames[0].source) in names else 0
 
 
+def apart(one: list[Frame], other: list[Frame]) -> "tuple[str, ...]":
+    """The innermost frames of a stack, up to the first in which another one differs: the ways of both through the same functions."""
+    same = next((at for at, (left, right) in enumerate(zip(one, other)) if left.show() != right.show()), SAME_CALLERS - 1)
+    return tuple(frame.show() for frame in one[: same + 1])
+
+
+def of_both_frees(log: Log, stack: int, block: int, places: Places) -> tuple:
+    """What two double frees of one cause have in common."""
+    second, first = places.frames(stack), places.frames(max(log.ended[block], 0))
+    return apart(second, first), apart(first, second)
+
+
+def cause_of(entry: "Entry", log: Log, places: Places) -> tuple:
+    """What an entry has in common with those of other processes that are of its cause."""
+    line = places.show(entry.stack, callers=False)
+    if entry.kind == DOUBLE_FREE and entry.uses[0].error.block:
+        return (entry.kind, *of_both_frees(log, entry.stack, entry.uses[0].error.block, places))
+    if not entry.uses or entry.kind in (TOO_LARGE, POISON):
+        return entry.kind, line, entry.crash and entry.crash.signal
+
+    def lines(stack: int) -> "list[str]":
+        frames = places.frames(stack)
+        return [frame.show() for frame in frames[: within(places.frames(entry.stack), frames) or SAME_CALLERS]]
+
+    return entry.kind, line, tuple(lines(entry.made)), tuple(lines(entry.ended)) if entry.uses[0].error.state != "live" else ()
+
+
 def entries(log: Log, outcomes: "list[tuple]", places: Places) -> "list[Entry]":
     """The entries of a log, in the order of their first use. An outcome of an error is (verdict, result, why). places has learned the
     stacks of all errors."""
@@ -90,6 +133,7 @@ def entries(log: Log, outcomes: "list[tuple]", places: Places) -> "list[Entry]":
 
     of_block: "dict[tuple, tuple]" = {}
     of_object: "dict[tuple, tuple]" = {}
+    of_region: "dict[tuple, tuple]" = {}
     causes: "dict[tuple, list[int]]" = {}
     for at, error in enumerate(log.errors):
         kind, block = kind_of(error), error.block
@@ -103,6 +147,15 @@ def entries(log: Log, outcomes: "list[tuple]", places: Places) -> "list[Entry]":
                 of_object.update(((kind, way), key) for way in ways if (kind, way) not in of_object)
                 of_block[kind, block] = key
             key = of_block[kind, block]
+        elif kind == DOUBLE_FREE and block:
+            key = (kind, *of_both_frees(log, error.stack, block, places))
+        elif kind == TOO_LARGE:
+            key = kind, line(error.stack)
+        elif kind == POISON and error.poisoned:
+            # all uses of what one call poisoned
+            region = block, error.poisoned.number
+            of_region.setdefault(region, (kind, line(error.stack), callers(error.poisoned.stack)))
+            key = of_region[region]
         else:
             made = callers_within(error, log.made[block]) if block else ""
             key = kind, line(error.stack), made, callers(log.ended[block]) if error.state != "live" else ""
@@ -112,14 +165,16 @@ def entries(log: Log, outcomes: "list[tuple]", places: Places) -> "list[Entry]":
         uses: "dict[tuple, Use]" = {}
         for at in numbers:
             error, (verdict, result, why) = log.errors[at], outcomes[at]
-            key = error.letter, error.state, line(error.stack), result
+            key = error.letter, error.state, line(error.stack), result, block_of(error)
             if key in uses:
                 uses[key] = uses[key]._replace(times=uses[key].times + error.times)
             else:
                 uses[key] = Use(at, error, verdict, result, why, error.times)
         first, results = log.errors[numbers[0]], [use.result for use in uses.values()]
+        same = [stack for stack in (log.errors[at].stack for at in numbers) if line(stack) == line(first.stack)]
+        ways = list({places.show(stack): stack for stack in reversed(same)}.values())[::-1]
         made, ended = log.made[first.block], max(log.ended[first.block], 0) if first.state != "live" else 0
-        found.append(Entry(kind, list(uses.values()), min(results, key=RESULTS.index), first.stack, made, ended, None, numbers))
-    if log.crash:
+        found.append(Entry(kind, list(uses.values()), min(results, key=RESULTS.index), first.stack, made, ended, None, numbers, ways[1:]))
+    if log.crash and not (log.errors and log.errors[-1].is_too_large() and line(log.errors[-1].stack) == line(log.crash.stack)):
         found.append(Entry(CRASH, [], None, log.crash.stack, 0, 0, log.crash, []))
     return found

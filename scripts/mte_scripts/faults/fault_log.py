@@ -23,6 +23,7 @@ RUNNING, ENDED, CUT = 1, 2, 3
 MOST_BYTES = (1 << 30) + (8 << 20)  # the runtime takes a gibibyte, and a piece of eight mebibytes
 LONGEST_LINE = 4096
 MOST_SIZE = 1 << 47  # of an address space
+MOST_OBJECT = (1 << 63) - 1  # bytes
 LONGEST_RIGHT = 16  # of a right access: it is in one granule
 MOST_UNRECORDED = 1 << 20  # blocks that handlers of signals requested
 PIECE = 1 << 20
@@ -34,22 +35,38 @@ SIGNALS = {4: "SIGILL", 6: "SIGABRT", 7: "SIGBUS", 8: "SIGFPE", 11: "SIGSEGV"}
 
 Module = namedtuple("Module", "low high offset path")
 Crash = namedtuple("Crash", "signal address stack")  # the name of the signal; the address is None where it is not known
+Mark = namedtuple("Mark", "number offset size stack")  # the number of a call that poisoned or unpoisoned these bytes, from 1
 
 
 class NoLog(Exception):
     """The file is no log."""
 
 
-class Error(namedtuple("Error", "letter block offset size stack state times", defaults=(1,))):
-    """A wrong access or free. The letter is the log's: L, S, x, o or n. The state is of the block then: live, freed or resized. Times is how
-    often it came."""
+class Error(namedtuple("Error", "letter block offset size stack state times poisoned unpoisoned", defaults=(1, None, None))):
+    """A wrong access or free. The letter is the log's: L, S, P, Q, V, x, o or n. The state is of the block then: live, freed or resized. Times is
+    how often it came. Of an access of poisoned memory, the Marks by which the program poisoned it, and unpoisoned it before."""
 
     def is_free(self) -> bool:
         return self.letter in "xon"
 
+    def is_load(self) -> bool:
+        return self.letter in "LP"
+
+    def is_of_poison(self) -> bool:
+        return self.letter in "PQ"
+
+    def is_inside(self) -> bool:
+        """Whether the heap has nothing against it."""
+        return self.letter in "PQV"
+
+    def is_too_large(self) -> bool:
+        """Whether no object can have so many bytes."""
+        return self.size > MOST_OBJECT
+
     def window(self, block_size: int) -> tuple[int, int]:
         """(offset, length) of what a trace asks: from the first wrong byte on, at most 64 bytes."""
-        begin = max(self.offset, block_size) if self.state == "live" and self.offset >= 0 else self.offset
+        is_past = self.state == "live" and self.offset >= 0 and not self.is_inside()
+        begin = max(self.offset, block_size) if is_past else self.offset
         return begin, min(self.offset + self.size - begin, WINDOW)
 
 
@@ -143,8 +160,11 @@ class Log:
         self.left_out = 0
         self._times: dict[int, int] = {}
         self._numbers = {0: 0}
+        self.lost: set[int] = set()  # blocks to which no pointer is left at the end; with 0 where all such are told
+        self.ignored: set[int] = set()  # blocks whose leak the program wants passed over
         self.unrecorded: set[int] = set()  # blocks that a handler of a signal requested have no record
         self._taken_back: set[int] = set()
+        self._marks: dict[int, array] = {}  # of a block: (offset, size, stack, 1 where the bytes were poisoned) of each call, in their order
         self._kept: Optional[list[int]] = None  # where some were taken back: the numbers in the log of the others
         with opened(path) as file:
             text = Text(file)
@@ -218,8 +238,24 @@ class Log:
             (self.status,) = map(int, words)
             if not 0 <= self.status < 256:
                 raise NoLog
-        elif letter in (b"L", b"S", b"x", b"o", b"n"):
+        elif letter in (b"L", b"S", b"P", b"Q", b"V", b"x", b"o", b"n"):
             self._error(letter.decode(), *self._parts(words))
+        elif letter in (b"p", b"u"):
+            (block, offset, size), stack = self._parts(words)
+            if block:
+                self._know(block)
+            if not 0 <= offset < MOST_SIZE or not 0 < size <= MOST_SIZE:
+                raise NoLog
+            self._marks.setdefault(block, array("q")).extend((offset, size, stack, letter == b"p"))
+        elif letter == b"i":
+            (block,) = map(int, words)
+            self._know(block)
+            self.ignored.add(block)
+        elif letter == b"k":
+            (block,) = map(int, words)
+            if block:
+                self._know(block)
+            self.lost.add(block)
         else:
             raise NoLog
 
@@ -260,15 +296,36 @@ class Log:
         if len(numbers) != {"x": 2, "o": 0, "n": 0}.get(letter, 3):
             raise NoLog
         block, offset, size = (numbers + [0, 0, 0])[:3]
-        if letter in "LS":
+        if letter in "LSPQV":
             size %= 1 << 64  # a size of size_t that is above all is printed as a negative number
-        if not -MOST_SIZE < offset < MOST_SIZE or (letter in "LS" and not size):
+        if not -MOST_SIZE < offset < MOST_SIZE or (letter in "LSPQV" and not size):
             raise NoLog
         if block:
             self._know(block)
+        elif letter in "LS" and not 0 <= offset <= 2:  # what it stands for in place of a block
+            raise NoLog
         state = "live" if self.ended[block] == -1 else "resized" if self.next[block] else "freed"
         self._add(b"E", len(self.errors))
-        self.errors.append(Error(letter, block, offset, size, stack, state))
+        marks = self._marks_of(block, offset, size) if letter in "PQ" else (None, None)
+        self.errors.append(Error(letter, block, offset, size, stack, state, 1, *marks))
+
+    def _marks_of(self, block: int, offset: int, size: int) -> "tuple[Mark | None, Mark | None]":
+        """The Marks by which some of these bytes were poisoned last, and unpoisoned before that; None where there is none."""
+        marks, first = self._marks.get(block, array("q")), None
+        left = set(range(offset, offset + min(size, WINDOW)))
+        for at in range(len(marks) - 4, -1, -4):
+            begin, length, stack, is_poisoned = marks[at : at + 4]
+            met = {byte for byte in left if begin <= byte < begin + length}
+            if not met or first and is_poisoned:
+                continue
+            mark = Mark(at // 4 + 1, begin, length, stack)
+            if first:
+                return first, mark
+            if is_poisoned:
+                first, left = mark, met
+            else:
+                left -= met
+        return first, None
 
     def _drop_taken_back(self) -> None:
         """The runtime took some errors back as it learned more; their records are left as frees of no block, which are passed over."""

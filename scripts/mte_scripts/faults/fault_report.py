@@ -5,14 +5,15 @@ from collections import Counter
 from collections.abc import Iterable, Iterator
 
 from mte_scripts import html_safe
-from mte_scripts.faults.fault_entries import CAUGHT, CRASH, NOT_CAUGHT, NOT_REPLAYED, RESULTS, Entry, entries, stacks_of
-from mte_scripts.faults.fault_log import Crash, Error, Log
+from mte_scripts.faults.fault_entries import CAUGHT, NOT_CAUGHT, NOT_REPLAYED, RESULTS, Entry, Left, block_of, entries, stacks_of
+from mte_scripts.faults.fault_log import Crash, Error, Log, Mark
 from mte_scripts.faults.fault_places import Places
 from mte_scripts.faults.fault_trace import Trace, Verdict
 from mte_scripts.faults.odds import Odds
 from mte_scripts.running import printable
 
 MOST_USES = 8  # of a cause that are shown
+PLACES = ("a block that was freed long ago", "an address that the heap never gave out", "memory that is not the heap's")  # by the offset
 NO_END = "the program did not come to its end"  # of what a log misses
 
 
@@ -60,14 +61,23 @@ def sentence(error: Error, log: Log) -> str:
         if error.offset:
             return f"free of a pointer {count(abs(error.offset), 'byte')} {'into' if error.offset > 0 else 'before'} {block}{gone}"
         return f"free of {block}{gone}"
-    access = f"{'load' if error.letter == 'L' else 'store'} of {count(error.size, 'byte')}"
+    if error.letter == "V":
+        place = f"{count(error.offset, 'byte')} into {block}" if error.block else f"at the address 0x{error.offset:x}"
+        return f"overlapping copy of {count(error.size, 'byte')}, {place}"
+    access = f"{'load' if error.is_load() else 'store'} of {count(error.size, 'byte')}"
+    if error.is_of_poison():
+        access += f" {'of' if error.is_load() else 'to'} poisoned memory"
+        if not error.block:
+            return f"{access}, at the address 0x{error.offset:x}"
+    if error.is_too_large():
+        access += ", more than an object can have"
     if not error.block:
-        return f"{access} of {'an address that the heap never gave out' if error.offset else 'a block that was freed long ago'}"
+        return access + ("," if error.is_too_large() else "") + " of " + PLACES[error.offset]
     if error.offset < 0:
         return f"{access}, {count(-error.offset, 'byte')} before {block}{gone}"
     if error.offset >= size:
         return f"{access}, {count(error.offset - size, 'byte')} after {block}{gone}"
-    if error.state == "live":
+    if error.state == "live" and not error.is_too_large() and not error.is_of_poison():
         return f"{access}, from {count(error.offset, 'byte')} into {block} to {count(error.offset + error.size - size, 'byte')} after it"
     return f"{access}, {count(error.offset, 'byte')} into {block}{gone}"
 
@@ -76,11 +86,31 @@ def crash_sentence(crash: Crash) -> str:
     return crash.signal + (f" at the address 0x{crash.address:x}" if crash.address is not None else "")
 
 
-def history(entry: Entry, places: Places) -> list[str]:
+def left_sentence(left: Left) -> str:
+    return f"{count(left.bytes, 'byte')} in {count(left.blocks, 'block')}, to which no pointer is left at the end"
+
+
+def history(entry: Entry, log: Log, places: Places) -> list[str]:
     """Where the block of an entry was allocated, and freed or resized: a line each."""
     error = entry.uses[0].error
-    lines = [f"allocated at {places.show(entry.made)}"] if error.block else []
-    return lines + ([f"{error.state} at {places.show(entry.ended)}"] if error.block and error.state != "live" else [])
+    lines = [f"{did} at {places.show(mark.stack)}: {marked(mark, error)}" for did, mark in marks_of(error) if mark]
+    lines += [f"allocated at {places.show(entry.made)}"] if error.block else []
+    lines += [f"{error.state} at {places.show(entry.ended)}"] if error.block and error.state != "live" else []
+    for other in {use.error.block: use.error for use in entry.uses if block_of(use.error)}.values() if block_of(error) else ():
+        if other.block != error.block:
+            lines.append(f"the other block allocated at {places.show(log.made[other.block])}")
+            lines += [f"the other block {other.state} at {places.show(log.ended[other.block])}"] if other.state != "live" else []
+    return lines
+
+
+def marks_of(error: Error) -> "tuple[tuple, tuple]":
+    return ("poisoned", error.poisoned), ("unpoisoned before", error.unpoisoned)
+
+
+def marked(mark: Mark, error: Error) -> str:
+    """Where an access is in the bytes that a call poisoned or unpoisoned."""
+    apart = error.offset - mark.offset
+    return f"{count(mark.size, 'byte')}, the access begins {count(abs(apart), 'byte')} {'into' if apart >= 0 else 'before'} them"
 
 
 def tell(log: Log, found: "list[Entry]", places: Places, odds: Odds) -> "list[str]":
@@ -92,8 +122,9 @@ def tell_entry(entry: Entry, log: Log, places: Places, odds: Odds) -> "list[str]
     """What was done and where, with the callers; what came of it, and the odds; and the same of what else has this cause."""
     place, *callers = [frame.show() for frame in places.frames(entry.stack)] or ["an unknown place"]
     from_callers = [f"    from {caller}" for caller in callers]
-    if entry.kind == CRASH:
-        return [f"{place}: {crash_sentence(entry.crash)}", *from_callers]
+    from_callers += other_ways(entry, places)
+    if not entry.uses:
+        return [f"{place}: {crash_sentence(entry.crash) if entry.crash else left_sentence(entry.left)}", *from_callers]
     first, *others = entry.uses
     lines = [f"{place}: {sentence(first.error, log)}{often(first.times)}", *from_callers, f"    {first.result}: {first.why}"]
     for use in others[: MOST_USES - 1]:
@@ -101,7 +132,14 @@ def tell_entry(entry: Entry, log: Log, places: Places, odds: Odds) -> "list[str]
         lines.append(f"    then {at}: {sentence(use.error, log)}{often(use.times)}: {use.result}: {use.why}")
     if len(others) >= MOST_USES:
         lines.append(f"    and so at {count(len(others) - MOST_USES + 1, 'other place')}")
-    return lines + [f"    {line}" for line in (odds.line(entry.numbers), *history(entry, places))]
+    return lines + [f"    {line}" for line in (odds.line(entry.numbers), *history(entry, log, places))]
+
+
+def other_ways(entry: Entry, places: Places) -> "list[str]":
+    """The callers that lead to the same line, beside those of the first use."""
+    ways = [", from ".join(frame.show() for frame in places.frames(stack)[1:]) for stack in entry.ways]
+    lines = [f"    also from {way}" for way in ways[:MOST_USES] if way]
+    return lines + ([f"    and by {count(len(ways) - MOST_USES, 'other way')}"] if len(ways) > MOST_USES else [])
 
 
 def often(times: int) -> str:

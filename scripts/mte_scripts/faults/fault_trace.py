@@ -25,6 +25,9 @@ NOT_GIVEN = "misplaced: free refuses an address that the heap never gave out"
 LARGE = "the block is larger than the heap serves"
 FORGOTTEN = "its block was freed so long ago that the recorder forgot it"
 NEVER_GIVEN = "it is far from every block"
+NOT_OF_HEAP = "its memory is not the heap's"
+POISONED = "the program itself poisoned it, and the heap has no tag for that"
+OVERLAPS = "both of its places are inside of blocks"
 NO_VARIABLE = "its block has no variable in the trace"
 NO_SLOT = "its block has no slot in the replay: its class is exhausted"
 NO_EVENT = "the trace has no room for it"
@@ -162,7 +165,7 @@ class Trace:
         if error.letter == "n":
             return verdict("ruled", NOT_GIVEN)
         if not error.block:
-            return verdict("left", NEVER_GIVEN if error.offset else FORGOTTEN)
+            return verdict("left", NOT_OF_HEAP if error.is_inside() else (FORGOTTEN, NEVER_GIVEN, NOT_OF_HEAP)[error.offset])
         if self.log.size[error.block] > LARGEST_SIZE:
             return verdict("large", LARGE)
         variable = self.choice.stale.get(error.block, NONE) if error.state == "resized" else self._variable(error.block)
@@ -182,7 +185,9 @@ class Trace:
         promise = self.slots.access(pointer, offset, length)
         if promise.reason == LAST_GRANULE and error.state == "resized":
             promise = promise._replace(reason=IN_PLACE)
-        word, byte = ("load", "") if error.letter == "L" else ("store", " a5")
+        if error.is_inside():
+            promise = promise._replace(reason=POISONED if error.is_of_poison() else OVERLAPS)
+        word, byte = ("load", "") if error.is_load() else ("store", " a5")
         event = self._event(f"{word} {variable} {offset} {length}{byte}", promise)
         return verdict("asked", promise, event, self.slots.meeting(pointer, offset, length))
 

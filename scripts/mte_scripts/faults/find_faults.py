@@ -8,7 +8,7 @@ from typing import Any
 
 from mte_scripts import private_folder, texts
 from mte_scripts.builds import web_page
-from mte_scripts.faults import fault_answer, fault_neighbourhood, fault_report, findings, sarif, tombstone
+from mte_scripts.faults import fault_answer, fault_neighbourhood, fault_report, findings, sarif, tombstone, unfreed
 from mte_scripts.faults.fault_answer import Judged
 from mte_scripts.faults.fault_log import Log, NoLog
 from mte_scripts.faults.fault_trace import Trace, differences
@@ -36,6 +36,7 @@ Usage: find_faults [OPTIONS] PROGRAM ARGS..
   --read FOLDER   tell the errors of a log that --keep kept
   --page FILE     make a page for the browser too: each error, and the heap at that moment if scripts/page has built its engines
   --only NAME     record the first process whose program has this name, as NAME of /usr/bin/NAME
+  --unfreed       tell what is left unfreed at the end too: lost blocks are errors, those that are still reachable are not
   --children      record each process, and tell the errors of all: find_faults --children make check
   --json FILE     write the errors for other programs too; with - to standard output, in place of the text
   --sarif FILE    the same as SARIF 2.1.0, which code hosts and editors read
@@ -92,6 +93,8 @@ def record(options: argparse.Namespace, folder: str) -> None:
     recording.find_program(options.words[0])
     environment = dict(os.environ, ACCESSES=log)
     environment.pop("ACCESSES_ONLY", None)
+    if options.unfreed:
+        environment["ACCESSES_UNFREED"] = "1"
     if options.only:
         environment["ACCESSES_ONLY"] = options.only
     try:
@@ -134,7 +137,7 @@ def small_log(options: argparse.Namespace, path: str) -> "Log | None":
     def table_of(profile: str) -> "list[int]":
         return texts.parse_sheet(run_tool(["tune", "--limit", str(options.limit)], profile.encode())).classes
 
-    return None if options.whole else fault_neighbourhood.small(path, table_of, options.granules, options.quarantine)
+    return None if options.whole or options.unfreed else fault_neighbourhood.small(path, table_of, options.granules, options.quarantine)
 
 
 def run_tool(words: list[str], given: bytes) -> bytes:
@@ -193,6 +196,8 @@ def judge(options: argparse.Namespace, path: str, lists: "Lists") -> Judged:
         replays = replayed(options, log)
     trace, whole, table, reports, files, differing = replays
     found, places = fault_report.found_by(log, trace.verdicts if trace else [], reports[0] if reports else {})
+    if options.unfreed:
+        found += unfreed.lost(log, places)
     odds = Odds(log, whole.verdicts if whole else [])
     values = findings.all_of(log, found, places, odds)
     lists.mark(values)
@@ -231,6 +236,8 @@ def say(options: argparse.Namespace, processes: list[Judged], lists: "Lists", en
     """Writes the answer, and the files that were asked for."""
     name = os.path.basename(options.words[0] if options.words else os.path.abspath(options.read))
     lines = fault_answer.of_many(processes, options) if options.children else fault_answer.of_one(processes[0], options)
+    for judged in processes if options.unfreed else ():
+        lines += unfreed.reachable(judged.log, judged.places)
     lines += fault_answer.counts(processes, lists.known) + fault_report.ending(ended)
     for judged in processes:
         of_whom = f" of process {judged.name}, {judged.program}" if options.children else ""

@@ -16,7 +16,7 @@ from mte_scripts.faults import fault_entries, odds as shares
 from mte_scripts.faults.fault_entries import Entry
 from mte_scripts.faults.fault_log import Log
 from mte_scripts.faults.fault_places import Frame, Places
-from mte_scripts.faults.fault_report import count, crash_sentence, sentence
+from mte_scripts.faults.fault_report import count, crash_sentence, left_sentence, sentence
 from mte_scripts.running import Refused
 
 FORM = 1  # of the JSON
@@ -24,7 +24,8 @@ FRAMES_OF_ID = 3
 CWES = {
     fault_entries.OVERFLOW: (787, 126), fault_entries.UNDERFLOW: (124, 127), fault_entries.USE_AFTER_FREE: (416, 416),
     fault_entries.USE_AFTER_REALLOC: (825, 825), fault_entries.DOUBLE_FREE: (415, 415), fault_entries.INVALID_FREE: (761, 761),
-    fault_entries.WILD: (119, 119), fault_entries.CRASH: (None, None),
+    fault_entries.WILD: (119, 119), fault_entries.TOO_LARGE: (805, 805), fault_entries.POISON: (672, 672),
+    fault_entries.OVERLAP: (475, 475), fault_entries.CRASH: (None, None), fault_entries.UNFREED: (401, 401),
 }  # of a kind: of a store or a free, and of a load
 NOT_ON_HEAP = 590  # of a free
 LARGEST_FILE = 64 << 20
@@ -49,11 +50,13 @@ def finding(entry: Entry, log: Log, places: Places, odds: "shares.Odds") -> dict
     ended = places.frames(entry.ended)
     value = {
         "kind": entry.kind, "cwe": None, "result": entry.result, "times": 1, "odds": None, "block": None,
-        "frames": as_values(frames), "allocated": as_values(made), "ended": as_values(ended), "uses": [],
+        "frames": as_values(frames), "ways": [as_values(places.frames(stack)) for stack in entry.ways], "allocated": as_values(made), "ended": as_values(ended), "uses": [],
         "id": hashed(*named(entry.kind, frames, made, ended)),
     }
     if entry.kind == fault_entries.CRASH:
         return value | {"what": crash_sentence(entry.crash), "why": entry.crash.signal}
+    if entry.kind == fault_entries.UNFREED:
+        return value | {"what": left_sentence(entry.left), "why": "no pointer is left", "cwe": CWES[entry.kind][0]}
     first = entry.uses[0]
     for use in entry.uses:
         innermost = as_values(places.frames(use.error.stack)[:1])
@@ -62,7 +65,7 @@ def finding(entry: Entry, log: Log, places: Places, odds: "shares.Odds") -> dict
     value["odds"] = {name: shares.as_value(share) for name, share in zip(shares.HEAPS, odds.of(entry.numbers))}
     if first.error.block:
         value["block"] = {"bytes": log.size[first.error.block], "offset": first.error.offset, "state": first.error.state}
-    cwe = NOT_ON_HEAP if first.error.letter == "n" else CWES[entry.kind][first.error.letter == "L"]
+    cwe = NOT_ON_HEAP if first.error.letter == "n" else CWES[entry.kind][first.error.is_load()]
     deciding = next(use for use in entry.uses if use.result == entry.result)
     return value | {"cwe": cwe, "what": sentence(first.error, log), "why": deciding.why, "times": sum(use.times for use in entry.uses)}
 

@@ -16,6 +16,10 @@ RULES = {
     fault_entries.DOUBLE_FREE: "A free of a heap block that was freed",
     fault_entries.INVALID_FREE: "A free of what is no start of a heap block",
     fault_entries.WILD: "An access far from every heap block",
+    fault_entries.TOO_LARGE: "An access of more bytes than an object can have",
+    fault_entries.POISON: "An access of memory that the program poisoned",
+    fault_entries.OVERLAP: "A copy between two places that overlap",
+    fault_entries.UNFREED: "A heap block to which no pointer is left",
     fault_entries.CRASH: "The program was ended by a signal",
 }
 STATES = {"new": "new", "known": "unchanged"}

@@ -23,7 +23,7 @@ STARS = " ".join(["***"] * 16)
 OVERFLOW, UNDERFLOW, AFTER_FREE = "Buffer Overflow", "Buffer Underflow", "Use After Free"
 CAUSES = {
     fault_entries.OVERFLOW: OVERFLOW, fault_entries.UNDERFLOW: UNDERFLOW, fault_entries.USE_AFTER_FREE: AFTER_FREE,
-    fault_entries.USE_AFTER_REALLOC: AFTER_FREE,
+    fault_entries.USE_AFTER_REALLOC: AFTER_FREE, fault_entries.TOO_LARGE: OVERFLOW,
 }
 FAULT = re.compile(r"fault tag granule (\d+) memory \d+ pointer (\d+)")
 CAUSE = re.compile(r"\[MTE\]: ([A-Z][A-Za-z ]+), (\d+) bytes? (right of|left of|into) a (\d+)-byte allocation")

@@ -4,7 +4,10 @@
 //   blocks.c   the allocator: no address is given out twice, so an address has one owner for ever: a block, live or freed, or its gap
 //   shadow.c   what the compiler's own check before each load and store reads
 //   hooks.c    what this check calls where it doesn't know the access
-//   libc.c     functions of libc that load and store, and call no hook
+//   poison.c   the bytes that a program poisons by AddressSanitizer's interface
+//   interface.c  the rest of that interface
+//   unfreed.c  the blocks that are lost at the end
+//   libc.c     functions of libc that load and store, and call no hook; functions.h and functions.c those that are called as they are
 //   log.c      the log; the start, the end and the forks of a process
 //   stacks.c   stacks of return addresses, and the modules that they lie in
 //   crash.c    the signals that end a program
@@ -92,15 +95,26 @@ void open_block(address from, size_t size);
 void close_block(address from, size_t size);
 int is_open(address from, size_t size);
 
+// poison.c
+extern int has_poison;  // whether the program ever poisoned bytes
+address first_poisoned(address from, size_t size);  // of these bytes; 0 where none is
+void forget_poison(address from, size_t size);
+
 // hooks.c
 int logs_right(void);
+int is_right(address, size_t);
 void touch_slowly(address, size_t, int store, struct caller);
+void forget_accesses(void);  // what the thread remembers of its last ones, which are addresses of blocks
+void see_overlap(address, size_t, struct caller);
+void report_access(address, size_t, int store, struct caller);
+
+#define MOST_BYTES ((size_t)PTRDIFF_MAX)  // no object has more: a greater size is a wrong one
 
 // Most accesses are outside the arena, or inside a granule of a live block of which the log has such an access already, or wants none: the
 // table for loads or stores has the number of bytes of the granule that are the block's then, else 0.
 static inline __attribute__((always_inline)) int is_known(address a, size_t size, int store) {
-  if (!is_in_arena(a)) return 1;
-  return a % 16 + size <= *(KNOWN(store) - ARENA / 16 + a / 16);
+  if (!is_in_arena(a)) return !has_poison;
+  return size <= 16 && a % 16 + size <= *(KNOWN(store) - ARENA / 16 + a / 16);
 }
 
 // libc.c: gcc and clang would make a loop over bytes a call of memcpy and memset, which are the program's
@@ -127,7 +141,8 @@ void put_end(void);
 void drop_begun(void);
 long number_of_wrong(void);
 void take_back(long number);
-void end_log(int status);  // of the program; -1 where it is not known
+enum { NO_STATUS = -1, CRASHED = -2 };
+void end_log(int status);  // of the program, or one of these
 extern long not_logged;
 
 // hooks.c: how often the wrong accesses came; and what waited for the next access
@@ -144,12 +159,25 @@ void put_frames(const struct stack *);
 void put_stack(struct caller);
 const struct module *module_of(address pc);
 void learn_modules(void);
+struct mapping { address low, high, offset; const char *mode, *path; };  // the path is null where there is none
+void see_mappings(void (*see)(const struct mapping *, void *), void *);
+
+// unfreed.c
+void put_lost(address stack);
 
 // crash.c
 void watch_for_crashes(void);
 void watch_thread(void);
 
+// interface.c
+extern __thread int is_unwatched __attribute__((tls_model("initial-exec")));  // above 0 where leaks are passed over
+
 // tell.c: what is wrong, by the letter of its record. It is told at the next `leave`
 struct wrong { char letter; int is_freed; long number, offset, size, block_size, signal; address at; struct stack stack; };
 void will_tell(const struct wrong *);
 extern pthread_mutex_t tell_lock;
+extern struct wrong last_told;
+extern void (*report_callback)(const char *);
+void tell_line(const char *);
+void describe(address);
+void print_stack(struct caller);

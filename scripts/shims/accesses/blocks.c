@@ -88,6 +88,7 @@ static void forget(const struct empty *old) {
   madvise((void *)(ARENA + at), size, MADV_DONTNEED);
   for (int store = 0; store < 2; store++) madvise(KNOWN(store) + at / 16, size / 16, MADV_DONTNEED);
   madvise(OWNERS + at / 16, size / 16 * sizeof *OWNERS, MADV_DONTNEED);
+  forget_poison(ARENA + at, size);
   close_shadow(ARENA + at, ARENA + at + size);
 }
 
@@ -192,6 +193,7 @@ void *request(char kind, size_t size, size_t alignment, struct caller from) {
   if (block && !is_nested && is_logging()) {
     put_record(kind, 2, (long)(block - BLOCKS), (long)size);
     put_stack(from);
+    if (is_unwatched) put_record('i', 1, (long)(block - BLOCKS)), put_end();
   }
   if (!is_nested) leave();
   else if (is_held) pthread_mutex_unlock(&accesses_lock);
@@ -275,7 +277,12 @@ SHOWN void *reallocarray(void *pointer, size_t number, size_t each) {
 
 SHOWN void *memalign(size_t alignment, size_t size) { return request('m', size, alignment, CALLER); }
 SHOWN void *aligned_alloc(size_t alignment, size_t size) { return request('m', size, alignment, CALLER); }
-SHOWN void *valloc(size_t size) { return request('m', size, 4096, CALLER); }
+SHOWN void *valloc(size_t size) { return request('m', size, getpagesize(), CALLER); }
+SHOWN void *pvalloc(size_t size) {
+  size_t page = getpagesize();
+  if (size > ARENA_SIZE) return errno = ENOMEM, NULL;
+  return request('m', size ? round_up(size, page) : page, page, CALLER);
+}
 
 SHOWN int posix_memalign(void **result, size_t alignment, size_t size) {
   if (alignment % sizeof(void *) || !alignment || alignment & (alignment - 1)) return EINVAL;

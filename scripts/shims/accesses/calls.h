@@ -4,11 +4,22 @@
 #include <dlfcn.h>
 
 static inline __attribute__((always_inline)) void touch(const void *at, size_t size, int store, struct caller from) {
-  if (size && !is_known((address)at, size, store)) touch_slowly((address)at, size, store, from);
+  if (size && (size > MOST_BYTES || !is_known((address)at, size, store))) touch_slowly((address)at, size, store, from);
 }
 #define LOADS(at, size) touch(at, size, 0, CALLER)
 #define STORES(at, size) touch(at, size, 1, CALLER)
 #define ENDLESS ((size_t)-1)
+
+// A copy between two places that overlap: libc may copy in any order.
+static inline __attribute__((always_inline)) void part(const void *to, const void *from, size_t size, struct caller caller) {
+  if (size <= MOST_BYTES && ((address)to - (address)from < size || (address)from - (address)to < size)) see_overlap((address)to, size, caller);
+}
+
+// the bytes of so many things; a product that is too large is a wrong size
+static inline size_t product(size_t number, size_t each) {
+  size_t size;
+  return __builtin_mul_overflow(number, each, &size) ? ENDLESS : size;
+}
 
 // the bytes of a text before its end, at most so many; and those that are loaded to see that
 static inline size_t length(const char *s, size_t most) {

@@ -69,7 +69,7 @@ static void log_crash(int number, const siginfo_t *info, const ucontext_t *conte
   if (was_busy) busy--;
   else leave();
   if (has_to_tell) tell();
-  end_log(-1);
+  end_log(CRASHED);
 }
 
 static void crash(int number, siginfo_t *info, void *context) {

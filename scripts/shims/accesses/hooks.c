@@ -5,26 +5,49 @@
 // accesses are logged.
 #include "accesses.h"
 
-enum { MOST_RIGHT = 600000, MOST_WAITS = 1 << 22, SEEN = 1 << 16, TRIES = 64 };
-enum part { IN_FREED = 1, BEFORE_FREED, AFTER_FREED, BEFORE, IN_LAST_GRANULE, AFTER };
+enum { MOST_RIGHT = 600000, MOST_WAITS = 1 << 22, SEEN = 1 << 16, TRIES = 64, MOST_WAYS = 7 };
+enum part { IN_FREED = 1, BEFORE_FREED, AFTER_FREED, BEFORE, IN_LAST_GRANULE, AFTER, TOO_LARGE, POISON, OVERLAP };
+enum { FORGOTTEN, NEVER_GIVEN, NOT_OF_HEAP };  // of an access of no block, in place of an offset
 
-static struct seen { address pc; uint32_t block, part; long record, times; } seen[SEEN];
+// The first of some bytes has how many other ways led there, each of which has an entry of its own.
+static struct seen { address pc, way; uint32_t block, part; long record, times; int is_first, ways; } seen[SEEN];
 
 // the entry of a wrong access, which may still be free; null where there is no room
-static struct seen *seen_at(address pc, uint32_t block, uint32_t part) {
-  address hash = (pc * 0x9E3779B97F4A7C15u ^ block * 0xC2B2AE3D27D4EB4Fu ^ part * 0x165667B19E3779F9u) >> 20;
+static struct seen *seen_at(address pc, uint32_t block, uint32_t part, address way) {
+  address hash = (pc * 0x9E3779B97F4A7C15u ^ way ^ block * 0xC2B2AE3D27D4EB4Fu ^ part * 0x165667B19E3779F9u) >> 20;
   for (int i = 0; i < TRIES; i++) {
     struct seen *entry = &seen[(hash + i) % SEEN];
-    if (!entry->pc || (entry->pc == pc && entry->block == block && entry->part == part)) return entry;
+    if (!entry->pc || (entry->pc == pc && entry->block == block && entry->part == part && (way ? entry->way == way : entry->is_first))) return entry;
   }
   return NULL;
 }
 
-static int is_first(address pc, uint32_t block, uint32_t part) {
-  struct seen *entry = seen_at(pc, block, part);
+// what stands for the callers of a function
+static address way_of(struct caller from) {
+  struct stack stack;
+  stack.count = 0;
+  walk(from, (address)__builtin_frame_address(0), &stack);
+  address hash = 1;
+  for (int i = 1; i < stack.count; i++) hash = (hash ^ stack.pcs[i]) * 0x9E3779B97F4A7C15u, hash ^= hash >> 29;
+  return hash | 1;
+}
+
+// The entry of a wrong access by its way, or that of the first way, where there are too many; null where there is no room. One that is still
+// free has no address.
+static struct seen *way_to(struct caller from, uint32_t block, uint32_t part, address way) {
+  struct seen *first = seen_at(from.pc, block, part, 0);
+  if (!first || !first->pc || first->way == way) return first;
+  struct seen *entry = seen_at(from.pc, block, part, way);
+  return !entry || (!entry->pc && first->ways >= MOST_WAYS) ? first : entry;
+}
+
+static int is_first(struct caller from, uint32_t block, uint32_t part) {
+  address way = way_of(from);
+  struct seen *entry = way_to(from, block, part, way), *first = seen_at(from.pc, block, part, 0);
   if (!entry) return not_logged++, 0;
   if (entry->pc) return entry->times++, 0;
-  *entry = (struct seen){pc, block, part, number_of_wrong() + 1, 1};
+  if (entry != first) first->ways++;
+  *entry = (struct seen){from.pc, way, block, part, number_of_wrong() + 1, 1, entry == first, 0};
   return 1;
 }
 
@@ -41,23 +64,42 @@ static enum part part_of(const struct block *block, long offset, long size) {
 
 static uint32_t number_of(const struct block *block) { return block ? block - BLOCKS : 0; }
 
+// the live block that has all these bytes
+static struct block *live_at(address a, size_t size) {
+  struct block *block = owner(a);
+  int has_all = block && block->state == LIVE && a - block->start < block->size && size <= block->size - (a - block->start);
+  return has_all ? block : NULL;
+}
+
+// Whether bytes may be touched. What the heap has nothing to do with may, unless the program poisoned it.
+int is_right(address a, size_t size) {
+  return size <= MOST_BYTES && (!is_in_arena(a) || live_at(a, size)) && !first_poisoned(a, size);
+}
+
+// whether a wrong access is only wrong since the program poisoned its bytes
+static int is_of_poison(address a, size_t size) { return size <= MOST_BYTES && (!is_in_arena(a) || live_at(a, size)); }
+
+static int place_of(address a) { return !is_in_arena(a) ? NOT_OF_HEAP : was_given_out(a) ? FORGOTTEN : NEVER_GIVEN; }
+
 // which bytes a wrong access means
 static uint32_t part_and_kind(const struct block *block, address a, size_t size, int store) {
-  return 2 * (block ? (int)part_of(block, (long)(a - block->start), size) : !was_given_out(a)) + store;
+  int part = size > MOST_BYTES ? TOO_LARGE : is_of_poison(a, size) ? POISON : block ? (int)part_of(block, (long)(a - block->start), size) : place_of(a);
+  return 2 * part + store;
 }
 
 // The stack of an access that seems to be wrong for the first time, before the lock is held: the unwinder may wait for others. Else it is
 // empty.
 static void look(address a, size_t size, int store, struct caller from, struct stack *stack) {
   struct block *block = owner(a);
-  struct seen *entry = has_log() ? seen_at(from.pc, number_of(block), part_and_kind(block, a, size, store)) : NULL;
+  struct seen *entry = has_log() ? way_to(from, number_of(block), part_and_kind(block, a, size, store), way_of(from)) : NULL;
   if (entry && !entry->pc) unwind(from, stack);
 }
 
 static void wrong(struct block *block, address a, size_t size, int store, struct caller from, struct stack *stack, struct wrong *to) {
-  struct wrong found = {.letter = store ? 'S' : 'L', .number = number_of(block), .offset = !was_given_out(a), .size = size};
+  int is_poison = is_of_poison(a, size);
+  struct wrong found = {.letter = is_poison ? "PQ"[store] : "LS"[store], .number = number_of(block), .offset = is_poison ? (long)a : place_of(a), .size = size, .at = a};
   if (block) found.is_freed = block->state == FREED, found.offset = (long)(a - block->start), found.block_size = (long)block->size;
-  if (!is_logging() || !is_first(from.pc, found.number, part_and_kind(block, a, size, store))) return;
+  if (!is_logging() || !is_first(from, found.number, part_and_kind(block, a, size, store))) return;
   if (!stack->count) walk(from, (address)__builtin_frame_address(0), stack);
   put_record(found.letter, 3, found.number, found.offset, found.size);
   put_frames(stack);
@@ -75,6 +117,7 @@ static void right(struct block *block, size_t offset, size_t size, int store) {
     size_t granule = from / 16, bytes = block->size - granule * 16 < 16 ? block->size % 16 : 16;
     unsigned char *known = KNOWN(store) + first + granule, *other = KNOWN(!store) + first + granule;
     to = (granule + 1) * 16 < offset + size ? (granule + 1) * 16 : offset + size;
+    if (first_poisoned(block->start + granule * 16, bytes)) continue;
     int is_logged = *known, is_last = !logs_right();
     *known = bytes;
     if (is_last) *other = bytes;
@@ -84,13 +127,6 @@ static void right(struct block *block, size_t offset, size_t size, int store) {
     put_record(store ? 's' : 'l', 3, (long)(block - BLOCKS), (long)from, (long)(to - from));
     put_end();
   }
-}
-
-// the live block that has all these bytes
-static struct block *live_at(address a, size_t size) {
-  struct block *block = owner(a);
-  int has_all = block && block->state == LIVE && a - block->start < block->size && size <= block->size - (a - block->start);
-  return has_all ? block : NULL;
 }
 
 // Of an access whose size or alignment is not usual, clang looks at the first byte and then at the last one, and calls for each that is
@@ -112,20 +148,47 @@ void tell_guess(void) {
 // whether the access is wrong
 static int see(address a, size_t size, int store, struct caller from) {
   if (busy) {  // in a handler of a signal that came in the runtime
-    not_logged += !live_at(a, size);
+    not_logged += !is_right(a, size);
     return 0;
   }
   struct stack stack;
   stack.count = 0;
-  if (!live_at(a, size)) look(a, size, store, from, &stack);
+  if (!is_right(a, size)) look(a, size, store, from, &stack);
+  else if (!is_in_arena(a)) return 0;
   enter();
   half.size = 0;
   tell_guess();
-  struct block *block = live_at(a, size);
-  if (block) right(block, a - block->start, size, store);
-  else wrong(owner(a), a, size, store, from, &stack, NULL);
+  struct block *block = owner(a);
+  int is_wrong = !is_right(a, size);
+  if (is_wrong) wrong(block, a, size, store, from, &stack, NULL);
+  else if (block) right(block, a - block->start, size, store);
   leave();
-  return !block;
+  return is_wrong;
+}
+
+// a copy that overlaps itself; where its bytes may not be touched at all, that is told already
+void see_overlap(address to, size_t size, struct caller from) {
+  struct stack stack;
+  struct block *block = owner(to);
+  if (busy || !has_log() || !is_right(to, size)) return;
+  unwind(from, &stack);
+  enter();
+  tell_guess();
+  struct wrong found = {.letter = 'V', .number = number_of(block), .offset = (long)(block ? to - block->start : to), .size = size, .at = to, .stack = stack};
+  if (block) found.block_size = (long)block->size;
+  if (is_logging() && is_first(from, found.number, 2 * OVERLAP)) put_record('V', 3, found.number, found.offset, found.size), put_frames(&stack), will_tell(&found);
+  leave();
+}
+
+// an access that the program says is wrong
+void report_access(address a, size_t size, int store, struct caller from) {
+  struct stack stack;
+  if (busy || !size) return;
+  unwind(from, &stack);
+  enter();
+  tell_guess();
+  wrong(owner(a), a, size, store, from, &stack, NULL);
+  leave();
 }
 
 // gcc looks at the first and at the last byte of a struct, and copies a large one by memcpy: what the look told is not told again.
@@ -134,29 +197,31 @@ static __thread struct { address at, *frame; size_t size; } told[2] __attribute_
 void touch_slowly(address a, size_t size, int store, struct caller from) {
   int is_told = told[store].at == a && told[store].size == size && told[store].frame == from.frame;
   told[store].size = 0;
-  if (!is_told && (half.size || !is_open(a, size))) see(a, size, store, from);
+  if (!is_told && (half.size || size > MOST_BYTES || !is_open(a, size))) see(a, size, store, from);
 }
+
+void forget_accesses(void) { told[0].at = told[1].at = half.at = half.guess.at = 0; }
 
 static void touch_half(address a, size_t size, int store, struct caller from) {
   if (busy) {
-    not_logged += !live_at(a, 1);
+    not_logged += !is_right(a, 1);
     return;
   }
   struct stack stack;
   stack.count = 0;
-  int is_guess = live_at(a - size + 1, 1) != NULL;
+  int is_guess = is_right(a - size + 1, 1);
   address begin = is_guess ? a - size + 1 : a;
-  if (!live_at(a, 1)) look(begin, size, store, from, &stack);
+  if (!is_right(a, 1)) look(begin, size, store, from, &stack);
   enter();
   struct half first = half;
-  struct block *block = live_at(a, 1);
+  struct block *block = owner(a);
   half.size = 0;
   if (first.size == size && first.at + size - 1 == a && first.frame == from.frame) {
     half.guess.letter = 0;
     if (first.is_guess) take_back(first.record), wrong(owner(first.at), first.at, size, store, from, &first.guess.stack, NULL);
-  } else if (block) {
+  } else if (is_right(a, 1)) {
     tell_guess();
-    right(block, a - block->start, 1, store);
+    if (block) right(block, a - block->start, 1, store);
   } else {
     tell_guess();
     long before = number_of_wrong();

@@ -1,17 +1,16 @@
-// Functions of libc that load and store bytes of the program: each says which to the hooks. The simple ones are written here, the others
-// call libc's. What getline and the functions of wide texts that are not here do is not seen.
+// Functions of libc that load and store bytes of the program, written anew: each says which bytes to the hooks. Those that are called as they
+// are stand in functions.h.
 #include "calls.h"
-#include <dirent.h>
+#include <math.h>
+#include <regex.h>
 #include <stdio.h>
 #include <stdlib.h>
 #include <string.h>
 #include <strings.h>
-#include <sys/socket.h>
-#include <sys/stat.h>
-#include <sys/uio.h>
-#include <time.h>
-#include <unistd.h>
 #include <wchar.h>
+
+// No memory has so many bytes, so the access ends by a signal, as it would in libc. It stores none of them before.
+static NOT_INLINE void end_by_size(void) { *(volatile char *)((address)1 << 63) = 0; }
 
 void copy_bytes(void *to, const void *from, size_t size) {
   char *t = to;
@@ -28,6 +27,7 @@ static void copy_backwards(void *to, const void *from, size_t size) {
 }
 
 static void *move_bytes(void *to, const void *from, size_t size) {
+  if (size > MOST_BYTES) end_by_size();
   if ((address)to - (address)from >= size) copy_bytes(to, from, size);
   else copy_backwards(to, from, size);
   return to;
@@ -43,11 +43,21 @@ void fill_bytes(void *to, int byte, size_t size) {
 static int small(int c) { return c >= 'A' && c <= 'Z' ? c + 32 : c; }
 static int same(int c) { return c; }
 
-SHOWN void *memcpy(void *to, const void *from, size_t n) { LOADS(from, n), STORES(to, n); return move_bytes(to, from, n); }
+// where both places are the same, as in `*a = *a`, each order does
+static inline __attribute__((always_inline)) void *copy_apart(void *to, const void *from, size_t size, struct caller caller) {
+  touch(from, size, 0, caller), touch(to, size, 1, caller);
+  if (to != from) part(to, from, size, caller);
+  return move_bytes(to, from, size);
+}
+SHOWN void *memcpy(void *to, const void *from, size_t n) { return copy_apart(to, from, n, CALLER); }
 SHOWN void *memmove(void *to, const void *from, size_t n) { LOADS(from, n), STORES(to, n); return move_bytes(to, from, n); }
-SHOWN void *mempcpy(void *to, const void *from, size_t n) { LOADS(from, n), STORES(to, n); return (char *)move_bytes(to, from, n) + n; }
-SHOWN void *memset(void *to, int byte, size_t n) { STORES(to, n), fill_bytes(to, byte, n); return to; }
-SHOWN void bzero(void *to, size_t n) { STORES(to, n), fill_bytes(to, 0, n); }
+SHOWN void *mempcpy(void *to, const void *from, size_t n) { return (char *)copy_apart(to, from, n, CALLER) + n; }
+static void *set_bytes(void *to, int byte, size_t size) {
+  if (size > MOST_BYTES) end_by_size();
+  return fill_bytes(to, byte, size), to;
+}
+SHOWN void *memset(void *to, int byte, size_t n) { STORES(to, n); return set_bytes(to, byte, n); }
+SHOWN void bzero(void *to, size_t n) { STORES(to, n), set_bytes(to, 0, n); }
 
 // both have so many bytes, wherever they differ
 SHOWN int memcmp(const void *left, const void *right, size_t n) {
@@ -65,6 +75,13 @@ SHOWN int bcmp(const void *, const void *, size_t) __attribute__((alias("memcmp"
   while (i < (most) && fold(a[i]) == fold(b[i]) && a[i]) i++; \
   LOADS(a, with_end(i, most)), LOADS(b, with_end(i, most)); \
   return i < (most) ? fold(a[i]) - fold(b[i]) : 0
+#define COMPARED_WIDE(most) \
+  size_t i = 0; \
+  while (i < (most) && s[i] == t[i] && s[i]) i++; \
+  LOADS(s, with_end(i, most) * sizeof *s), LOADS(t, with_end(i, most) * sizeof *t); \
+  return i < (most) && s[i] != t[i] ? s[i] < t[i] ? -1 : 1 : 0
+SHOWN int wcscmp(const wchar_t *s, const wchar_t *t) { COMPARED_WIDE(ENDLESS); }
+SHOWN int wcsncmp(const wchar_t *s, const wchar_t *t, size_t n) { COMPARED_WIDE(n); }
 SHOWN int strcmp(const char *s, const char *t) { COMPARED_TEXTS(ENDLESS, same); }
 SHOWN int strncmp(const char *s, const char *t, size_t n) { COMPARED_TEXTS(n, same); }
 SHOWN int strcasecmp(const char *s, const char *t) { COMPARED_TEXTS(ENDLESS, small); }
@@ -96,6 +113,7 @@ static size_t wide_length(const wchar_t *s, size_t most) {
     size_t n = length(from, most); \
     touch(from, with_end(n, most) * sizeof *from, 0, caller); \
     touch(to, (n + 1) * sizeof *to, 1, caller); \
+    part(to, from, with_end(n, most) * sizeof *to, caller); \
     move_bytes(to, from, n * sizeof *to); \
     to[n] = 0; \
     return n; \
@@ -113,12 +131,31 @@ static size_t wide_length(const wchar_t *s, size_t most) {
   } \
   SHOWN type *strncpy(type *to, const type *from, size_t most) { \
     size_t n = length(from, most); \
-    LOADS(from, with_end(n, most) * sizeof *from), STORES(to, most * sizeof *to); \
-    move_bytes(to, from, n * sizeof *to), fill_bytes(to + n, 0, (most - n) * sizeof *to); \
+    LOADS(from, with_end(n, most) * sizeof *from), STORES(to, product(most, sizeof *to)); \
+    part(to, from, with_end(n, most) * sizeof *to, CALLER); \
+    move_bytes(to, from, n * sizeof *to), set_bytes(to + n, 0, product(most - n, sizeof *to)); \
     return to; \
   }
 TEXTS(char, length, copy_text, strlen, strcpy, strcat, strncpy)
 TEXTS(wchar_t, wide_length, copy_wide, wcslen, wcscpy, wcscat, wcsncpy)
+
+SHOWN wchar_t *wcsncat(wchar_t *to, const wchar_t *from, size_t most) {
+  size_t n = wide_length(to, ENDLESS);
+  LOADS(to, (n + 1) * sizeof *to);
+  return copy_wide(to + n, from, most, CALLER), to;
+}
+
+SHOWN size_t wcsnlen(const wchar_t *s, size_t most) {
+  size_t n = wide_length(s, most);
+  LOADS(s, with_end(n, most) * sizeof *s);
+  return n;
+}
+
+SHOWN wchar_t *wcsdup(const wchar_t *s) {
+  wchar_t *to = request('m', (wide_length(s, ENDLESS) + 1) * sizeof *s, 16, CALLER);
+  if (to) copy_wide(to, s, ENDLESS, CALLER);
+  return to;
+}
 
 SHOWN char *stpcpy(char *to, const char *from) { return to + copy_text(to, from, ENDLESS, CALLER); }
 
@@ -207,86 +244,41 @@ SHOWN char *strsep(char **from, const char *set) {
 }
 
 #define WIDE (sizeof(wchar_t))
-SHOWN wchar_t *wmemcpy(wchar_t *to, const wchar_t *from, size_t n) { LOADS(from, n * WIDE), STORES(to, n * WIDE); return move_bytes(to, from, n * WIDE); }
-SHOWN wchar_t *wmemmove(wchar_t *to, const wchar_t *from, size_t n) { LOADS(from, n * WIDE), STORES(to, n * WIDE); return move_bytes(to, from, n * WIDE); }
+SHOWN wchar_t *wmemcpy(wchar_t *to, const wchar_t *from, size_t n) { return copy_apart(to, from, product(n, WIDE), CALLER); }
+SHOWN wchar_t *wmemmove(wchar_t *to, const wchar_t *from, size_t n) {
+  size_t size = product(n, WIDE);
+  LOADS(from, size), STORES(to, size);
+  return move_bytes(to, from, size);
+}
 SHOWN wchar_t *wmemset(wchar_t *to, wchar_t with, size_t n) {
-  STORES(to, n * WIDE);
+  STORES(to, product(n, WIDE));
+  if (product(n, WIDE) > MOST_BYTES) end_by_size();
   for (size_t i = 0; i < n; i++) to[i] = with;
   return to;
 }
 
-// a function of libc that loads a text or more, or stores what it answers
-#define CALLS(type, name, parameters, words, before, after) \
-  SHOWN type name parameters { \
-    REAL(name); \
-    before; \
-    type n = real words; \
-    after; \
-    return n; \
-  }
-
-// a function of libc that returns how much it moved
-#define MOVING(type, name, parameters, words, touches) CALLS(type, name, parameters, words, , if ((ssize_t)n > 0) touches)
-MOVING(ssize_t, read, (int file, void *to, size_t most), (file, to, most), STORES(to, n))
-MOVING(ssize_t, recv, (int file, void *to, size_t most, int how), (file, to, most, how), STORES(to, n))
-MOVING(ssize_t, write, (int file, const void *from, size_t most), (file, from, most), LOADS(from, n))
-MOVING(ssize_t, send, (int file, const void *from, size_t most, int how), (file, from, most, how), LOADS(from, n))
-MOVING(size_t, fread, (void *to, size_t each, size_t most, FILE *file), (to, each, most, file), STORES(to, n * each))
-MOVING(size_t, fwrite, (const void *from, size_t each, size_t most, FILE *file), (from, each, most, file), LOADS(from, n * each))
-
-MOVING(ssize_t, pread, (int file, void *to, size_t most, off_t at), (file, to, most, at), STORES(to, n))
-MOVING(ssize_t, pread64, (int file, void *to, size_t most, off64_t at), (file, to, most, at), STORES(to, n))
-MOVING(ssize_t, pwrite, (int file, const void *from, size_t most, off_t at), (file, from, most, at), LOADS(from, n))
-MOVING(ssize_t, pwrite64, (int file, const void *from, size_t most, off64_t at), (file, from, most, at), LOADS(from, n))
-
-// of the first so many bytes of several pieces
-static inline __attribute__((always_inline)) void touch_pieces(const struct iovec *pieces, size_t left, int store, struct caller from) {
-  for (; left; pieces++) {
-    size_t n = pieces->iov_len < left ? pieces->iov_len : left;
-    touch(pieces->iov_base, n, store, from);
-    left -= n;
-  }
-}
-MOVING(ssize_t, readv, (int file, const struct iovec *to, int number), (file, to, number), touch_pieces(to, n, 1, CALLER))
-MOVING(ssize_t, writev, (int file, const struct iovec *from, int number), (file, from, number), touch_pieces(from, n, 0, CALLER))
-
 SHOWN void qsort(void *at, size_t number, size_t each, int (*compare)(const void *, const void *)) {
   REAL(qsort);
-  LOADS(at, number * each), STORES(at, number * each);
+  LOADS(at, product(number, each)), STORES(at, product(number, each));
   real(at, number, each, compare);
 }
+SHOWN void qsort_r(void *at, size_t number, size_t each, int (*compare)(const void *, const void *, void *), void *given) {
+  REAL(qsort_r);
+  LOADS(at, product(number, each)), STORES(at, product(number, each));
+  real(at, number, each, compare, given);
+}
 
-CALLS(char *, fgets, (char *to, int most, FILE *file), (to, most, file), , if (n) STORES_TEXT(to))
-CALLS(int, fputs, (const char *s, FILE *file), (s, file), LOADS_TEXT(s), )
-CALLS(int, puts, (const char *s), (s), LOADS_TEXT(s), )
-CALLS(FILE *, fopen, (const char *path, const char *how), (path, how), (LOADS_TEXT(path), LOADS_TEXT(how)), )
-CALLS(FILE *, fopen64, (const char *path, const char *how), (path, how), (LOADS_TEXT(path), LOADS_TEXT(how)), )
-CALLS(DIR *, opendir, (const char *path), (path), LOADS_TEXT(path), )
-CALLS(int, access, (const char *path, int how), (path, how), LOADS_TEXT(path), )
-CALLS(int, unlink, (const char *path), (path), LOADS_TEXT(path), )
-CALLS(int, remove, (const char *path), (path), LOADS_TEXT(path), )
-CALLS(int, rename, (const char *from, const char *to), (from, to), (LOADS_TEXT(from), LOADS_TEXT(to)), )
-CALLS(int, chdir, (const char *path), (path), LOADS_TEXT(path), )
-CALLS(int, mkdir, (const char *path, mode_t mode), (path, mode), LOADS_TEXT(path), )
-CALLS(char *, getcwd, (char *to, size_t most), (to, most), , if (n && to) STORES_TEXT(to))
-CALLS(char *, realpath, (const char *path, char *to), (path, to), LOADS_TEXT(path), if (n && to) STORES_TEXT(to))
-CALLS(ssize_t, readlink, (const char *path, char *to, size_t most), (path, to, most), LOADS_TEXT(path), if (n > 0) STORES(to, n))
-CALLS(int, gethostname, (char *to, size_t most), (to, most), , if (!n) STORES(to, with_end(length(to, most), most)))
-CALLS(char *, getenv, (const char *name), (name), LOADS_TEXT(name), )
-CALLS(time_t, time, (time_t *to), (to), , if (to) STORES(to, sizeof *to))
-CALLS(int, clock_gettime, (clockid_t clock, struct timespec *to), (clock, to), , if (!n) STORES(to, sizeof *to))
-CALLS(struct tm *, localtime_r, (const time_t *at, struct tm *to), (at, to), LOADS(at, sizeof *at), if (n) STORES(to, sizeof *to))
-CALLS(struct tm *, gmtime_r, (const time_t *at, struct tm *to), (at, to), LOADS(at, sizeof *at), if (n) STORES(to, sizeof *to))
-CALLS(time_t, mktime, (struct tm *at), (at), LOADS(at, sizeof *at), STORES(at, sizeof *at))
-CALLS(char *, ctime_r, (const time_t *at, char *to), (at, to), LOADS(at, sizeof *at), if (n) STORES_TEXT(to))
-CALLS(size_t, strftime, (char *to, size_t most, const char *format, const struct tm *at), (to, most, format, at),
-      (LOADS_TEXT(format), LOADS(at, sizeof *at)), if (n) STORES(to, n + 1))
-#if __GLIBC_PREREQ(2, 33)  // before, they were no functions of the library
-CALLS(int, stat, (const char *path, struct stat *to), (path, to), LOADS_TEXT(path), if (!n) STORES(to, sizeof *to))
-CALLS(int, lstat, (const char *path, struct stat *to), (path, to), LOADS_TEXT(path), if (!n) STORES(to, sizeof *to))
-CALLS(int, fstat, (int file, struct stat *to), (file, to), , if (!n) STORES(to, sizeof *to))
-#endif
-CALLS(int, pipe, (int to[2]), (to), , if (!n) STORES(to, 2 * sizeof *to))
+// functions of libc that return nothing
+#define STORING(name, parameters, words, stores) \
+  SHOWN void name parameters { \
+    REAL(name); \
+    real words; \
+    stores; \
+  }
+STORING(sincos, (double value, double *sine, double *cosine), (value, sine, cosine), (STORES(sine, sizeof *sine), STORES(cosine, sizeof *cosine)))
+STORING(sincosl, (long double value, long double *sine, long double *cosine), (value, sine, cosine), (STORES(sine, sizeof *sine), STORES(cosine, sizeof *cosine)))
+STORING(sincosf, (float value, float *sine, float *cosine), (value, sine, cosine), (STORES(sine, sizeof *sine), STORES(cosine, sizeof *cosine)))
+STORING(regfree, (regex_t *which), (which), LOADS(which, sizeof *which))
 
 // numbers: the text up to the first byte that is none of the number's
 #define NUMBERS(type, own, symbol, more, words) \

@@ -4,7 +4,14 @@
 //   r OLD NEW SIZE STACK       a realloc; f BLOCK STACK a free
 //   l BLOCK OFFSET SIZE        a right load; s a right store
 //   L BLOCK OFFSET SIZE STACK  a wrong load; S a wrong store; block 0 stands for a freed one that is forgotten, or with the offset 1 for
-//                              an address that was never given out
+//                              an address that was never given out, or with 2 for memory that is not the heap's; a size that no object
+//                              can have is a negative number
+//   P BLOCK OFFSET SIZE STACK  a load of bytes that the program poisoned; Q a store
+//   p BLOCK OFFSET SIZE STACK  the program poisons bytes; u it unpoisons them; as in P and Q, block 0 stands for memory that is not the heap's,
+//                              and the offset is the address then
+//   k BLOCK                    a block that is lost at the end; the block 0 says that all such are told
+//   V BLOCK OFFSET SIZE STACK  a copy whose two places overlap, by where it stores
+//   i BLOCK                    the program asks to pass over the block where what it left unfreed is told
 //   - NUMBER                   the wrong access or free of this number, counted from 1, is taken back
 //   x BLOCK OFFSET STACK       a wrong free of an address of a block; o STACK of a forgotten one, n STACK of one that was never given out
 //   + NUMBER TIMES             the wrong access of this number came so often, where that is more than once
@@ -141,7 +148,7 @@ int has_log(void) { return text != NULL; }
 int is_logging(void) { return text && (text + MARGIN <= log_end || grow()); }
 
 void put_numbers(char kind, int count, const long *numbers) {
-  int is_wrong = kind == 'L' || kind == 'S' || kind == 'x' || kind == 'o' || kind == 'n';
+  int is_wrong = kind == 'L' || kind == 'S' || kind == 'P' || kind == 'Q' || kind == 'V' || kind == 'x' || kind == 'o' || kind == 'n';
   wrong_records += is_wrong;
   has_to_mark = is_wrong || kind == 'C' || kind == '-';
   char *at = text;
@@ -235,6 +242,7 @@ static void make_absolute(void) {
 void end_log(int status) {
   if (!text || process != syscall(SYS_getpid)) return;
   int is_held = busy++ ? !pthread_mutex_trylock(&accesses_lock) : !pthread_mutex_lock(&accesses_lock);
+  if (is_held && is_logging() && state == RUNNING && status != CRASHED) put_lost((address)__builtin_frame_address(0));
   if (is_held && is_logging() && state == RUNNING) put_times();
   if (is_held && is_logging() && status >= 0) put_record('e', 1, (long)status & 255), put_end();
   state = ENDED;
@@ -245,7 +253,7 @@ void end_log(int status) {
   if (has_to_tell && !busy) tell();
 }
 
-static __attribute__((destructor)) void stop(void) { end_log(-1); }
+static __attribute__((destructor)) void stop(void) { end_log(NO_STATUS); }
 static void stop_with(int status, void *unused) { (void)unused, end_log(status); }
 
 // Requests of constructors that ran before are logged now.

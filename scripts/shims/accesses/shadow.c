@@ -3,6 +3,8 @@
 #include "accesses.h"
 #include <errno.h>
 #include <sys/mman.h>
+#include <sys/syscall.h>
+#include <unistd.h>
 
 #define SHADOW_SIZE ((address)1 << 44)
 #define WINDOW ((size_t)1 << 20)
@@ -25,7 +27,7 @@ static void look_ahead(address from) {
   address to = round_up(from + AHEAD, 8 * WINDOW);
   if (to > ARENA + ARENA_SIZE) to = ARENA + ARENA_SIZE;
   if (to <= closed_end) return;
-  mprotect((void *)closed_end, to - closed_end, PROT_READ | PROT_WRITE);
+  syscall(SYS_mprotect, closed_end, to - closed_end, PROT_READ | PROT_WRITE);
   map_closed(from > closed_end ? from : closed_end, to);
   closed_end = to;
 }

@@ -4,11 +4,12 @@
 #include <errno.h>
 #include <fcntl.h>
 #include <string.h>
+#include <sys/mman.h>
 #include <sys/syscall.h>
 #include <unistd.h>
 #include <unwind.h>
 
-enum { STACKS = 1 << 18, MODULES = 256, MOST_SKIPPED = 64, FRAMES_OF_UNNUMBERED = 4 };
+enum { STACKS = 1 << 18, MODULES = 256, MOST_SKIPPED = 64, FRAMES_OF_UNNUMBERED = 4, KNOWN_STACKS = 64 };
 static struct module modules[MODULES];
 static int number_of_modules;
 static char paths[1 << 16];
@@ -21,31 +22,17 @@ static char *read_hexadecimal(char *at, address *value) {
   return at;
 }
 
-static void read_mapping(char *line, address in_stack) {
-  struct module new;
-  char *mode = read_hexadecimal(read_hexadecimal(line, &new.low) + 1, &new.high) + 1;
-  if (in_stack) {
-    if (new.low <= in_stack && in_stack < new.high) stack_low = new.low, stack_high = new.high;
-    return;
-  }
-  read_hexadecimal(mode + 5, &new.offset);
-  char *path = strchr(mode, '/');
-  if (mode[2] != 'x' || !path || number_of_modules == MODULES || !is_logging()) return;
-  for (int i = 0; i < number_of_modules; i++)
-    if (modules[i].low == new.low && modules[i].high == new.high) return;
-  size_t length = strlen(path) + 1;
-  new.path = NULL;
-  if (length <= sizeof paths - paths_end) copy_bytes(paths + paths_end, path, length), new.path = paths + paths_end, paths_end += length;
-  modules[number_of_modules++] = new;
-  address numbers[] = {new.low, new.high, new.offset};
-  put_text("M");
-  for (int i = 0; i < 3; i++) put_text(" "), put_number(numbers[i], 16);
-  put_text(" "), put_text(path), put_end();
+static void read_mapping(char *line, void (*see)(const struct mapping *, void *), void *data) {
+  struct mapping new;
+  new.mode = read_hexadecimal(read_hexadecimal(line, &new.low) + 1, &new.high) + 1;
+  read_hexadecimal((char *)new.mode + 5, &new.offset);
+  new.path = strchr(new.mode, '/');
+  see(&new, data);
 }
 
-// the mappings as the kernel says them, not the loader, whose locks others may hold: new modules, or the bounds of the stack
-static void read_mappings(address in_stack) {
-  static char piece[4096], line[MOST_NAME];
+// the mappings as the kernel says them, not the loader, whose locks others may hold
+void see_mappings(void (*see)(const struct mapping *, void *), void *data) {
+  char piece[2048], line[MOST_NAME];  // more than one thread may be here
   int error = errno, file = syscall(SYS_openat, AT_FDCWD, "/proc/self/maps", O_RDONLY | O_CLOEXEC);
   long got, n = 0;
   while (file >= 0 && (got = syscall(SYS_read, file, piece, sizeof piece)) > 0)
@@ -53,10 +40,79 @@ static void read_mappings(address in_stack) {
       if (piece[i] != '\n' && n < MOST_NAME - 1) line[n++] = piece[i];
       if (piece[i] != '\n') continue;
       line[n] = 0, n = 0;
-      read_mapping(line, in_stack);
+      read_mapping(line, see, data);
     }
   if (file >= 0) syscall(SYS_close, file);
   errno = error;
+}
+
+static void add_module(const struct mapping *new, void *unused) {
+  (void)unused;
+  if (new->mode[2] != 'x' || !new->path || number_of_modules == MODULES || !is_logging()) return;
+  for (int i = 0; i < number_of_modules; i++)
+    if (modules[i].low == new->low && modules[i].high == new->high) return;
+  size_t length = strlen(new->path) + 1;
+  struct module *module = &modules[number_of_modules++];
+  *module = (struct module){new->low, new->high, new->offset, NULL};
+  if (length <= sizeof paths - paths_end) copy_bytes(paths + paths_end, new->path, length), module->path = paths + paths_end, paths_end += length;
+  address numbers[] = {new->low, new->high, new->offset};
+  put_text("M");
+  for (int i = 0; i < 3; i++) put_text(" "), put_number(numbers[i], 16);
+  put_text(" "), put_text(new->path), put_end();
+}
+
+static void find_bounds(const struct mapping *new, void *at) {
+  if (new->low <= (address)at && (address)at < new->high) stack_low = new->low, stack_high = new->high;
+}
+
+// The stacks that a thread was on, as fibers have theirs: of the last ones it is known where they end. What unmaps or protects memory makes all
+// unknown.
+struct bounds { address low, high; };
+static __thread struct bounds stacks_known[KNOWN_STACKS] __attribute__((tls_model("initial-exec")));
+static __thread unsigned next_known __attribute__((tls_model("initial-exec"))), known_at __attribute__((tls_model("initial-exec")));
+static unsigned changes;                          // of the mappings,
+static address lowest = -(address)1, highest;     // among which all these stacks lie
+
+static void change_stack(address to) {
+  stack_low = stack_high = 0;
+  if (known_at != changes) fill_bytes(stacks_known, 0, sizeof stacks_known), known_at = changes;
+  for (int i = 0; i < KNOWN_STACKS; i++)
+    if (stacks_known[i].low <= to && to < stacks_known[i].high) {
+      stack_low = stacks_known[i].low, stack_high = stacks_known[i].high;
+      return;
+    }
+  see_mappings(find_bounds, (void *)to);
+  stacks_known[next_known++ % KNOWN_STACKS] = (struct bounds){stack_low, stack_high};
+  if (stack_low < lowest) lowest = stack_low;
+  if (stack_high > highest) highest = stack_high;
+}
+
+static void forget_stacks(address from, size_t size) {
+  if (from >= highest || from + size <= lowest) return;
+  __atomic_add_fetch(&changes, 1, __ATOMIC_RELAXED);
+  stack_low = stack_high = 0;
+}
+
+SHOWN int munmap(void *at, size_t size) {
+  forget_stacks((address)at, size);
+  return syscall(SYS_munmap, at, size);
+}
+
+SHOWN int mprotect(void *at, size_t size, int mode) {
+  forget_stacks((address)at, size);
+  return syscall(SYS_mprotect, at, size, mode);
+}
+
+// the program says where the stack is that it goes to
+SHOWN void __sanitizer_start_switch_fiber(void **fake, const void *bottom, size_t size) {
+  if (fake) *fake = NULL;
+  (void)bottom, (void)size;
+}
+
+SHOWN void __sanitizer_finish_switch_fiber(void *fake, const void **bottom, size_t *size) {
+  (void)fake;
+  if (bottom) *bottom = (const void *)stack_low;
+  if (size) *size = stack_high - stack_low;
 }
 
 const struct module *module_of(address pc) {
@@ -65,19 +121,19 @@ const struct module *module_of(address pc) {
   return NULL;
 }
 
-void learn_modules(void) { read_mappings(0); }
+void learn_modules(void) { see_mappings(add_module, NULL); }
 
 static void find_module(address pc) {
   static address missed;
   if (module_of(pc) || missed == pc) return;
   missed = pc;
-  read_mappings(0);
+  learn_modules();
 }
 
 // the return addresses on the stack above an address in it, by its frames
 void walk(struct caller from, address below, struct stack *to) {
   address *frame = from.frame;
-  if (below < stack_low || below >= stack_high) stack_low = stack_high = 0, read_mappings(below);
+  if (below < stack_low || below >= stack_high) change_stack(below);
   to->pcs[to->count++] = from.pc;
   while (to->count < FRAMES && (address)frame > below && (address)frame % sizeof *frame == 0 && (address)(frame + 2) <= stack_high) {
     if (frame[1] < 4096) break;

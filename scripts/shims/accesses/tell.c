@@ -13,10 +13,12 @@
 #include <sys/wait.h>
 #include <unistd.h>
 
-enum { MOST_TOLD = 64, MOST_ASKED = 6, MOST_ANSWER = 16384, WAIT = 10000 /* milliseconds */ };
+enum { MOST_TOLD = 64, MOST_ASKED = 6, MOST_ANSWER = 16384, WAIT = 10 /* seconds */ };
 __thread int has_to_tell __attribute__((tls_model("initial-exec")));
 static __thread struct wrong pending[2] __attribute__((tls_model("initial-exec")));  // the second where a guess was told first
 pthread_mutex_t tell_lock = PTHREAD_MUTEX_INITIALIZER;
+struct wrong last_told;
+void (*report_callback)(const char *);
 
 void will_tell(const struct wrong *wrong) {
   if (has_to_tell < 2) pending[has_to_tell++] = *wrong;
@@ -97,7 +99,8 @@ static size_t ask(const struct module *module, address in_file, char *answer, si
   pid_t child = ends[1] < 0 ? -1 : clone(become_addr2line, stack + sizeof stack, CLONE_VM | CLONE_VFORK, &question);
   syscall(SYS_close, ends[1]);
   struct pollfd wait = {ends[0], POLLIN, 0};
-  while (child > 0 && length < room - 1 && poll(&wait, 1, WAIT) > 0) {
+  struct timespec most = {WAIT, 0};
+  while (child > 0 && length < room - 1 && syscall(SYS_ppoll, &wait, 1, &most, NULL, 0) > 0) {
     long got = syscall(SYS_read, ends[0], answer + length, room - 1 - length);
     if (got <= 0) break;
     length += got;
@@ -173,9 +176,19 @@ static void add_sentence(struct line *line, const struct wrong *wrong) {
     if (offset) add(line, " a pointer "), add_count(line, offset < 0 ? -offset : offset, "byte"), add(line, offset < 0 ? " before" : " into");
     return add_block(line, wrong);
   }
-  add(line, wrong->letter == 'L' ? "load of " : "store of "), add_count(line, wrong->size, "byte");
-  if (!wrong->number) return add(line, offset ? " of an address that the heap never gave out" : " of a block that was freed long ago");
-  int begins_inside = offset >= 0 && offset < size, leaves = begins_inside && !wrong->is_freed;
+  if (wrong->letter == 'V') {
+    add(line, "overlapping copy of "), add_count(line, wrong->size, "byte");
+    if (!wrong->number) return add(line, ", at the address 0x"), add_number(line, wrong->at, 16);
+    return add(line, ", "), add_count(line, offset, "byte"), add(line, " into"), add_block(line, wrong);
+  }
+  static const char *const PLACES[] = {" of a block that was freed long ago", " of an address that the heap never gave out", " of memory that is not the heap's"};
+  int is_too_large = (size_t)wrong->size > MOST_BYTES, is_poison = wrong->letter == 'P' || wrong->letter == 'Q';
+  add(line, wrong->letter == 'L' || wrong->letter == 'P' ? "load of " : "store of "), add_count(line, wrong->size, "byte");
+  if (is_poison) add(line, wrong->letter == 'P' ? " of poisoned memory" : " to poisoned memory");
+  if (is_poison && !wrong->number) return add(line, ", at the address 0x"), add_number(line, wrong->at, 16);
+  if (is_too_large) add(line, ", more than an object can have");
+  if (!wrong->number) return add(line, is_too_large ? "," : ""), add(line, PLACES[offset]);
+  int begins_inside = offset >= 0 && offset < size, leaves = begins_inside && !wrong->is_freed && !is_too_large && !is_poison;
   add(line, leaves ? ", from " : ", ");
   add_count(line, offset < 0 ? -offset : begins_inside ? offset : offset - size, "byte");
   add(line, offset < 0 ? " before" : begins_inside ? " into" : " after");
@@ -185,9 +198,10 @@ static void add_sentence(struct line *line, const struct wrong *wrong) {
 
 // whether nothing of this place and kind was told
 static int is_new(const struct wrong *wrong) {
-  static struct { address pc; int kind; } told[MOST_TOLD];
+  static struct { address pc; long kind; } told[MOST_TOLD];
   static int number;
-  int kind = wrong->letter << 1 | wrong->is_freed;
+  long kind = wrong->letter << 1 | wrong->is_freed;
+  if ((size_t)wrong->size > MOST_BYTES) kind |= wrong->number << 8;  // each of the two blocks
   for (int i = 0; i < number; i++)
     if (told[i].pc == wrong->stack.pcs[0] && told[i].kind == kind) return 0;
   if (number == MOST_TOLD) return wrong->letter == 'C';
@@ -195,26 +209,69 @@ static int is_new(const struct wrong *wrong) {
   return 1;
 }
 
+static void begin_line(struct line *line) { line->length = 0, add(line, "traced_cc: "); }
+
+static void write_line(struct line *line) {
+  int error = errno;
+  line->text[line->length++] = '\n', line->text[line->length] = 0;
+  if (syscall(SYS_write, 2, line->text, line->length) < 0) errno = error;
+}
+
 static void tell_one(const struct wrong *wrong) {
   static struct line line;
   if (!is_new(wrong)) return;
-  line.length = 0;
-  add(&line, "traced_cc: "), add_place(&line, &wrong->stack), add(&line, ": "), add_sentence(&line, wrong);
-  line.text[line.length++] = '\n';
-  if (syscall(SYS_write, 2, line.text, line.length) < 0) errno = 0;
+  begin_line(&line);
+  add_place(&line, &wrong->stack), add(&line, ": "), add_sentence(&line, wrong);
+  write_line(&line);
+  last_told = *wrong;
+  if (report_callback) report_callback(line.text);
+}
+
+void tell_line(const char *text) {
+  struct line line;
+  begin_line(&line), add(&line, text), write_line(&line);
+}
+
+void describe(address at) {
+  struct line line;
+  struct block *block = owner(at);
+  begin_line(&line), add(&line, "0x"), add_number(&line, at, 16);
+  if (!block) add(&line, is_in_arena(at) ? " is of no block" : " is not of the heap");
+  else {
+    long offset = (long)(at - block->start), size = (long)block->size;
+    struct wrong place = {.block_size = size, .is_freed = block->state == FREED};
+    add(&line, " is "), add_count(&line, offset < 0 ? -offset : offset < size ? offset : offset - size, "byte");
+    add(&line, offset < 0 ? " before" : offset < size ? " into" : " after"), add_block(&line, &place);
+  }
+  if (first_poisoned(at, 1)) add(&line, ", and the program poisoned it");
+  write_line(&line);
+}
+
+void print_stack(struct caller from) {
+  struct line line;
+  struct stack stack;
+  unwind(from, &stack);
+  enter();
+  for (int i = 0; i < stack.count; i++) {
+    const struct module *module = module_of(stack.pcs[i]);
+    begin_line(&line), add(&line, "#"), add_number(&line, i, 10), add(&line, " ");
+    if (module && module->path) add(&line, strrchr(module->path, '/') + 1), add(&line, "+");
+    add(&line, "0x"), add_number(&line, module ? stack.pcs[i] - module->low + module->offset : stack.pcs[i], 16);
+    write_line(&line);
+  }
+  leave();
 }
 
 void tell(void) {
-  sigset_t all, before;
+  uint64_t all = ~(uint64_t)0, before;  // as the kernel has signals: libc's functions for them are the program's
   int error = errno, number = has_to_tell;
   has_to_tell = 0;
-  sigfillset(&all);
-  pthread_sigmask(SIG_SETMASK, &all, &before);
+  syscall(SYS_rt_sigprocmask, SIG_SETMASK, &all, &before, sizeof all);
   busy++;
   pthread_mutex_lock(&tell_lock);
   for (int i = 0; i < number; i++) tell_one(&pending[i]);
   pthread_mutex_unlock(&tell_lock);
   busy--;
-  pthread_sigmask(SIG_SETMASK, &before, NULL);
+  syscall(SYS_rt_sigprocmask, SIG_SETMASK, &before, NULL, sizeof before);
   errno = error;
 }

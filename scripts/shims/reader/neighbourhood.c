@@ -82,9 +82,9 @@ static inline void read_record(const char **from, struct record *to) {
   int numbers, has_stack = 1;
   switch (*at) {
     case 'l': case 's': numbers = 3, has_stack = 0; break;
-    case '-': numbers = 1, has_stack = 0; break;
+    case '-': case 'i': case 'k': numbers = 1, has_stack = 0; break;
     case '+': numbers = 2, has_stack = 0; break;
-    case 'L': case 'S': case 'r': numbers = 3; break;
+    case 'L': case 'S': case 'P': case 'Q': case 'V': case 'p': case 'u': case 'r': numbers = 3; break;
     case 'm': case 'c': case 'x': numbers = 2; break;
     case 'f': numbers = 1; break;
     case 'o': case 'n': numbers = 0; break;
@@ -105,7 +105,8 @@ static inline void read_record(const char **from, struct record *to) {
 }
 
 static inline int is_request_or_free(char letter) { return letter == 'm' || letter == 'c' || letter == 'f'; }
-static int is_error(char letter) { return letter == 'L' || letter == 'S' || letter == 'x' || letter == 'o' || letter == 'n'; }
+static int is_inside(char letter) { return letter == 'P' || letter == 'Q' || letter == 'V'; }  // an error of which the heap knows nothing
+static int is_error(char letter) { return letter == 'L' || letter == 'S' || is_inside(letter) || letter == 'x' || letter == 'o' || letter == 'n'; }
 
 // what each stack is, by its number: the text after the colon
 static struct { const char *at; int length, is_written; } *stacks;
@@ -149,8 +150,9 @@ static void scan(void) {
     read_record(&at, &record);
     if (record.letter == 'm' || record.letter == 'c') add_block(record.numbers[0], record.numbers[1]);
     if (record.letter == 'r') add_block(record.numbers[1], record.numbers[2]);
-    int is_wrong = is_error(record.letter), has_block = is_wrong || is_request_or_free(record.letter) || record.letter == 'r';
-    if (has_block && (record.numbers[0] < !is_wrong || record.numbers[0] > last_block)) give_up("a block has no request");
+    int is_wrong = is_error(record.letter), is_mark = record.letter == 'p' || record.letter == 'u';
+    int has_block = is_wrong || is_mark || is_request_or_free(record.letter) || record.letter == 'r';
+    if (has_block && (record.numbers[0] < !(is_wrong || is_mark) || record.numbers[0] > last_block)) give_up("a block has no request");
     if (record.letter != 'l' && record.letter != 's') add_step(record.begin, has_block ? record.numbers[0] : 0);
     error_count += is_wrong;
     if (record.stack) learn_stack(&record);
@@ -249,7 +251,7 @@ static int met_by(const struct record *record, struct slot *met[MOST_TOUCHED]) {
     if (offset % GRANULE) return 1;
     first = last = start_of(own) + offset / GRANULE;
   } else {
-    if (is_live && begin >= 0 && begin < sizes[block]) begin = sizes[block];
+    if (is_live && begin >= 0 && begin < sizes[block] && !is_inside(record->letter)) begin = sizes[block];
     length = offset + record->numbers[2] - begin;
     if (length > WINDOW || record->numbers[2] < 0) length = WINDOW;
     if (begin < -MOST_OFFSET || begin > MOST_OFFSET || length < 1) return 1;
@@ -453,6 +455,13 @@ static void write_error(const struct record *record, uint32_t new_block) {
   write_stack(record);
 }
 
+// what was poisoned of a block with errors, or outside of the heap
+static void add_mark(const struct record *record) {
+  uint32_t block = record->numbers[0];
+  if (!block) write_error(record, 0);
+  else if (new_number[block]) write_error(record, new_number[block]);
+}
+
 static void add_error(const struct record *record) {
   if (!record->numbers[0]) return write_error(record, 0);
   struct slot *met[MOST_TOUCHED];
@@ -492,7 +501,8 @@ static void reduce(void) {
       case 'm': case 'c': add_request(&record, error), request_count++; break;
       case 'f': add_free(&record, error); break;
       case 'r': is_ended[record.numbers[0]] = 1, add_resize(&record, error), request_count++; break;
-      case 'L': case 'S': case 'x': case 'o': case 'n': add_error(&record), error++; break;
+      case 'L': case 'S': case 'P': case 'Q': case 'V': case 'x': case 'o': case 'n': add_error(&record), error++; break;
+      case 'p': case 'u': add_mark(&record); break;
       case 'M': case '-': case '+': case 'e': write_text(record.begin, record.end - record.begin + 1); break;
       case 'C': {  // its stack is the last word
         const char *last = record.end;
