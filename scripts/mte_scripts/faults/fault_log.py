@@ -141,6 +141,7 @@ class Log:
         self.quarantine: Optional[int] = None
         self._profile: Optional[str] = None
         self.left_out = 0
+        self.alignment: dict[int, int] = {}  # of a block that was requested with a larger one than malloc's
         self._times: dict[int, int] = {}
         self._numbers = {0: 0}
         self.unrecorded: set[int] = set()  # blocks that a handler of a signal requested have no record
@@ -181,6 +182,9 @@ class Log:
             (block, size), stack = self._parts(words)
             self._block(block, size, stack, block)
             self._add(letter, block, size)
+        elif letter == b"a":
+            block, alignment = map(int, words)
+            self._align(block, alignment)
         elif letter == b"f":
             (block,), stack = self._parts(words)
             self._end(block, stack)
@@ -249,6 +253,11 @@ class Log:
         self._know(block)
         self.unrecorded.discard(block)
         self.size[block], self.made[block], self.chain[block] = size, stack, chain
+
+    def _align(self, block: int, alignment: int) -> None:
+        if not 0 < block < len(self.size) or not 0 < alignment < MOST_SIZE:
+            raise NoLog
+        self.alignment[block] = alignment
 
     def _end(self, block: int, stack: int) -> None:
         self._know(block)
