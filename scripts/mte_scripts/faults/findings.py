@@ -12,12 +12,12 @@ import os
 from collections import Counter, namedtuple
 
 from mte_scripts import texts
-from mte_scripts.faults import fault_entries, shares
+from mte_scripts.faults import fault_entries
 from mte_scripts.faults.fault_entries import Entry
 from mte_scripts.faults.fault_log import Log
 from mte_scripts.faults.fault_places import Frame, Places
 from mte_scripts.faults.fault_report import count, crash_sentence, sentence
-from mte_scripts.faults.odds import HEAPS, Odds
+from mte_scripts.faults.odds import Odds
 from mte_scripts.running import Refused
 
 FORM = 1  # of the JSON
@@ -60,7 +60,7 @@ def finding(entry: Entry, log: Log, places: Places, odds: Odds) -> dict:
         innermost = as_values(places.frames(use.error.stack)[:1])
         value["uses"].append({"what": sentence(use.error, log), "result": use.result, "why": use.why, "times": use.times,
                               "frame": innermost[0] if innermost else None})
-    value["odds"] = {name: shares.as_value(share) for name, share in zip(HEAPS, odds.of(entry.numbers))}
+    value["odds"] = odds.values(entry.numbers)
     if first.error.block:
         value["block"] = {"bytes": log.size[first.error.block], "offset": first.error.offset, "state": first.error.state}
     cwe = NOT_ON_HEAP if first.error.letter == "n" else CWES[entry.kind][first.error.letter == "L"]

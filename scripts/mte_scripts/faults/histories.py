@@ -83,10 +83,11 @@ class Histories:
         self.frees, self.has_freed = self.frees + 1, True
         self._give_back(block, size)
 
-    def resize(self, old: int, new: int, old_size: int, size: int) -> None:
+    def resize(self, old: int, new: int, old_size: int, size: int, is_known: bool = True) -> None:
+        """`is_known`: the old block was recorded."""
         self.requests, self.has_freed = self.requests + 1, True
         slot = self.slots.get(old)
-        is_sure = not (self.largest and size > self.largest) and not (slot and slot.is_lost) and old not in self.aligned
+        is_sure = is_known and not (self.largest and size > self.largest) and not (slot and slot.is_lost) and old not in self.aligned
         room = self._room(old, old_size)
         if self._is_wanted(old) or self._is_wanted(new):
             self.next[old], self.made[new], self.sizes[new] = new, (old_size, self.requests), size
@@ -102,7 +103,8 @@ class Histories:
         else:
             self._give_back(old, old_size)
             self._take(new, size, GRANULE)
-        self.ended[old] = self.requests, self.frees
+        if self._is_wanted(old):
+            self.ended[old] = self.requests, self.frees
 
     def past(self, block: int, is_known: bool = True) -> Past:
         """`is_known`: no block is without a record."""
@@ -139,7 +141,8 @@ class Histories:
     def _give_back(self, block: int, size: int) -> None:
         room = self._room(block, size)
         self.freed[room] = max(self.freed.get(room, 0), rounded(size))
-        self.ended[block] = self.requests, self.frees
+        if self._is_wanted(block):
+            self.ended[block] = self.requests, self.frees
         if block in self.slots:
             self.slots[block].is_live = False
 

@@ -15,7 +15,8 @@ from mte_scripts.faults.fault_log import Log
 from mte_scripts.faults.fault_trace import Verdict
 from mte_scripts.faults.histories import GRANULE, Histories, Past
 from mte_scripts.faults.other_heaps import ALL, EVEN, PADDED, on_glibc, on_scudo
-from mte_scripts.faults.shares import ALWAYS, NEVER, UNKNOWN, Share, in_words, together
+from mte_scripts.faults.real_heaps import Measured
+from mte_scripts.faults.shares import ALWAYS, NEVER, UNKNOWN, Share, as_value, in_words, together
 from mte_scripts.faults.slot_model import Meeting
 from mte_scripts.formats import LARGEST_SIZE
 
@@ -155,16 +156,16 @@ def pasts(log: Log) -> "Iterator[Past]":
         elif letter == FREED and one:
             histories.free(one, log.size[one])
         elif letter == RESIZED:
-            histories.resize(one, two, log.size[one], three)
+            histories.resize(one, two, log.size[one], three, one not in log.unrecorded)
         elif letter in REQUESTS:
             histories.request(one, two, log.alignment.get(one, GRANULE))
 
 
 class Odds:
-    """verdicts: of each error of the log, by the model over all blocks."""
+    """verdicts: of each error of the log, by the model over all blocks. measured: what Scudo and glibc made of them, if they were played."""
 
-    def __init__(self, log: Log, verdicts: list[Verdict]) -> None:
-        self.log, self.verdicts = log, verdicts
+    def __init__(self, log: Log, verdicts: list[Verdict], measured: "Measured | None" = None) -> None:
+        self.log, self.verdicts, self.measured = log, verdicts, measured
         self.pasts = list(pasts(log)) if log.errors else []
 
     def _elsewhere(self, number: int) -> tuple[Share, Share]:
@@ -177,6 +178,16 @@ class Odds:
         verdicts = [self.verdicts[number] for number in numbers]
         scudo, glibc = zip(*map(self._elsewhere, numbers))
         return [on_this_heap(verdicts), on_this_heap(verdicts, has_parity=False), together(scudo), together(glibc)]
+
+    def values(self, numbers: list[int]) -> dict[str, dict]:
+        """What a machine reads of them, by heap."""
+        values = {name: as_value(share) for name, share in zip(HEAPS, self.of(numbers))}
+        for says, (caught, runs) in self.measured.caught(numbers).items() if self.measured else ():
+            values[says.split(" ", 1)[0]].setdefault("measured", {})[says] = {"caught": caught, "runs": runs}
+        return values
+
+    def lines(self, numbers: list[int]) -> list[str]:
+        return [self.line(numbers), *([self.measured.line(numbers)] if self.measured else [])]
 
     def line(self, numbers: list[int]) -> str:
         shares = self.of(numbers)

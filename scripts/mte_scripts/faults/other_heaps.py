@@ -1,5 +1,6 @@
 """How probable it is that Scudo and glibc catch an error, wherever its blocks are. scripts/tests/real_heaps compares each rule with what
-they do: LLVM 19's Scudo with Android's classes, with and without its odd and even tags, and glibc 2.36 with mem.tagging=3."""
+they do: LLVM 19's Scudo with Android's classes and pages of 4,096 bytes, with and without its odd and even tags, and glibc 2.36 with
+mem.tagging=3."""
 
 from mte_scripts.faults.fault_log import Error
 from mte_scripts.faults.histories import GRANULE, PAGE, Past, Slot, rounded
