@@ -158,6 +158,7 @@ class Log:
         self.quarantine: Optional[int] = None
         self._profile: Optional[str] = None
         self.left_out = 0
+        self.alignment: dict[int, int] = {}  # of a block that was requested with a larger one than malloc's
         self._times: dict[int, int] = {}
         self._numbers = {0: 0}
         self.lost: set[int] = set()  # blocks to which no pointer is left at the end; with 0 where all such are told
@@ -201,6 +202,9 @@ class Log:
             (block, size), stack = self._parts(words)
             self._block(block, size, stack, block)
             self._add(letter, block, size)
+        elif letter == b"a":
+            block, alignment = map(int, words)
+            self._align(block, alignment)
         elif letter == b"f":
             (block,), stack = self._parts(words)
             self._end(block, stack)
@@ -285,6 +289,11 @@ class Log:
         self._know(block)
         self.unrecorded.discard(block)
         self.size[block], self.made[block], self.chain[block] = size, stack, chain
+
+    def _align(self, block: int, alignment: int) -> None:
+        if not 0 < block < len(self.size) or not 0 < alignment < MOST_SIZE:
+            raise NoLog
+        self.alignment[block] = alignment
 
     def _end(self, block: int, stack: int) -> None:
         self._know(block)

@@ -132,7 +132,7 @@ def tell_entry(entry: Entry, log: Log, places: Places, odds: Odds) -> "list[str]
         lines.append(f"    then {at}: {sentence(use.error, log)}{often(use.times)}: {use.result}: {use.why}")
     if len(others) >= MOST_USES:
         lines.append(f"    and so at {count(len(others) - MOST_USES + 1, 'other place')}")
-    return lines + [f"    {line}" for line in (odds.line(entry.numbers), *history(entry, log, places))]
+    return lines + [f"    {line}" for line in (*odds.lines(entry.numbers), *history(entry, log, places))]
 
 
 def other_ways(entry: Entry, places: Places) -> "list[str]":
@@ -212,7 +212,7 @@ def tell_seeds(log: Log, found: "list[Entry]", places: Places, reports: "list[di
             reason = "law_own_pointer" if use.verdict.kind == "ruled" else use.verdict.promise.reason
             yield f"{places.show(use.error.stack, callers=False)}: {sentence(use.error, log)}: {counts} ({reason})"
         if entry.uses:
-            yield f"    {odds.line(entry.numbers)}"
+            yield from (f"    {line}" for line in odds.lines(entry.numbers))
 
 
 def page(name: str, lines: list[str]) -> str:

@@ -8,7 +8,7 @@ from typing import Any
 
 from mte_scripts import private_folder, texts
 from mte_scripts.builds import web_page
-from mte_scripts.faults import fault_answer, fault_neighbourhood, fault_report, findings, sarif, tombstone, unfreed
+from mte_scripts.faults import fault_answer, fault_neighbourhood, fault_report, findings, real_heaps, sarif, tombstone, unfreed
 from mte_scripts.faults.fault_answer import Judged
 from mte_scripts.faults.fault_log import Log, NoLog
 from mte_scripts.faults.fault_trace import Trace, differences
@@ -32,6 +32,8 @@ Usage: find_faults [OPTIONS] PROGRAM ARGS..
   --seed N        the seed of the random tags: 1 to 65535 (1)
   --seeds N       tell over how many of N seeds, spread over all, each error is caught
   --whole         replay all of a large log, as far as a trace has room, and not only what its errors meet
+  --measure SCUDO play the errors in LLVM's Scudo and in glibc with QEMU's memory tags, and tell in how many of 200 runs each catches
+                  them: of LLVM's sources SCUDO is the folder compiler-rt/lib/scudo/standalone
   --keep FOLDER   keep the log, the profile, the sheet, the trace and the report in a new folder
   --read FOLDER   tell the errors of a log that --keep kept
   --page FILE     make a page for the browser too: each error, and the heap at that moment if scripts/page has built its engines
@@ -137,7 +139,9 @@ def small_log(options: argparse.Namespace, path: str) -> "Log | None":
     def table_of(profile: str) -> "list[int]":
         return texts.parse_sheet(run_tool(["tune", "--limit", str(options.limit)], profile.encode())).classes
 
-    return None if options.whole or options.unfreed else fault_neighbourhood.small(path, table_of, options.granules, options.quarantine)
+    if options.whole or options.unfreed or options.measure:
+        return None
+    return fault_neighbourhood.small(path, table_of, options.granules, options.quarantine)
 
 
 def run_tool(words: list[str], given: bytes) -> bytes:
@@ -187,8 +191,8 @@ def replayed(options: argparse.Namespace, log: Log) -> tuple[Trace, Trace, list[
     return trace, whole, table, reports, {"profile": profile, "sheet": sheet, "trace": events, "report": output}, differing
 
 
-def judge(options: argparse.Namespace, path: str, lists: "Lists") -> Judged:
-    """The log of a process with its replays, and what is found in them."""
+def judge(options: argparse.Namespace, path: str, lists: "Lists", heaps: "str | None") -> Judged:
+    """The log of a process with its replays, and what is found in them. `heaps`: where the programs of the real heaps are, if they are played."""
     log = small_log(options, path) or read_log(path)
     replays = NO_REPLAY if options.children and not log.errors else replayed(options, log)
     if log.places is not None and replays[0] and (replays[0].misplaced or replays[-1]):
@@ -198,7 +202,7 @@ def judge(options: argparse.Namespace, path: str, lists: "Lists") -> Judged:
     found, places = fault_report.found_by(log, trace.verdicts if trace else [], reports[0] if reports else {})
     if options.unfreed:
         found += unfreed.lost(log, places)
-    odds = Odds(log, whole.verdicts if whole else [])
+    odds = Odds(log, whole.verdicts if whole else [], real_heaps.measured(heaps, log) if heaps and log.errors else None)
     values = findings.all_of(log, found, places, odds)
     lists.mark(values)
     name, program = os.path.basename(path), fault_answer.program_of(log)
@@ -210,7 +214,8 @@ def find(options: argparse.Namespace, folder: str) -> int:
     names = fault_answer.logs(folder, options.children)
     if not names:
         raise Refused(2, f"{folder} has no log of a process")
-    processes = [judge(options, os.path.join(folder, name), lists) for name in names]
+    with heaps_of(options) as heaps:
+        processes = [judge(options, os.path.join(folder, name), lists, heaps) for name in names]
     ended = status_of(folder, processes[0].log)
     status, differing = verdict(processes, names, ended)
     say(options, processes, lists, ended, status)
@@ -222,6 +227,17 @@ def find(options: argparse.Namespace, folder: str) -> int:
     if differing:
         texts.say(NAME, f"{len(differing)} events are not as the laws promise: this is an error of mte_tool, please report it")
     return status
+
+
+@contextlib.contextmanager
+def heaps_of(options: argparse.Namespace) -> "Iterator[str | None]":
+    """A folder with the programs of the real heaps, where they are asked for."""
+    if not options.measure:
+        yield None
+        return
+    with private_folder.temporary() as folder:
+        real_heaps.build(options.measure, folder)
+        yield folder
 
 
 def verdict(processes: list[Judged], names: list[str], ended: int) -> tuple[int, list]:
@@ -320,6 +336,8 @@ def folder_to_keep(path: str) -> private_folder.Place:
 
 def main(words: list[str]) -> int:
     options = read_words(words)
+    if options.measure:
+        real_heaps.check(options.measure)
     if options.page and not web_page.at_hand():
         texts.say(NAME, f"the engines of the page are not built (`scripts/page` proves and builds them): {options.page} has the report alone")
     if options.read:

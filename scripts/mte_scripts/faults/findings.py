@@ -12,11 +12,12 @@ import os
 from collections import Counter, namedtuple
 
 from mte_scripts import texts
-from mte_scripts.faults import fault_entries, odds as shares
+from mte_scripts.faults import fault_entries
 from mte_scripts.faults.fault_entries import Entry
 from mte_scripts.faults.fault_log import Log
 from mte_scripts.faults.fault_places import Frame, Places
 from mte_scripts.faults.fault_report import count, crash_sentence, left_sentence, sentence
+from mte_scripts.faults.odds import Odds
 from mte_scripts.running import Refused
 
 FORM = 1  # of the JSON
@@ -34,7 +35,7 @@ LARGEST_FILE = 64 << 20
 Suppression = namedtuple("Suppression", "kind place line number")
 
 
-def all_of(log: Log, found: "list[Entry]", places: Places, odds: "shares.Odds") -> "list[dict]":
+def all_of(log: Log, found: "list[Entry]", places: Places, odds: Odds) -> "list[dict]":
     """The findings of the entries of a log."""
     made = [finding(entry, log, places, odds) for entry in found]
     seen: Counter[str] = Counter()
@@ -45,7 +46,7 @@ def all_of(log: Log, found: "list[Entry]", places: Places, odds: "shares.Odds") 
     return made
 
 
-def finding(entry: Entry, log: Log, places: Places, odds: "shares.Odds") -> dict:
+def finding(entry: Entry, log: Log, places: Places, odds: Odds) -> dict:
     frames, made = places.frames(entry.stack), places.frames(entry.made)
     ended = places.frames(entry.ended)
     value = {
@@ -62,7 +63,7 @@ def finding(entry: Entry, log: Log, places: Places, odds: "shares.Odds") -> dict
         innermost = as_values(places.frames(use.error.stack)[:1])
         value["uses"].append({"what": sentence(use.error, log), "result": use.result, "why": use.why, "times": use.times,
                               "frame": innermost[0] if innermost else None})
-    value["odds"] = {name: shares.as_value(share) for name, share in zip(shares.HEAPS, odds.of(entry.numbers))}
+    value["odds"] = odds.values(entry.numbers)
     if first.error.block:
         value["block"] = {"bytes": log.size[first.error.block], "offset": first.error.offset, "state": first.error.state}
     cwe = NOT_ON_HEAP if first.error.letter == "n" else CWES[entry.kind][first.error.is_load()]

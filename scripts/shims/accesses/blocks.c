@@ -194,6 +194,7 @@ void *request(char kind, size_t size, size_t alignment, struct caller from) {
     put_record(kind, 2, (long)(block - BLOCKS), (long)size);
     put_stack(from);
     if (is_unwatched) put_record('i', 1, (long)(block - BLOCKS)), put_end();
+    if (alignment > 16) put_record('a', 2, (long)(block - BLOCKS), (long)alignment), put_end();
   }
   if (!is_nested) leave();
   else if (is_held) pthread_mutex_unlock(&accesses_lock);

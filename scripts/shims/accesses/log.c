@@ -1,6 +1,7 @@
 // The log: a head, and a text with a record in each line. Numbers are decimal, addresses of the program hexadecimal:
 //
 //   m BLOCK SIZE STACK         a malloc; c a calloc; blocks are numbered from 1
+//   a BLOCK ALIGNMENT          it was requested with this alignment, which is larger than malloc's
 //   r OLD NEW SIZE STACK       a realloc; f BLOCK STACK a free
 //   l BLOCK OFFSET SIZE        a right load; s a right store
 //   L BLOCK OFFSET SIZE STACK  a wrong load; S a wrong store; block 0 stands for a freed one that is forgotten, or with the offset 1 for

@@ -83,7 +83,7 @@ static inline void read_record(const char **from, struct record *to) {
   switch (*at) {
     case 'l': case 's': numbers = 3, has_stack = 0; break;
     case '-': case 'i': case 'k': numbers = 1, has_stack = 0; break;
-    case '+': numbers = 2, has_stack = 0; break;
+    case '+': case 'a': numbers = 2, has_stack = 0; break;
     case 'L': case 'S': case 'P': case 'Q': case 'V': case 'p': case 'u': case 'r': numbers = 3; break;
     case 'm': case 'c': case 'x': numbers = 2; break;
     case 'f': numbers = 1; break;
@@ -151,7 +151,7 @@ static void scan(void) {
     if (record.letter == 'm' || record.letter == 'c') add_block(record.numbers[0], record.numbers[1]);
     if (record.letter == 'r') add_block(record.numbers[1], record.numbers[2]);
     int is_wrong = is_error(record.letter), is_mark = record.letter == 'p' || record.letter == 'u';
-    int has_block = is_wrong || is_mark || is_request_or_free(record.letter) || record.letter == 'r';
+    int has_block = is_wrong || is_mark || is_request_or_free(record.letter) || record.letter == 'r' || record.letter == 'a';
     if (has_block && (record.numbers[0] < !(is_wrong || is_mark) || record.numbers[0] > last_block)) give_up("a block has no request");
     if (record.letter != 'l' && record.letter != 's') add_step(record.begin, has_block ? record.numbers[0] : 0);
     error_count += is_wrong;
@@ -503,6 +503,9 @@ static void reduce(void) {
       case 'r': is_ended[record.numbers[0]] = 1, add_resize(&record, error), request_count++; break;
       case 'L': case 'S': case 'P': case 'Q': case 'V': case 'x': case 'o': case 'n': add_error(&record), error++; break;
       case 'p': case 'u': add_mark(&record); break;
+      case 'a':
+        if (new_number[block]) fprintf(new_log, "a %u %ld\n", new_number[block], record.numbers[1]);
+        break;
       case 'M': case '-': case '+': case 'e': write_text(record.begin, record.end - record.begin + 1); break;
       case 'C': {  // its stack is the last word
         const char *last = record.end;

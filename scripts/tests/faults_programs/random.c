@@ -22,6 +22,15 @@ static unsigned any_size(void) {
   }
 }
 
+static char *request(unsigned size) {
+  switch (below(8)) {
+    case 0: return aligned_alloc(32u << below(4), size);
+    case 1:
+    case 2: return calloc(1, size);
+    default: return malloc(size);
+  }
+}
+
 static void bury(unsigned i, unsigned at) { dead[at] = live[i], dead_size[at] = live_size[i]; }
 
 static void do_right(unsigned i, unsigned j) {
@@ -29,7 +38,7 @@ static void do_right(unsigned i, unsigned j) {
   switch (below(6)) {
     case 0:
     case 1:
-      if (!live[i]) live_size[i] = size, live[i] = below(3) ? malloc(size) : calloc(1, size);
+      if (!live[i]) live_size[i] = size, live[i] = request(size);
       break;
     case 2:
       if (live[i]) bury(i, i), free(live[i]), live[i] = NULL;
