@@ -1,23 +1,75 @@
--- A fleet's profiles in PostgreSQL: the table, the load and the query. Rows as of `fleet_profiles --rows` are standard input; the answer is
--- rows too, of all machines of a build together:
---   psql -v ON_ERROR_STOP=1 -qAt -F $'\t' -f examples/fleet/postgresql.sql < rows.tsv > sums.tsv
--- A load is what a machine counted of a build of a program on a day. One that comes again has its new rows in place of its old ones.
+-- A fleet's profiles in PostgreSQL: the table of loads, and the load of more:
+--   scripts/fleet_profiles --arrays rows.tsv | psql -v ON_ERROR_STOP=1 -q -f examples/fleet/postgresql.sql
+-- A load is what a machine counted of a build of a program on a day: one row, so that it comes and goes as a whole. Of several with one
+-- key one counts, by the rules of `fleet_profiles --help`, also where two are loaded at once.
 set client_min_messages = warning; -- that the table exists is no news
 begin;
-create table if not exists profiles (
+select pg_advisory_xact_lock(hashtext('loads of a fleet')) as lock \gset
+do $$ begin
+    if (select relkind from pg_class where oid = to_regclass('profiles')) = 'r' then
+        raise exception 'the table profiles has the rows of an earlier release' using hint =
+            'Write them into a file: select program, build, machine, day, weight, moment, size, count from profiles order by load, program, '
+            'build, machine, day, moment, size. Then `alter table profiles rename to profiles_before`, and load the file.';
+    end if;
+end $$;
+create table if not exists loads (
     program text not null,
     build text not null,
     machine text not null,
     day date not null,
+    load bigint not null check (load >= 0), -- its number; 0 where it has none
     weight bigint not null check (weight between 1 and 1000000000), -- for how many machines, or requests, it stands, itself included
-    moment smallint not null check (moment between 0 and 1024), -- of a history, from 1 on; 0 in a profile
-    size smallint not null check (size between 0 and 16369), -- 16369 stands for `large`
-    count bigint not null check (count > 0),
-    load bigint not null default txid_current() -- the transaction that loaded the row
+    moments smallint[] not null check (0 <= all (moments) and 1024 >= all (moments)), -- of a history, from 1 on; 0 in a profile
+    sizes smallint[] not null check (0 <= all (sizes) and 16369 >= all (sizes)), -- 16369 stands for `large`
+    counts bigint[] not null check (0 < all (counts)),
+    primary key (machine, program, day, build),
+    check (cardinality(sizes) > 0 and cardinality(sizes) = cardinality(moments) and cardinality(sizes) = cardinality(counts))
 );
-\copy profiles (program, build, machine, day, weight, moment, size, count) from pstdin
-delete from profiles where load <> txid_current()
-    and (program, build, machine, day) in (select program, build, machine, day from profiles where load = txid_current());
+do $$ begin
+    if to_regclass('loads_by_day') is null then -- only to ask would wait for each load that is on its way
+        create index loads_by_day on loads (day, program);
+    end if;
+end $$;
+
+-- its rows, as `fleet_profiles` reads them
+create or replace view profiles as
+    select program, build, machine, day, load, weight, unnest(moments) as moment, unnest(sizes) as size, unnest(counts) as count from loads;
+
+-- the load that counts, of one in the table and of another one with its key
+create or replace function counted(old loads, new loads) returns loads language plpgsql as $$
+begin
+    if new.load <> old.load then
+        return case when new.load > old.load then new else old end;
+    elsif new.load = 0 then -- the later one, unless it is a cut copy
+        return case when new.weight = old.weight and not exists (
+            select * from unnest(new.moments, new.sizes, new.counts) except select * from unnest(old.moments, old.sizes, old.counts)
+        ) then old else new end;
+    elsif new.weight <> old.weight then
+        return case when cardinality(new.sizes) >= cardinality(old.sizes) then new else old end;
+    end if;
+    select array_agg(moment order by moment, size), array_agg(size order by moment, size), array_agg(count order by moment, size)
+        into new.moments, new.sizes, new.counts
+        from (
+            select moment, size, max(count) as count from (
+                select * from unnest(old.moments, old.sizes, old.counts) union all select * from unnest(new.moments, new.sizes, new.counts)
+            ) as every(moment, size, count) group by moment, size
+        ) as united;
+    return new;
+end $$;
+
 commit;
-select program, build, 'all', day, 1, moment, size, sum(weight * count) from profiles
-    group by program, build, day, moment, size order by program, build, day, moment, size;
+
+begin;
+create temporary table arriving (
+    program text, build text, machine text, day date, load bigint, weight bigint, moments text, sizes text, counts text
+) on commit drop;
+\copy arriving from pstdin
+-- in the order of the key: two loads at once then wait for each other, and neither for ever
+insert into loads as old
+    select distinct on (machine, program, day, build) program, build, machine, day, load, weight,
+        translate(moments, '[]', '{}')::smallint[], translate(sizes, '[]', '{}')::smallint[], translate(counts, '[]', '{}')::bigint[]
+    from arriving order by machine, program, day, build, load desc, length(sizes) desc
+    on conflict (machine, program, day, build) do update
+    set (load, weight, moments, sizes, counts) = (select load, weight, moments, sizes, counts from counted(old, excluded))
+    where excluded.load >= old.load and old is distinct from excluded;
+commit;

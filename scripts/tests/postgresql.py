@@ -40,6 +40,9 @@ def started() -> Iterator[dict[str, str]]:
 
 
 def load() -> str:
-    """The command that loads rows.tsv and makes sums.tsv of all rows in the table."""
+    """The commands that load rows.tsv, and make sums.tsv of all rows in the table."""
     with open(COMMANDS, encoding="utf-8") as file:
-        return re.search(r"(?m)^    (psql .*postgresql\.sql < rows\.tsv .*)$", file.read())[1]
+        lines = re.findall(r"(?m)^    (.*(?:\| psql .*postgresql\.sql|psql .*postgresql_sums\.sql > sums\.tsv))$", file.read())
+    if len(lines) != 2:
+        raise AssertionError(f"examples/fleet/README.md has not one load and one query: {lines}")
+    return " && ".join(lines)

@@ -4,12 +4,14 @@ footprint, over several machines the sum of each one's by itself, times its weig
 
 import bisect
 import os
+import sys
 from collections import Counter
 from collections.abc import Iterable
 from typing import Optional
 
 from mte_scripts import texts
-from mte_scripts.fleet import rows
+from mte_scripts.fleet import reading, rows
+from mte_scripts.fleet.faults import Faults
 from mte_scripts.recording import timelines
 from mte_scripts.tables import figures
 from mte_scripts.texts import LARGEST_SIZE, Refused
@@ -135,22 +137,27 @@ class Load:
         return max([*self.counts.values(), sum(member.weight * member.most() for member in self.members)])
 
 
-def read(paths: Iterable[str]) -> list[Load]:
+def read(paths: Iterable[str], found_faults: Optional[Faults] = None) -> list[Load]:
     """The loads of files: of rows one for each program and day, and of such a file's profiles and histories each."""
     found: list[Load] = []
-    in_rows: dict = {}
+    store = reading.Store(found_faults)
     for path in paths:
-        data = texts.read(path)
+        with texts.opened(path) as file:
+            begin = texts.next_piece(file, path)
+            if rows.is_rows(begin):
+                store.take(file, path, begin)
+                continue
+            data = begin + texts.next_piece(file, path, None)
         if not data:
             raise Refused(3, f"{texts.named(path)} is empty: did the command that writes it fail?")
-        if rows.is_rows(data):
-            rows.add(in_rows, data, texts.named(path))
-        else:
-            found.append(of_text(data, path))
-    for (program, day), records in rows.grouped(in_rows, ("program", "day")):
+        found.append(of_text(data, path))
+    for (program, day), records in rows.grouped(store.items(), ("program", "day")):
         found += of_records(program, day, records)
+    if not found_faults:
+        store.faults.say(sys.argv[0])
     if not found:
-        raise Refused(2, "name a profile, a history, a timeline or rows; --help says more")
+        wrong = store.faults.text()
+        raise Refused(2, f"no row can count: {wrong[0]}" if wrong else "name a profile, a history, a timeline or rows; --help says more")
     return found
 
 

@@ -1,30 +1,38 @@
 """The profiles and histories in the rows of a fleet's database. `fleet_profiles --help` says all."""
 
 import argparse
+import functools
 import re
 
 from mte_scripts import texts
-from mte_scripts.fleet import rows
+from mte_scripts.fleet import reading, rows
+from mte_scripts.fleet.faults import Faults
 from mte_scripts.texts import LARGEST_SIZE, MOST_SNAPSHOTS, Refused
-from mte_scripts.words import Words
+from mte_scripts.words import Words, between
 
 HELP = f"""\
 Make profiles and histories of the rows of a fleet's database, each count times its weight; or rows of a profile or a history.
 
-Usage: fleet_profiles [--by COLUMNS] [--program NAME] [--days FIRST..LAST] [--output FOLDER | --arrays] [ROWS..]
-       fleet_profiles --rows PROGRAM,BUILD,MACHINE,DAY[,WEIGHT] [PROFILE|HISTORY]
+Usage: fleet_profiles [--by COLUMNS] [--program NAME] [--days FIRST..LAST] [--output FOLDER | --arrays] [--faults FILE] [ROWS..]
+       fleet_profiles --rows PROGRAM,BUILD,MACHINE,DAY[,WEIGHT] [--load N] [PROFILE|HISTORY]
                                           (standard input for `-`, or where there is no file)
 
-A row is a line of eight fields with tabs between:
+A row is a line of nine fields with tabs between:
 
-  program build machine day   what was counted where: three names, and a day as 2026-12-31; these four are the key of a load
+  program build machine day   what was counted where: three names, and a day as 2026-01-31; these four are the key of a load
+  load                        its number: of all loads with one key the one with the greatest number counts, whatever came first
   weight                      for how many it stands, itself included: of one machine in n, or one request in n, it is n
   moment                      0 in a profile; in a history the number of the moment, from 1 to {MOST_SNAPSHOTS:,}
   size count                  as in a profile; {LARGEST_SIZE + 1} or `large` stands for all sizes above {LARGEST_SIZE:,}
 
-A count times its weight is unbiased if chance alone chose who is counted, with one chance in n for each, whatever its load. A row
-with the key, moment and size of an earlier one takes its place: a load may be there twice. A sum made by the database is a row too:
-of a machine with any name, and the weight 1.
+A count times its weight is unbiased if chance alone chose who is counted, with one chance in n for each, whatever its load. A load may
+come again, late or cut, in any file and order: of rows with one number all are of one load. A sum made by the database is a row too: of
+a machine with any name, and the weight 1.
+
+Earlier releases wrote rows without the load. Of these the load that stands last counts, if its rows are in the order in which they were
+written; of rows in another order, the last of those that are equal but for their counts.
+
+A row that can't count, as one of a day that does not exist, is left out. Standard error says of each fault how many rows have it.
 
   --by COLUMNS       a profile for each program,build or other columns of program, build, machine and day; program,day where it is
                      left out
@@ -32,9 +40,11 @@ of a machine with any name, and the weight 1.
   --days FIRST..LAST
                      only the rows of these days
   --output FOLDER    make a new folder, with a folder in it for each value of the columns but the last, and in that a file for each
-                     value of the last one: FOLDER/redis/2026-12-31.profile, or .history of moments
-  --arrays           print each load as one row, with its moments, sizes and counts as arrays: for ClickHouse
+                     value of the last one: FOLDER/redis/2026-01-31.profile, or .history of moments
+  --arrays           print each load as one row, with its moments, sizes and counts as arrays: for PostgreSQL and ClickHouse
+  --faults FILE      write the rows that can't count into FILE: why, the file and the line, with tabs between, and the row
   --rows KEY         print the rows of one profile or history for the database; the weight is 1 where it is left out
+  --load N           the number of the load; the milliseconds since 1970 where it is left out
 
 Without --output, all rows that are left are one profile, or one history, which is printed. The moments of machines are added up by
 their numbers: they have to be taken at the same stages. fleet_regret and fleet_table take rows as they are, with each machine by
@@ -42,21 +52,22 @@ itself.
 
 Exit status:
   0  the profiles, the histories or the rows are made
-  2  the words or a row are refused; nothing is made
+  2  the words are refused, or no row can count; nothing is made
   3  there is no row, or the output can't be made
 
 Examples:
-  fleet_profiles --rows redis,7.2,web-17,2026-12-31,100 app.profile >> rows.tsv
+  fleet_profiles --rows redis,7.2,web-17,2026-01-31,100 app.profile >> rows.tsv
   fleet_profiles --output days rows.tsv
 """
 
 UNSAFE = re.compile(r"[^A-Za-z0-9._+@=,-]")
+LINES = 1000  # that are written at once
 
 
 def days(word: str) -> "tuple[str, str]":
     first, dots, last = word.partition("..")
     if not dots or not all(rows.DAY.fullmatch(day) for day in (first, last)) or first > last:
-        raise argparse.ArgumentTypeError(f"takes a first and a last day as 2026-12-01..2026-12-31, and not {word}")
+        raise argparse.ArgumentTypeError(f"takes a first and a last day as 2026-01-01..2026-01-31, and not {word}")
     return first, last
 
 
@@ -95,17 +106,27 @@ def write_folder(folder: str, groups: list) -> int:
     return len(made)
 
 
-def array_rows(found: dict) -> str:
+def write_arrays(found: "list[tuple[rows.Key, reading.Load]]") -> int:
     """Each load as one row with arrays, in the order of the keys."""
-    lines = []
-    for key, record in sorted(found.items()):
-        cells = [line.rsplit("\t", 3)[1:] for line in rows.text_of(key, record.weight, record.moments).splitlines()]
-        arrays = (f"[{','.join(column)}]" for column in zip(*cells))
-        lines.append("\t".join([*key, str(record.weight), *arrays]) + "\n")
-    return "".join(lines)
+    lines: "list[str]" = []
+    for key, load in sorted(found, key=lambda each: each[0]):
+        parts = [(*cells_of(part.moment, part.sizes), part.counts.replace(b" ", b",").decode()) for part in load.parts]
+        arrays = (f"[{','.join(column)}]" for column in zip(*parts))
+        lines.append("\t".join([*key, str(load.number), str(load.weight), *arrays]) + "\n")
+        if len(lines) == LINES:
+            texts.write("".join(lines))
+            lines.clear()
+    return texts.write("".join(lines))
 
 
-def write_rows(word: str, files: list) -> int:
+@functools.lru_cache(256)
+def cells_of(moment: int, sizes: bytes) -> "tuple[str, str]":
+    """The elements of the arrays of moments and sizes."""
+    found = reading.unpacked(sizes)
+    return ",".join([str(moment)] * len(found)), ",".join(map(str, found))
+
+
+def write_rows(word: str, load: "int | None", files: list) -> int:
     """The rows of one profile or history."""
     values = word.split(",")
     if len(values) not in (4, 5) or len(values) == 5 and not re.fullmatch("[0-9]{1,10}", values[4]):
@@ -117,32 +138,39 @@ def write_rows(word: str, files: list) -> int:
         moments = {at + 1: {size: counts[at] for size, counts in found.counts.items()} for at in range(found.snapshots)}
     else:
         moments = {0: found}
-    text = rows.text_of(rows.Key(*values[:4]), int(values[4]) if len(values) == 5 else 1, moments)
+    number = int(rows.clock() * 1000) if load is None else load
+    text = rows.text_of(rows.Key(*values[:4]), rows.Record(int(values[4]) if len(values) == 5 else 1, moments, number))
     if not text:
         raise Refused(3, "there is no request to count")
-    rows.add({}, text.encode(), "--rows")  # refuses what would be refused there
+    try:
+        for line in texts.lines_of(text.encode(errors="surrogateescape")):
+            rows.row_of(line, 0)
+    except rows.Faulty as fault:
+        raise Refused(2, f"--rows: {fault.reason}: {fault.what}") from None
     return texts.write(text)
 
 
 def main(words: list) -> int:
-    given = Words(HELP, "files", {"by": ["program", "day"]}, by=columns, days=days).take(words, once=True)
+    kinds: "dict" = {"by": columns, "days": days, "load": between(1, rows.MOST_LOAD)}
+    given = Words(HELP, "files", {"by": ["program", "day"]}, **kinds).take(words, once=True)
     files = given.files or ["-"]
     if not given.files:
         texts.say_reading("fleet_profiles")
     if given.rows:
-        return write_rows(given.rows, files)
-    found = rows.read(files)
+        return write_rows(given.rows, given.load, files)
+    found = reading.read(files, Faults(given.faults))
     first, last = given.days or ("", "~")
-    kept = {key: record for key, record in found.items() if given.program in (None, key.program) and first <= key.day <= last}
+    kept = [(key, load) for key, load in found.items() if given.program in (None, key.program) and first <= key.day <= last]
+    found.faults.say("fleet_profiles")
     if not kept:
         raise Refused(3, f"none of the {len(found)} loads is of this program and these days")
     if given.arrays:
-        return texts.write(array_rows(kept))
+        return write_arrays(kept)
     if given.output:
-        made = write_folder(given.output, list(rows.grouped(kept, given.by)))
+        made = write_folder(given.output, rows.grouped(kept, given.by))
         texts.say("fleet_profiles", f"{made} files in {given.output}")
         return 0
-    whole = texts_of(list(kept.values()))
+    whole = texts_of([load for _, load in kept])
     if len(whole) > 1:
         raise Refused(2, "there are rows of profiles and of histories: --output makes a file of each")
     return texts.write(whole[0][1])

@@ -1,22 +1,31 @@
 """The rows of a fleet's database, as a text with tabs: what each machine counted on a day, and for how many machines or requests it
 stands."""
 
+import datetime
 import re
-from collections.abc import Iterable, Iterator
+import time
+from collections.abc import Iterable
 from typing import NamedTuple
 
 from mte_scripts import texts
 from mte_scripts.texts import LARGEST_SIZE, MOST_COUNT, MOST_SNAPSHOTS, Refused
 
 COLUMNS = "program build machine day weight moment size count".split()
-FORM = ", ".join(COLUMNS)
-DAY = re.compile("[0-9]{4}-[0-9]{2}-[0-9]{2}")
+NUMBERED = "program build machine day load weight moment size count".split()
+FORM = ", ".join(NUMBERED)
 MOST_SUM = 10**18  # of a count, as databases have it
+MOST_LOAD = 10**18 - 1  # the number of a load
 LONGEST_NAME = 200
+DAY = re.compile("[0-9]{4}-[0-9]{2}-[0-9]{2}")
+FIRST_DAY = "2000-01-01"  # a clock that was never set has one before
+EARLY = 2  # days by which a day may be ahead of the reader's clock: of another time zone
+LARGE = LARGEST_SIZE + 1
+EPOCH = datetime.date(1970, 1, 1).toordinal()
+RANGES = {"load": (0, MOST_LOAD), "weight": (1, MOST_COUNT), "moment": (0, MOST_SNAPSHOTS), "size": (0, LARGE), "count": (1, MOST_SUM)}
 
 
 class Key(NamedTuple):
-    """One load: what a machine counted of a build of a program on a day."""
+    """What a load is of: a machine, a build of a program and a day. Of all loads with one key one counts."""
 
     program: str
     build: str
@@ -29,75 +38,92 @@ class Record(NamedTuple):
 
     weight: int
     moments: dict
+    load: int = 0
 
 
 def is_rows(data: bytes) -> bool:
-    """Whether a text that begins with these bytes has such rows."""
-    return data.split(b"\n", 1)[0].count(b"\t") == len(COLUMNS) - 1
+    """Whether a text that begins with these bytes has such rows: one of its first lines has as many fields."""
+    return any(line.count(b"\t") + 1 in (len(COLUMNS), len(NUMBERED)) for line in data.split(b"\n", 9)[:9])
 
 
-def read(paths: Iterable[str]) -> dict[Key, Record]:
-    """The rows of files, `-` for standard input. A row with the key, moment and size of an earlier one takes its place, so that a load
-    may be there twice."""
-    found: dict[Key, Record] = {}
-    for path in paths:
-        add(found, texts.read(path), texts.named(path))
-    if not found:
-        raise Refused(3, "there is no row: did the query that prints them fail?")
-    return found
+class Faulty(Exception):
+    """A row that can't count: why, in words that rows with the same fault have alike; and what of the row shows it."""
+
+    def __init__(self, reason: str, what: str = "") -> None:
+        super().__init__(reason)
+        self.reason, self.what = reason, what
 
 
-def add(found: dict, data: bytes, name: str) -> None:
-    for at, line in enumerate(texts.lines_of(data), 1):
-        key, weight, moment, size, count = row_of(line, at, name)
-        record = found.get(key)
-        if record is None:
-            record = found[key] = Record(weight, {})
-        elif record.weight != weight:
-            raise Refused(2, f"{name}: line {at} has the weight {weight}, and an earlier row of this machine and day {record.weight}")
-        record.moments.setdefault(moment, {})[size] = count
+def clock() -> float:
+    """The seconds since 1970."""
+    return time.time()
 
 
-def row_of(line: bytes, at: int, name: str) -> tuple:
-    """The key, weight, moment, size and count of a row."""
-    if wrong := texts.encoding(line, at):
-        raise Refused(2, f"{name}: {wrong}")
-    words = line.decode().split("\t")
-    if len(words) != len(COLUMNS):
-        raise Refused(2, f"{name}: line {at} has {len(words)} fields, and not the {len(COLUMNS)} of a row, with tabs between: {FORM}")
+def day_fault(day: str) -> str:
+    """What is wrong with a day; empty if nothing is."""
+    try:
+        if not DAY.fullmatch(day):
+            raise ValueError
+        found = datetime.date.fromisoformat(day)
+    except ValueError:
+        return "a day that does not exist"
+    if day < FIRST_DAY:
+        return f"a day before {FIRST_DAY}: a clock that is not set"
+    return "a day that is not yet: a clock that is ahead" if found.toordinal() - EPOCH > clock() // 86400 + EARLY else ""
+
+
+def head_of(words: list) -> tuple:
+    """The key, load, weight and moment of the fields of a row."""
+    is_numbered = len(words) == len(NUMBERED)
     for column, word in zip(COLUMNS[:3], words):
         if not word.strip() or len(word) > LONGEST_NAME:
-            raise Refused(2, f"{name}: line {at} has no {column} of 1 to {LONGEST_NAME} characters: {word[:40]!r}")
-    if not DAY.fullmatch(words[3]):
-        raise Refused(2, f"{name}: line {at} has a day that is not as 2026-12-31: {texts.shown(words[3].encode())}")
-    ranges = ((1, MOST_COUNT), (0, MOST_SNAPSHOTS), (0, LARGEST_SIZE + 1), (1, MOST_SUM))
-    values = [str(LARGEST_SIZE + 1) if word == "large" and column == "size" else word for column, word in zip(COLUMNS[4:], words[4:])]
-    for column, word, (least, most) in zip(COLUMNS[4:], values, ranges):
-        if not re.fullmatch("[0-9]{1,19}", word) or not least <= int(word) <= most:
-            raise Refused(2, f"{name}: line {at} has a {column} that is no number from {least:,} to {most:,}: {texts.shown(word.encode())}")
-    weight, moment, size, count = map(int, values)
-    return Key(*words[:4]), weight, moment, "large" if size > LARGEST_SIZE else size, count
+            raise Faulty(f"no {column} of 1 to {LONGEST_NAME} characters", word)
+    if wrong := day_fault(words[3]):
+        raise Faulty(wrong, words[3])
+    load = number(words[4], "load") if is_numbered else 0
+    if load > (clock() + 86400 * EARLY) * 1000:
+        raise Faulty("a load that is not yet: a clock that is ahead", words[4])
+    return Key(*words[:4]), load, number(words[-4], "weight"), number(words[-3], "moment")
 
 
-def text_of(key: Key, weight: int, moments: dict) -> str:
+def number(word: str, column: str) -> int:
+    """The number in a column."""
+    least, most = RANGES[column]
+    if not re.fullmatch("[0-9]{1,19}", word) or not least <= int(word) <= most:
+        raise Faulty(f"a {column} that is no number from {least:,} to {most:,}", word)
+    return int(word)
+
+
+def row_of(line: bytes, at: int) -> tuple:
+    """The key, load, weight, moment, size and count of a row, which is line AT of its file. Large sizes are one above the largest."""
+    if wrong := texts.encoding(line, at):
+        raise Faulty(wrong.replace(f"line {at} ", "a line that "))
+    words = line.decode().split("\t")
+    if len(words) not in (len(COLUMNS), len(NUMBERED)):
+        raise Faulty(f"not the {len(NUMBERED)} fields of a row, with tabs between: {FORM}", f"{len(words)} fields")
+    head = head_of(words)
+    return *head, LARGE if words[-2] == "large" else number(words[-2], "size"), number(words[-1], "count")
+
+
+def text_of(key: Key, record: Record) -> str:
     """The rows of a load, in the order of moments and sizes."""
-    begin = "\t".join([*key, str(weight)])
+    begin = "\t".join([*key, str(record.load), str(record.weight)])
     lines = []
-    for moment in sorted(moments):
-        counts = {LARGEST_SIZE + 1 if size == "large" else size: count for size, count in moments[moment].items()}
+    for moment in sorted(record.moments):
+        counts = {LARGE if size == "large" else size: count for size, count in record.moments[moment].items()}
         lines += [f"{begin}\t{moment}\t{size}\t{counts[size]}\n" for size in sorted(counts) if counts[size]]
     return "".join(lines)
 
 
-def grouped(found: dict, by: Iterable[str]) -> Iterator[tuple]:
-    """The records by their values of these columns, in the order of the values."""
+def grouped(found: Iterable[tuple], by: Iterable[str]) -> "list[tuple]":
+    """Of keys with their records: the records by the values of these columns, in the order of the values."""
     groups: dict[tuple, list] = {}
-    for key, record in found.items():
+    for key, record in found:
         groups.setdefault(tuple(getattr(key, column) for column in by), []).append(record)
-    yield from sorted(groups.items())
+    return sorted(groups.items())
 
 
-def profile_of(records: Iterable[Record]) -> dict:
+def profile_of(records: Iterable) -> dict:
     """The profile of all, each count times its weight: what the machines for which they stand have counted, where the sample is
     unbiased."""
     sums: dict = {}
@@ -106,9 +132,10 @@ def profile_of(records: Iterable[Record]) -> dict:
     return sums
 
 
-def histories_of(records: Iterable[Record]) -> list:
+def histories_of(records: Iterable) -> list:
     """The history of each machine that has one, with its weight."""
-    return [(record.weight, history_of(record)) for record in records if any(moment for moment in record.moments)]
+    decoded = (Record(record.weight, record.moments) for record in records)
+    return [(record.weight, history_of(record)) for record in decoded if any(record.moments)]
 
 
 def history_of(record: Record) -> texts.History:

@@ -1,0 +1,251 @@
+"""Reads the rows of a fleet piece by piece, and keeps of each key the load that counts, packed: 2 million rows take some 40 MB.
+
+Loads with one key differ by their number. The greatest counts, whatever came first. Rows with one number are of one load, however often
+it came and however much was cut of it: of equal rows the one with the greatest count is whole.
+
+Rows without a number, or with 0, are as earlier releases wrote them. Where they stand in the order of moment and size, as they were
+written, a load that comes again shows by a row that isn't above the one before. The last one counts, unless it is a cut copy of an
+earlier one. Rows in another order count by themselves: the last of those that are equal but for their counts."""
+
+import array
+import functools
+import re
+from collections import Counter
+from collections.abc import Iterable, Iterator
+from typing import BinaryIO, NamedTuple, Optional
+
+from mte_scripts import texts
+from mte_scripts.fleet import faults, rows
+from mte_scripts.fleet.faults import Faults
+from mte_scripts.fleet.rows import LARGE, Faulty, Key
+from mte_scripts.texts import PIECE, Refused
+
+PAIR = rb"(?:[0-9]{1,5}|large)\t[1-9][0-9]{0,17}"
+# rows whose first fields are the same, up to the moment
+RUN = re.compile(
+    rb"((?:[^\t\n]{1,800}\t){3}[0-9-]{10}\t(?:[0-9]{1,18}\t)?[0-9]{1,10}\t[0-9]{1,4}\t)(%(p)s)\n((?:\1%(p)s\n)*)" % {b"p": PAIR}
+)
+KNOWN = 1 << 12  # heads of rows, and columns of sizes, that are read once
+LONG_LINE = 5_000  # bytes of a line: no row has so many
+
+
+class Part(NamedTuple):
+    """Rows of a load at one moment in the order of their sizes: the sizes as numbers of two bytes, and the counts as words."""
+
+    moment: int
+    sizes: bytes
+    counts: bytes
+
+    def pairs(self) -> "Iterator[tuple[int, int]]":
+        return zip(unpacked(self.sizes), map(int, self.counts.split()))
+
+
+class Load:
+    """Rows of one load in the order of moment and size."""
+
+    __slots__ = ("number", "weight", "parts")
+
+    def __init__(self, number: int, weight: int, parts: "list[Part]") -> None:
+        self.number, self.weight, self.parts = number, weight, parts
+
+    @property
+    def moments(self) -> "dict[int, dict]":
+        """As of rows.Record."""
+        found: "dict[int, dict]" = {}
+        for part in self.parts:
+            counts = found.setdefault(part.moment, {})
+            counts.update(part.pairs())
+            if LARGE in counts:
+                counts["large"] = counts.pop(LARGE)
+        return found
+
+    def cells(self) -> "dict[tuple[int, int], int]":
+        return {(part.moment, size): count for part in self.parts for size, count in part.pairs()}
+
+    def is_before(self, moment: int, size: int) -> bool:
+        """Whether this may be its next row, by the order."""
+        last = self.parts[-1]
+        return (last.moment, unpacked(last.sizes[-2:])[0]) < (moment, size)
+
+
+def packed(sizes: "Iterable[int]") -> bytes:
+    return array.array("H", sizes).tobytes()
+
+
+def unpacked(sizes: bytes) -> "array.array[int]":
+    found = array.array("H")
+    found.frombytes(sizes)
+    return found
+
+
+def load_of(number: int, weight: int, cells: dict) -> Load:
+    """A load of these cells."""
+    parts: "dict[int, list]" = {}
+    for (moment, size), count in sorted(cells.items()):
+        parts.setdefault(moment, []).append((size, count))
+    return Load(number, weight, [
+        Part(moment, packed(size for size, _ in found), b" ".join(b"%d" % count for _, count in found)) for moment, found in parts.items()
+    ])
+
+
+@functools.lru_cache(KNOWN)
+def head(text: bytes) -> "Optional[tuple[bytes, int, int, int]]":
+    """The key as bytes, load, weight and moment of the first fields of rows; None if something is wrong with them."""
+    try:
+        if texts.binary(text):
+            return None
+        words = text.decode().split("\t")
+        key, load, weight, moment = rows.head_of([*words[:-1], "0", "0"])
+    except (Faulty, UnicodeDecodeError):
+        return None
+    return "\t".join(key).encode(), load, weight, moment
+
+
+class Store:
+    """The loads of all files that it has read, and their faults."""
+
+    def __init__(self, found: "Optional[Faults]" = None) -> None:
+        self.faults = found or Faults()
+        self.loads: "dict[bytes, list[Load]]" = {}  # of a key; more than one only of one number
+        self.older: "set[tuple[bytes, int]]" = set()
+        self.columns: "dict[tuple, Optional[list]]" = {}
+        self.is_resolved = False
+
+    def read(self, path: str) -> None:
+        with texts.opened(path) as file:
+            self.take(file, path)
+
+    def take(self, file: BinaryIO, path: str, begin: bytes = b"") -> None:
+        """The rows of an open file; what was read of it already is BEGIN."""
+        rest, at = begin, 1
+        while piece := texts.next_piece(file, path):
+            data = rest + piece
+            end = data.rfind(b"\n") + 1
+            at += self.add_lines(data, end, path, at)
+            rest = data[end:] if len(data) - end < PIECE else data[end : end + LONG_LINE]
+        end = rest.rfind(b"\n") + 1
+        at += self.add_lines(rest, end, path, at)
+        if rest[end:]:
+            self.faults.add(Faulty("a line without its end: the file is cut there"), path, at, rest[end:])
+
+    def add_lines(self, data: bytes, end: int, path: str, at: int) -> int:
+        """The lines up to END, of which the first is AT; how many there are."""
+        first, place = at, 0
+        while place < end:
+            match = RUN.match(data, place, end)
+            stop = match.end() if match else data.index(b"\n", place) + 1
+            number = self.add_run(match) if match else 0
+            if not number:  # something is wrong, or in no order
+                for line in data[place : stop - 1].split(b"\n"):
+                    self.add_row(line, path, at + number)
+                    number += 1
+            at, place = at + number, stop
+        return at - first
+
+    def add_run(self, match: re.Match) -> int:
+        """Rows with the same first fields; how many, or 0 where they have to be read one by one."""
+        begin = match[1]
+        words = (match[2] + b"\n" + match[3].replace(begin, b"")).split()
+        fields, pieces, counts = head(begin), self.column(tuple(words[::2])), words[1::2]
+        if fields is None or pieces is None:
+            return 0
+        for first, last, sizes in pieces:
+            self.add(*fields, sizes, b" ".join(counts[first:last]))
+        return len(counts)
+
+    def column(self, words: tuple) -> "Optional[list[tuple[int, int, bytes]]]":
+        """Sizes in pieces that are in order, each with its begin and end, as they are packed; None if not all are in range."""
+        if words not in self.columns:
+            sizes = [LARGE if word == b"large" else int(word) for word in words]
+            ends = [*(at for at in range(1, len(sizes)) if sizes[at] <= sizes[at - 1]), len(sizes)]
+            if len(self.columns) == KNOWN // 16:
+                self.columns.clear()
+            is_in_range = max(sizes) <= LARGE
+            self.columns[words] = [(first, last, packed(sizes[first:last])) for first, last in zip([0, *ends], ends)] if is_in_range else None
+        return self.columns[words]
+
+    def add_row(self, line: bytes, path: str, at: int) -> None:
+        """A row by itself, which may be wrong."""
+        try:
+            key, load, weight, moment, size, count = rows.row_of(line, at)
+        except Faulty as fault:
+            self.faults.add(fault, path, at, line)
+            return
+        self.add("\t".join(key).encode(), load, weight, moment, packed([size]), b"%d" % count)
+
+    def add(self, key: bytes, number: int, weight: int, moment: int, sizes: bytes, counts: bytes) -> None:
+        """Rows of one load in the order of their sizes."""
+        loads = self.loads.setdefault(key, [])
+        last = loads[-1] if loads else None
+        if last and number < last.number:
+            self.older.add((key, number))
+            return
+        part = Part(moment, sizes, counts)
+        if last and number == last.number and weight == last.weight and last.is_before(moment, unpacked(sizes[:2])[0]):
+            last.parts.append(part)
+            return
+        if last and number > last.number:
+            self.older.add((key, last.number))
+            loads.clear()
+        loads.append(Load(number, weight, [part]))
+
+    def items(self) -> "list[tuple[Key, Load]]":
+        """Each key with the load that counts."""
+        if not self.is_resolved:
+            self.is_resolved = True
+            self.faults.count(faults.AGAIN, len(self.older))
+            for loads in self.loads.values():
+                if len(loads) > 1:
+                    loads[:] = [one_of(loads, self.faults)]
+        return [(Key(*key.decode().split("\t")), loads[0]) for key, loads in self.loads.items()]
+
+    def __len__(self) -> int:
+        return len(self.loads)
+
+
+def one_of(loads: "list[Load]", found: Faults) -> Load:
+    """The load of runs of rows, each in order, that have one key and one number."""
+    last = loads[-1]
+    if last.number:
+        return united(loads, found)
+    cells = [each.cells() for each in loads]
+    often = max(Counter(cell for each in cells for cell in each).values())
+    if often == len(loads):
+        found.count(faults.AGAIN, often - 1)
+        whole = [at for at, each in enumerate(cells) if loads[at].weight == last.weight and cells[-1].items() <= each.items()]
+        return loads[max(whole, key=lambda at: (len(cells[at]), at))]
+    found.count(faults.MIXED, int(often > 1 or any(each.weight != last.weight for each in loads)))
+    merged: dict = {}
+    for each, own in zip(loads, cells):
+        if each.weight == last.weight:
+            merged.update(own)
+    return load_of(0, last.weight, merged)
+
+
+def united(loads: "list[Load]", found: Faults) -> Load:
+    """The rows of one load, that came in several parts or several times."""
+    cells = [each.cells() for each in loads]
+    weight = loads[max(range(len(loads)), key=lambda at: (len(cells[at]), at))].weight
+    merged: dict = {}
+    unlike = 0
+    for each, own in zip(loads, cells):
+        if each.weight != weight:
+            unlike += len(own)
+            continue
+        for cell, count in own.items():
+            unlike += merged.get(cell, count) != count
+            merged[cell] = max(merged.get(cell, 0), count)
+    found.count(faults.UNLIKE, unlike)
+    return load_of(loads[0].number, weight, merged)
+
+
+def read(paths: "Iterable[str]", found: "Optional[Faults]" = None) -> Store:
+    """The loads in files of rows, `-` for standard input."""
+    store = Store(found)
+    for path in paths:
+        store.read(path)
+    if not store.loads:
+        store.faults.end()
+        wrong = store.faults.text()
+        raise Refused(2, f"no row can count: {wrong[0]}") if wrong else Refused(3, "there is no row: did the query that prints them fail?")
+    return store
