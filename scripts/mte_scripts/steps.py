@@ -12,7 +12,9 @@ Usage: step private_folder make NAME               make a temporary folder that 
        step manifest sources FOLDER                print the hash of the sources of the repository in FOLDER
        step manifest write FOLDER PROGRAM SOURCES [LOG]
                                                    write the manifest of a program that rt has just built of these sources
-       step first_build [FOLDER PROGRAM]           prove the crates below a program side by side, or print how many at once
+       step first_build [FOLDER PROGRAM [minutes]]
+                                                   prove the crates below a program side by side, or print about how long
+                                                   that takes, or how many at once
 
 Exit status: 0 it is done, 2 the words are refused, 3 it failed.
 """

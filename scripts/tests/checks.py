@@ -12,7 +12,8 @@ A part is a file of this folder with a class or more:
         checks.main()
 
 A check that fails is printed with what was seen, and the test goes on. A test in which nothing is checked by `expect` counts as one check.
-The last line of a part has its name and how many checks passed, failed and were skipped."""
+The last line of a part has its name and how many checks passed, failed and were skipped. A test that would have to build the program fails,
+unless MTE_TOOL_BUILD=yes."""
 
 import argparse
 import os
@@ -183,6 +184,7 @@ def main(add=lambda parser: None, instead=lambda options: None) -> None:
     INSTEAD returns, if it is a number, is the status, and nothing is tested."""
     # a shell has what it starts in the background ignore an interrupt, and so would all that the tests run
     signal.signal(signal.SIGINT, signal.default_int_handler)
+    os.environ.setdefault("MTE_TOOL_BUILD", "no")
     module, part = sys.modules["__main__"], os.path.basename(sys.argv[0])
     parser = argparse.ArgumentParser(prog=part, description=module.__doc__, formatter_class=argparse.RawDescriptionHelpFormatter)
     parser.add_argument("-k", dest="patterns", action="append", metavar="NAME", help="only the tests whose name has this; `*` stands for any letters")
