@@ -461,12 +461,12 @@ def verify(options: Options, folder: Folder, found: figures.Figures, report: Cal
     """Runs the program in the real Scudo, leaves the tuned one in the folder, and adds to summary and report what was measured."""
     tuned, path, made = found.first.name, recording.find_program(options.words[0]), f"libscudo_{options.name()}.so"
     own = verdict.present(path)
-    libraries = {own: None, **{name: file for name, file in verdict.installed().items() if name != own}}
+    libraries: "dict[str, str | None]" = {own: None, **{name: file for name, file in verdict.installed().items() if name != own}}
     for name, classes in ((verdict.DEFAULT, None), (tuned, found.first.classes)):
         texts.say("tune_program", f"compiling Scudo with {'its own table' if classes is None else 'this one'}; that takes about half a minute")
-        libraries[name] = os.path.join(work, "default.so" if classes is None else made)
-        verification.build(scudo, libraries[name], classes, work)
-    folder.write(made, texts.read(libraries[tuned]))
+        libraries[name] = file = os.path.join(work, "default.so" if classes is None else made)
+        verification.build(scudo, file, classes, work)
+    folder.write(made, texts.read(os.path.join(work, made)))
     folder.write(verification.CONFIG, scudo_map.config(found.first.classes))
     runner = os.path.join(work, "peak")
     verification.build_runner(scudo, runner, work)
