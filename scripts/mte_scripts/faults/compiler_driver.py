@@ -136,7 +136,7 @@ def leave_recipe(plain: str, compiler: str, library: str, link: list, flags: lis
     """Leaves what the next call does as commands of a shell, which the driver reads before it runs Python. They return where anything is not
     as it is now: the driver, the environment, the compilers, or a file that this program reads. Without a place there is no recipe."""
     names = [os.environ.get(name, "") for name in ("TRACED_CC", "TRACED_CXX")]
-    name = ".".join([os.path.basename(sys.argv[0]), *map(os.path.basename, names)])
+    name = ".".join(os.path.basename(each) for each in (sys.argv[0], *names))
     files = [os.path.abspath(sys.argv[0]), __file__, os.path.join(SHIMS, "accesses"), *SOURCES, *HEADERS, *map(which, (plain, compiler)), library]
     listed = " ".join(map(quoted, files))
     lines = [f'[ "${{{name}-}}" = {quoted(os.environ.get(name, ""))} ] || return 0' for name in ("TRACED_CC", "TRACED_CXX")]

@@ -156,7 +156,8 @@ struct module { address low, high, offset; const char *path; };
 void walk(struct caller, address below, struct stack *);
 void unwind(struct caller, struct stack *);
 void put_frames(const struct stack *);
-void put_stack(struct caller);
+void put_stack(struct caller, struct stack *);  // by the frames where it is still empty
+void unwind_request(struct caller, struct stack *);
 const struct module *module_of(address pc);
 void learn_modules(void);
 struct mapping { address low, high, offset; const char *mode, *path; };  // the path is null where there is none

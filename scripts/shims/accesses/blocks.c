@@ -186,13 +186,15 @@ static void end_block(struct block *block) {
 
 // A request from inside the runtime is libdl's or a handler's of a signal. It is served, and not logged.
 void *request(char kind, size_t size, size_t alignment, struct caller from) {
+  struct stack stack;
+  unwind_request(from, &stack);
   int is_nested = busy, is_held = !is_nested || !pthread_mutex_trylock(&accesses_lock);
   if (!is_nested) watch_thread(), enter(), tell_guess();
   struct block *block = new_block(size, alignment);
   if (block && kind == 'c' && is_used) fill_bytes((void *)block->start, 0, size);
   if (block && !is_nested && is_logging()) {
     put_record(kind, 2, (long)(block - BLOCKS), (long)size);
-    put_stack(from);
+    put_stack(from, &stack);
     if (is_unwatched) put_record('i', 1, (long)(block - BLOCKS)), put_end();
     if (alignment > 16) put_record('a', 2, (long)(block - BLOCKS), (long)alignment), put_end();
   }
@@ -228,12 +230,14 @@ static struct block *enter_at(address a, struct caller from) {
 }
 
 static void give_back(void *pointer, struct caller from) {
+  struct stack stack;
   if (!pointer || busy) return;
+  unwind_request(from, &stack);
   struct block *block = enter_at((address)pointer, from);
   if (block) {
     if (is_logging()) {
       put_record('f', 1, (long)(block - BLOCKS));
-      put_stack(from);
+      put_stack(from, &stack);
     }
     end_block(block);
   }
@@ -244,12 +248,14 @@ static void give_back(void *pointer, struct caller from) {
 static void *resize(void *pointer, size_t size, struct caller from) {
   if (!pointer) return request('m', size, 16, from);
   if (!size) return give_back(pointer, from), NULL;
+  struct stack stack;
+  unwind_request(from, &stack);
   struct block *block = enter_at((address)pointer, from), *new = new_block(size, 16), *old = owner((address)pointer);
   if (new) {
     if (is_logging()) {
       if (block) put_record('r', 3, (long)(block - BLOCKS), (long)(new - BLOCKS), (long)size);
       else put_record('m', 2, (long)(new - BLOCKS), (long)size);
-      put_stack(from);
+      put_stack(from, &stack);
     }
     if (old) copy_bytes((void *)new->start, (void *)old->start, old->size < size ? old->size : size);
     if (block) end_block(block);

@@ -92,7 +92,8 @@ static void poison(address from, size_t size, int is_poisoned, struct caller cal
     else renew_shadow(from, to, end, is_poisoned);
     if (is_logging()) {
       put_record(is_poisoned ? 'p' : 'u', 3, (long)(block ? block - BLOCKS : 0), (long)(block ? from - block->start : from), (long)(to - from));
-      put_stack(caller);
+      struct stack stack = {.count = 0};
+      put_stack(caller, &stack);
     }
   }
   leave();

@@ -1,5 +1,6 @@
 // Stacks of return addresses. Where a block is requested or freed they come from the frames of the program's functions, which traced_cc keeps,
-// and each is logged once. Where an error is told, the unwinder of the compiler finds them, through functions of libc that have no frame too.
+// and each is logged once. Where an error is told, or a library of the system requests, the unwinder of the compiler finds them, through
+// functions that have no frame too.
 #include "accesses.h"
 #include <errno.h>
 #include <fcntl.h>
@@ -9,7 +10,7 @@
 #include <unistd.h>
 #include <unwind.h>
 
-enum { STACKS = 1 << 18, MODULES = 256, MOST_SKIPPED = 64, FRAMES_OF_UNNUMBERED = 4, KNOWN_STACKS = 64 };
+enum { STACKS = 1 << 18, MODULES = 256, MOST_SKIPPED = 64, FRAMES_OF_UNNUMBERED = 4, KNOWN_STACKS = 64, MOST_UNWOUND = 200000 };
 static struct module modules[MODULES];
 static int number_of_modules;
 static char paths[1 << 16];
@@ -183,9 +184,31 @@ void put_frames(const struct stack *stack) {
   for (int i = 0; is_new && i < n; i++) find_module(stack->pcs[i]);
 }
 
-void put_stack(struct caller from) {
-  struct stack stack;
-  stack.count = 0;
-  walk(from, (address)__builtin_frame_address(0), &stack);
-  put_frames(&stack);
+void put_stack(struct caller from, struct stack *stack) {
+  if (!stack->count) walk(from, (address)__builtin_frame_address(0), stack);
+  put_frames(stack);
+}
+
+static int begins(const char *text, const char *with) { return !strncmp(text, with, strlen(with)); }
+
+// whether a module is the system's, and keeps no frames; the loader itself is not waited for
+static int is_without_frames(address pc) {
+  static __thread struct { address low, high; int answer; } last __attribute__((tls_model("initial-exec")));
+  if (last.low <= pc && pc < last.high) return last.answer;
+  const struct module *module = module_of(pc);
+  if (!module || !module->path) return 0;
+  int is_system = begins(module->path, "/usr/lib") || begins(module->path, "/lib");
+  last.low = module->low, last.high = module->high, last.answer = is_system && !strstr(module->path, "/ld-");
+  return last.answer;
+}
+
+// The stack of a request or a free by a library of the system, as those of C++ make them: the program's own lines are above it. This is slow, so
+// it is done some hundred thousand times, and before the lock is held.
+void unwind_request(struct caller from, struct stack *to) {
+  static long unwound;
+  to->count = 0;
+  if (!busy && has_log() && is_without_frames(from.pc) && __atomic_load_n(&unwound, __ATOMIC_RELAXED) < MOST_UNWOUND) {
+    __atomic_add_fetch(&unwound, 1, __ATOMIC_RELAXED);
+    unwind(from, to);
+  }
 }
