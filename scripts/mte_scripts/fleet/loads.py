@@ -105,6 +105,7 @@ class Load:
         self.fixed = sum((GRANULE + size) * count for size, count in self.counts.items())
         self.machines = sum(member.weight for member in self.members)
         self.known_peaks: dict[tuple, list] = {}
+        self.hosts: list = []  # of rows, what each machine counted
 
     def unserved(self, classes: list) -> Optional[int]:
         """The least size here that a table does not serve, None where it serves all."""
@@ -187,4 +188,6 @@ def of_records(program: str, day: str, records: list) -> list[Load]:
     if histories:
         members = [Member(*each) for each in histories]
         found.append(Load(f"{name} over time" if found else name, "histories", members=members, program=program, day=day))
+    for load in found:
+        load.hosts = list(records)
     return found

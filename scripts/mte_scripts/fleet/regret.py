@@ -6,11 +6,11 @@ from collections.abc import Iterable, Sequence
 from typing import NamedTuple, Optional
 
 from mte_scripts import claims, texts
-from mte_scripts.fleet import bounds, loads
+from mte_scripts.fleet import bounds, loads, resampling
 from mte_scripts.reports import pictures
 from mte_scripts.tables import figures
 from mte_scripts.texts import Refused
-from mte_scripts.words import TABLES, Words, decimal
+from mte_scripts.words import TABLES, Words, between, decimal
 
 HELP = f"""\
 Say {claims.TEMPLATES["regret.help"]}, by a certificate for
@@ -27,6 +27,8 @@ TABLE is a file whose first line is a class line: a sheet, a fit, what fleet_tab
 
 {bounds.AMONG_HELP}
   --limit-percent X  end with status 1 where the table is more than X percent above the bound of a load, or does not serve one
+  --resample N       of rows, say how far the percentage depends on which machines came: draw machines from them N times, with repeats,
+                     and print what the middle 95% come to; 100 gives a fair interval
   --json             print all as JSON, with a sentence for each load
   --plot FILE        draw the percentages over the days into FILE too, as SVG, a line for each program: of a file its folder's name
 
@@ -87,6 +89,21 @@ def compared(load: loads.Load, bound: bounds.Bound, classes: list) -> Regret:
     return Regret(load, bound, cost, None if cost is None else percent_above(cost, bound.amount), load.unserved(classes))
 
 
+def interval_of(load: loads.Load, classes: list, among: bounds.Among, times: int) -> Optional[resampling.Interval]:
+    """How far the percentage of a load of rows depends on which machines came."""
+    return resampling.interval(load, lambda each: compared(each, bounds.of(each, among), classes).above, times)
+
+
+def resampled_text(found: list, intervals: list, times: int) -> str:
+    """A line for each load of rows."""
+    lines = []
+    for each, interval in zip(found, intervals):
+        if each.load.hosts:
+            what = f"from {interval.low:,.2f} to {interval.high:,.2f}% in the middle 95% of the draws" if interval else "too few for an interval"
+            lines.append(f"{each.load.name}, {len(each.load.hosts)} machines: {what}.\n")
+    return "".join(["\n", f"The machines drawn anew {times} times:\n", *lines] if lines else [])
+
+
 def is_within(found: Iterable[Regret], limit: Optional[float]) -> bool:
     return limit is None or all(each.above is not None and each.above <= limit for each in found)
 
@@ -127,21 +144,27 @@ def wrapped(text: str) -> str:
     return "".join(f"{line}\n" for line in texts.wrapped(text))
 
 
-def as_json(found: list, name: str, classes: list, among: bounds.Among, limit: Optional[float]) -> str:
+def as_json(found: list, name: str, classes: list, among: bounds.Among, limit: Optional[float], intervals: Sequence = ()) -> str:
     trust = texts.trust()
     each_load = [
         {
             "name": each.load.name, "program": each.load.program, "day": each.load.day, "kind": each.load.kind,
             "table_bytes": each.cost, "bound_bytes": each.bound.amount, "above_percent": each.percent(),
             "unserved_bytes": each.unserved, "sentences": each.sentences(name),
+            "machines": len(each.load.hosts), "interval_percent": ends_of(interval),
         }
-        for each in found
+        for each, interval in zip(found, intervals or [None] * len(found))
     ]
     whole = {
         "table": name, "classes": classes, "among": among._asdict(), "is_proved": trust.is_proved, "why_not": trust.why,
         "limit_percent": limit, "is_within": is_within(found, limit), "loads": each_load,
     }
     return json.dumps(whole, indent=1) + "\n"
+
+
+def ends_of(interval: Optional[resampling.Interval]) -> "Optional[list]":
+    """For JSON, which has no number without end."""
+    return [None if end == math.inf else end for end in interval] if interval else None
 
 
 def picture(title: str, points: list, limit: Optional[float], note: str) -> str:
@@ -171,7 +194,7 @@ def picture(title: str, points: list, limit: Optional[float], note: str) -> str:
 
 def main(words: list) -> int:
     percentage = decimal(0, 1_000_000, "a percentage")
-    given = Words(HELP, "names", bounds.AMONG_DEFAULTS, limit_percent=percentage, **TABLES).take(words, once=True)
+    given = Words(HELP, "names", bounds.AMONG_DEFAULTS, limit_percent=percentage, resample=between(20, 10_000), **TABLES).take(words, once=True)
     if len(given.names) < 2:
         raise Refused(2, "name a table, and then the loads of its days; --help says more")
     if given.names.count("-") > 1:
@@ -185,8 +208,9 @@ def main(words: list) -> int:
         points = [(each.load.program, each.load.day, each.above) for each in found if each.above is not None]
         note = "" if texts.trust().is_proved else claims.not_proved(texts.trust())
         texts.write_file(given.plot, picture(title, points, given.limit_percent, note))
+    intervals = [interval_of(each.load, classes, among, given.resample) if given.resample else None for each in found]
     if given.json:
-        texts.write(as_json(found, name, classes, among, given.limit_percent))
+        texts.write(as_json(found, name, classes, among, given.limit_percent, intervals))
     else:
-        texts.write(summary(found, name, given.limit_percent))
+        texts.write(summary(found, name, given.limit_percent) + (resampled_text(found, intervals, given.resample) if given.resample else ""))
     return 0 if is_within(found, given.limit_percent) else 1

@@ -5,12 +5,13 @@ import argparse
 import json
 import math
 import random
-import re
-from collections.abc import Callable, Iterable
+from collections.abc import Iterable
 from typing import NamedTuple, Optional
 
 from mte_scripts import texts
-from mte_scripts.fleet import loads, regret, samples
+from mte_scripts.fleet import loads, regret, results, samples
+from mte_scripts.fleet.faults import Faults
+from mte_scripts.fleet.results import FEWEST, GROUPS, Values, values_of
 from mte_scripts.fleet.samples import Difference, Group
 from mte_scripts.running import Refused
 from mte_scripts.words import Words, between, decimal
@@ -21,7 +22,7 @@ Plan the trial of a new table on some machines beside others, and read its resul
 Usage: fleet_trial assign [--seed N] [MACHINES]
        fleet_trial predict [--json] OLD NEW LOAD..
        fleet_trial plan --saving PERCENT (--spread PERCENT | --pilot RESULT) [--adjust] [--machines N] [--level P] [--power P]
-       fleet_trial read [--predicted PERCENT] [--adjust] [--level P] [--json] [RESULT]
+       fleet_trial read [--predicted PERCENT] [--adjust] [--groups FILE] [--faults FILE] [--level P] [--json] [RESULT]
                                           (standard input for `-`, or where there is no file)
 
 assign takes lines of a program and a machine, with a tab between, and adds a third field, `control` or `tuned`: by chance, half of
@@ -36,6 +37,8 @@ falls by that. plan says how many machines each group wants. read says what a re
   --machines N       plan: says also which saving N machines in each group show
   --predicted PERCENT
                      read: says also whether the predicted saving is within the interval
+  --groups FILE      read: what assign printed; a line with another group can't count, and a machine without a line is missing
+  --faults FILE      read: write the lines that can't count into FILE: why, the file and its line, with tabs between, and the line
   --json             predict, read: print all as JSON
   --adjust           plan, read: compare at the same requests: of each program, less what the resident set grows with the requests,
                      by the slope that both groups have in common. It narrows the interval where jobs differ; choose it before the
@@ -46,7 +49,9 @@ falls by that. plan says how many machines each group wants. read says what a re
 A RESULT has lines of six fields with tabs between: program, machine, group, day, resident and requests. The group is `control`,
 `tuned` or `before`; resident is the resident set in KiB, as the kernel has it (VmHWM of /proc/PID/status, or RssAnon at a set
 hour), requests what the machine served then. The value of a machine is the mean of its days. Where all machines have days `before`
-the trial too, it is the change since: this takes out what machines always differ by.
+the trial too, it is the change since: this takes out what machines always differ by. A line can't count whose day does not exist, whose
+resident set is in another unit than most of its program's, or whose machine is in both groups: it is left out, and said. So are lines
+that did not come, where they are more than 5% of a group's machines and days.
 
 The difference is that of the means, for each program and over all, each program with its share of the machines; its interval is
 that of Welch. It rests on this: chance alone chose the groups, the machines do not depend on each other, each ran one table
@@ -64,26 +69,6 @@ Examples:
   fleet_trial read --predicted 3.4 result.tsv
 """
 
-COLUMNS = "program machine group day resident requests".split()
-GROUPS = ("control", "tuned", "before")
-FEWEST = 5  # machines of a group
-
-
-def lines_of(path: str, fields: int, form: str) -> list[list[str]]:
-    """The lines of a file, each of so many fields."""
-    found = []
-    for at, line in enumerate(texts.lines_of(texts.read(path)), 1):
-        if wrong := texts.encoding(line, at):
-            raise Refused(2, f"{texts.named(path)}: {wrong}")
-        words = line.decode().split("\t")
-        if len(words) != fields or not all(words):
-            raise Refused(2, f"{texts.named(path)}: line {at} has not the {fields} fields {form}, with tabs between: {texts.shown(line)}")
-        found.append(words)
-    if not found:
-        raise Refused(3, f"{texts.named(path)} has no line: did the command that writes it fail?")
-    return found
-
-
 def assigned(machines: Iterable[list], seed: int) -> str:
     """Each program's machines, half of them tuned; an odd one out goes to either group by chance."""
     by_program: dict[str, list] = {}
@@ -99,52 +84,6 @@ def assigned(machines: Iterable[list], seed: int) -> str:
         first = len(order) // 2 + (len(order) % 2 and chance.randrange(2))
         lines += [(program, machine, "control" if at < first else "tuned") for at, machine in enumerate(order)]
     return "".join("\t".join(line) + "\n" for line in sorted(lines))
-
-
-class Values(NamedTuple):
-    """The values of the machines by program and group: their resident sets in KiB, or the change since before, and their requests."""
-
-    resident: dict
-    requests: dict
-    before: Optional[float]  # the mean resident set before, where the values are changes
-
-
-def values_of(path: str) -> Values:
-    """The means over the days of each machine."""
-    sums: dict = {}
-    for at, words in enumerate(lines_of(path, len(COLUMNS), ", ".join(COLUMNS)), 1):
-        program, machine, group, day, *amounts = words
-        if group not in GROUPS:
-            raise Refused(2, f"{texts.named(path)}: line {at} has a group that is none of {', '.join(GROUPS)}: {group}")
-        if not all(re.fullmatch(r"[0-9]{1,15}(\.[0-9]{1,9})?", amount) for amount in amounts):
-            raise Refused(2, f"{texts.named(path)}: line {at} has no numbers of KiB and requests: {' '.join(amounts)[:60]}")
-        days = sums.setdefault((program, machine), {}).setdefault(group, {})
-        if day in days:
-            raise Refused(2, f"{texts.named(path)}: line {at} is of a machine, group and day that an earlier line has")
-        days[day] = tuple(map(float, amounts))
-    return compared(sums)
-
-
-def compared(sums: dict) -> Values:
-    """The values of machines; of a pilot, which has no other group, those before."""
-    mean: Callable = lambda days, at: sum(day[at] for day in days.values()) / len(days)
-    is_pilot = all(groups.keys() == {"before"} for groups in sums.values())
-    has_before = not is_pilot and all("before" in groups for groups in sums.values())
-    before = []
-    resident: dict = {}
-    requests: dict = {}
-    for (program, machine), groups in sums.items():
-        own = [group for group in groups if is_pilot or group != "before"]
-        if len(own) > 1:
-            raise Refused(2, f"the machine {machine} of {program} is in both groups")
-        for group in own:
-            value = mean(groups[group], 0)
-            if has_before:
-                before.append(mean(groups["before"], 0))
-                value -= before[-1]
-            resident.setdefault(program, {}).setdefault(group, []).append(value)
-            requests.setdefault(program, {}).setdefault(group, []).append(mean(groups[group], 1))
-    return Values(resident, requests, sum(before) / len(before) if before else None)
 
 
 def strata(values: dict) -> list:
@@ -218,7 +157,7 @@ def verdict(result: Read) -> str:
     return "No saving is shown: the interval has 0."
 
 
-def text_of(result: Read, predicted: Optional[float], is_change: bool, is_adjusted: bool) -> str:
+def text_of(result: Read, predicted: Optional[float], is_change: bool, is_adjusted: bool, faults: "list[str]") -> str:
     what = ("change since before, KiB" if is_change else "resident set, KiB") + ", at the same requests" * is_adjusted
     rows = [("Program", "machines", f"control: {what}", "tuned", "saving, KiB", f"{100 * result.level:g}% interval")]
     for program, first, second, each in result.rows:
@@ -236,16 +175,16 @@ def text_of(result: Read, predicted: Optional[float], is_change: bool, is_adjust
     if not result.is_load_alike:
         also = "" if is_adjusted else ": what is measured may be of that, unless it is read with --adjust"
         lines.append(regret.wrapped(f"! The groups did not serve alike{also}."))
-    return "".join(lines)
+    return "".join([*lines, *(regret.wrapped(f"! {texts.printable(each)}") for each in faults)])
 
 
-def as_json(result: Read, predicted: Optional[float], is_adjusted: bool) -> str:
+def as_json(result: Read, predicted: Optional[float], is_adjusted: bool, faults: "list[str]") -> str:
     whole = {
         "is_adjusted": is_adjusted, "level_percent": 100 * result.level, "control_kib": result.mean, "saving_kib": result.whole._asdict(),
         "saving_percent": {name: 100 * value for name, value in result.shares._asdict().items()},
         "more_requests_percent": {name: 100 * value for name, value in result.more._asdict().items()},
         "predicted_percent": None if predicted is None else 100 * predicted, "is_saving": result.is_saving,
-        "is_load_alike": result.is_load_alike, "verdict": verdict(result),
+        "is_load_alike": result.is_load_alike, "verdict": verdict(result), "faults": faults,
         "programs": [
             {"program": program, "control": first._asdict(), "tuned": second._asdict(), "saving_kib": each._asdict()}
             for program, first, second, each in result.rows
@@ -344,7 +283,11 @@ def file_of(given: argparse.Namespace) -> str:
 
 def assign(words: list) -> int:
     given = options_of(words, "names", "seed")
-    return texts.write(assigned(lines_of(file_of(given), 2, "program and machine"), given.seed))
+    path, found = file_of(given), Faults()
+    machines = [words for _, _, words in results.fields_of(path, {2: "program and machine"}, found)]
+    if found.rows:
+        raise Refused(2, found.text()[0])
+    return texts.write(assigned(machines, given.seed))
 
 
 def plan(words: list) -> int:
@@ -353,7 +296,9 @@ def plan(words: list) -> int:
         raise Refused(2, "plan takes --saving, and --spread or --pilot; --help says more")
     spread, begin = (given.spread or 0) / 100, ""
     if given.pilot:
-        values = values_of(given.pilot)
+        found = Faults()
+        values = values_of(given.pilot, found)
+        found.say("fleet_trial")
         mean, spread = spread_of(at_same_requests(values) if given.adjust else values)
         begin = f"The pilot: a mean of {mean:,.0f} KiB, and a spread of {100 * spread:.2f}%.\n"
         if not spread:
@@ -362,16 +307,18 @@ def plan(words: list) -> int:
 
 
 def read_result(words: list) -> int:
-    given = options_of(words, "names", "predicted", "adjust", "json", "level")
-    values = values_of(file_of(given))
+    given = options_of(words, "names", "predicted", "adjust", "json", "level", "groups", "faults")
+    found = Faults(given.faults)
+    values = values_of(file_of(given), found, given.groups)
+    found.end()
     if not any(group in groups for groups in values.resident.values() for group in GROUPS[:2]):
         raise Refused(2, "the result has no machine in the groups control and tuned")
     if given.adjust:
         values = at_same_requests(values)
     predicted = None if given.predicted is None else given.predicted / 100
     result = read(values, given.level / 100)
-    is_change = values.before is not None
-    texts.write(as_json(result, predicted, given.adjust) if given.json else text_of(result, predicted, is_change, given.adjust))
+    is_change, said = values.before is not None, [*values.missing, *found.text()]
+    texts.write(as_json(result, predicted, given.adjust, said) if given.json else text_of(result, predicted, is_change, given.adjust, said))
     return 0 if result.is_saving else 1
 
 

@@ -51,6 +51,10 @@ class Timeline:
         self.has_large = b"large" in self.events
         self.counted: dict[tuple[int, ...], list[int]] = {}
 
+    def text(self) -> bytes:
+        """All of it, to put runs in an order that does not depend on how they are given."""
+        return self.data
+
     def most(self, holds: list[int]) -> list[int]:
         """The most blocks live at once of each pool, whose largest requests ascend; the last number is of what no pool holds."""
         if tuple(holds) not in self.counted:
@@ -111,6 +115,9 @@ class History:
         self.counts = {size: counts for size, counts in history.counts.items() if size != "large"}
         self.sizes = set(self.counts)
 
+    def text(self) -> bytes:
+        return texts.history_text(texts.History(self.snapshots, self.counts)).encode()
+
     def most(self, holds: list[int]) -> list[int]:
         return [max(counts) for counts in self.summed(lambda size: bisect_left(holds, size), range(len(holds) + 1)).values()]
 
@@ -161,8 +168,13 @@ def run_of(path: str) -> Run:
     raise Refused(2, f"{name}: line 1 is of {kind}: `timeline` or `snapshots T` has to stand there, and not {texts.shown(first)}")
 
 
+def ordered(runs: list[Run]) -> list[Run]:
+    """The runs in the order in which a certificate has them: by what they are, and not by how they are given."""
+    return sorted(runs, key=lambda run: run.text())
+
+
 def joined(runs: list[Run], block: Block) -> Given:
-    """The text of all runs for the program."""
+    """The text of all runs for the program, one after the other."""
     sizes = sorted(set().union(*(run.sizes for run in runs)))
     scale = 2 if block.units(sizes[0]) == 1 else 1
     most = LARGEST_CLASS // scale

@@ -3,8 +3,10 @@
 The text has the lines `unit U`, `overhead O`, `pool BLOCK NUMBER` for each pool, and then the fit of the runs in units (pool_runs), with its
 line `moments` where they are timelines."""
 
+import itertools
 import os
 import re
+from collections.abc import Iterator
 from typing import NamedTuple, Optional
 
 from mte_scripts import claims, texts
@@ -15,6 +17,9 @@ from mte_scripts.tables import figures
 
 # the first line, the second one, and each further one
 LINES = [re.compile(form) for form in ("unit (0|[1-9][0-9]{0,4})", "overhead (0|[1-9][0-9]{0,4})", "pool ([1-9][0-9]{0,5}) ([1-9][0-9]{0,9})")]
+
+
+MOST_PERMUTED = 4  # runs of which all orders are tried
 
 
 class Pool(NamedTuple):
@@ -54,7 +59,7 @@ def bytes_of(pools: list[Pool]) -> int:
 
 def found(runs: list[Run], block: Block, limit: int) -> PoolSet:
     """The pools for these runs, at most so many."""
-    given = pool_runs.joined(runs, block)
+    given = pool_runs.joined(pool_runs.ordered(runs), block)
     step = ["--step", str(given.scale)] if given.scale > 1 else []
     status, text = figures.run(["fit", "--limit", str(limit), *step], given.text)
     lines = text.split("\n")
@@ -100,10 +105,12 @@ def read(path: str) -> PoolSet:
 
 
 class Verdict(NamedTuple):
-    """What is found of pools in a file: what is claimed of them, and why they are refused, or an empty text."""
+    """What is found of pools in a file: what is claimed of them; why they are refused, or an empty text; and the names of the runs in the
+    order of the certificate, where it is another one than that of this release."""
 
     judged: claims.Pools
     why: str
+    order: str = ""
 
 
 def judged(pools: PoolSet, runs: list[Run]) -> Verdict:
@@ -113,11 +120,29 @@ def judged(pools: PoolSet, runs: list[Run]) -> Verdict:
         kinds = ("timelines", "histories")
         raise Refused(2, f"the pools are of {kinds[not moments]}, and these runs are {kinds[runs[0].is_sampled]}")
     fit = texts.parse_fit(rows, "the fit of the pools")
-    given = pools.given or pool_runs.joined(runs, pools.block)
-    _, verdict = figures.run(["check-fit"], texts.joined(pools.fit, given.text, "the fit of the pools"))
     names = claims.listed(run.name for run in runs)
-    judged = claims.Pools(verdict, fit.limit, pools.block.unit, pools.block.overhead, names, pools.bytes, runs[0].is_sampled)
-    return Verdict(judged, claims.pools_refusal(judged) if verdict != "optimal" else difference(pools, runs, given, fit))
+    of = lambda verdict: claims.Pools(verdict, fit.limit, pools.block.unit, pools.block.overhead, names, pools.bytes, runs[0].is_sampled)
+    first = ""
+    for order in orders(runs):
+        given = pools.given or pool_runs.joined(order, pools.block)
+        _, verdict = figures.run(["check-fit"], texts.joined(pools.fit, given.text, "the fit of the pools"))
+        if verdict == "optimal":
+            listed = "" if order == pool_runs.ordered(runs) else claims.listed(run.name for run in order)
+            return Verdict(of(verdict), difference(pools, runs, given, fit), listed)
+        first = first or verdict
+        if pools.given:
+            break
+    return Verdict(of(first), claims.pools_refusal(of(first)))
+
+
+def orders(runs: list[Run]) -> "Iterator[list[Run]]":
+    """The runs in their order; and in those in which earlier releases may have written the certificate, as far as they are few."""
+    tried: list[list[Run]] = []
+    few = [list(order) for order in itertools.permutations(runs)] if len(runs) <= MOST_PERMUTED else [runs]
+    for order in (pool_runs.ordered(runs), *few):
+        if order not in tried:
+            tried.append(order)
+            yield order
 
 
 def difference(pools: PoolSet, runs: list[Run], given: Given, fit: texts.Fit) -> str:

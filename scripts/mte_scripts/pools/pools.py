@@ -8,7 +8,7 @@ from collections.abc import Iterator
 from typing import Any
 
 from mte_scripts import claims, texts
-from mte_scripts.pools import pool_forms, pool_runs, pool_sets
+from mte_scripts.pools import pool_forms, pool_runs, pool_serving, pool_sets
 from mte_scripts.running import Refused
 from mte_scripts.tables.figures import number, percent
 from mte_scripts.words import Words, between, named, one_of
@@ -20,10 +20,10 @@ blocks that hold it, and of no other.
 
 Usage: pools [OPTION..] RUN..
 
-With --limit it finds pools for the runs, with --check it checks the pools of a file for them; with --read it prints the pools
-of a file, and takes no run. A RUN is a timeline, as docs/FORMATS.md has it and `profile_program --timeline` records it: all
-requests and frees of a run in their order. It may also be a history, which knows some moments alone: what was live between
-these may have no block. `-` is standard input.
+With --limit it finds pools for the runs, with --check it checks the pools of a file for them, with --serve it says whether these
+serve them; with --read it prints the pools of a file, and takes no run. A RUN is a timeline, as docs/FORMATS.md has it and
+`profile_program --timeline` records it: all requests and frees of a run in their order. It may also be a history, which knows
+some moments alone: what was live between these may have no block. `-` is standard input.
 
   --limit K        at most so many pools, 1 to 32
   --unit U         blocks are multiples of U bytes: 4, 8, 16 or 32; 8 where it is left out
@@ -35,7 +35,9 @@ these may have no block. `-` is standard input.
   --name NAME      what names begin with in C; app where it is left out
   --certificate FILE
                    also write the pools with their certificate to FILE
-  --check FILE     check such a file for these runs: the same pools, and no others with fewer bytes
+  --check FILE     check such a file for these runs, in any order: the same pools, and no others with fewer bytes
+  --serve FILE     say whether the pools of such a file, with --reserve P more blocks, serve each of these runs, which may be others
+                   than those of the file, and which pools are short
   --read FILE      take the pools of such a file
   --each           print for each number of pools from 1 to K what they take, and not the pools: so K can be chosen
   --units          print the runs in units, for `mte_tool`: the fit in FILE is of these
@@ -56,15 +58,16 @@ A request takes (S + O) / U units, rounded up, and at least one. The limit is 1,
 unit; a request above {texts.LARGEST_SIZE:,} bytes has no pool, which is said.
 
 Exit status:
-  0  the pools are printed, or the checked ones are right
-  1  the checked pools are not: the last line on standard error says why; or, without --check, nothing shows that no others
-     take less
+  0  the pools are printed, or the checked ones are right, or all runs are served
+  1  the checked pools are not, or a run is not served: the last line on standard error says why; or, without --check, nothing
+     shows that no others take less
   2  the words or a file are refused, or a request has too many units
   3  there is no request, mte_tool could not run, or a write failed
 
 Examples:
   scripts/pools --limit 4 --unit 8 --overhead 8 --certificate lwip.pools lwip.timeline
   scripts/pools --check lwip.pools lwip.timeline
+  scripts/pools --serve lwip.pools other.timeline
   scripts/pools --read lwip.pools --as lwip --reserve 10 > lwippools.h
 """
 WIDTH = 100
@@ -80,7 +83,8 @@ class Options(argparse.Namespace):
         self.agree(parser.given(words))
 
     def agree(self, given: list[str]) -> None:
-        for one, *beside in (("--check", "--limit", "--unit", "--overhead"), ("--read", "--as", "--reserve", "--name")):
+        for one, *beside in (("--check", "--limit", "--unit", "--overhead"), ("--read", "--as", "--reserve", "--name"),
+                             ("--serve", "--reserve")):
             others = [other for other in given if other not in (one, *beside)]
             if one in given and others:
                 raise Refused(2, f"{one} takes the pools of a file: {others[0]} has no place beside it")
@@ -89,7 +93,7 @@ class Options(argparse.Namespace):
                 raise Refused(2, "--read prints the pools of a file by --as FORM, and reads no run: --check compares them with runs")
         elif not self.runs:
             raise Refused(2, "name a timeline, or several; --help says more")
-        elif self.check is None and not self.units and self.limit is None:
+        elif self.check is None and self.serve is None and not self.units and self.limit is None:
             raise Refused(2, "--limit K is wanted: at most how many pools?")
         if self.each and (self.as_ or self.certificate or self.today or self.reserve or self.units):
             raise Refused(2, "--each prints what pools take, and no pools: it goes with --limit, --unit and --overhead alone")
@@ -128,9 +132,11 @@ def pools(words: list[str]) -> int:
         return texts.write(pool_forms.written(options.as_, options.name, its.block, its.with_reserve(options.reserve), said))
     if options.check is not None:
         return check(options)
+    if options.serve is not None:
+        return serve(options)
     runs = pool_runs.runs_of(options.runs)
     if options.units:
-        return texts.write(pool_runs.joined(runs, options.block()).text)
+        return texts.write(pool_runs.joined(pool_runs.ordered(runs), options.block()).text)
     if options.each:
         return each_number(options, runs)
     its = pool_sets.found(runs, options.block(), options.limit)
@@ -187,9 +193,26 @@ def check(options: Options) -> int:
             raise Refused(1, f"{name} is for --{option} {value}, and not for --{option} {getattr(options, option)}")
     if found.why:
         raise Refused(1, f"{name}: {found.why}")
+    if found.order:
+        texts.say("pools", f"{name} is of the runs in another order, as an earlier release wrote it: {found.order}")
     for note in warnings(runs):
         texts.say("pools", note)
     return texts.write(claims.pools_sentence(found.judged, texts.trust()) + "\n")
+
+
+def serve(options: Options) -> int:
+    """Whether the pools of a file serve each of the runs."""
+    its = pool_sets.read(options.serve)
+    pools, holds = its.with_reserve(options.reserve), its.holds()
+    if holds != sorted(set(holds)) or holds[0] < 0:
+        raise Refused(2, f"{texts.printable(options.serve)}: the blocks of the pools do not ascend")
+    needs = [pool_serving.need_of(run, holds) for run in pool_runs.runs_of(options.runs)]
+    said = pool_serving.sentences(pools, needs, holds[-1])
+    texts.write("".join(f"{line}\n" for line in [*pool_serving.table(pools, needs), "", *(each for text in said for each in wrapped(text, "  "))]))
+    short = [need.run.name for need in needs if not need.is_served(pools)]
+    if short:
+        raise Refused(1, f"{texts.printable(options.serve)} does not serve {claims.listed(short)}")
+    return 0
 
 
 def warnings(runs: list) -> "Iterator[str]":
