@@ -13,7 +13,7 @@ from mte_scripts.tables import figures
 
 MOST_RUNS = 8
 MOST_OTHERS = TABLES - MOST_RUNS
-FIRST_WINDOWS, MOST_WINDOWS = 64, 512
+FIRST_WINDOWS, MOST_WINDOWS = 64, 256
 
 
 class Recorded(NamedTuple):
