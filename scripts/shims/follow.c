@@ -400,7 +400,10 @@ static void begin_wanted(const char *words) {
   if (*wanted == 'h') snapshots = some((number_of_snapshots = number - 1) * sizeof *snapshots + 1);
   if (*wanted == 'w' || !strcmp(wanted, "classes")) record_of = REDUCES;
   if (!strncmp(wanted, "timeline", 8)) record_of = RECORDS;
-  if (*wanted == 'w' || record_of == RECORDS) windows.wanted = number ? number : USUAL_WINDOWS, begin_table(&tables[number_of_tables++], NULL);
+  if (*wanted == 'w' || record_of == RECORDS) {
+    windows.wanted = number ? number : USUAL_WINDOWS, begin_table(&tables[number_of_tables++], NULL);
+    for (int k = 0; WEIGHED[k]; k++) begin_table(&tables[number_of_tables++], WEIGHED[k]);
+  }
   if (!strncmp(wanted, "trace", 5)) most_traced = number;
   while (words && *words && number_of_tables < TABLES) words = begin_table(&tables[number_of_tables++], words), given_tables++;
   begin_kept();

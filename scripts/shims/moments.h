@@ -1,6 +1,6 @@
 // What the reader keeps of a run that is too long for a record, a piece of it at a time: the moments at which the classes of tables have more
-// blocks than ever before, and windows.h. The tables are the finest one, in which a class is a granule wide, or those that are given, or
-// both. What one of them takes over the run is exact at any length, since each of its classes has a counter.
+// blocks than ever before, and windows.h. The tables are the finest one, in which a class is a granule wide, and some others, or those that
+// are given, or all. What one of them takes over the run is exact at any length, since each of its classes has a counter.
 #ifndef MOMENTS_H
 #define MOMENTS_H
 #include <stdio.h>
@@ -17,7 +17,7 @@ static void *some(size_t bytes) {  // pages of zeros
   return all;
 }
 
-enum { CLASSES = LARGEST_SIZE / 16 + 2, TABLES = 16 };
+enum { CLASSES = LARGEST_SIZE / 16 + 2, TABLES = 32 };
 enum { FREED = 1 << 15, AT_PEAK = 1 << 14 };  // of an event; the other bits are the counter of its size. AT_PEAK is its own
 struct moment { uint64_t at; int live[COUNTERS]; };  // the events, or requests, before it; 0 where there is none
 

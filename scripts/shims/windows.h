@@ -3,7 +3,7 @@
 // the run, and over one of the second at most that.
 //
 // Where there are twice as many windows as are wanted, neighbours are joined until these are left: those first whose join raises the peaks of
-// some tables least, and of these those that differ least.
+// some tables least, and of these those that differ least. (Two that differ little may still add up the peaks of two sizes.)
 #ifndef WINDOWS_H
 #define WINDOWS_H
 #include "moments.h"
@@ -11,7 +11,7 @@
 #ifndef IN_WINDOW
 #define IN_WINDOW 2048  // events, at least
 #endif
-enum { USUAL_WINDOWS = 64, MOST_WINDOWS = 512, FIXED = 3, WEIGHED = FIXED + TABLES, GROUPS = MOST_CLASSES + 1 };
+enum { USUAL_WINDOWS = 64, MOST_WINDOWS = 512, GROUPS = MOST_CLASSES + 1 };
 struct window { uint64_t begin, at; int64_t bytes; int *most, *live; };  // the events before it, and before its moment of the most bytes
 struct cost { int64_t rise, growth; };                                 // of a join with the next: of the peaks, and of what is joined, in bytes
 // A size has a place from 0 on, in the order in which they come: so what is kept of a window is small.
@@ -25,29 +25,28 @@ static struct {
 
 // ---- how neighbours are joined
 
-static struct table fixed_tables[FIXED];
-static const char *const FIXED_WORDS[FIXED] = {
+// the tables that are weighed beside those that are given, after the finest one, which is not
+static const char *const WEIGHED[] = {
   "2 3 4 5 6 7 8 10 12 14 17 20 24 29 35 42 51 61 74 89 107 129 155 187 225 271 326 392 472 600 800 1024",
-  "4 6 9 13 19 28 40 58 84 122 177 256 371 537 740 1024", "8 64 256 1024",
+  "4 6 9 13 19 28 40 58 84 122 177 256 371 537 740 1024", "8 64 256 1024", NULL,
 };
-static const struct table *weighed[WEIGHED];
-static int number_weighed, sums[WEIGHED][GROUPS], peaks[WEIGHED][GROUPS];
-static uint8_t group_at[WEIGHED][COUNTERS];  // of a place
+static int sums[TABLES][GROUPS], peaks[TABLES][GROUPS];
+static uint8_t group_at[TABLES][COUNTERS];  // of a place
 
 static void sum_up(const struct window *one, const struct window *other) {
   memset(sums, 0, sizeof sums);
   for (int k = 0; k < windows.sizes; k++) {
     int most = one->most[k] > other->most[k] ? one->most[k] : other->most[k];
-    for (int t = 0; t < number_weighed; t++) sums[t][group_at[t][k]] += most;
+    for (int t = 1; t < number_of_tables; t++) sums[t][group_at[t][k]] += most;
   }
 }
 
 // Raises the peaks to the sums; by how many bytes. Where they are only compared, they stay.
 static int64_t raise_peaks(int is_compared) {
   int64_t rise = 0;
-  for (int t = 0; t < number_weighed; t++)
-    for (int group = 0; group < weighed[t]->groups; group++) {
-      int more = sums[t][group] - peaks[t][group], class = weighed[t]->classes[group];
+  for (int t = 1; t < number_of_tables; t++)
+    for (int group = 0; group < tables[t].groups; group++) {
+      int more = sums[t][group] - peaks[t][group], class = tables[t].classes[group];
       if (more > 0 && class < CLASSES) rise += 16LL * class * more;
       if (more > 0 && !is_compared) peaks[t][group] += more;
     }
@@ -98,15 +97,12 @@ static void join_windows(int wanted) {
 // ---- what is added
 
 static void begin_windows(void) {
-  for (; windows.wanted && number_weighed < FIXED; number_weighed++)
-    begin_table(&fixed_tables[number_weighed], FIXED_WORDS[number_weighed]), weighed[number_weighed] = &fixed_tables[number_weighed];
-  for (int t = number_of_tables - given_tables; windows.wanted && number_weighed < FIXED + given_tables; t++) weighed[number_weighed++] = &tables[t];
   windows.number = windows.left = windows.bytes = 0, memset(&windows.now, 0, sizeof windows.now);
 }
 
 static int place_of(int counter) {
   if (!windows.places[counter]) {
-    for (int t = 0; t < number_weighed; t++) group_at[t][windows.sizes] = weighed[t]->of[counter];
+    for (int t = 1; t < number_of_tables; t++) group_at[t][windows.sizes] = tables[t].of[counter];
     windows.counters[windows.sizes++] = counter, windows.places[counter] = windows.sizes;
   }
   return windows.places[counter] - 1;

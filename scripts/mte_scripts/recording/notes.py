@@ -3,7 +3,7 @@
 import ctypes
 import os
 
-PAGE, RINGS, SNAPSHOTS, WINDOWS, TABLES = 4096, 1024, 64, 512, 15
+PAGE, RINGS, SNAPSHOTS, WINDOWS, TABLES = 4096, 1024, 64, 512, 28
 REASONS = (
     f"more than {RINGS:,} run at once",
     "a limit of their address space (ulimit -v) leaves no room for the stream",
@@ -24,9 +24,9 @@ class Notes(ctypes.Structure):
         ("refused", ctypes.c_uint64 * len(REASONS)),
         *numbers("lost wrong spoiled gaps events snapshots is_cut variables shared left"),
         ("processes", ctypes.c_uint64 * 32),
-        ("taken", ctypes.c_int64 * (TABLES + 1)),
+        ("taken", ctypes.c_int64 * (TABLES + 4)),
         ("words", ctypes.c_char * 128),
-        ("room", ctypes.c_char * 272),
+        ("room", ctypes.c_char * 144),
         ("name", ctypes.c_char * 1024),
         ("rest", ctypes.c_char * (PAGE - 2048)),
     ]

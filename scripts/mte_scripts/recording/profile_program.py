@@ -34,8 +34,8 @@ Usage: profile_program [--live] [--only NAME] [--said FILE] PROGRAM ARGS..
   --live         count only the blocks that are live at the peak: when the most bytes are live
   --timeline     print a timeline instead: each request and each free of the run, by size
   --history[=T]  print a history instead: the live blocks at T moments of the run, 1 to 64; 32 where T is left out
-  --windows[=N]  print a history of a run of any length, over which each table takes at most what it takes over the run: of moments in
-                 N windows of the run, 1 to {WINDOWS}, and others; {USUAL_WINDOWS} where N is left out
+  --windows[=N]  print a history of a run of any length, over which each table takes at most what it takes over the run: of moments
+                 in N windows of the run, 1 to {WINDOWS}, and others; {USUAL_WINDOWS} where N is left out
   --upper FILE   with --windows, or a timeline that is too long: write into FILE a history over which each table takes at least what
                  it takes over the run
   --classes TABLE
@@ -76,10 +76,10 @@ A history is an input of `fit` too. Its snapshots are in the order of time. One 
 spaced requests: where T are full, every second one goes, and the spacing doubles. So at the end they are about T/2 to T, and fewer
 where the program makes fewer requests. All else is as with --live.
 
---windows is for a run of any length, in memory that does not grow with it. Its snapshots are moments of the run: of each window that
-of the most bytes, those at which a class of 16 bytes or a class of a TABLE has the most blocks, and the peak; {MOST_SNAPSHOTS:,} at most, and
-windows are left out first. The history of --upper has for each window the most blocks of each size at any of its moments. Windows
-begin with some thousand events, and are joined where that changes least. --import takes a timeline of any length for it.
+--windows is for a run of any length, in memory that does not grow with it. Its snapshots are moments of the run: of each window
+that of the most bytes, those at which a class of 16 bytes or a class of a TABLE has the most blocks, and the peak; {MOST_SNAPSHOTS:,} at
+most, and windows are left out first. The history of --upper has for each window the most blocks of each size at any of its moments.
+Windows begin with some thousand events, and are joined where that changes little. --import takes a timeline of any length for it.
 
 --classes is for a program that runs for long, with the table that it has now: no record is kept, and over the history this table
 takes what it takes over the whole run. Another table may take more than the history shows. Merge each day's history with those

@@ -55,7 +55,7 @@ def need_of(size: int) -> int:
 
 
 def peaks(events: array, groups: tuple) -> dict:
-    """The moments at which a group of classes has more blocks than at any before, by the number of events; the same as shims/kept.h has."""
+    """The moments at which a group of classes has more blocks than at any before, by the number of events; as shims/moments.h has them."""
     groups = tuple(group + 1 for group in groups)  # an event of a large block has 0
     most: Counter = Counter()
     now: Counter = Counter()

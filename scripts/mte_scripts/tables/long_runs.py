@@ -12,8 +12,9 @@ from mte_scripts.recording.notes import TABLES
 from mte_scripts.tables import figures
 
 MOST_RUNS = 8
-MOST_OTHERS = TABLES - MOST_RUNS
-FIRST_WINDOWS, MOST_WINDOWS = 64, 512
+MOST_MADE = 16  # tables that are counted over a run, of those that fits made
+MOST_OTHERS = TABLES - MOST_MADE
+FIRST_WINDOWS, MOST_WINDOWS = 64, 256
 
 
 class Recorded(NamedTuple):
@@ -102,11 +103,11 @@ def interval_of(timed: figures.OverTime, run: Recorded, made: list[figures.Class
 
 
 class Narrowing:
-    """Narrows the interval of a run. FIT makes the fit of a history, TAKE puts the files of another run in the place of those before, OTHERS are
-    tables that are compared, and most so many runs are made."""
+    """Narrows the interval of a run. FIT makes the fit of a history with at most so many classes, or with those of the options for 0. TAKE puts
+    the files of another run in the place of those before, OTHERS are tables that are compared, and most so many runs are made."""
 
-    def __init__(self, runs: Runs, fit: Callable[[bytes], figures.OverTime], take: Callable[[bytes, bytes], None], others: list[figures.Classes],
-                 most: int) -> None:
+    def __init__(self, runs: Runs, fit: Callable[[bytes, int], figures.OverTime], take: Callable[[bytes, bytes], None],
+                 others: list[figures.Classes], most: int) -> None:
         self.runs, self.fit, self.take, self.others, self.most = runs, fit, take, others[:MOST_OTHERS], most
 
     def narrowed(self, first: Recorded, lower: bytes) -> tuple[figures.OverTime, Recorded]:
@@ -114,14 +115,14 @@ class Narrowing:
         run, windows = first, FIRST_WINDOWS
         made: list[figures.Classes] = []
         while True:
-            timed = self.fit(lower)
-            interval, fitted = interval_of(timed, run, made), tuple(timed.fit.classes)
+            timed = self.fit(lower, 0)
+            interval = interval_of(timed, run, made)
             timed = timed._replace(interval=interval)
-            if (interval and interval.is_narrow()) or fitted in made:
+            if (interval and interval.is_narrow()) or tuple(timed.fit.classes) in run.counted:
                 return timed, run
             if why := self.runs.why_not(run, self.most):
                 return timed, run._replace(notes=[*run.notes, f"The bounds of the footprint differ by more than 1%: {why}."])
-            made, windows = [*made, fitted], min(2 * windows, MOST_WINDOWS)
+            made, windows = self.with_tables(made, timed, lower, run.upper), min(2 * windows, MOST_WINDOWS)
             texts.say("tune_program", f"run {self.runs.number} is too long for a timeline, and is made again to count what a table takes over it")
             again = self.runs.record([f"--windows={windows}"], [*self.others, *made], self.runs.file("history"))
             if again.status or self.runs.signals:
@@ -129,6 +130,13 @@ class Narrowing:
             lower = self.runs.taken("history")
             run = with_difference(again, run, self.runs.number)
             self.take(lower, self.runs.taken("peak"))
+
+    def with_tables(self, made: list[figures.Classes], timed: figures.OverTime, lower: bytes, upper: bytes) -> list[figures.Classes]:
+        """The tables to count next: of both fits, and of fewer classes, so that the moments of more than one are in the next lower history."""
+        number = len(timed.fit.classes)
+        fits = [self.fit(lower, limit) for limit in sorted({number // 2, number * 3 // 4}) if limit > 1]
+        found = [tuple(each.fit.classes) for each in (*fits, self.fit(upper, 0), timed)]
+        return list(dict.fromkeys([*made, *found]))[-MOST_MADE:]
 
     def kept(self, timed: figures.OverTime, run: Recorded) -> tuple[figures.OverTime, Recorded]:
         """What there was, where another run failed."""
@@ -183,8 +191,8 @@ def narrowed(options: Any, folder: Any, runs: "Runs | None", found: Recorded,
     if not found.upper or not folder.has("program.history"):
         return None, found
 
-    def fit(text: bytes) -> figures.OverTime:
-        return figures.over_time("history", text, options.largest, options.limit, options.step)
+    def fit(text: bytes, limit: int) -> figures.OverTime:
+        return figures.over_time("history", text, options.largest, limit or options.limit, options.step)
 
     def take(history: bytes, peak: bytes) -> None:
         folder.write("program.history", history)
@@ -195,7 +203,7 @@ def narrowed(options: Any, folder: Any, runs: "Runs | None", found: Recorded,
         narrowing = Narrowing(runs, fit, take, [tuple(classes) for _, classes in others], options.runs)
         timed, found = narrowing.narrowed(found, lower)
     else:
-        timed = fit(lower)
+        timed = fit(lower, 0)
         timed = timed._replace(interval=interval_of(timed, found, []))
     folder.write("upper.history", found.upper)
     return timed, found

@@ -45,14 +45,14 @@ Usage: tune_program [OPTION..] PROGRAM ARGS..
   --upper UPPER    with a history that `profile_program --windows` printed: the one that it wrote beside it
   --runs N         run the program N times at most, 1 to {MOST_RUNS}, where one run is too long for a timeline; 4 where it is left out
 
-The program runs once, under scripts/profile_program, and as ever: its standard input is its own, its standard output goes to
-standard error. Ctrl-C ends it early; what it did up to then counts. A server counts until it is stopped.
+The program runs under scripts/profile_program, and as ever: its standard input is its own, its standard output goes to standard
+error. Ctrl-C ends it early; what it did up to then counts. A server counts until it is stopped.
 
 Where a program is run without --all, each request and each free is recorded: a timeline. The footprint is then over each moment of
-the run. Where the record is too long for that, it is of some moments, and of the most blocks between them: the summary says what
-each table takes over the run, and this one at most. If these differ by more than 1%, and the program ended by itself and reads a
-file or nothing, it is run again, and the table counted over that whole run; what is said is of the last run alone. docs/TUNING.md
-says when to take which table.
+the run. Where the record is too long for that, it is of some moments, and of the most blocks between them: the summary says how
+much every table takes, and this one at most. If these differ by more than 1%, and the program ended by itself and reads a file or
+nothing, it is run again, and the table counted over that whole run; what is said is of the last run alone. docs/TUNING.md says
+when to take which table.
 
 The folder is new. It has program.profile (what was counted), tuned.sheet (the table that loses little and its certificate),
 tuned_map.inc (a table for LLVM's Scudo), waste.svg (the waste by the number of classes), report.html (all of it as a page),
@@ -172,7 +172,7 @@ def is_long(options: Options) -> bool:
     """Whether --read names a timeline that is too long to be read at once."""
     if options.read == "-" or not os.path.isfile(options.read) or os.path.getsize(options.read) <= texts.MOST_INPUT:
         return False
-    if not texts.is_timeline(texts.read(options.read, 100)):
+    if options.upper is not None or not texts.is_timeline(texts.read(options.read, 100)):
         return False
     options.agree_on(True)
     return True
