@@ -3,6 +3,7 @@ pub mod FirstFaults
 pub mod LawLemmas
 pub mod LineByLine
 pub mod OnePass
+pub mod Pieces
 pub mod Requests
 pub mod Runs
 pub mod Steps

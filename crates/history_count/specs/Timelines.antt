@@ -1,5 +1,6 @@
 pub mod FaultText
 pub mod LiveBlocks
+pub mod Pieces
 pub mod Requests
 pub mod Runs
 pub mod TimelineText

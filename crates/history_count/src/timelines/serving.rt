@@ -5,7 +5,8 @@ ghost use Rattle.class_table.specs.Tables.{class_for};
 ghost use Rattle.history_count.specs.Timelines.Requests.{Decides, IsFirstLive, IsLargest, IsLargestSoFar, IsLeastSoFar, IsLeastUnserved};
 ghost use Rattle.tuner_theory.specs.Timelines.{IsTimeline, requested};
 
-use class_table::{ClassTable, FEWEST_GRANULES, LARGEST_COUNTED, Layout};
+use crate::timelines::line::LARGE_SIZE;
+use class_table::{ClassTable, FEWEST_GRANULES, Layout};
 use tuner_theory::SizeEvent;
 
 /// The least counted size that is requested and has no class in the table. `None` if the table serves the timeline.
@@ -17,19 +18,19 @@ pub fn unserved_over(events: &[SizeEvent], table: &ClassTable) -> Option<u32>
     // any region's layout finds a class at once
     let layout = Layout::new(table, FEWEST_GRANULES);
     // no size below this one lacks a class
-    let mut least = LARGEST_COUNTED + 1;
+    let mut least = LARGE_SIZE;
     for k in 0..events.len() {
         least = least_unserved(events, k, &layout, least);
     }
-    if least > LARGEST_COUNTED {
+    if least >= LARGE_SIZE {
         return None;
     }
-    Some(least)
+    Some(least as u32)
 }
 
 // the least size without a class after one event more
 #[inline(always)]
-fn least_unserved(events: &[SizeEvent], k: usize, layout: &Layout, least: u32) -> u32
+fn least_unserved(events: &[SizeEvent], k: usize, layout: &Layout, least: u16) -> u16
     requires event { k < length events.now }
     requires least { IsLeastSoFar events.now layout.now.classes k least }
     ensures { IsLeastSoFar events.now layout.now.classes (k + 1) result }
@@ -39,7 +40,7 @@ fn least_unserved(events: &[SizeEvent], k: usize, layout: &Layout, least: u32) -
             if n >= least {
                 return least;
             }
-            match layout.find(n) {
+            match layout.find(n as u32) {
                 Some(_) => least,
                 None => n,
             }
@@ -71,7 +72,7 @@ pub fn largest_moment(events: &[SizeEvent]) -> usize
 #[derive(Clone, Copy)]
 struct Largest {
     // the size after it, or 0 if there is none
-    above: u32,
+    above: u16,
     // the first moment at which it is live
     moment: usize,
 }
@@ -88,7 +89,7 @@ fn with_event(events: &[SizeEvent], k: usize, found: Largest) -> Largest
             if n < found.above {
                 return found;
             }
-            if n > LARGEST_COUNTED {
+            if n >= LARGE_SIZE {
                 return found;
             }
             Largest {

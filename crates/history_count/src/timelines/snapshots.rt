@@ -87,12 +87,12 @@ fn count_next(counts: &mut [u32], events: &[SizeEvent], k: usize)
 {
     match events[k] {
         SizeEvent::Request { n } => {
-            if n <= LARGEST_COUNTED {
+            if n as u32 <= LARGEST_COUNTED {
                 counts[n as usize] += 1;
             }
         }
         SizeEvent::Free { n } => {
-            if n <= LARGEST_COUNTED {
+            if n as u32 <= LARGEST_COUNTED {
                 counts[n as usize] -= 1;
             }
         }
