@@ -2,4 +2,5 @@ pub mod FaultText
 pub mod LiveBlocks
 pub mod Requests
 pub mod Runs
+pub mod Stretches
 pub mod TimelineText

@@ -3,15 +3,20 @@
 mod counting;
 mod fault;
 mod footprint;
+mod index;
 mod line;
 mod live;
+mod peaks;
 mod reading;
+mod requested;
 mod serving;
 mod snapshots;
+mod stretches;
 mod timeline;
 
 pub use fault::{TimelineError, TimelineFault};
 pub use footprint::{Footprint, footprint_over};
+pub use index::TimelineIndex;
 pub use line::TIMELINE;
 pub use serving::{largest_moment, unserved_over};
 pub use snapshots::snapshots_at;
