@@ -3,4 +3,5 @@ pub mod LiveBlocks
 pub mod Pieces
 pub mod Requests
 pub mod Runs
+pub mod Stretches
 pub mod TimelineText

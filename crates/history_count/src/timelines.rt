@@ -3,17 +3,22 @@
 mod counting;
 mod fault;
 mod footprint;
+mod index;
 mod line;
 mod live;
+mod peaks;
 mod reader;
 mod reading;
+mod requested;
 mod serving;
 mod snapshots;
+mod stretches;
 mod taking;
 mod timeline;
 
 pub use fault::{TimelineError, TimelineFault};
 pub use footprint::{Footprint, footprint_over};
+pub use index::TimelineIndex;
 pub use line::TIMELINE;
 pub use reader::TimelineReader;
 pub use serving::{largest_moment, unserved_over};

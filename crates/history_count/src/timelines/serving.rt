@@ -58,27 +58,31 @@ pub fn largest_moment(events: &[SizeEvent]) -> usize
     ensures first { (n : ℕ) → IsLargest events.now n → IsFirstLive events.now n result }
     ensures none { ((n : ℕ) → n ≤ largest_counted → requested events.now n ≡ 0) → result ≡ 0 }
 {
-    let mut found = Largest {
-        above: 0,
-        moment: 0,
-    };
+    let mut found = NO_LARGEST;
     for k in 0..events.len() {
         found = with_event(events, k, found);
     }
     found.moment
 }
 
-// the largest requested size so far
-#[derive(Clone, Copy)]
-struct Largest {
-    // the size after it, or 0 if there is none
-    above: u16,
-    // the first moment at which it is live
-    moment: usize,
+/// The largest requested size so far.
+#[derive(Clone, Copy, Debug)]
+pub(crate) struct Largest {
+    /// The size after it, or 0 if there is none.
+    pub(crate) above: u16,
+    /// The first moment at which it is live.
+    pub(crate) moment: usize,
 }
 
-// the largest size after one event more
-fn with_event(events: &[SizeEvent], k: usize, found: Largest) -> Largest
+/// No requested size.
+pub(crate) const NO_LARGEST: Largest = Largest {
+    above: 0,
+    moment: 0,
+};
+
+/// The largest size after one event more.
+#[inline(always)]
+pub(crate) fn with_event(events: &[SizeEvent], k: usize, found: Largest) -> Largest
     requires timeline { IsTimeline events.now }
     requires event { k < length events.now }
     requires found { IsLargestSoFar events.now k found.above found.moment }

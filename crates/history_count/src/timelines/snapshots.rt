@@ -57,8 +57,12 @@ fn counts_before(
     Ok((counts, moment))
 }
 
-// adds a copy of the counts
-fn push_copy(alloc: Global, snapshots: &mut Vec<Vec<u32>>, counts: &[u32]) -> Result<(), AllocError>
+/// Adds a copy of the counts. The only error is that the allocator refuses memory.
+pub(crate) fn push_copy(
+    alloc: Global,
+    snapshots: &mut Vec<Vec<u32>>,
+    counts: &[u32],
+) -> Result<(), AllocError>
     ensures { OnOk result (lists_of snapshots.new.items ≡ lists_of snapshots.old.items ++ counts.now ∷ []) }
 {
     snapshots.push(Vec::from_slice(alloc, counts)?)?;
