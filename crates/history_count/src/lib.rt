@@ -8,6 +8,7 @@ mod footprint;
 mod history;
 pub mod laws;
 mod line;
+mod of_rows;
 mod of_snapshots;
 mod reading;
 mod timelines;
@@ -17,6 +18,6 @@ pub use footprint::{blocks_between, line_from};
 pub use history::{History, Lines};
 pub use timelines::{
     Footprint, TIMELINE, Timeline, TimelineError, TimelineFault, TimelineIndex, footprint_over,
-    largest_moment, snapshots_at, unserved_over,
+    snapshots_at, unserved_over,
 };
 pub use tuner_theory::MOST_SNAPSHOTS;
