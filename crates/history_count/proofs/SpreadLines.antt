@@ -117,7 +117,7 @@ columns-more sizes (column ∷ columns) n (c ∷ cs) are size =
     (omega (arith, long, length-append column (c ∷ []), length-append sizes (n ∷ [])))
     (columns-more sizes columns n cs (All-tail (λ (column : List ℕ). length column ≡ length sizes) column columns are) (omega arith))
 
-pub sizes-more : (sizes : List ℕ) (n : ℕ) → AreSizes sizes → n ≤ largest_counted → ((k : ℕ) → k < length sizes → slice_index sizes k < n)
+sizes-more : (sizes : List ℕ) (n : ℕ) → AreSizes sizes → n ≤ largest_counted → ((k : ℕ) → k < length sizes → slice_index sizes k < n)
     → AreSizes (sizes ++ n ∷ [])
 sizes-more sizes n are small above = record {
   ascending = λ i j less within. up i j less within (cases_lt j (length sizes));

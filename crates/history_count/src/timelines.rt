@@ -21,6 +21,6 @@ pub use footprint::{Footprint, footprint_over};
 pub use index::TimelineIndex;
 pub use line::TIMELINE;
 pub use reader::TimelineReader;
-pub use serving::{largest_moment, unserved_over};
+pub use serving::unserved_over;
 pub use snapshots::snapshots_at;
 pub use timeline::Timeline;

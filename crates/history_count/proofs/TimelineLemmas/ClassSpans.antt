@@ -1,11 +1,12 @@
 -- The sizes of the classes of a table, and the peak of each class.
-use Rattle.std.proofs.Common.{◌≡◌, ℕ, zero, suc, ◌+◌, ◌-◌, ◌*◌, ◌<◌, ◌≤◌, List, [], ◌∷◌, ◌++◌, length, take, sum_by, slice_get, slice_index, get_or, arith, refl, ap, sym, subst, ◌∙◌, inl, inr, All, Some, add-one}
+use Rattle.std.proofs.Common.{◌≡◌, ℕ, zero, suc, ◌+◌, ◌-◌, ◌*◌, ◌<◌, ◌≤◌, List, [], ◌∷◌, ◌++◌, length, take, sum_by, slice_get, slice_index, get_or, arith, ap, sym, subst, ◌∙◌, inl, inr, All, Some, add-one}
 use Rattle.std.proofs.lemmas.Bool.{cases_lt}
 use Rattle.std.proofs.lemmas.List.{get_or_append_left}
 use Rattle.std.proofs.lemmas.List.Elements.{All-map}
 use Rattle.std.proofs.lemmas.List.Kept.{AllPairs-from_increasing}
 use Rattle.std.proofs.lemmas.List.Sums.{sum_by_more}
 use Rattle.std.proofs.lemmas.Option.{get_or_from_slice_get, slice_get_within}
+use Rattle.std.proofs.Math.Nat.{mul-le-mul}
 use Rattle.std.proofs.Math.Seq.{get_or-append_seam}
 use Rattle.std.specs.List.{range_with_len}
 use Rattle.class_table.specs.Sizes.{largest_counted}
@@ -13,7 +14,7 @@ use Rattle.class_table.specs.Tables.{IsLegalTable}
 use Rattle.class_table.proofs.LawLemmas.{classes_of_legal_table}
 use Rattle.tuner_theory.specs.Footprint.{blocks}
 use Rattle.tuner_theory.specs.Histories.{most}
-use Rattle.tuner_theory.specs.Profiles.{AreCounts}
+use Rattle.tuner_theory.specs.Profiles.{AreCounts, greatest_count}
 use Rattle.tuner_theory.specs.Timelines.{IsTimeline, moments, snapshot_at}
 use Rattle.tuner_theory.specs.declared.size_event.SizeEvent.{SizeEvent}
 use Rattle.tuner_theory.proofs.Footprint.{blocks-of_number}
@@ -23,6 +24,7 @@ use Rattle.history_count.specs.Timelines.LiveBlocks.{IsFirst, class_bytes}
 use Rattle.history_count.specs.Timelines.Stretches.{AreInOrder, class_start}
 use Rattle.history_count.specs.declared.timelines.peaks.Peak.{Peak}
 use Rattle.history_count.proofs.ClassByClass.{IsCut, blocks-cut, cut-class, cut-none, most-same}
+use Rattle.history_count.proofs.TimelineLemmas.Peaks.{span-few}
 
 -- ---- where the sizes of a class begin and end
 
@@ -62,6 +64,17 @@ module _ (classes : List ℕ) (legal : IsLegalTable 1 classes) where
 
     pub class-next : class_start classes (number + 1) ≡ 16 * class - 15
     class-next = ap (class_start classes) (add-one number) ∙ ap (λ (c : ℕ). 16 * c - 15) class-here
+
+    -- no more blocks are live than events came
+    pub class-product : (events : List SizeEvent) (peak : Peak) (low end bytes : ℕ) → IsTimeline events → low ≡ class_start classes number
+        → end ≡ 16 * class - 15 → IsFirst (blocks_from low end) events (length events) peak.most peak.first → bytes ≡ 16 * class
+        → bytes * peak.most ≤ 16 * 1024 * greatest_count
+    class-product events peak low end bytes timeline low_is end_is first bytes_is =
+        let order : AreInOrder low end = rw (low_is, end_is) class-order in
+        let few : peak.most ≤ greatest_count =
+        omega (arith, first.there, first.within, span-few events low end timeline order peak.first first.within, timeline.few) in
+        let wide : bytes ≤ 16 * 1024 = omega (arith, bytes_is, class-here, (legal.in_range number 0 within).1) in
+        mul-le-mul wide few
 
     -- the blocks of a class are those of its sizes
     measure : (s : List ℕ) → AreCounts s → blocks classes class s ≡ blocks_from (class_start classes number) (16 * class - 15) s

@@ -1,18 +1,20 @@
 -- The live blocks by the lines of the requested sizes, one event more; and the stretches, one more.
-use Rattle.std.proofs.Common.{◌≡◌, ◌≢◌, ℕ, ◌+◌, ◌-◌, ◌<◌, ◌≤◌, ◌⊎◌, List, [], ◌∷◌, ◌++◌, length, length-append, max, replicate, slice_index, slice_index_or, slice_set, get_or, arith, refl, ap, sym, subst, ◌∙◌, inl, inr}
+use Rattle.std.proofs.Common.{◌≡◌, ◌≢◌, ℕ, suc, ◌+◌, ◌-◌, ◌<◌, ◌≤◌, List, [], ◌∷◌, ◌++◌, length, length-append, max, replicate, slice_index, slice_index_or, slice_set, get_or, map, take, All, arith, refl, ap, sym, subst, ◌∙◌, inl, inr}
 use Rattle.std.proofs.lemmas.Bool.{cases_lt, cases_order}
 use Rattle.std.proofs.lemmas.Bool.Decides.{eqb_tells}
-use Rattle.std.proofs.lemmas.List.{ext_get_or, get_or-map, get_or-replicate, get_or-set_other, get_or-set_same, get_or_append_left, get_or_default, get_or_past, length-map, length-replicate, length-set, take_all}
+use Rattle.std.proofs.lemmas.List.{ext_get_or, get_or-map, get_or-replicate, get_or-set_other, get_or-set_same, get_or_append_left, get_or_default, get_or_past, length-map, length-replicate, length-set, map-append, take_all, take_more}
+use Rattle.std.proofs.lemmas.List.Elements.{All-map}
 use Rattle.std.proofs.Math.Seq.{get_or-append_seam}
 use Rattle.class_table.specs.Sizes.{largest_counted}
 use Rattle.tuner_theory.specs.Profiles.{greatest_count}
-use Rattle.tuner_theory.specs.Timelines.{IsTimeline, requested, snapshot_at}
+use Rattle.tuner_theory.specs.Timelines.{IsTimeline, history_at, requested, snapshot_at}
 use Rattle.tuner_theory.specs.declared.size_event.SizeEvent.{SizeEvent}
 use Rattle.tuner_theory.specs.declared.size_event.SizeEvent.TheVariants.{Request, Free}
 use Rattle.tuner_theory.proofs.Timelines.{snapshot-length}
-use Rattle.history_count.specs.CountedLines.{AreSizes, CountsSizes}
+use Rattle.history_count.specs.CountedLines.{AreFew, AreSizes, CountsSizes, spread}
 use Rattle.history_count.specs.Timelines.Stretches.{AreRequested, AreStretchesTo, Bounds, IsLineOf, column_of}
 use Rattle.history_count.specs.declared.timelines.requested.Requested.{Requested}
+use Rattle.history_count.proofs.RowPeaks.{spread-column}
 use Rattle.history_count.proofs.TimelineLemmas.Requests.{unrequested-before}
 use Rattle.history_count.proofs.TimelineLemmas.Walk.{free_counts, free_is_live, large_free_counts, large_request_counts, request_counts, snapshot_none, snapshot_small}
 
@@ -121,35 +123,6 @@ column-none events sizes are =
     ∙ ap (λ (s : List ℕ). slice_index s (slice_index sizes j)) (sym (snapshot_none events))
     ∙ get_or-replicate {A = ℕ} (largest_counted + 1) (slice_index sizes j) 0 0 (omega (arith, are.small j within))))
 
--- the most of each line where one count is raised
-pub raised-at : (counts most : List ℕ) (line count : ℕ) → line < length counts → line < length most
-    → ((j : ℕ) → slice_index counts j ≤ slice_index most j) → (j : ℕ)
-    → slice_index (slice_set most line (max (slice_index most line) count)) j
-    ≡ max (slice_index most j) (slice_index (slice_set counts line count) j)
-raised-at counts most line count within inside below j =
-    elim (eqb_tells j line) [
-      | inl same ↦ rw same.1 (omega (
-        arith,
-        get_or-set_same most line (max (slice_index most line) count) 0 inside,
-        get_or-set_same counts line count 0 within,
-      ))
-      | inr differs ↦ omega (
-        arith,
-        get_or-set_other most line j (max (slice_index most line) count) 0 differs.1,
-        get_or-set_other counts line j count 0 differs.1,
-        below j,
-      )
-    ]
-
-pub lowered-at : (counts most : List ℕ) (line count : ℕ) → line < length counts → count ≤ slice_index counts line
-    → ((j : ℕ) → slice_index counts j ≤ slice_index most j) → (j : ℕ)
-    → slice_index most j ≡ max (slice_index most j) (slice_index (slice_set counts line count) j)
-lowered-at counts most line count within less below j =
-    elim (eqb_tells j line) [
-      | inl same ↦ rw same.1 (omega (arith, get_or-set_same counts line count 0 within, below line, less))
-      | inr differs ↦ omega (arith, get_or-set_other counts line j count 0 differs.1, below j)
-    ]
-
 -- ---- a snapshot and its column
 
 -- no other size is live
@@ -204,6 +177,39 @@ bounds-more events sizes from k most newer timeline are bounds len raised = reco
         rw same (omega (arith, raised j, column-at sizes (snapshot_at events (k + 1)) j lt))
   ];
 }
+
+-- the history of some moments is that of its columns
+module _ (events : List SizeEvent) (r : Requested) (timeline : IsTimeline events) (are : AreRequested events r) where
+  abbrev pub rows_at : List ℕ → List (List ℕ)
+  rows_at numbers = map (λ m. column_of r.sizes.items (snapshot_at events m)) numbers
+
+  pub rows-spread : (numbers : List ℕ) → All (λ number. number ≤ length events) numbers
+      → spread r.sizes.items (rows_at numbers) ≡ history_at events numbers
+  rows-spread [] within = refl
+  rows-spread (m ∷ ms) within =
+      rw (
+        spread-column (snapshot_at events m) r.sizes.items (column_of r.sizes.items (snapshot_at events m)) are.sizes_are
+            (snapshot-length events m)
+            (column-counts events r m are (within 0 0 (omega arith))),
+        rows-spread ms (λ k d lt. within (suc k) d (omega arith)),
+      ) refl
+
+  pub rows-few : (numbers : List ℕ) → AreFew (length r.sizes.items) (rows_at numbers)
+  rows-few numbers = record {
+    long = All-map (λ row. length row ≡ length r.sizes.items) (λ m. column_of r.sizes.items (snapshot_at events m)) numbers
+        (λ k d lt. column-length r.sizes.items (snapshot_at events (get_or numbers k d)));
+    few = All-map (λ row. (k : ℕ) → slice_index row k ≤ greatest_count) (λ m. column_of r.sizes.items (snapshot_at events m)) numbers
+        (λ k d lt. (bounds-start events r.sizes.items (get_or numbers k d) timeline are.sizes_are).few);
+  }
+
+  pub rows-more : (numbers : List ℕ) (i : ℕ) (rows : List (List ℕ)) (row : List ℕ) → i < length numbers
+      → rows ≡ rows_at (take i numbers) → row ≡ column_of r.sizes.items (snapshot_at events (slice_index numbers i))
+      → rows ++ row ∷ [] ≡ rows_at (take (i + 1) numbers)
+  rows-more numbers i rows row lt so_far is =
+      ap (λ (before : List (List ℕ)). before ++ row ∷ []) so_far
+      ∙ ap (λ (next : List ℕ). rows_at (take i numbers) ++ next ∷ []) is
+      ∙ sym (map-append (λ m. column_of r.sizes.items (snapshot_at events m)) (take i numbers) (slice_index numbers i ∷ []))
+      ∙ sym (ap rows_at (take_more numbers i 0 lt))
 
 -- ---- the stretches
 

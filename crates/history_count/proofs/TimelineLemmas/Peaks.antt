@@ -1,19 +1,18 @@
 -- The peak of some sizes over a timeline: one event more, and a stretch in which it is not higher.
-use Rattle.std.proofs.Common.{◌≡◌, ℕ, zero, suc, ◌+◌, ◌-◌, ◌*◌, ◌<◌, ◌≤◌, ◌⊎◌, List, [], ◌∷◌, length, max, slice_index, slice_index_or, get_or, cond, ltb, true, arith, refl, ap, sym, subst, ◌∙◌, inl, inr, add-one, All}
+use Rattle.std.proofs.Common.{◌≡◌, ℕ, zero, suc, ◌+◌, ◌-◌, ◌*◌, ◌<◌, ◌≤◌, ◌⊎◌, List, [], ◌∷◌, length, max, slice_index, slice_index_or, get_or, cond, ltb, true, arith, refl, ap, sym, subst, ◌∙◌, inl, inr, add-one}
 use Rattle.std.proofs.lemmas.Bool.{cases_lt, le-ltb, lt-ltb}
 use Rattle.std.proofs.lemmas.List.{get_or_default}
 use Rattle.class_table.specs.Sizes.{largest_counted}
 use Rattle.tuner_theory.specs.Histories.{most}
-use Rattle.tuner_theory.specs.Profiles.{greatest_count}
 use Rattle.tuner_theory.specs.Timelines.{IsTimeline, moments, most_to, snapshot_at}
 use Rattle.tuner_theory.specs.Waste.{sum_below}
 use Rattle.tuner_theory.specs.declared.size_event.SizeEvent.{SizeEvent}
 use Rattle.tuner_theory.specs.declared.size_event.SizeEvent.TheVariants.{Request, Free}
-use Rattle.tuner_theory.proofs.Sums.{sum_balance, sum_below-more, sum_below-none, sum_none}
+use Rattle.tuner_theory.proofs.Sums.{sum_balance, sum_below-more, sum_none}
 use Rattle.tuner_theory.proofs.TimelineBlocks.{most_to-above, most_to-all, most_to-more, most_to-none, sum-one}
 use Rattle.tuner_theory.proofs.TimelineSteps.{frees_at, freed-more, requested-more, requests_at}
-use Rattle.tuner_theory.proofs.Timelines.{live-at, moment-below, snapshot-counts, snapshot-length}
-use Rattle.history_count.specs.CountedLines.{AreFew, AreSizes, IsCutAt}
+use Rattle.tuner_theory.proofs.Timelines.{live-at, moment-below}
+use Rattle.history_count.specs.CountedLines.{AreFew}
 use Rattle.history_count.specs.Histories.{blocks_from}
 use Rattle.history_count.specs.Timelines.LiveBlocks.{IsFirst}
 use Rattle.history_count.specs.Timelines.Stretches.{AreInOrder, AreRequested, AreStretchesTo, IsPeakTo, IsSpan, column_of}

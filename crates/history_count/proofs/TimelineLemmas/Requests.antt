@@ -26,11 +26,11 @@ own-request n = grind (arith, nat_tests)
 other-request : (m n : ℕ) → m ≢ n → requests_at m (Request n) ≡ 0
 other-request m n other = grind (arith, nat_tests)
 
-pub requested-still : (events : List SizeEvent) (k m n : ℕ) → k < length events → get_or events k (Request 0) ≡ Request n → m ≢ n
+requested-still : (events : List SizeEvent) (k m n : ℕ) → k < length events → get_or events k (Request 0) ≡ Request n → m ≢ n
     → requested (take (k + 1) events) m ≡ requested (take k events) m
 requested-still events k m n lt is other = omega (arith, requested-next events k m (Request n) lt is, other-request m n other)
 
-pub requested-free : (events : List SizeEvent) (k m n : ℕ) → k < length events → get_or events k (Request 0) ≡ Free n
+requested-free : (events : List SizeEvent) (k m n : ℕ) → k < length events → get_or events k (Request 0) ≡ Free n
     → requested (take (k + 1) events) m ≡ requested (take k events) m
 requested-free events k m n lt is = omega (arith, requested-next events k m (Free n) lt is)
 

@@ -3,13 +3,14 @@ ghost use Rattle.std.specs.Prelude.{◌≡◌, ◌<◌, ◌≤◌, ◌+◌, ◌*
 ghost use Rattle.class_table.specs.Sizes.{largest_counted};
 ghost use Rattle.history_count.specs.Timelines.LiveBlocks.{AreFirsts};
 ghost use Rattle.history_count.specs.Timelines.Requests.{Decides, IsFirstLive, IsLargest};
-ghost use Rattle.tuner_theory.specs.Timelines.{IsTimeline, footprint_over, requested};
+ghost use Rattle.tuner_theory.specs.Timelines.{AreMoments, IsTimeline, footprint_over, history_at, requested};
 
 use crate::footprint::line_from;
+use crate::history::History;
 use crate::timelines::footprint::Footprint;
 use crate::timelines::peaks::{Span, span_peak};
 use crate::timelines::requested::{Requested, requested_in};
-use crate::timelines::stretches::{Stretches, stretches_of};
+use crate::timelines::stretches::{Stretches, counts_at, stretches_of};
 use class_table::{ClassTable, GRANULE_BYTES};
 use profile_count::class_end;
 use std::alloc::{AllocError, Global};
@@ -69,6 +70,26 @@ impl<'a> TimelineIndex<'a> {
         ensures none { ((n : ℕ) → n ≤ largest_counted → requested self.now n ≡ 0) → result ≡ 0 }
     {
         self.requested.largest.moment
+    }
+
+    /// The history of some moments of the timeline, each by its number: of how many events it comes after. It goes over the events from the
+    /// start of a moment's stretch. The only error is that the allocator refuses memory.
+    pub fn history_at(&self, alloc: Global, numbers: &[usize]) -> Result<History, AllocError>
+        requires { AreMoments self.now numbers.now }
+        ensures { IfOk result (λ history. history.snapshots ≡ history_at self.now numbers.now) }
+    {
+        let mut rows = Vec::with_capacity(alloc, numbers.len())?;
+        for i in 0..numbers.len() {
+            let row = counts_at(
+                alloc,
+                self.events,
+                &self.requested,
+                &self.stretches,
+                numbers[i],
+            )?;
+            rows.push(row)?;
+        }
+        History::of_rows(alloc, &self.requested.sizes, rows)
     }
 
     /// What a table takes over the timeline. It goes over only those stretches in which a class may have its most blocks. The only error is

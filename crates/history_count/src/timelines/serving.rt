@@ -1,8 +1,8 @@
-//! Which request of a timeline a table does not serve, and the moment that decides whether there is one.
+//! Which request of a timeline a table does not serve, and the largest of the requests.
 ghost use Rattle.std.specs.Prelude.{◌≡◌, ◌+◌, ◌<◌, ◌≤◌, ℕ, IfNone, IfSome, IsSome, length};
 ghost use Rattle.class_table.specs.Sizes.{largest_counted};
 ghost use Rattle.class_table.specs.Tables.{class_for};
-ghost use Rattle.history_count.specs.Timelines.Requests.{Decides, IsFirstLive, IsLargest, IsLargestSoFar, IsLeastSoFar, IsLeastUnserved};
+ghost use Rattle.history_count.specs.Timelines.Requests.{IsLargestSoFar, IsLeastSoFar, IsLeastUnserved};
 ghost use Rattle.tuner_theory.specs.Timelines.{IsTimeline, requested};
 
 use crate::timelines::line::LARGE_SIZE;
@@ -47,22 +47,6 @@ fn least_unserved(events: &[SizeEvent], k: usize, layout: &Layout, least: u16) -
         }
         SizeEvent::Free { .. } => least,
     }
-}
-
-/// A moment of a timeline that decides whether a table serves it: a table that serves a history with this moment serves the timeline. It is
-/// the first at which a block of the largest requested size is live, of those that are counted; 0 if none is requested.
-pub fn largest_moment(events: &[SizeEvent]) -> usize
-    requires { IsTimeline events.now }
-    ensures within { result ≤ length events.now }
-    ensures decides { Decides events.now result }
-    ensures first { (n : ℕ) → IsLargest events.now n → IsFirstLive events.now n result }
-    ensures none { ((n : ℕ) → n ≤ largest_counted → requested events.now n ≡ 0) → result ≡ 0 }
-{
-    let mut found = NO_LARGEST;
-    for k in 0..events.len() {
-        found = with_event(events, k, found);
-    }
-    found.moment
 }
 
 /// The largest requested size so far.

@@ -14,7 +14,7 @@ ghost use Rattle.tuner_theory.specs.Timelines.{AreMoments, footprint_over, histo
 use crate::fits::fit;
 use class_table::MOST_CLASSES;
 use history_count::TimelineIndex;
-use potential_check::{Fit, history_over};
+use potential_check::Fit;
 use std::alloc::{AllocError, Global};
 
 /// A fit over some moments.
@@ -60,7 +60,7 @@ pub(crate) fn round_over(
     ensures exact { IfOk result
         (λ round. round.evaluations ≡ span_count (places (served forced (peaks (history_at index.now numbers.now))) step)) }
 {
-    let history = history_over(alloc, index.events(), numbers)?;
+    let history = index.history_at(alloc, numbers)?;
     let fitted = fit(alloc, &history, limit, step, forced)?;
     let evaluations = fitted.evaluations();
     let fit = fitted.into_sheet();

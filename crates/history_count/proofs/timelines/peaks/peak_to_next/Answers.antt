@@ -1,4 +1,4 @@
-use Rattle.std.proofs.Common.{◌≡◌, ◌<◌, ◌+◌, ℕ, [], length, slice_index, arith, ap, sym, subst, ◌∙◌}
+use Rattle.std.proofs.Common.{◌<◌, ◌+◌, ℕ, [], length, slice_index, arith, ap, sym, subst, ◌∙◌}
 use Rattle.std.proofs.lemmas.List.{get_or_read}
 use Rattle.tuner_theory.specs.Lists.{lists_of}
 use Rattle.tuner_theory.specs.Timelines.{snapshot_at}

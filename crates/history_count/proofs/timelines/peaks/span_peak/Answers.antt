@@ -1,4 +1,4 @@
-use Rattle.std.proofs.Common.{◌≡◌, ◌<◌, ◌⊎◌, ℕ, length, slice_index, arith, ap, sym, subst, refl, ◌∙◌, inl, inr}
+use Rattle.std.proofs.Common.{◌≡◌, ◌<◌, ◌⊎◌, ℕ, length, slice_index, arith, ap, subst, refl, ◌∙◌, inl, inr}
 use Rattle.std.proofs.lemmas.Bool.{cases_lt}
 use Rattle.tuner_theory.specs.Histories.{most}
 use Rattle.tuner_theory.specs.Lists.{lists_of}
@@ -30,8 +30,8 @@ loop-b-init c =
           (blocks_from-none c.args.events.now span.low span.end c.requires.timeline c.requires.span.in_order.small) refl);
     }
 
-pub returns-clause-most : goal.returns-clause-most
-returns-clause-most c =
+pub returns : goal.returns
+returns c =
     let s = c.args.stretches.now in
     let span = c.args.span in
     let f = blocks_from span.low span.end in
@@ -48,28 +48,7 @@ returns-clause-most c =
       | inl some ↦ inr (omega (arith, c.saturating_sub.ensures, some, found, below))
       | inr none ↦ inl (omega (arith, c.saturating_sub.ensures, none))
     ] in
-    (peak-all f events floor c.loop-b.peak
+    let all = peak-all f events floor c.loop-b.peak
     (blocks_from-none events span.low span.end c.requires.timeline c.requires.span.in_order.small)
-    (subst (λ (m : ℕ). IsPeakTo f events floor m c.loop-b.peak) end c.loop-b.invariant.peak) reached).0
-
-pub returns-clause-first : goal.returns-clause-first
-returns-clause-first c =
-    let s = c.args.stretches.now in
-    let span = c.args.span in
-    let f = blocks_from span.low span.end in
-    let events = c.args.events.now in
-    let floor = c.saturating_sub.result in
-    let end : slice_index s.starts.items c.loop-b.b ≡ length events =
-    ap (slice_index s.starts.items) (let all : c.loop-b.b ≡ length (lists_of s.most.items) = omega (arith, lists-length s.most.items) in all)
-    ∙ c.requires.stretches.last in
-    let below = most-before events c.args.requested.now s.starts.items (lists_of s.before.items) (lists_of s.most.items) span
-    c.requires.timeline c.requires.requested c.requires.stretches c.requires.span in
-    let found = c.most_between-reached.ensures.most
-    ∙ ap (λ rows. most (blocks_from span.start span.stop) (lists_of rows)) c.deref.ensures.value in
-    let reached : (floor ≡ 0) ⊎ (floor < most f (moments events)) = elim (cases_lt 0 c.most_between-reached.result) [
-      | inl some ↦ inr (omega (arith, c.saturating_sub.ensures, some, found, below))
-      | inr none ↦ inl (omega (arith, c.saturating_sub.ensures, none))
-    ] in
-    (peak-all f events floor c.loop-b.peak
-    (blocks_from-none events span.low span.end c.requires.timeline c.requires.span.in_order.small)
-    (subst (λ (m : ℕ). IsPeakTo f events floor m c.loop-b.peak) end c.loop-b.invariant.peak) reached).1
+    (subst (λ (m : ℕ). IsPeakTo f events floor m c.loop-b.peak) end c.loop-b.invariant.peak) reached in
+    record { most = all.0; first = all.1 }

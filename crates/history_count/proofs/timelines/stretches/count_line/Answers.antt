@@ -1,4 +1,4 @@
-use Rattle.std.proofs.Common.{◌≡◌, ◌≤◌, List, ℕ, length, slice_index, arith, ap, ◌∙◌}
+use Rattle.std.proofs.Common.{◌≤◌, List, ℕ, length, slice_index, arith, ap, ◌∙◌}
 use Rattle.class_table.specs.Sizes.{largest_counted}
 use Rattle.tuner_theory.specs.Timelines.{snapshot_at}
 use Rattle.history_count.proofs.TimelineLemmas.Columns.{bounds-start, column-free, column-large_free, column-large_request, column-length, column-live, column-request, line-read}
