@@ -1,9 +1,9 @@
 -- What is kept of an input that is a timeline or another text.
-use Rattle.std.proofs.Common.{◌≡◌, ℕ, Bool, true, false, MatchBool, List, [], ◌∷◌, ◌++◌, Result, Ok, Err, refl, sym, ap, ◌∙◌, append_assoc, arith, drop, slice_index_or}
+use Rattle.std.proofs.Common.{◌≡◌, ℕ, Bool, true, false, MatchBool, List, [], ◌∷◌, ◌++◌, Result, Err, refl, sym, ap, ◌∙◌, append_assoc, arith, drop, slice_index_or}
 use Rattle.std.proofs.lemmas.List.Elements.{All-append, All-nil}
 use Rattle.history_count.specs.HistoryText.{history_of, history_of_lines}
 use Rattle.history_count.specs.declared.fault.HistoryFault.TheVariants.{BadSnapshots}
-use Rattle.history_count.specs.Timelines.Pieces.{IsReadingOf, Reading, nothing_read}
+use Rattle.history_count.specs.Timelines.Pieces.{IsReadingOf, Reading}
 use Rattle.history_count.specs.Timelines.TimelineText.{head_line, timeline_of}
 use Rattle.history_count.proofs.TimelineLemmas.LawLemmas.{head_is_in_front, nothing_is_read}
 use Rattle.line_text.specs.Lines.{IsLine, ended, is_newline, lines, words}

@@ -24,7 +24,7 @@ use std::alloc::{AllocError, Global};
 ///
 /// Of a timeline the footprint is that over every moment, the rows are those over the moments that the line after them names, and the table
 /// is the one that would be fitted over all. Where that is not shown after 1,024 rounds, the text is a table with its footprint and what no
-/// table takes less than, with the status of a no.
+/// table takes less than, with the status of a no. No text of a timeline is kept.
 ///
 /// Faults of the input (`Input`), in this order: that it is too long; the fault of the history or the timeline. `ToolFault` has the other faults, and what
 /// the sink took when one comes.

@@ -22,6 +22,7 @@ use std::alloc::{AllocError, Global};
 
 /// Reads a class line and then a history or a timeline, and writes `footprint F`, the bytes that the table's classes take when most blocks of
 /// each are live, or `not serving N` with the status of a no, where N is the least counted size that has no class.
+/// No text of a timeline is kept.
 ///
 /// Faults of the input (`Input`), in this order: that it is too long; the fault of the class line; that of the history or the timeline.
 /// `ToolFault` has the other faults, and what the sink took when one comes.

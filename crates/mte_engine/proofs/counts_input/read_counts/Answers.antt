@@ -1,4 +1,4 @@
-use Rattle.std.proofs.Common.{◌≡◌, List, ℕ, sym, ◌∙◌, Err, Result}
+use Rattle.std.proofs.Common.{List, sym, ◌∙◌, Err, Result}
 use Rattle.std.proofs.lemmas.Result.{err_from_is_err_and}
 use Rattle.tuner_theory.specs.declared.size_event.SizeEvent.{SizeEvent}
 use Rattle.mte_engine.specs.declared.fault.AnswerError.{AnswerError}
