@@ -10,7 +10,7 @@ use Rattle.tool_call.specs.declared.call.CommandName.{CommandName}
 use Rattle.tool_call.specs.declared.call.CommandName.TheVariants.{Score, Tune, Check, Footprint, Fit, CheckFit, Profile, Replay, Run}
 use Rattle.tool_call.specs.declared.options.Options.{Options}
 
--- two commands of one name are one
+-- commands of one name are one
 named : Text → CommandName
 named name =
     if bytes_eq name (codes "score") then Score
@@ -35,7 +35,7 @@ named_back Profile = refl
 named_back Replay = refl
 named_back Run = refl
 
-same_command : (a b : CommandName) → name_of a ≡ name_of b → a ≡ b
+pub same_command : (a b : CommandName) → name_of a ≡ name_of b → a ≡ b
 same_command a b same = sym (named_back a) ∙ ap named same ∙ named_back b
 
 -- a command is no call where its options are none

@@ -43,7 +43,7 @@ window : (f g : ℕ → ℕ) (from end : ℕ) → from ≤ end → ((n : ℕ) �
 window f g from zero le none same = grind (arith, sum_none f 0)
 window f g from (suc end) le none same = grind (arith, sum_below-more, sum_none f (suc end), window f g from end)
 
-blocks-cut : (low high from end : ℕ) (s : List ℕ) → IsCut low from → IsCut high end → from ≤ end → end ≤ length s
+pub blocks-cut : (low high from end : ℕ) (s : List ℕ) → IsCut low from → IsCut high end → from ≤ end → end ≤ length s
     → blocks_between 1 low high s ≡ blocks_from from end s
 blocks-cut low high from end s is also le within =
     let f = λ (n : ℕ). cond (ltb low (rounded_need 1 n) && leb (rounded_need 1 n) high) (slice_index s n) 0 in
@@ -54,7 +54,7 @@ blocks-cut low high from end s is also le within =
           (λ n from lt. grind (arith, is.above n, also.below n, lt-ltb, le-leb)),
     )
 
-most-same : (f g : List ℕ → ℕ) (snapshots : List (List ℕ)) → All AreCounts snapshots → ((s : List ℕ) → AreCounts s → f s ≡ g s)
+pub most-same : (f g : List ℕ → ℕ) (snapshots : List (List ℕ)) → All AreCounts snapshots → ((s : List ℕ) → AreCounts s → f s ≡ g s)
     → most f snapshots ≡ most g snapshots
 most-same f g [] are each = refl
 most-same f g (s ∷ ss) are each =

@@ -12,6 +12,7 @@ pub mod OpenReadings
 pub mod Peaks
 pub mod ReadIsSpelled
 pub mod RowEntries
+pub mod RowPeaks
 pub mod SizeLines
 pub mod SpelledIsRead
 pub mod SpreadLines

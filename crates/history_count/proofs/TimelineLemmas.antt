@@ -1,8 +1,13 @@
+pub mod ClassSpans
+pub mod Columns
 pub mod EventLines
 pub mod FirstFaults
 pub mod LawLemmas
 pub mod LineByLine
 pub mod OnePass
+pub mod Peaks
+pub mod Pieces
+pub mod Requested
 pub mod Requests
 pub mod Runs
 pub mod Steps

@@ -50,8 +50,8 @@ pub fn line_from(sizes: &[u32], start: usize, end: u32) -> usize
     line
 }
 
-// the most blocks of the lines from `start` to `stop - 1` that are live at a snapshot
-fn most_between(columns: &[Vec<u32>], start: usize, stop: usize) -> u64
+/// The most blocks of the lines from `start` to `stop - 1` that are live at a snapshot.
+pub(crate) fn most_between(columns: &[Vec<u32>], start: usize, stop: usize) -> u64
     requires long { All (λ column. stop ≤ length column) (lists_of columns.now) }
     requires few { All (λ column. (k : ℕ) → slice_index column k ≤ greatest_count) (lists_of columns.now) }
     requires order { start ≤ stop }

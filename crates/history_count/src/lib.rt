@@ -8,6 +8,7 @@ mod footprint;
 mod history;
 pub mod laws;
 mod line;
+mod of_rows;
 mod of_snapshots;
 mod reading;
 mod timelines;
@@ -16,7 +17,7 @@ pub use fault::{HistoryError, HistoryFault};
 pub use footprint::{blocks_between, line_from};
 pub use history::{History, Lines};
 pub use timelines::{
-    Footprint, TIMELINE, Timeline, TimelineError, TimelineFault, footprint_over, largest_moment,
-    snapshots_at, unserved_over,
+    Footprint, TIMELINE, Timeline, TimelineError, TimelineFault, TimelineIndex, TimelineReader,
+    footprint_over, snapshots_at, unserved_over,
 };
 pub use tuner_theory::MOST_SNAPSHOTS;

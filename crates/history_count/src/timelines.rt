@@ -3,16 +3,24 @@
 mod counting;
 mod fault;
 mod footprint;
+mod index;
 mod line;
 mod live;
+mod peaks;
+mod reader;
 mod reading;
+mod requested;
 mod serving;
 mod snapshots;
+mod stretches;
+mod taking;
 mod timeline;
 
 pub use fault::{TimelineError, TimelineFault};
 pub use footprint::{Footprint, footprint_over};
+pub use index::TimelineIndex;
 pub use line::TIMELINE;
-pub use serving::{largest_moment, unserved_over};
+pub use reader::TimelineReader;
+pub use serving::unserved_over;
 pub use snapshots::snapshots_at;
 pub use timeline::Timeline;

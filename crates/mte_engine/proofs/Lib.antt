@@ -1,5 +1,6 @@
 pub mod CountedLines
 pub mod Counting
+pub mod CountsInput
 pub mod FaultLines
 pub mod Headline
 pub mod HistoryFaultLines

@@ -1,12 +1,13 @@
 -- From the two parts of an input, in one text or in two, to the answer.
-use Rattle.std.proofs.Common.{◌≡◌, ℕ, Bool, true, false, MatchBool, List, [], ◌∷◌, drop, take, Result, Ok, Err, refl, sym, subst}
+use Rattle.std.proofs.Common.{◌≡◌, ℕ, Bool, true, false, MatchBool, List, [], ◌∷◌, drop, take, Result, Ok, Err, refl, slice_index_or}
 use Rattle.history_count.specs.Histories.{History}
 use Rattle.history_count.specs.HistoryText.{history_of_lines}
 use Rattle.history_count.specs.Timelines.TimelineText.{timeline_of_lines}
-use Rattle.line_text.specs.Lines.{lines}
+use Rattle.line_text.specs.Lines.{lines, words}
 use Rattle.class_table.specs.ClassLine.{table_of_line}
 use Rattle.class_table.specs.declared.fault.TableError.TheVariants.{BadLine}
 use Rattle.tuner_theory.specs.declared.size_event.SizeEvent.{SizeEvent}
+use Rattle.mte_engine.specs.CountsInput.{IsLineAndRest}
 use Rattle.mte_engine.specs.Footprint.{MeasuresParts, measured}
 use Rattle.mte_engine.specs.FootprintOver.{FootprintEitherAnswers, IsMeasuredOver, MeasuresCounts, MeasuresEitherParts, MeasuresOverParts}
 use Rattle.mte_engine.specs.Outcome.{Answer, GivesAnswer, GivesFault}
@@ -136,17 +137,27 @@ module _ (classes : List (List ℕ)) (before : ℕ) (ls : List (List ℕ)) where
       (then_answered (class_part classes) timeline over left table read result)
       (then_answered (class_part classes) history in_history left table read result) gives
 
--- the class line before them in one text
-module _ (text line : List ℕ) (ls : List (List ℕ)) (parts : lines text ≡ line ∷ ls) where
-  pub line_refused : (error : AnswerError) → GivesPart {A = List ℕ} (Err error) (table_part (table_of_line line))
-      → GivesFault (FootprintEitherAnswers text) error
-  line_refused error gives =
-      subst (λ (all : List (List ℕ)). GivesFault (MeasuresEitherParts (take 1 all) 1 (drop 1 all)) error) (sym parts)
-      (classes_refused (line ∷ []) 1 ls error gives)
+-- an empty line spells no table, so an input without lines is answered as one of an empty line
+by_first_line : {O : Type 0} (left : O → List ℕ) (ls : List (List ℕ)) (result : Result (O × Status) AnswerError)
+    → GivesAnswer left (MeasuresEitherParts (slice_index_or ls 0 [] ∷ []) 1 (drop 1 ls)) result
+    → GivesAnswer left (MeasuresEitherParts (take 1 ls) 1 (drop 1 ls)) result
+unfolding table_of_line words
+by_first_line left [] result gives = gives
+by_first_line left (line ∷ ls) result gives = gives
 
-  pub line_measured : {O : Type 0} (left : O → List ℕ) (table text' : List ℕ) → table_part (table_of_line line) ≡ Ok table
-      → lines text' ≡ ls → (result : Result (O × Status) AnswerError) → GivesAnswer left (MeasuresCounts table 1 (lines text')) result
-      → GivesAnswer left (FootprintEitherAnswers text) result
-  line_measured left table text' read same result gives =
-      subst (λ (all : List (List ℕ)). GivesAnswer left (MeasuresEitherParts (take 1 all) 1 (drop 1 all)) result) (sym parts)
-      (counts_measured (line ∷ []) 1 ls left table read result (rw same at gives))
+-- the class line before them in one text
+module _ (bytes line rest : List ℕ) (is : IsLineAndRest bytes line rest) where
+  from_parts : {O : Type 0} (left : O → List ℕ) (result : Result (O × Status) AnswerError)
+      → GivesAnswer left (MeasuresEitherParts (line ∷ []) 1 (lines rest)) result → GivesAnswer left (FootprintEitherAnswers bytes) result
+  from_parts left result gives = by_first_line left (lines bytes) result (rw (is.line_is, is.others) at gives)
+
+  pub line_refused : (error : AnswerError) → GivesPart {A = List ℕ} (Err error) (table_part (table_of_line line))
+      → GivesFault (FootprintEitherAnswers bytes) error
+  line_refused error gives =
+      from_parts {O = List ℕ} (λ text. text) (Err error) (classes_refused (line ∷ []) 1 (lines rest) error gives)
+
+  pub line_measured : {O : Type 0} (left : O → List ℕ) (table : List ℕ) → table_part (table_of_line line) ≡ Ok table
+      → (result : Result (O × Status) AnswerError) → GivesAnswer left (MeasuresCounts table 1 (lines rest)) result
+      → GivesAnswer left (FootprintEitherAnswers bytes) result
+  line_measured left table read result gives =
+      from_parts left result (counts_measured (line ∷ []) 1 (lines rest) left table read result gives)

@@ -10,9 +10,10 @@ use Rattle.mte_engine.specs.Replay.{ReplayAnswers, ReplayOnAnswers}
 use Rattle.mte_engine.specs.Run.{RunAnswers}
 use Rattle.mte_engine.specs.Score.{ScoreAnswers}
 use Rattle.mte_engine.specs.Tune.{TuneAnswers}
-use Rattle.mte_engine.specs.TwoTexts.{answers_beside}
+use Rattle.mte_engine.specs.TwoTexts.{answers_beside_blocks, answers_beside_profile}
 use Rattle.mte_engine.specs.declared.fault.InputFault.{InputFault}
-use Rattle.mte_engine.specs.declared.two_texts.CountsCommand.TheVariants as counts
+use Rattle.mte_engine.specs.declared.two_texts.BlocksCommand.TheVariants as blocks
+use Rattle.mte_engine.specs.declared.two_texts.ProfileCommand.TheVariants as profile
 use Rattle.tool_call.specs.declared.call.Call.{Call}
 use Rattle.tool_call.specs.declared.call.Call.TheVariants.{Score, Tune, Check, Footprint, Fit, CheckFit, Profile, Replay, Run}
 
@@ -30,9 +31,9 @@ answers_of (Run limits config) = RunAnswers limits.limit limits.step config
 -- The answers of a call whose input is two texts (`has_two_texts`): a class line, a sheet or a fit, and nothing else; and what comes after
 -- it in one text. The lines of a fault are counted in its own text.
 abbrev pub answers_on : Call → List ℕ → List ℕ → Result Answer InputFault → Type 0
-answers_on Score first = answers_beside counts.Score first
-answers_on Check first = answers_beside counts.Check first
-answers_on Footprint first = answers_beside counts.Footprint first
-answers_on CheckFit first = answers_beside counts.CheckFit first
+answers_on Score first = answers_beside_profile profile.Score first
+answers_on Check first = answers_beside_profile profile.Check first
+answers_on Footprint first = answers_beside_blocks blocks.Footprint first
+answers_on CheckFit first = answers_beside_blocks blocks.CheckFit first
 answers_on (Replay config) first = ReplayOnAnswers config first
 answers_on call first = answers_of call

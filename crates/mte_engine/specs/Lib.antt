@@ -2,6 +2,7 @@ pub mod Calls
 pub mod Check
 pub mod CheckFit
 pub mod CheckFitOver
+pub mod CountsInput
 pub mod FaultLines
 pub mod FaultText
 pub mod Fit

@@ -1,5 +1,5 @@
--- The answers of a command over counts to two texts: a class line, a sheet or a fit, and nothing else; and the counts. The lines of a fault
--- are counted in its own text.
+-- The answers of a command to two texts: a class line, a sheet or a fit, and nothing else; and a profile, or a timeline or a history. The lines of a
+-- fault are counted in its own text.
 use Rattle.std.specs.Prelude.{ℕ, List, Result}
 use Rattle.line_text.specs.Lines.{lines}
 use Rattle.potential_check.specs.Leading.{leading_lines, lines_after}
@@ -9,11 +9,15 @@ use Rattle.mte_engine.specs.FootprintOver.{MeasuresEitherParts}
 use Rattle.mte_engine.specs.Outcome.{Answer}
 use Rattle.mte_engine.specs.Score.{ScoresParts}
 use Rattle.mte_engine.specs.declared.fault.InputFault.{InputFault}
-use Rattle.mte_engine.specs.declared.two_texts.CountsCommand.{CountsCommand}
-use Rattle.mte_engine.specs.declared.two_texts.CountsCommand.TheVariants.{Score, Check, Footprint, CheckFit}
+use Rattle.mte_engine.specs.declared.two_texts.BlocksCommand.{BlocksCommand}
+use Rattle.mte_engine.specs.declared.two_texts.BlocksCommand.TheVariants.{Footprint, CheckFit}
+use Rattle.mte_engine.specs.declared.two_texts.ProfileCommand.{ProfileCommand}
+use Rattle.mte_engine.specs.declared.two_texts.ProfileCommand.TheVariants.{Score, Check}
 
-abbrev pub answers_beside : CountsCommand → List ℕ → List ℕ → Result Answer InputFault → Type 0
-answers_beside Score first text = ScoresParts (lines first) 0 (lines text)
-answers_beside Check first text = ChecksParts (leading_lines (lines first)) (lines_after (lines first)) 0 (lines text)
-answers_beside Footprint first text = MeasuresEitherParts (lines first) 0 (lines text)
-answers_beside CheckFit first text = ChecksEitherParts (leading_lines (lines first)) (lines_after (lines first)) 0 (lines text)
+abbrev pub answers_beside_profile : ProfileCommand → List ℕ → List ℕ → Result Answer InputFault → Type 0
+answers_beside_profile Score first text = ScoresParts (lines first) 0 (lines text)
+answers_beside_profile Check first text = ChecksParts (leading_lines (lines first)) (lines_after (lines first)) 0 (lines text)
+
+abbrev pub answers_beside_blocks : BlocksCommand → List ℕ → List ℕ → Result Answer InputFault → Type 0
+answers_beside_blocks Footprint first text = MeasuresEitherParts (lines first) 0 (lines text)
+answers_beside_blocks CheckFit first text = ChecksEitherParts (leading_lines (lines first)) (lines_after (lines first)) 0 (lines text)

@@ -2,6 +2,7 @@
 ghost use Rattle.std.specs.Prelude.{◌≡◌, true};
 ghost use Rattle.mte_engine.specs.Calls.{answers_of, answers_on};
 ghost use Rattle.mte_engine.specs.Outcome.{Runs};
+ghost use Rattle.mte_engine.specs.TwoTexts.{answers_beside_blocks, answers_beside_profile};
 ghost use Rattle.tool_call.specs.Options.{IsValid, has_two_texts};
 
 use crate::checking::check;
@@ -15,7 +16,7 @@ use crate::replaying::replay;
 use crate::running::run;
 use crate::scoring::score;
 use crate::tuning::tune;
-use crate::two_texts::{BesideCounts, BesideTrace, CountsCommand};
+use crate::two_texts::{BesideBlocks, BesideProfile, BesideTrace, BlocksCommand, ProfileCommand};
 use byte_streams::{ByteSink, ByteSource};
 use std::alloc::Global;
 use tool_call::{Call, Limits};
@@ -62,19 +63,44 @@ pub fn run_call_on<R: ByteSource, W: ByteSink>(
     ensures { Runs (answers_on call first.now) (R.state source.old) (R.state source.new)
         W.state sink.old sink.new result }
 {
-    let command = match call {
-        Call::Score => CountsCommand::Score,
-        Call::Check => CountsCommand::Check,
-        Call::Footprint => CountsCommand::Footprint,
-        Call::CheckFit => CountsCommand::CheckFit,
+    match call {
+        Call::Score => beside_profile(alloc, ProfileCommand::Score, first, source, sink),
+        Call::Check => beside_profile(alloc, ProfileCommand::Check, first, source, sink),
+        Call::Footprint => beside_blocks(alloc, BlocksCommand::Footprint, first, source, sink),
+        Call::CheckFit => beside_blocks(alloc, BlocksCommand::CheckFit, first, source, sink),
         Call::Replay(config) => {
             let engine = BesideTrace {
                 config,
                 class: first,
             };
-            return run_engine(alloc, &engine, source, sink);
+            run_engine(alloc, &engine, source, sink)
         }
-        _ => return run_call(call, alloc, source, sink),
-    };
-    run_engine(alloc, &BesideCounts { command, first }, source, sink)
+        _ => run_call(call, alloc, source, sink),
+    }
+}
+
+fn beside_profile<R: ByteSource, W: ByteSink>(
+    alloc: Global,
+    command: ProfileCommand,
+    first: &[u8],
+    source: &mut R,
+    sink: &mut W,
+) -> Result<Status, ToolFault>
+    ensures { Runs (answers_beside_profile command first.now) (R.state source.old) (R.state source.new)
+        W.state sink.old sink.new result }
+{
+    run_engine(alloc, &BesideProfile { command, first }, source, sink)
+}
+
+fn beside_blocks<R: ByteSource, W: ByteSink>(
+    alloc: Global,
+    command: BlocksCommand,
+    first: &[u8],
+    source: &mut R,
+    sink: &mut W,
+) -> Result<Status, ToolFault>
+    ensures { Runs (answers_beside_blocks command first.now) (R.state source.old) (R.state source.new)
+        W.state sink.old sink.new result }
+{
+    run_engine(alloc, &BesideBlocks { command, first }, source, sink)
 }

@@ -1,5 +1,5 @@
 //! `check-fit`: the verdict on a fit, whoever wrote it, over a history or over every moment of a timeline.
-ghost use Rattle.std.specs.Prelude.{◌≡◌, IfOk};
+ghost use Rattle.std.specs.Prelude.{◌≡◌, IfOk, List, ℕ};
 ghost use Rattle.byte_streams.specs.TextLeft.{text_left};
 ghost use Rattle.potential_check.specs.Certificates.SheetView.{sheet_of};
 ghost use Rattle.history_count.specs.HistoryText.{history_of};
@@ -8,15 +8,18 @@ ghost use Rattle.potential_check.specs.Leading.{leading_lines, lines_after};
 ghost use Rattle.mte_engine.specs.Check.{verdict_text_by};
 ghost use Rattle.mte_engine.specs.CheckFit.{IsFitChecked};
 ghost use Rattle.mte_engine.specs.CheckFitOver.{CheckFitEitherAnswers, ChecksEitherParts};
+ghost use Rattle.mte_engine.specs.CountsInput.{HasTakenCounts};
 ghost use Rattle.mte_engine.specs.Outcome.{GivesAnswer, Runs};
 ghost use Rattle.mte_engine.specs.Parts.{AnswersPart, AreFewLines, history_part};
 ghost use Rattle.tuner_theory.specs.RefusalText.{shown_fit_refusal};
 
+use crate::counts_input::{CountsInput, read_as_history};
 use crate::engine::{Engine, Status, run_engine};
 use crate::fault::{AnswerError, InputFault, ToolFault};
 use crate::fit_checking_over::{begins_moments, check_after_moments, check_beside_moments};
 use crate::input_parts::{end_text, read_history, read_leading};
 use byte_streams::{ByteSink, ByteSource, Text, WholeText};
+use history_count::History;
 use potential_check::{Fit, Verdict, check_fit as verdict_on};
 use std::alloc::{AllocError, Global};
 use tuner_theory::FitRefusal;
@@ -67,21 +70,21 @@ fn check_fit_text(alloc: Global, text: &[u8]) -> Result<(Text, Status), AnswerEr
     check_history(alloc, &leading.sheet, leading.rest, leading.lines)
 }
 
-/// The answer to a fit's text and that of a history or a timeline, by the line after the fit in its text.
+/// The answer to a fit's text and a history or a timeline, by the line after the fit in its text.
 pub(crate) fn check_fit_texts(
     alloc: Global,
     fit: &[u8],
-    text: &[u8],
+    counts: CountsInput,
 ) -> Result<(Text, Status), AnswerError>
-    ensures { GivesAnswer text_left
-        (ChecksEitherParts (leading_lines (lines fit.now)) (lines_after (lines fit.now)) 0 (lines text.now)) result }
+    ensures { (text : List ℕ) → HasTakenCounts counts text → GivesAnswer text_left
+        (ChecksEitherParts (leading_lines (lines fit.now)) (lines_after (lines fit.now)) 0 (lines text)) result }
 {
     let leading = read_leading(alloc, fit)?;
     if begins_moments(leading.rest) {
-        return check_beside_moments(alloc, &leading.sheet, leading.rest, leading.lines, text);
+        return check_beside_moments(alloc, &leading.sheet, leading.rest, leading.lines, counts);
     }
     end_text(leading.rest, InputFault::BadFit(leading.lines + 1))?;
-    check_history(alloc, &leading.sheet, text, 0)
+    check_beside_history(alloc, &leading.sheet, counts)
 }
 
 // the answer to a fit and the history's text that follows this many lines
@@ -96,8 +99,30 @@ fn check_history(
         (λ history answer. IsFitChecked (sheet_of fit.now) history answer)) result }
 {
     let history = read_history(alloc, text, lines)?;
-    let verdict = verdict_on(alloc, &history, fit)?;
-    Ok(answer_for(alloc, verdict)?)
+    Ok(check_against(alloc, fit, &history)?)
+}
+
+// the answer to a fit and a history of a text of its own
+fn check_beside_history(
+    alloc: Global,
+    fit: &Fit,
+    counts: CountsInput,
+) -> Result<(Text, Status), AnswerError>
+    ensures { (text : List ℕ) → HasTakenCounts counts text
+        → GivesAnswer text_left (AnswersPart (history_part 0 (history_of text))
+        (λ history answer. IsFitChecked (sheet_of fit.now) history answer)) result }
+{
+    let history = read_as_history(alloc, counts, 0)?;
+    Ok(check_against(alloc, fit, &history)?)
+}
+
+// the answer to a fit and a history
+fn check_against(alloc: Global, fit: &Fit, history: &History) -> Result<(Text, Status), AllocError>
+    ensures { IfOk result (λ answered.
+        IsFitChecked (sheet_of fit.now) history.now (record { text = text_left answered.0; status = answered.1 })) }
+{
+    let verdict = verdict_on(alloc, history, fit)?;
+    answer_for(alloc, verdict)
 }
 
 // the text and the status of a verdict

@@ -5,14 +5,17 @@ ghost use Rattle.potential_check.specs.Certificates.SheetView.{sheet_of};
 ghost use Rattle.line_text.specs.Lines.{lines};
 ghost use Rattle.history_count.specs.Timelines.TimelineText.{timeline_of, timeline_of_lines};
 ghost use Rattle.mte_engine.specs.CheckFitOver.{IsCheckedOver, begins_moments, moments_part, over_verdict_text, whole_moments_part};
+ghost use Rattle.mte_engine.specs.CountsInput.{HasTakenCounts};
 ghost use Rattle.mte_engine.specs.Outcome.{GivesAnswer};
 ghost use Rattle.mte_engine.specs.Parts.{AnswersPart, AreFewLines, GivesPart, both_parts, timeline_part};
 ghost use Rattle.potential_check.specs.Footprints.Timelines.MomentsLine.{moments_of};
 
+use crate::counts_input::{CountsInput, read_as_timeline};
 use crate::engine::Status;
 use crate::fault::{AnswerError, InputFault};
 use crate::input_parts::{end_text, read_timeline};
 use byte_streams::Text;
+use history_count::Timeline;
 use line_text::lines_in;
 use potential_check::{Fit, OverVerdict, check_over, moments_in, names_moments};
 use std::alloc::{AllocError, Global};
@@ -48,21 +51,36 @@ pub(crate) fn check_after_moments(
     check_timeline(alloc, fit, &numbers, lines.rest(), number)
 }
 
-/// The answer to a fit, to what is left of its text after this many lines, which is the line of its moments, and to a timeline's text.
+/// The answer to a fit, to what is left of its text after this many lines, which is the line of its moments, and to a timeline.
 pub(crate) fn check_beside_moments(
     alloc: Global,
     fit: &Fit,
     rest: &[u8],
     before: u64,
-    text: &[u8],
+    counts: CountsInput,
 ) -> Result<(Text, Status), AnswerError>
     requires { AreFewLines (before + 1) }
-    ensures { GivesAnswer text_left (AnswersPart (both_parts (whole_moments_part before (lines rest.now))
-        (timeline_part 0 (timeline_of text.now)))
+    ensures { (text : List ℕ) → HasTakenCounts counts text → GivesAnswer text_left
+        (AnswersPart (both_parts (whole_moments_part before (lines rest.now)) (timeline_part 0 (timeline_of text)))
         (λ parts answer. IsCheckedOver (sheet_of fit.now) parts.0 parts.1 answer)) result }
 {
     let numbers = read_whole_moments(alloc, rest, before)?;
-    check_timeline(alloc, fit, &numbers, text, 0)
+    check_beside_timeline(alloc, fit, &numbers, counts)
+}
+
+// the answer to a fit with its moments and a timeline of a text of its own
+fn check_beside_timeline(
+    alloc: Global,
+    fit: &Fit,
+    numbers: &[usize],
+    counts: CountsInput,
+) -> Result<(Text, Status), AnswerError>
+    ensures { (text : List ℕ) → HasTakenCounts counts text
+        → GivesAnswer text_left (AnswersPart (timeline_part 0 (timeline_of text))
+        (λ events answer. IsCheckedOver (sheet_of fit.now) numbers.now events answer)) result }
+{
+    let timeline = read_as_timeline(alloc, counts, 0)?;
+    Ok(check_against(alloc, fit, numbers, &timeline)?)
 }
 
 // the answer to a fit with its moments and the timeline's text that follows this many lines
@@ -78,8 +96,21 @@ fn check_timeline(
         (λ events answer. IsCheckedOver (sheet_of fit.now) numbers.now events answer)) result }
 {
     let timeline = read_timeline(alloc, text, before)?;
-    let verdict = check_over(alloc, &timeline, numbers, fit)?;
-    Ok(answer_for(alloc, verdict)?)
+    Ok(check_against(alloc, fit, numbers, &timeline)?)
+}
+
+// the answer to a fit with its moments and a timeline
+fn check_against(
+    alloc: Global,
+    fit: &Fit,
+    numbers: &[usize],
+    timeline: &Timeline,
+) -> Result<(Text, Status), AllocError>
+    ensures { IfOk result (λ answered. IsCheckedOver (sheet_of fit.now) numbers.now timeline.now
+        (record { text = text_left answered.0; status = answered.1 })) }
+{
+    let verdict = check_over(alloc, timeline, numbers, fit)?;
+    answer_for(alloc, verdict)
 }
 
 // the numbers of the moments that a text names, which is one line and follows this many lines of the fit

@@ -1,16 +1,19 @@
 //! `fit`: the class table of least footprint over a history, or over every moment of a timeline, with its certificate.
+ghost use Rattle.std.specs.Prelude.{List, ℕ};
+ghost use Rattle.mte_engine.specs.CountsInput.{HasTakenCounts};
 ghost use Rattle.mte_engine.specs.Fit.{FitAnswers};
 ghost use Rattle.mte_engine.specs.FitOver.{FitEitherAnswers};
 ghost use Rattle.mte_engine.specs.Outcome.{GivesAnswer, Runs};
 ghost use Rattle.mte_engine.specs.SheetLeft.{sheet_left};
 ghost use Rattle.mte_engine.specs.Tune.{AreTuneOptions};
 
+use crate::counts_input::{Counts, CountsInput, read_counts};
 use crate::engine::{Engine, Status, run_engine};
 use crate::fault::{AnswerError, ToolFault};
-use crate::fitting_over::fit_over_text;
-use crate::input_parts::{begins_timeline, read_history};
+use crate::fitting_over::fit_over_timeline;
+use crate::input_parts::read_history;
 use crate::sheet_writing::SheetText;
-use byte_streams::{ByteSink, ByteSource, WholeText};
+use byte_streams::{ByteSink, ByteSource};
 use std::alloc::{AllocError, Global};
 
 /// Reads a history or a timeline, and writes the fit of its table of least footprint. Of all tables that have at most `limit` (1 to 32) classes, all of
@@ -21,7 +24,7 @@ use std::alloc::{AllocError, Global};
 ///
 /// Of a timeline the footprint is that over every moment, the rows are those over the moments that the line after them names, and the table
 /// is the one that would be fitted over all. Where that is not shown after 1,024 rounds, the text is a table with its footprint and what no
-/// table takes less than, with the status of a no.
+/// table takes less than, with the status of a no. No text of a timeline is kept.
 ///
 /// Faults of the input (`Input`), in this order: that it is too long; the fault of the history or the timeline. `ToolFault` has the other faults, and what
 /// the sink took when one comes.
@@ -55,36 +58,43 @@ struct FitEngine {
 }
 
 impl Engine for FitEngine {
-    type Input = WholeText;
+    type Input = CountsInput;
 
     type Output = SheetText;
 
     ghost answers = { λ e. FitEitherAnswers e.limit e.step e.forced };
 
-    fn input(&self, alloc: Global) -> Result<WholeText, AllocError> {
-        Ok(WholeText::new(alloc))
+    fn input(&self, alloc: Global) -> Result<CountsInput, AllocError> {
+        CountsInput::new(alloc)
     }
 
-    fn answer(&self, alloc: Global, input: WholeText) -> Result<(SheetText, Status), AnswerError> {
-        fit_either(alloc, self.limit, self.step, self.forced, &input.text)
+    fn answer(
+        &self,
+        alloc: Global,
+        input: CountsInput,
+    ) -> Result<(SheetText, Status), AnswerError> {
+        fit_either(alloc, self.limit, self.step, self.forced, input)
     }
 }
 
-// the answer to a text, by its first line
+// the answer to a timeline or a history
 fn fit_either(
     alloc: Global,
     limit: u8,
     step: u8,
     forced: bool,
-    text: &[u8],
+    input: CountsInput,
 ) -> Result<(SheetText, Status), AnswerError>
     requires options { AreTuneOptions limit step }
-    ensures { GivesAnswer sheet_left (FitEitherAnswers limit step forced text.now) result }
+    ensures { (bytes : List ℕ) → HasTakenCounts input bytes
+        → GivesAnswer sheet_left (FitEitherAnswers limit step forced bytes) result }
 {
-    if begins_timeline(text) {
-        return fit_over_text(alloc, limit, step, forced, text);
+    match read_counts(alloc, input, 0)? {
+        Counts::Timeline(timeline) => {
+            Ok(fit_over_timeline(alloc, limit, step, forced, &timeline)?)
+        }
+        Counts::Text(text) => fit_text(alloc, limit, step, forced, &text),
     }
-    fit_text(alloc, limit, step, forced, text)
 }
 
 // the answer to a history's text

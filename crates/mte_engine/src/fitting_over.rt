@@ -2,33 +2,31 @@
 ghost use Rattle.std.specs.Prelude.{◌≡◌, ◌++◌, IfOk};
 ghost use Rattle.potential_check.specs.Certificates.SheetView.{sheet_of};
 ghost use Rattle.line_text.specs.Lines.{text_of};
-ghost use Rattle.mte_engine.specs.FitOver.{FitOverAnswers, between_lines, least_text};
-ghost use Rattle.mte_engine.specs.Outcome.{GivesAnswer};
+ghost use Rattle.mte_engine.specs.FitOver.{IsFoundText, between_lines, least_text};
 ghost use Rattle.mte_engine.specs.SheetLeft.{sheet_left};
 ghost use Rattle.mte_engine.specs.Tune.{AreTuneOptions};
 
 use crate::engine::Status;
-use crate::fault::AnswerError;
-use crate::input_parts::read_timeline;
 use crate::sheet_writing::SheetText;
 use class_table::ClassTable;
 use class_tuner::{Found, MOST_ROUNDS, fit_over};
+use history_count::Timeline;
 use potential_check::{Fit, MOMENTS, append_line, append_table, write_sheet};
 use std::alloc::{AllocError, Global};
 
-/// The answer to a timeline's text.
-pub(crate) fn fit_over_text(
+/// The answer to a timeline.
+pub(crate) fn fit_over_timeline(
     alloc: Global,
     limit: u8,
     step: u8,
     forced: bool,
-    text: &[u8],
-) -> Result<(SheetText, Status), AnswerError>
+    timeline: &Timeline,
+) -> Result<(SheetText, Status), AllocError>
     requires options { AreTuneOptions limit step }
-    ensures { GivesAnswer sheet_left (FitOverAnswers limit step forced text.now) result }
+    ensures { IfOk result (λ answered. IsFoundText limit step forced timeline.now
+        (record { text = sheet_left answered.0; status = answered.1 })) }
 {
-    let timeline = read_timeline(alloc, text, 0)?;
-    let fitted = fit_over(alloc, &timeline, limit, step, forced, MOST_ROUNDS)?;
+    let fitted = fit_over(alloc, timeline, limit, step, forced, MOST_ROUNDS)?;
     match fitted.found {
         Found::Least { fit, numbers } => {
             let text = text_of_least(alloc, &fit, &numbers)?;

@@ -7,6 +7,7 @@
 
 mod call;
 mod checking;
+mod counts_input;
 mod engine;
 mod fault;
 mod fit_checking;
@@ -15,6 +16,7 @@ mod fitting;
 mod fitting_over;
 mod input_parts;
 pub mod laws;
+mod line_and_counts;
 mod measuring;
 mod measuring_over;
 mod profiling;

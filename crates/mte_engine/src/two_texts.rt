@@ -3,10 +3,11 @@ ghost use Rattle.std.specs.Prelude.{◌≡◌, false};
 ghost use Rattle.heap_theory.specs.Config.{IsConfig};
 ghost use Rattle.mte_engine.specs.Replay.{ReplayOnAnswers};
 ghost use Rattle.mte_engine.specs.Traces.{KeepsEvents};
-ghost use Rattle.mte_engine.specs.TwoTexts.{answers_beside};
+ghost use Rattle.mte_engine.specs.TwoTexts.{answers_beside_blocks, answers_beside_profile};
 ghost use Rattle.trace_reader.specs.Reading.{is_finished};
 
 use crate::checking::check_texts;
+use crate::counts_input::CountsInput;
 use crate::engine::{Engine, Status};
 use crate::fault::AnswerError;
 use crate::fit_checking::check_fit_texts;
@@ -20,28 +21,26 @@ use replay_core::Config;
 use std::alloc::{AllocError, Global};
 use trace_reader::{TraceReader, Unobserved};
 
-/// A command over counts, which come after a first text.
+/// A command over a profile, which comes after a first text.
 #[derive(Clone, Copy)]
-pub(crate) enum CountsCommand {
+pub(crate) enum ProfileCommand {
     Score,
     Check,
-    Footprint,
-    CheckFit,
 }
 
 /// Such a command with its first text.
 #[derive(Drop)]
-pub(crate) struct BesideCounts<'a> {
-    pub(crate) command: CountsCommand,
+pub(crate) struct BesideProfile<'a> {
+    pub(crate) command: ProfileCommand,
     pub(crate) first: &'a [u8],
 }
 
-impl<'a> Engine for BesideCounts<'a> {
+impl<'a> Engine for BesideProfile<'a> {
     type Input = WholeText;
 
     type Output = Text;
 
-    ghost answers = { λ e. answers_beside e.command e.first.now };
+    ghost answers = { λ e. answers_beside_profile e.command e.first.now };
 
     fn input(&self, alloc: Global) -> Result<WholeText, AllocError> {
         Ok(WholeText::new(alloc))
@@ -49,10 +48,41 @@ impl<'a> Engine for BesideCounts<'a> {
 
     fn answer(&self, alloc: Global, input: WholeText) -> Result<(Text, Status), AnswerError> {
         match self.command {
-            CountsCommand::Score => score_of_texts(alloc, self.first, &input.text),
-            CountsCommand::Check => check_texts(alloc, self.first, &input.text),
-            CountsCommand::Footprint => footprint_of_texts(alloc, self.first, &input.text),
-            CountsCommand::CheckFit => check_fit_texts(alloc, self.first, &input.text),
+            ProfileCommand::Score => score_of_texts(alloc, self.first, &input.text),
+            ProfileCommand::Check => check_texts(alloc, self.first, &input.text),
+        }
+    }
+}
+
+/// A command over a timeline or a history, which comes after a first text.
+#[derive(Clone, Copy)]
+pub(crate) enum BlocksCommand {
+    Footprint,
+    CheckFit,
+}
+
+/// Such a command with its first text.
+#[derive(Drop)]
+pub(crate) struct BesideBlocks<'a> {
+    pub(crate) command: BlocksCommand,
+    pub(crate) first: &'a [u8],
+}
+
+impl<'a> Engine for BesideBlocks<'a> {
+    type Input = CountsInput;
+
+    type Output = Text;
+
+    ghost answers = { λ e. answers_beside_blocks e.command e.first.now };
+
+    fn input(&self, alloc: Global) -> Result<CountsInput, AllocError> {
+        CountsInput::new(alloc)
+    }
+
+    fn answer(&self, alloc: Global, input: CountsInput) -> Result<(Text, Status), AnswerError> {
+        match self.command {
+            BlocksCommand::Footprint => footprint_of_texts(alloc, self.first, input),
+            BlocksCommand::CheckFit => check_fit_texts(alloc, self.first, input),
         }
     }
 }

@@ -100,7 +100,7 @@ ends_by means refused call s s' state sink sink' errors (Err WriteFault) new-s n
   told WriteFault refl,
 )
 
-pub run_of_call : {W : Type 0} (means : Call → Type 0) (refused : Refusal → Type 0) (call : Call) (s s' : SourceState) (state : W → SinkState) (sink sink' : W)
+run_of_call : {W : Type 0} (means : Call → Type 0) (refused : Refusal → Type 0) (call : Call) (s s' : SourceState) (state : W → SinkState) (sink sink' : W)
     (first errors : SinkState) (result : Result Status ToolFault) → AreNew s (state sink) first → means call
     → Runs (answers_of call) s s' state sink sink' result
     → ((fault : ToolFault) → result ≡ Err fault → WasToldFault errors fault)
@@ -110,6 +110,12 @@ run_of_call means refused call s s' state sink sink' first errors result new is 
   write_fault = fault_is_end result (Err WriteFault) (state sink).failed (state sink').failed new.no_write_failed runs.write_fault;
   ends = ends_by means refused call s s' state sink sink' errors result new.given new.written is runs told;
 }
+
+pub run_done : {W : Type 0} (means : Call → Type 0) (refused : Refusal → Type 0) (call : Call) (s s' : SourceState) (state : W → SinkState) (sink sink' : W)
+    (first errors : SinkState) (status : Status) → AreNew s (state sink) first → means call
+    → Runs (answers_of call) s s' state sink sink' (Ok status) → HasRun means refused s' (state sink') errors (Ended (Ok status))
+run_done means refused call s s' state sink sink' first errors status new is runs =
+    run_of_call means refused call s s' state sink sink' first errors (Ok status) new is runs (λ fault e. absurd cc)
 
 fault_of : Result Status ToolFault → ToolFault
 fault_of (Ok status) = OutOfMemory

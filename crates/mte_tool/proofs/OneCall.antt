@@ -1,12 +1,12 @@
 -- The words mean at most one call.
-use Rattle.std.proofs.Common.{◌≡◌, ◌∙◌, ℕ, List, Option, Some, None, ap, codes, if◌then◌else◌, refl, subst, sym}
-use Rattle.std.specs.Str.{bytes_eq}
+use Rattle.std.proofs.Common.{◌≡◌, ◌∙◌, ℕ, List, Option, Some, None, ap, refl, subst, sym}
 use Rattle.std.specs.Str.Parse.{without_leading_plus, digits_value}
 use Rattle.clap.specs.Words.{Row, Text, subcommand_of}
-use Rattle.command_words.specs.AcceptedWords.{name_of, program}
+use Rattle.command_words.specs.AcceptedWords.{program}
 use Rattle.command_words.specs.Calls.{IsCall, Names}
 use Rattle.command_words.specs.Options.{HasConfig, HasLimits, HasNumber, HasOptions}
 use Rattle.command_words.specs.Words.{Mean}
+use Rattle.command_words.proofs.LawLemmas.{same_command}
 use Rattle.heap_theory.specs.declared.config.Config.{Config}
 use Rattle.tool_call.specs.Options.{call_of, config_of, limits_of}
 use Rattle.tool_call.specs.declared.call.Call.{Call}
@@ -15,33 +15,6 @@ use Rattle.tool_call.specs.declared.call.CommandName.{CommandName}
 use Rattle.tool_call.specs.declared.call.CommandName.TheVariants.{Score, Tune, Check, Footprint, Fit, CheckFit, Profile, Replay, Run}
 use Rattle.tool_call.specs.declared.options.Limits.{Limits}
 use Rattle.tool_call.specs.declared.options.Options.{Options}
-
-named : Text → CommandName
-named name =
-    if bytes_eq name (codes "score") then Score
-    else if bytes_eq name (codes "tune") then Tune
-    else if bytes_eq name (codes "check") then Check
-    else if bytes_eq name (codes "footprint") then Footprint
-    else if bytes_eq name (codes "fit") then Fit
-    else if bytes_eq name (codes "check-fit") then CheckFit
-    else if bytes_eq name (codes "profile") then Profile
-    else if bytes_eq name (codes "replay") then Replay
-    else Run
-
-named_back : (command : CommandName) → named (name_of command) ≡ command
-unfolding named
-named_back Score = refl
-named_back Tune = refl
-named_back Check = refl
-named_back Footprint = refl
-named_back Fit = refl
-named_back CheckFit = refl
-named_back Profile = refl
-named_back Replay = refl
-named_back Run = refl
-
-same_command : (a b : CommandName) → name_of a ≡ name_of b → a ≡ b
-same_command a b same = sym (named_back a) ∙ ap named same ∙ named_back b
 
 the_text : Option Text → Text → Text
 the_text (Some text) other = text

@@ -8,7 +8,7 @@ use Rattle.std.proofs.lemmas.List.Sums.{sum_by-cons}
 use Rattle.std.proofs.Math.Nat.{mul-le-mul}
 use Rattle.class_table.specs.Sizes.{largest_counted}
 use Rattle.class_table.proofs.LawLemmas.{AreClassesAbove, classes_of_legal_table}
-use Rattle.tuner_theory.specs.Footprint.{blocks_between, footprint_between, footprint_of, is_class_of}
+use Rattle.tuner_theory.specs.Footprint.{blocks, blocks_between, footprint_between, footprint_of, is_class_of}
 use Rattle.tuner_theory.specs.Histories.{AreSnapshots, most, peaks}
 use Rattle.tuner_theory.specs.Intervals.{IsIntervalCost, IsSumOfIntervals, cost_above}
 use Rattle.tuner_theory.specs.Profiles.{IsCounted}
@@ -124,6 +124,29 @@ module _ (step : ℕ) (pos : 0 < step) where
         (λ n within. at-later (rounded_need step n) low c (slice_index s n) _ _ above.0
         (λ le. first-is c class n cs le ∙ other-number c class over) (λ lt. later-is c class n cs (omega (arith, above.0)) above.2 lt))
 
+  above-each : (low j : ℕ) (classes : List ℕ) → AreClassesAbove step low classes → j < length classes → low < get_or classes j 0
+  above-each low j [] above lt = absurd (omega arith)
+  above-each low zero (c ∷ cs) above lt = above.0
+  above-each low (suc j) (c ∷ cs) above lt = omega (arith, above.0, above-each c j cs above.3 (omega arith))
+
+  blocks-at : (low j : ℕ) (classes s : List ℕ) → 1 ≤ low → AreClassesAbove step low classes → j < length classes
+      → blocks_above step low classes (get_or classes j 0) s ≡ blocks_between step (get_or (low ∷ classes) j 0) (get_or classes j 0) s
+  blocks-at low j [] s one above lt = absurd (omega arith)
+  blocks-at low zero (c ∷ cs) s one above lt = blocks-first low c cs one above s
+  blocks-at low (suc j) (c ∷ cs) s one above lt =
+      blocks-later low c cs one above (get_or cs j 0) (above-each c j cs above.3 (omega arith)) s
+      ∙ blocks-at c j cs s (omega (arith, above.0)) above.3 (omega arith)
+
+  needed : (x v : ℕ) → 2 ≤ x → v ≡ cond (ltb 1 x) v 0
+  needed x v two = grind (arith, nat_tests)
+
+  -- The blocks of a class are those between the class before it and itself.
+  pub blocks-of_number : (j : ℕ) (classes s : List ℕ) → AreClassesAbove step 1 classes → j < length classes
+      → blocks classes (get_or classes j 0) s ≡ blocks_between step (get_or (1 ∷ classes) j 0) (get_or classes j 0) s
+  blocks-of_number j classes s above lt =
+      sum_same _ _ (length s) (λ n within. needed (rounded_need step n) _ (rounded-positive step pos n))
+      ∙ blocks-at 1 j classes s (omega arith) above lt
+
   -- what holds of each class above c
   pub sum-later : (f g : ℕ → ℕ) (c low : ℕ) (classes : List ℕ) → ((class : ℕ) → c < class → f class ≡ g class) → c ≤ low
       → AreClassesAbove step low classes → sum_by f classes ≡ sum_by g classes
@@ -156,9 +179,6 @@ module _ (step : ℕ) (pos : 0 < step) where
       → footprint_of snapshots classes ≡ sum_by (footprint_above snapshots step 1 classes) classes
   footprint-all snapshots classes above =
       sum-later _ _ 1 1 classes (grind (arith, most-same, sum_same, needed, rounded-positive)) (omega arith) above
-    where
-      needed : (x v : ℕ) → 2 ≤ x → v ≡ cond (ltb 1 x) v 0
-      needed x v two = grind (arith, nat_tests)
 
 -- where more is counted than the peaks,
 pub footprint-cost_on : (snapshots : List (List ℕ)) (counts : List ℕ) (step : ℕ) → AreSnapshots snapshots

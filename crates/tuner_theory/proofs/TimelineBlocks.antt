@@ -18,7 +18,7 @@ use Rattle.tuner_theory.proofs.TimelineSteps.{frees_at, freed-more, requested-mo
 
 -- ---- one event
 
-sum-one : (p : ℕ → Bool) (size m : ℕ)
+pub sum-one : (p : ℕ → Bool) (size m : ℕ)
     → sum_below (λ n. cond (p n) (cond (eqb size n) 1 0) 0) m ≡ cond (ltb size m) (cond (p size) 1 0) 0
 sum-one p size zero = sum_below-none (λ n. cond (p n) (cond (eqb size n) 1 0) 0) ∙ grind (arith, nat_tests)
 sum-one p size (suc m) =

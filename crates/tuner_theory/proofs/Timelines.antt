@@ -46,7 +46,7 @@ unfolding moments
 moment-at events moment d le =
     get_or-map-range_with_len (snapshot_at events) 0 (length events + 1) moment moment d (omega arith) (omega arith)
 
-snapshot-counts : (events : List SizeEvent) (moment : ℕ) → IsTimeline events → AreCounts (snapshot_at events moment)
+pub snapshot-counts : (events : List SizeEvent) (moment : ℕ) → IsTimeline events → AreCounts (snapshot_at events moment)
 snapshot-counts events moment timeline = record {
   sizes = snapshot-length events moment;
   in_range = λ n d lt.

@@ -9,6 +9,7 @@ mod run_texts;
 pub mod score_texts;
 mod streams_failing;
 mod support;
+mod timeline_texts;
 mod trace_faults;
 mod tune_texts;
 mod two_texts;

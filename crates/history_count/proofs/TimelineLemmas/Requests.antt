@@ -14,13 +14,13 @@ use Rattle.tuner_theory.proofs.TimelineSteps.{frees_at, freed-more, largest_is_l
 use Rattle.history_count.specs.Timelines.Requests.{Decides, IsFirstLive, IsLargest, IsLargestSoFar, IsLeastSoFar, IsLeastUnserved}
 
 -- how many requests of a size there are after one event more
-requested-next : (events : List SizeEvent) (k n : ℕ) (event : SizeEvent) → k < length events → get_or events k (Request 0) ≡ event
+pub requested-next : (events : List SizeEvent) (k n : ℕ) (event : SizeEvent) → k < length events → get_or events k (Request 0) ≡ event
     → requested (take (k + 1) events) n ≡ requested (take k events) n + requests_at n event
 requested-next events k n event lt is =
     ap (λ j. requested (take j events) n) (add-one k) ∙ requested-more events k n (Request 0) lt
     ∙ ap (λ e. requested (take k events) n + requests_at n e) is
 
-own-request : (n : ℕ) → requests_at n (Request n) ≡ 1
+pub own-request : (n : ℕ) → requests_at n (Request n) ≡ 1
 own-request n = grind (arith, nat_tests)
 
 other-request : (m n : ℕ) → m ≢ n → requests_at m (Request n) ≡ 0
@@ -47,7 +47,7 @@ largest_none events = record {
 }
 
 -- a size that was not requested up to a moment was not live before
-unrequested-before : (events : List SizeEvent) (k earlier n : ℕ) → earlier ≤ k → n ≤ largest_counted → requested (take k events) n ≡ 0
+pub unrequested-before : (events : List SizeEvent) (k earlier n : ℕ) → earlier ≤ k → n ≤ largest_counted → requested (take k events) n ≡ 0
     → slice_index (snapshot_at events earlier) n ≡ 0
 unrequested-before events k earlier n le counted none =
     omega (

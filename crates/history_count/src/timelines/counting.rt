@@ -73,15 +73,15 @@ fn count_event(
 
 // the number of the class of a size that is counted
 #[inline(always)]
-fn counted_class(layout: &Layout, n: u32) -> Option<usize>
+fn counted_class(layout: &Layout, n: u16) -> Option<usize>
     ensures some { IfSome result (λ number.
         (n ≤ largest_counted) × (class_number_for layout.now.classes n ≡ Some number) × (number < length layout.now.classes)) }
     ensures none { IfNone result ((largest_counted < n) ⊎ (class_number_for layout.now.classes n ≡ None)) }
 {
-    if n > LARGEST_COUNTED {
+    if n as u32 > LARGEST_COUNTED {
         return None;
     }
-    layout.find(n)
+    layout.find(n as u32)
 }
 
 // a block of a class becomes live

@@ -18,7 +18,7 @@ pub const TIMELINE: &[u8] = b"timeline";
 const LARGE: &[u8] = b"large";
 
 /// The size by which all larger sizes go.
-pub(crate) const LARGE_SIZE: u32 = LARGEST_COUNTED + 1;
+pub(crate) const LARGE_SIZE: u16 = LARGEST_COUNTED as u16 + 1;
 
 /// Takes the next line: the event that it spells, or none. `None` if no line is left.
 #[inline(always)]
@@ -60,7 +60,7 @@ fn next_counted(lines: &mut Lines<'_>) -> Option<SizeEvent>
 
 // the counted size that is the first line of a text, and the lines after it; `None` if that line is anything else
 #[inline(always)]
-fn size_line(text: &[u8]) -> Option<(u32, Lines<'_>)>
+fn size_line(text: &[u8]) -> Option<(u16, Lines<'_>)>
     ensures size { IfSome result (λ found.
         option_and_then (λ line. counted_size (number_of line)) (slice_get (lines text.now) 0) ≡ Some found.0) }
     ensures counted { IfSome result (λ found. found.0 ≤ largest_counted) }
@@ -71,7 +71,7 @@ fn size_line(text: &[u8]) -> Option<(u32, Lines<'_>)>
     if n > u64::from(LARGEST_COUNTED) {
         return None;
     }
-    Some((n as u32, lines))
+    Some((n as u16, lines))
 }
 
 // the event that a line spells
@@ -89,7 +89,7 @@ fn event_in(line: &[u8]) -> Option<SizeEvent>
 }
 
 // the size that a word spells
-fn size_in(word: &[u8]) -> Option<u32>
+fn size_in(word: &[u8]) -> Option<u16>
     ensures size { result ≡ size_in word.now }
     ensures small { IfSome result (λ n. n ≤ large_size) }
 {
@@ -100,5 +100,5 @@ fn size_in(word: &[u8]) -> Option<u32>
     if size > LARGEST_COUNTED {
         return None;
     }
-    Some(size)
+    Some(size as u16)
 }

@@ -1,10 +1,9 @@
 //! How a text spells a timeline.
 ghost use Rattle.history_count.specs.Timelines.TimelineText.{GivesTimeline, timeline_of};
 
-use crate::timelines::counting::zeros;
 use crate::timelines::fault::{TimelineError, TimelineFault};
-use crate::timelines::line::{TIMELINE, next_in};
-use crate::timelines::live::{SIZES, followed_by};
+use crate::timelines::line::TIMELINE;
+use crate::timelines::reader::TimelineReader;
 use crate::timelines::timeline::Timeline;
 use line_text::lines_in;
 use std::alloc::Global;
@@ -23,16 +22,8 @@ impl Timeline {
         if first != TIMELINE {
             return Err(TimelineError::Line(1, TimelineFault::BadTimeline));
         }
-        let mut live = zeros(alloc, SIZES)?;
-        let mut events = Vec::new(alloc);
-        let mut number = 1;
-        'lines: while let Some(event) = next_in(&mut lines) {
-            number += 1;
-            match followed_by(&events, &mut live, event) {
-                Ok(event) => events.push(event)?,
-                Err(fault) => return Err(TimelineError::Line(number, fault)),
-            }
-        }
-        Ok(Timeline::new(events))
+        let mut reader = TimelineReader::new(alloc)?;
+        reader.feed(lines.rest())?;
+        reader.finish()
     }
 }

@@ -1,11 +1,12 @@
-//! Which request of a timeline a table does not serve, and the moment that decides whether there is one.
+//! Which request of a timeline a table does not serve, and the largest of the requests.
 ghost use Rattle.std.specs.Prelude.{◌≡◌, ◌+◌, ◌<◌, ◌≤◌, ℕ, IfNone, IfSome, IsSome, length};
 ghost use Rattle.class_table.specs.Sizes.{largest_counted};
 ghost use Rattle.class_table.specs.Tables.{class_for};
-ghost use Rattle.history_count.specs.Timelines.Requests.{Decides, IsFirstLive, IsLargest, IsLargestSoFar, IsLeastSoFar, IsLeastUnserved};
+ghost use Rattle.history_count.specs.Timelines.Requests.{IsLargestSoFar, IsLeastSoFar, IsLeastUnserved};
 ghost use Rattle.tuner_theory.specs.Timelines.{IsTimeline, requested};
 
-use class_table::{ClassTable, FEWEST_GRANULES, LARGEST_COUNTED, Layout};
+use crate::timelines::line::LARGE_SIZE;
+use class_table::{ClassTable, FEWEST_GRANULES, Layout};
 use tuner_theory::SizeEvent;
 
 /// The least counted size that is requested and has no class in the table. `None` if the table serves the timeline.
@@ -17,19 +18,19 @@ pub fn unserved_over(events: &[SizeEvent], table: &ClassTable) -> Option<u32>
     // any region's layout finds a class at once
     let layout = Layout::new(table, FEWEST_GRANULES);
     // no size below this one lacks a class
-    let mut least = LARGEST_COUNTED + 1;
+    let mut least = LARGE_SIZE;
     for k in 0..events.len() {
         least = least_unserved(events, k, &layout, least);
     }
-    if least > LARGEST_COUNTED {
+    if least >= LARGE_SIZE {
         return None;
     }
-    Some(least)
+    Some(least as u32)
 }
 
 // the least size without a class after one event more
 #[inline(always)]
-fn least_unserved(events: &[SizeEvent], k: usize, layout: &Layout, least: u32) -> u32
+fn least_unserved(events: &[SizeEvent], k: usize, layout: &Layout, least: u16) -> u16
     requires event { k < length events.now }
     requires least { IsLeastSoFar events.now layout.now.classes k least }
     ensures { IsLeastSoFar events.now layout.now.classes (k + 1) result }
@@ -39,7 +40,7 @@ fn least_unserved(events: &[SizeEvent], k: usize, layout: &Layout, least: u32) -
             if n >= least {
                 return least;
             }
-            match layout.find(n) {
+            match layout.find(n as u32) {
                 Some(_) => least,
                 None => n,
             }
@@ -48,36 +49,24 @@ fn least_unserved(events: &[SizeEvent], k: usize, layout: &Layout, least: u32) -
     }
 }
 
-/// A moment of a timeline that decides whether a table serves it: a table that serves a history with this moment serves the timeline. It is
-/// the first at which a block of the largest requested size is live, of those that are counted; 0 if none is requested.
-pub fn largest_moment(events: &[SizeEvent]) -> usize
-    requires { IsTimeline events.now }
-    ensures within { result ≤ length events.now }
-    ensures decides { Decides events.now result }
-    ensures first { (n : ℕ) → IsLargest events.now n → IsFirstLive events.now n result }
-    ensures none { ((n : ℕ) → n ≤ largest_counted → requested events.now n ≡ 0) → result ≡ 0 }
-{
-    let mut found = Largest {
-        above: 0,
-        moment: 0,
-    };
-    for k in 0..events.len() {
-        found = with_event(events, k, found);
-    }
-    found.moment
+/// The largest requested size so far.
+#[derive(Clone, Copy, Debug)]
+pub(crate) struct Largest {
+    /// The size after it, or 0 if there is none.
+    pub(crate) above: u16,
+    /// The first moment at which it is live.
+    pub(crate) moment: usize,
 }
 
-// the largest requested size so far
-#[derive(Clone, Copy)]
-struct Largest {
-    // the size after it, or 0 if there is none
-    above: u32,
-    // the first moment at which it is live
-    moment: usize,
-}
+/// No requested size.
+pub(crate) const NO_LARGEST: Largest = Largest {
+    above: 0,
+    moment: 0,
+};
 
-// the largest size after one event more
-fn with_event(events: &[SizeEvent], k: usize, found: Largest) -> Largest
+/// The largest size after one event more.
+#[inline(always)]
+pub(crate) fn with_event(events: &[SizeEvent], k: usize, found: Largest) -> Largest
     requires timeline { IsTimeline events.now }
     requires event { k < length events.now }
     requires found { IsLargestSoFar events.now k found.above found.moment }
@@ -88,7 +77,7 @@ fn with_event(events: &[SizeEvent], k: usize, found: Largest) -> Largest
             if n < found.above {
                 return found;
             }
-            if n > LARGEST_COUNTED {
+            if n >= LARGE_SIZE {
                 return found;
             }
             Largest {

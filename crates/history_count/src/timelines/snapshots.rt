@@ -57,8 +57,12 @@ fn counts_before(
     Ok((counts, moment))
 }
 
-// adds a copy of the counts
-fn push_copy(alloc: Global, snapshots: &mut Vec<Vec<u32>>, counts: &[u32]) -> Result<(), AllocError>
+/// Adds a copy of the counts. The only error is that the allocator refuses memory.
+pub(crate) fn push_copy(
+    alloc: Global,
+    snapshots: &mut Vec<Vec<u32>>,
+    counts: &[u32],
+) -> Result<(), AllocError>
     ensures { OnOk result (lists_of snapshots.new.items ≡ lists_of snapshots.old.items ++ counts.now ∷ []) }
 {
     snapshots.push(Vec::from_slice(alloc, counts)?)?;
@@ -87,12 +91,12 @@ fn count_next(counts: &mut [u32], events: &[SizeEvent], k: usize)
 {
     match events[k] {
         SizeEvent::Request { n } => {
-            if n <= LARGEST_COUNTED {
+            if n as u32 <= LARGEST_COUNTED {
                 counts[n as usize] += 1;
             }
         }
         SizeEvent::Free { n } => {
-            if n <= LARGEST_COUNTED {
+            if n as u32 <= LARGEST_COUNTED {
                 counts[n as usize] -= 1;
             }
         }

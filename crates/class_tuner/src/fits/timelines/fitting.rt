@@ -9,7 +9,7 @@ ghost use Rattle.potential_check.specs.Footprints.CallCounts.{span_count};
 use crate::fits::timelines::moments::{one_moment, with_moments};
 use crate::fits::timelines::round::{Round, better, round_over};
 use class_table::{ClassTable, MOST_CLASSES};
-use history_count::{Timeline, largest_moment};
+use history_count::{Timeline, TimelineIndex};
 use potential_check::{Certificate, Fit};
 use std::alloc::{AllocError, Global};
 
@@ -70,9 +70,10 @@ pub fn fit_over(
     ensures bounded { IfOk result (λ fitted. fitted.evaluations ≤ fitted.rounds * span_count MOST_NEEDS) }
 {
     let events = timeline.events();
-    let decisive = largest_moment(events);
+    let index = TimelineIndex::new(alloc, events)?;
+    let decisive = index.largest_moment();
     let mut numbers = one_moment(alloc, decisive)?;
-    let mut best = round_over(alloc, events, &numbers, limit, step, forced)?;
+    let mut best = round_over(alloc, &index, &numbers, limit, step, forced)?;
     let mut evaluations = best.evaluations;
     if best.is_tight() {
         return Ok(least_of(best, numbers, 1, evaluations));
@@ -80,7 +81,7 @@ pub fn fit_over(
     numbers = with_moments(alloc, numbers, decisive, &best.firsts, events.len())?;
     let mut least = best.fit.cost;
     for made in 1..rounds {
-        let next = round_over(alloc, events, &numbers, limit, step, forced)?;
+        let next = round_over(alloc, &index, &numbers, limit, step, forced)?;
         evaluations += next.evaluations;
         if next.is_tight() {
             return Ok(least_of(next, numbers, made + 1, evaluations));

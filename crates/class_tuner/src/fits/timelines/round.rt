@@ -9,14 +9,13 @@ ghost use Rattle.history_count.specs.Timelines.LiveBlocks.{AreFirsts};
 ghost use Rattle.tuner_theory.specs.Histories.{peaks};
 ghost use Rattle.tuner_theory.specs.Served.{served};
 ghost use Rattle.tuner_theory.specs.Spans.{places};
-ghost use Rattle.tuner_theory.specs.Timelines.{AreMoments, IsTimeline, footprint_over, history_at};
+ghost use Rattle.tuner_theory.specs.Timelines.{AreMoments, footprint_over, history_at};
 
 use crate::fits::fit;
 use class_table::MOST_CLASSES;
-use history_count::footprint_over;
-use potential_check::{Fit, history_over};
+use history_count::TimelineIndex;
+use potential_check::Fit;
 use std::alloc::{AllocError, Global};
-use tuner_theory::SizeEvent;
 
 /// A fit over some moments.
 #[derive(Debug, Drop)]
@@ -43,7 +42,7 @@ impl Round {
 /// The round of some moments. The only error is that the allocator refuses memory.
 pub(crate) fn round_over(
     alloc: Global,
-    events: &[SizeEvent],
+    index: &TimelineIndex<'_>,
     numbers: &[usize],
     limit: u8,
     step: u8,
@@ -52,22 +51,21 @@ pub(crate) fn round_over(
     requires some { 1 ≤ limit }
     requires few { limit ≤ MOST_CLASSES }
     requires step { IsStep step }
-    requires timeline { IsTimeline events.now }
-    requires moments { AreMoments events.now numbers.now }
+    requires moments { AreMoments index.now numbers.now }
     ensures fitted { IfOk result (λ round.
-        IsFitOf (history_at events.now numbers.now) step limit forced (sheet_of round.fit)) }
-    ensures takes { IfOk result (λ round. round.takes ≡ footprint_over events.now round.fit.table) }
-    ensures firsts { IfOk result (λ round. AreFirsts events.now round.fit.table round.firsts.items) }
+        IsFitOf (history_at index.now numbers.now) step limit forced (sheet_of round.fit)) }
+    ensures takes { IfOk result (λ round. round.takes ≡ footprint_over index.now round.fit.table) }
+    ensures firsts { IfOk result (λ round. AreFirsts index.now round.fit.table round.firsts.items) }
     ensures legal { IfOk result (λ round. IsLegalTable 1 round.fit.table) }
     ensures exact { IfOk result
-        (λ round. round.evaluations ≡ span_count (places (served forced (peaks (history_at events.now numbers.now))) step)) }
+        (λ round. round.evaluations ≡ span_count (places (served forced (peaks (history_at index.now numbers.now))) step)) }
 {
-    let history = history_over(alloc, events, numbers)?;
+    let history = index.history_at(alloc, numbers)?;
     let fitted = fit(alloc, &history, limit, step, forced)?;
     let evaluations = fitted.evaluations();
     let fit = fitted.into_sheet();
     let _classes = fit.table.len();
-    let taken = footprint_over(alloc, events, &fit.table)?;
+    let taken = index.footprint(alloc, &fit.table)?;
     Ok(Round {
         fit,
         takes: taken.bytes,

@@ -46,10 +46,9 @@ abbrev by_snapshots : List (List ℕ) → List ℕ → Result Answer InputFault 
 by_snapshots ls text = ChecksFitParts (leading_lines ls) (lines_after ls) 0 (lines text)
 
 pub returns-in_err-leading : goal.returns-in_err-leading
-returns-in_err-leading c =
+returns-in_err-leading c = λ text taken.
     let error = err_from_is_err_and c.from_residual.result c.from_residual.ensures.1 in
     let fault = c.in_err-leading.field-0.0 in
-    let text = c.args.text.now in
     let ls = lines c.args.fit.now in
     rw (error.1, error.2)
     (either_refused (by_moments ls text) (by_snapshots ls text) (begins_moments (lines_after ls)) fault
@@ -58,21 +57,19 @@ returns-in_err-leading c =
     (part_refused (part ls) (BadFit (length (leading_lines ls) + 1)) (lines_after ls) fault c.in_err-leading.ensures.sheet)))
 
 pub returns-then-begins_moments : goal.returns-then-begins_moments
-returns-then-begins_moments c =
+returns-then-begins_moments c = λ text taken.
     let leading = c.in_ok-leading.ensures in
-    let text = c.args.text.now in
     let ls = lines c.args.fit.now in
     let begins = sym c.begins_moments.ensures ∙ c.if-begins_moments.true in
     one_answers text_left (by_moments ls text) (by_snapshots ls text) (begins_moments (lines_after ls)) (rw leading.rest at begins)
     c.check_beside_moments.result
     (then_answered (part ls) (moments_and_timeline ls text) over text_left (sheet_of c.in_ok-leading.leading.sheet) leading.sheet
-    c.check_beside_moments.result (rw (leading.lines.0, leading.rest) at c.check_beside_moments.ensures))
+    c.check_beside_moments.result (rw (leading.lines.0, leading.rest) at c.check_beside_moments.ensures text taken))
 
 pub returns-in_err-end_text : goal.returns-in_err-end_text
-returns-in_err-end_text c =
+returns-in_err-end_text c = λ text taken.
     let error = err_from_is_err_and c.from_residual-in_err-end_text.result c.from_residual-in_err-end_text.ensures.1 in
     let leading = c.in_ok-leading.ensures in
-    let text = c.args.text.now in
     let ls = lines c.args.fit.now in
     let fault = c.in_err-end_text.field-0.0 in
     let begins = sym c.begins_moments.ensures ∙ c.if-begins_moments.false in
@@ -84,14 +81,13 @@ returns-in_err-end_text c =
     leading.sheet (rw (leading.lines.0, leading.rest) at c.in_err-end_text.ensures))))
 
 pub returns : goal.returns
-returns c =
+returns c = λ text taken.
     let leading = c.in_ok-leading.ensures in
-    let text = c.args.text.now in
     let ls = lines c.args.fit.now in
     let fit = sheet_of c.in_ok-leading.leading.sheet in
     let begins = sym c.begins_moments.ensures ∙ c.if-begins_moments.false in
     other_answers text_left (by_moments ls text) (by_snapshots ls text) (begins_moments (lines_after ls)) (rw leading.rest at begins)
-    c.check_history.result
+    c.check_beside_history.result
     (then_answered (whole ls) (history text) checked text_left fit
     (part_alone (part ls) (BadFit (length (leading_lines ls) + 1)) fit (lines_after ls) leading.sheet
-    (rw leading.rest at c.in_ok-end_text.ensures)) c.check_history.result c.check_history.ensures)
+    (rw leading.rest at c.in_ok-end_text.ensures)) c.check_beside_history.result (c.check_beside_history.ensures text taken))

@@ -5,12 +5,12 @@ use Rattle.mte_engine.proofs.TwoParts.{classes_refused, counts_measured}
 use Rattle.mte_engine.proofs.measuring.footprint_of_texts.Goals as goal
 
 pub returns-in_err-table : goal.returns-in_err-table
-returns-in_err-table c =
+returns-in_err-table c = λ text taken.
     let error = err_from_is_err_and c.from_residual.result c.from_residual.ensures.1 in
     rw (error.1, error.2)
-    (classes_refused (lines c.args.class.now) 0 (lines c.args.text.now) c.in_err-table.field-0.0 c.in_err-table.ensures)
+    (classes_refused (lines c.args.class.now) 0 (lines text) c.in_err-table.field-0.0 c.in_err-table.ensures)
 
 pub returns : goal.returns
-returns c =
-    counts_measured (lines c.args.class.now) 0 (lines c.args.text.now) text_left c.in_ok-table.table c.in_ok-table.ensures
-    c.footprint_of_either.result c.footprint_of_either.ensures
+returns c = λ text taken.
+    counts_measured (lines c.args.class.now) 0 (lines text) text_left c.in_ok-table.table c.in_ok-table.ensures
+    c.footprint_of_either.result (c.footprint_of_either.ensures text taken)

@@ -1,5 +1,10 @@
-use Rattle.mte_tool.proofs.Ends.{new_after, run_failed, run_without}
+use Rattle.mte_tool.proofs.Ends.{new_after, run_done, run_failed, run_without}
 use Rattle.mte_tool.proofs.program.run_words.Goals as goal
+
+pub returns-in-Done : goal.returns-in-Done
+returns-in-Done g c =
+    run_done _ _ c.in-Done.ensures.0 _ _ g.W.ByteSink.state _ _ _ (g.E.ByteSink.state c.if-at_terminal.errors) c.in-Done.status c.requires
+    c.in-Done.ensures.1 c.in-Done.ensures.2
 
 pub returns-in-Failed : goal.returns-in-Failed
 returns-in-Failed g c =

@@ -10,7 +10,7 @@ returns-clause-some c =
     let all : c.loop-k.k ≡ length c.args.events.now = omega arith in
     least_unserved_all c.args.events.now c.args.table.now c.loop-k.k c.loop-k.least all c.loop-k.invariant.least (omega arith)
 
-pub returns-then-least-gt-LARGEST_COUNTED-clause-none : goal.returns-then-least-gt-LARGEST_COUNTED-clause-none
-returns-then-least-gt-LARGEST_COUNTED-clause-none c =
+pub returns-then-least-ge-LARGE_SIZE-clause-none : goal.returns-then-least-ge-LARGE_SIZE-clause-none
+returns-then-least-ge-LARGE_SIZE-clause-none c =
     let all : c.loop-k.k ≡ length c.args.events.now = omega arith in
     none_unserved_all c.args.events.now c.args.table.now c.loop-k.k c.loop-k.least all c.loop-k.invariant.least (omega arith)

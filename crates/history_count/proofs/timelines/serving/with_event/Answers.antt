@@ -1,4 +1,4 @@
-use Rattle.std.proofs.Common.{inl, inr}
+use Rattle.std.proofs.Common.{arith, inl, inr}
 use Rattle.history_count.proofs.TimelineLemmas.Requests.{largest_free, largest_other, largest_request}
 use Rattle.history_count.proofs.timelines.serving.with_event.Goals as goal
 
@@ -7,15 +7,15 @@ returns-then-n-found c =
     largest_other c.args.events.now c.args.k c.args.found.above c.args.found.moment c.in-Request.n c.requires.event c.requires.found
     c.in-Request.is (inl c.if-n-found.true)
 
-pub returns-then-n-gt-LARGEST_COUNTED : goal.returns-then-n-gt-LARGEST_COUNTED
-returns-then-n-gt-LARGEST_COUNTED c =
+pub returns-then-n-ge-LARGE_SIZE : goal.returns-then-n-ge-LARGE_SIZE
+returns-then-n-ge-LARGE_SIZE c =
     largest_other c.args.events.now c.args.k c.args.found.above c.args.found.moment c.in-Request.n c.requires.event c.requires.found
-    c.in-Request.is (inr c.if-n-gt-LARGEST_COUNTED.true)
+    c.in-Request.is (inr (omega (arith, c.if-n-ge-LARGE_SIZE.true)))
 
-pub returns-else-n-gt-LARGEST_COUNTED : goal.returns-else-n-gt-LARGEST_COUNTED
-returns-else-n-gt-LARGEST_COUNTED c =
+pub returns-else-n-ge-LARGE_SIZE : goal.returns-else-n-ge-LARGE_SIZE
+returns-else-n-ge-LARGE_SIZE c =
     largest_request c.args.events.now c.args.k c.args.found.above c.args.found.moment c.in-Request.n c.requires.timeline c.requires.event
-    c.requires.found c.in-Request.is c.if-n-found.false c.if-n-gt-LARGEST_COUNTED.false
+    c.requires.found c.in-Request.is c.if-n-found.false (omega (arith, c.if-n-ge-LARGE_SIZE.false))
 
 pub returns-in-Free : goal.returns-in-Free
 returns-in-Free c =

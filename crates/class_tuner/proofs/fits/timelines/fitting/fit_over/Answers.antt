@@ -7,9 +7,12 @@ use Rattle.class_tuner.proofs.fits.timelines.fitting.fit_over.Goals.{In_ok-best,
 setting : (c : In_ok-numbers) → IsSetting c.events-events.result.now c.largest_moment-decisive.result
 setting c = record {
   timeline = rw c.events-events.ensures.events c.events-events.ensures.timeline;
-  within = c.largest_moment-decisive.ensures.within;
-  decides = c.largest_moment-decisive.ensures.decides;
-  decisive = record { first = c.largest_moment-decisive.ensures.first; none = c.largest_moment-decisive.ensures.none };
+  within = rw c.in_ok-index.ensures at c.largest_moment-decisive.ensures.within;
+  decides = rw c.in_ok-index.ensures at c.largest_moment-decisive.ensures.decides;
+  decisive = record {
+    first = rw c.in_ok-index.ensures at c.largest_moment-decisive.ensures.first;
+    none = rw c.in_ok-index.ensures at c.largest_moment-decisive.ensures.none;
+  };
 }
 
 -- ---- the first round
@@ -22,11 +25,11 @@ ready c =
 
 first-made : (c : In_ok-best) → IsMade c.events-events.result.now c.args.step c.args.limit c.args.forced c.in_ok-numbers.numbers.items c.in_ok-best.best
 first-made c = record {
-  fitted = rw c.deref.ensures.value at c.in_ok-best.ensures.fitted;
-  taken = c.in_ok-best.ensures.takes;
-  firsts_are = c.in_ok-best.ensures.firsts;
+  fitted = rw (c.deref.ensures.value, c.in_ok-index.ensures) at c.in_ok-best.ensures.fitted;
+  taken = rw c.in_ok-index.ensures at c.in_ok-best.ensures.takes;
+  firsts_are = rw c.in_ok-index.ensures at c.in_ok-best.ensures.firsts;
   legal = c.in_ok-best.ensures.legal;
-  exact = rw c.deref.ensures.value at c.in_ok-best.ensures.exact;
+  exact = rw (c.deref.ensures.value, c.in_ok-index.ensures) at c.in_ok-best.ensures.exact;
 }
 
 pub returns-then-is_tight : goal.returns-then-is_tight
@@ -41,7 +44,8 @@ returns-then-is_tight c =
 pub with_moments-requires-clause-further : goal.with_moments-requires-clause-further
 with_moments-requires-clause-further c =
     rw c.deref-2.ensures.value
-    (firsts-within c.events-events.result.now c.in_ok-best.best.fit.table c.in_ok-best.best.firsts.items c.in_ok-best.ensures.firsts)
+    (firsts-within c.events-events.result.now c.in_ok-best.best.fit.table c.in_ok-best.best.firsts.items
+    (rw c.in_ok-index.ensures at c.in_ok-best.ensures.firsts))
 
 pub loop-made-init : goal.loop-made-init
 loop-made-init c =
@@ -61,11 +65,11 @@ loop-made-init c =
 
 later-made : (c : In_ok-next) → IsMade c.events-events.result.now c.args.step c.args.limit c.args.forced c.loop-made.numbers.items c.in_ok-next.next
 later-made c = record {
-  fitted = rw c.deref-in-loop-made.ensures.value at c.in_ok-next.ensures.fitted;
-  taken = c.in_ok-next.ensures.takes;
-  firsts_are = c.in_ok-next.ensures.firsts;
+  fitted = rw (c.deref-in-loop-made.ensures.value, c.in_ok-index.ensures) at c.in_ok-next.ensures.fitted;
+  taken = rw c.in_ok-index.ensures at c.in_ok-next.ensures.takes;
+  firsts_are = rw c.in_ok-index.ensures at c.in_ok-next.ensures.firsts;
   legal = c.in_ok-next.ensures.legal;
-  exact = rw c.deref-in-loop-made.ensures.value at c.in_ok-next.ensures.exact;
+  exact = rw (c.deref-in-loop-made.ensures.value, c.in_ok-index.ensures) at c.in_ok-next.ensures.exact;
 }
 
 pub overflow_add-evaluations : goal.overflow_add-evaluations
@@ -78,7 +82,8 @@ overflow_add-evaluations c =
     omega arith
 
 pub round_over-requires-in-loop-made-clause-moments : goal.round_over-requires-in-loop-made-clause-moments
-round_over-requires-in-loop-made-clause-moments c = rw c.deref-in-loop-made.ensures.value c.loop-made.invariant.so_far.ready.over.are
+round_over-requires-in-loop-made-clause-moments c =
+    rw (c.deref-in-loop-made.ensures.value, c.in_ok-index.ensures) c.loop-made.invariant.so_far.ready.over.are
 
 pub returns-then-is_tight-2 : goal.returns-then-is_tight-2
 returns-then-is_tight-2 c =
@@ -92,7 +97,8 @@ returns-then-is_tight-2 c =
 pub with_moments-requires-in-loop-made-clause-further : goal.with_moments-requires-in-loop-made-clause-further
 with_moments-requires-in-loop-made-clause-further c =
     rw c.deref-in-loop-made-2.ensures.value
-    (firsts-within c.events-events.result.now c.in_ok-next.next.fit.table c.in_ok-next.next.firsts.items c.in_ok-next.ensures.firsts)
+    (firsts-within c.events-events.result.now c.in_ok-next.next.fit.table c.in_ok-next.next.firsts.items
+    (rw c.in_ok-index.ensures at c.in_ok-next.ensures.firsts))
 
 pub loop-made-preserved : goal.loop-made-preserved
 loop-made-preserved c =

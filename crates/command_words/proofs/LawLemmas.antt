@@ -1,0 +1,2 @@
+-- What the proofs of the program cite of words.
+pub use Rattle.command_words.proofs.Calls.{same_command}

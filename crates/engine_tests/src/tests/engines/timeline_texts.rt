@@ -1,0 +1,55 @@
+//! `footprint` and `fit` over timelines, however their text is cut.
+use super::pieces::{Case, check};
+use mte_engine::{Call, Limits};
+use std::process::Abort;
+use std::test::Fail;
+
+// a block of each class is live; the last line lacks its newline; then faults: of a free, of a word, of one that is too long before it ends, and
+// of the line before it
+const FOOTPRINTS: &[Case] = &[
+    Case::Text(
+        "classes 2 4\ntimeline\n16\n40\n-16\n16\n-40\n-16\n",
+        "footprint 96\n",
+        "done",
+    ),
+    Case::Text("classes 2\ntimeline\n16\n16", "footprint 64\n", "done"),
+    Case::Text("classes 2\ntimeline", "footprint 0\n", "done"),
+    Case::Text("classes 2\ntimeline\n16\n40", "not serving 40\n", "no"),
+    Case::Text(
+        "classes 2\ntimeline\nlarge\n-large\n-large\n",
+        "",
+        "error 38 NotLive line 5",
+    ),
+    Case::Text(
+        "classes 2\ntimeline\n16\n1x",
+        "",
+        "error 37 BadTimeline line 4",
+    ),
+    Case::Text(
+        "classes 2\ntimeline\n16\n-1636800\n-17\n",
+        "",
+        "error 37 BadTimeline line 4",
+    ),
+    Case::Text(
+        "classes 2\ntimeline\n-16\n12345678",
+        "",
+        "error 38 NotLive line 3",
+    ),
+    Case::Text("classes 2\ntimelines\n", "", "error 34 BadSnapshots line 2"),
+];
+
+const FITS: &[Case] = &[
+    Case::Text(
+        "timeline\n16\n-16\n",
+        "classes 2\nlimit 1\nfootprint 32\nrow 32\nmoments 1\n",
+        "done",
+    ),
+    Case::Text("timeline\n16\n\n", "", "error 37 BadTimeline line 3"),
+    Case::Text("timelines\n16\n", "", "error 34 BadSnapshots line 1"),
+];
+
+#[test]
+fn timelines_in_pieces(rt: HostRuntime) -> Result<(), Fail> {
+    check(&rt, Call::Footprint, FOOTPRINTS)?;
+    check(&rt, Call::Fit(Limits { limit: 1, step: 1 }, 0), FITS)
+}

@@ -1,0 +1,296 @@
+-- The live blocks by the lines of the requested sizes, one event more; and the stretches, one more.
+use Rattle.std.proofs.Common.{◌≡◌, ◌≢◌, ℕ, suc, ◌+◌, ◌-◌, ◌<◌, ◌≤◌, List, [], ◌∷◌, ◌++◌, length, length-append, max, replicate, slice_index, slice_index_or, slice_set, get_or, map, take, All, arith, refl, ap, sym, subst, ◌∙◌, inl, inr}
+use Rattle.std.proofs.lemmas.Bool.{cases_lt, cases_order}
+use Rattle.std.proofs.lemmas.Bool.Decides.{eqb_tells}
+use Rattle.std.proofs.lemmas.List.{ext_get_or, get_or-map, get_or-replicate, get_or-set_other, get_or-set_same, get_or_append_left, get_or_default, get_or_past, length-map, length-replicate, length-set, map-append, take_all, take_more}
+use Rattle.std.proofs.lemmas.List.Elements.{All-map}
+use Rattle.std.proofs.Math.Seq.{get_or-append_seam}
+use Rattle.class_table.specs.Sizes.{largest_counted}
+use Rattle.tuner_theory.specs.Profiles.{greatest_count}
+use Rattle.tuner_theory.specs.Timelines.{IsTimeline, history_at, requested, snapshot_at}
+use Rattle.tuner_theory.specs.declared.size_event.SizeEvent.{SizeEvent}
+use Rattle.tuner_theory.specs.declared.size_event.SizeEvent.TheVariants.{Request, Free}
+use Rattle.tuner_theory.proofs.Timelines.{snapshot-length}
+use Rattle.history_count.specs.CountedLines.{AreFew, AreSizes, CountsSizes, spread}
+use Rattle.history_count.specs.Timelines.Stretches.{AreRequested, AreStretchesTo, Bounds, IsLineOf, column_of}
+use Rattle.history_count.specs.declared.timelines.requested.Requested.{Requested}
+use Rattle.history_count.proofs.RowPeaks.{spread-column}
+use Rattle.history_count.proofs.TimelineLemmas.Requests.{unrequested-before}
+use Rattle.history_count.proofs.TimelineLemmas.Walk.{free_counts, free_is_live, large_free_counts, large_request_counts, request_counts, snapshot_none, snapshot_small}
+
+-- ---- columns
+
+pub column-length : (sizes snapshot : List ℕ) → length (column_of sizes snapshot) ≡ length sizes
+column-length sizes snapshot = length-map sizes (λ n. slice_index snapshot n)
+
+pub column-at : (sizes snapshot : List ℕ) (k : ℕ) → k < length sizes
+    → slice_index (column_of sizes snapshot) k ≡ slice_index snapshot (slice_index sizes k)
+column-at sizes snapshot k lt = get_or-map (λ n. slice_index snapshot n) sizes k 0 0 lt
+
+apart : (sizes : List ℕ) (i j : ℕ) → AreSizes sizes → i < length sizes → j < length sizes → i ≢ j → slice_index sizes i ≢ slice_index sizes j
+apart sizes i j are in_i in_j other same =
+    elim (cases_order i j) [
+      | inl at ↦ other at
+      | inr (inl before) ↦ omega (arith, same, are.ascending i j before in_j)
+      | inr (inr after) ↦ omega (arith, same, are.ascending j i after in_i)
+    ]
+
+-- one count of a snapshot is one of its column
+column-set : (sizes snapshot : List ℕ) (n line count : ℕ) → AreSizes sizes → line < length sizes → slice_index sizes line ≡ n
+    → n < length snapshot → slice_set (column_of sizes snapshot) line count ≡ column_of sizes (slice_set snapshot n count)
+column-set sizes snapshot n line count are within there inside =
+    ext_get_or 0 (slice_set (column_of sizes snapshot) line count) (column_of sizes (slice_set snapshot n count))
+    (length-set (column_of sizes snapshot) line count ∙ column-length sizes snapshot ∙ sym (column-length sizes (slice_set snapshot n count)))
+    (λ j lt. each j (omega (arith, lt, length-set (column_of sizes snapshot) line count, column-length sizes snapshot)))
+  where
+    each : (j : ℕ) → j < length sizes
+        → slice_index (slice_set (column_of sizes snapshot) line count) j ≡ slice_index (column_of sizes (slice_set snapshot n count)) j
+    each j lt =
+        elim (eqb_tells j line) [
+          | inl same ↦ rw same.1 (
+              get_or-set_same (column_of sizes snapshot) line count 0 (omega (arith, column-length sizes snapshot))
+              ∙ sym (column-at sizes (slice_set snapshot n count) line within ∙ ap (slice_index (slice_set snapshot n count)) there
+              ∙ get_or-set_same snapshot n count 0 inside)
+              )
+          | inr differs ↦ get_or-set_other (column_of sizes snapshot) line j count 0 differs.1
+              ∙ column-at sizes snapshot j lt
+              ∙ sym (column-at sizes (slice_set snapshot n count) j lt
+              ∙ get_or-set_other snapshot n (slice_index sizes j) count 0
+              (λ same. apart sizes j line are lt within differs.1 (same ∙ sym there)))
+        ]
+
+-- ---- one event more
+
+-- the line of a size, as it was read
+pub line-read : (events : List SizeEvent) (r : Requested) (n line : ℕ) → AreRequested events r → n ≤ largest_counted → 0 < requested events n
+    → line ≡ get_or r.lines.items n line → IsLineOf r.sizes.items n line
+line-read events r n line are counted some read =
+    subst (λ (l : ℕ). IsLineOf r.sizes.items n l) (sym (read ∙ get_or_default r.lines.items n line 0 (omega (arith, are.lines_len))))
+    (are.line n counted some)
+
+pub column-request : (events : List SizeEvent) (sizes : List ℕ) (k n line : ℕ) → IsTimeline events → AreSizes sizes → k < length events
+    → get_or events k (Request 0) ≡ Request n → n ≤ largest_counted → line < length sizes → slice_index sizes line ≡ n
+    → slice_set (column_of sizes (snapshot_at events k)) line (slice_index (column_of sizes (snapshot_at events k)) line + 1)
+    ≡ column_of sizes (snapshot_at events (k + 1))
+column-request events sizes k n line timeline are lt event counted within there =
+    let here : slice_index (column_of sizes (snapshot_at events k)) line ≡ slice_index (snapshot_at events k) n =
+    column-at sizes (snapshot_at events k) line within ∙ ap (slice_index (snapshot_at events k)) there in
+    rw here (column-set sizes (snapshot_at events k) n line (slice_index (snapshot_at events k) n + 1) are within there
+    (omega (arith, snapshot-length events k)))
+    ∙ ap (column_of sizes) (request_counts events k n (Request 0) lt timeline event counted)
+
+pub column-live : (events : List SizeEvent) (sizes : List ℕ) (k n line : ℕ) → IsTimeline events → k < length events
+    → get_or events k (Request 0) ≡ Free n → n ≤ largest_counted → line < length sizes → slice_index sizes line ≡ n
+    → 0 < slice_index (column_of sizes (snapshot_at events k)) line
+column-live events sizes k n line timeline lt event counted within there =
+    let here : slice_index (column_of sizes (snapshot_at events k)) line ≡ slice_index (snapshot_at events k) n =
+    column-at sizes (snapshot_at events k) line within ∙ ap (slice_index (snapshot_at events k)) there in
+    omega (arith, here, free_is_live events k n (Request 0) lt event counted timeline)
+
+pub column-free : (events : List SizeEvent) (sizes : List ℕ) (k n line : ℕ) → IsTimeline events → AreSizes sizes → k < length events
+    → get_or events k (Request 0) ≡ Free n → n ≤ largest_counted → line < length sizes → slice_index sizes line ≡ n
+    → slice_set (column_of sizes (snapshot_at events k)) line (slice_index (column_of sizes (snapshot_at events k)) line - 1)
+    ≡ column_of sizes (snapshot_at events (k + 1))
+column-free events sizes k n line timeline are lt event counted within there =
+    let here : slice_index (column_of sizes (snapshot_at events k)) line ≡ slice_index (snapshot_at events k) n =
+    column-at sizes (snapshot_at events k) line within ∙ ap (slice_index (snapshot_at events k)) there in
+    rw here (column-set sizes (snapshot_at events k) n line (slice_index (snapshot_at events k) n - 1) are within there
+    (omega (arith, snapshot-length events k)))
+    ∙ ap (column_of sizes)
+    (free_counts events k n (Request 0) lt timeline event counted (free_is_live events k n (Request 0) lt event counted timeline))
+
+pub column-large_request : (events : List SizeEvent) (sizes : List ℕ) (k n : ℕ) → IsTimeline events → k < length events
+    → get_or events k (Request 0) ≡ Request n → largest_counted < n
+    → column_of sizes (snapshot_at events k) ≡ column_of sizes (snapshot_at events (k + 1))
+column-large_request events sizes k n timeline lt event large =
+    ap (column_of sizes) (large_request_counts events k n (Request 0) lt timeline event large)
+
+pub column-large_free : (events : List SizeEvent) (sizes : List ℕ) (k n : ℕ) → IsTimeline events → k < length events
+    → get_or events k (Request 0) ≡ Free n → largest_counted < n
+    → column_of sizes (snapshot_at events k) ≡ column_of sizes (snapshot_at events (k + 1))
+column-large_free events sizes k n timeline lt event large =
+    ap (column_of sizes) (large_free_counts events k n (Request 0) lt timeline event large)
+
+pub column-none : (events : List SizeEvent) (sizes : List ℕ) → AreSizes sizes
+    → replicate (length sizes) 0 ≡ column_of sizes (snapshot_at events 0)
+column-none events sizes are =
+    ext_get_or 0 (replicate (length sizes) 0) (column_of sizes (snapshot_at events 0))
+    (length-replicate {A = ℕ} (length sizes) 0 ∙ sym (column-length sizes (snapshot_at events 0)))
+    (λ j lt.
+    let within : j < length sizes = omega (arith, lt, length-replicate {A = ℕ} (length sizes) 0) in
+    get_or-replicate {A = ℕ} (length sizes) j 0 0 within
+    ∙ sym (column-at sizes (snapshot_at events 0) j within
+    ∙ ap (λ (s : List ℕ). slice_index s (slice_index sizes j)) (sym (snapshot_none events))
+    ∙ get_or-replicate {A = ℕ} (largest_counted + 1) (slice_index sizes j) 0 0 (omega (arith, are.small j within))))
+
+-- ---- a snapshot and its column
+
+-- no other size is live
+pub column-counts : (events : List SizeEvent) (r : Requested) (m : ℕ) → AreRequested events r → m ≤ length events
+    → CountsSizes (snapshot_at events m) r.sizes.items (column_of r.sizes.items (snapshot_at events m))
+column-counts events r m are within = record {
+  size = column-length r.sizes.items (snapshot_at events m);
+  counted = λ k lt. sym (column-at r.sizes.items (snapshot_at events m) k lt);
+  others = λ n none. elim (cases_lt largest_counted n) [
+    | inl large ↦ get_or_past (snapshot_at events m) n 0 (omega (arith, snapshot-length events m))
+    | inr counted ↦ unrequested-before events (length events) m n within counted (elim (cases_lt 0 (requested events n)) [
+      | inl some ↦ let its = are.line n counted some in absurd (none (slice_index r.lines.items n) its.within its.there)
+      | inr not ↦ rw (take_all (length events) events (omega arith)) (omega (arith, not))
+    ])
+  ];
+}
+
+-- ---- the most of a stretch
+
+pub bounds-start : (events : List SizeEvent) (sizes : List ℕ) (from : ℕ) → IsTimeline events → AreSizes sizes
+    → Bounds events sizes from from (column_of sizes (snapshot_at events from))
+bounds-start events sizes from timeline are = record {
+  len = column-length sizes (snapshot_at events from);
+  few = λ k. elim (cases_lt k (length sizes)) [
+    | inl lt ↦ omega (
+      arith,
+      column-at sizes (snapshot_at events from) k lt,
+      snapshot_small events from (slice_index sizes k) (are.small k lt),
+      timeline.few,
+    )
+    | inr past ↦ omega (
+      arith,
+      get_or_past (column_of sizes (snapshot_at events from)) k 0 (omega (arith, past, column-length sizes (snapshot_at events from))),
+    )
+  ];
+  above = λ m k le ge lt.
+      let same : m ≡ from = omega arith in
+      rw same (omega (arith, column-at sizes (snapshot_at events from) k lt));
+}
+
+pub bounds-more : (events : List SizeEvent) (sizes : List ℕ) (from k : ℕ) (most newer : List ℕ) → IsTimeline events → AreSizes sizes
+    → Bounds events sizes from k most → length newer ≡ length most
+    → ((j : ℕ) → slice_index newer j ≡ max (slice_index most j) (slice_index (column_of sizes (snapshot_at events (k + 1))) j))
+    → Bounds events sizes from (k + 1) newer
+bounds-more events sizes from k most newer timeline are bounds len raised = record {
+  len = len ∙ bounds.len;
+  few = λ j. omega (arith, raised j, bounds.few j, (bounds-start events sizes (k + 1) timeline are).few j);
+  above = λ m j le ge lt. elim (cases_lt m (k + 1)) [
+    | inl before ↦ omega (arith, bounds.above m j le (omega arith) lt, raised j)
+    | inr past ↦
+        let same : m ≡ k + 1 = omega arith in
+        rw same (omega (arith, raised j, column-at sizes (snapshot_at events (k + 1)) j lt))
+  ];
+}
+
+-- the history of some moments is that of its columns
+module _ (events : List SizeEvent) (r : Requested) (timeline : IsTimeline events) (are : AreRequested events r) where
+  abbrev pub rows_at : List ℕ → List (List ℕ)
+  rows_at numbers = map (λ m. column_of r.sizes.items (snapshot_at events m)) numbers
+
+  pub rows-spread : (numbers : List ℕ) → All (λ number. number ≤ length events) numbers
+      → spread r.sizes.items (rows_at numbers) ≡ history_at events numbers
+  rows-spread [] within = refl
+  rows-spread (m ∷ ms) within =
+      rw (
+        spread-column (snapshot_at events m) r.sizes.items (column_of r.sizes.items (snapshot_at events m)) are.sizes_are
+            (snapshot-length events m)
+            (column-counts events r m are (within 0 0 (omega arith))),
+        rows-spread ms (λ k d lt. within (suc k) d (omega arith)),
+      ) refl
+
+  pub rows-few : (numbers : List ℕ) → AreFew (length r.sizes.items) (rows_at numbers)
+  rows-few numbers = record {
+    long = All-map (λ row. length row ≡ length r.sizes.items) (λ m. column_of r.sizes.items (snapshot_at events m)) numbers
+        (λ k d lt. column-length r.sizes.items (snapshot_at events (get_or numbers k d)));
+    few = All-map (λ row. (k : ℕ) → slice_index row k ≤ greatest_count) (λ m. column_of r.sizes.items (snapshot_at events m)) numbers
+        (λ k d lt. (bounds-start events r.sizes.items (get_or numbers k d) timeline are.sizes_are).few);
+  }
+
+  pub rows-more : (numbers : List ℕ) (i : ℕ) (rows : List (List ℕ)) (row : List ℕ) → i < length numbers
+      → rows ≡ rows_at (take i numbers) → row ≡ column_of r.sizes.items (snapshot_at events (slice_index numbers i))
+      → rows ++ row ∷ [] ≡ rows_at (take (i + 1) numbers)
+  rows-more numbers i rows row lt so_far is =
+      ap (λ (before : List (List ℕ)). before ++ row ∷ []) so_far
+      ∙ ap (λ (next : List ℕ). rows_at (take i numbers) ++ next ∷ []) is
+      ∙ sym (map-append (λ m. column_of r.sizes.items (snapshot_at events m)) (take i numbers) (slice_index numbers i ∷ []))
+      ∙ sym (ap rows_at (take_more numbers i 0 lt))
+
+-- ---- the stretches
+
+pub stretches-none : (events : List SizeEvent) (sizes : List ℕ)
+    → AreStretchesTo events sizes 0 (0 ∷ []) (column_of sizes (snapshot_at events 0) ∷ []) []
+stretches-none events sizes = record {
+  ends = refl;
+  rows = refl;
+  first = refl;
+  last = refl;
+  up = λ b lt. absurd (omega arith);
+  within = λ b lt. let zero_th : b ≡ 0 = omega arith in rw zero_th (omega arith);
+  before_are = λ b lt. let zero_th : b ≡ 0 = omega arith in rw zero_th refl;
+  most_are = λ b lt. absurd (omega arith);
+}
+
+module _ (events : List SizeEvent) (sizes : List ℕ) (from to : ℕ) (starts : List ℕ) (before most : List (List ℕ)) (row : List ℕ)
+    (are : AreStretchesTo events sizes from starts before most) (order : from ≤ to) (inside : to ≤ length events)
+    (bounds : Bounds events sizes from to row) where
+  starts-longer : length (starts ++ to ∷ []) ≡ length starts + 1
+  starts-longer = omega (arith, length-append starts (to ∷ []))
+
+  most-longer : length (most ++ row ∷ []) ≡ length most + 1
+  most-longer = omega (arith, length-append most (row ∷ []))
+
+  start-at : (b : ℕ) → b < length starts → slice_index (starts ++ to ∷ []) b ≡ slice_index starts b
+  start-at b lt = get_or_append_left starts (to ∷ []) 0 b lt
+
+  start-end : slice_index (starts ++ to ∷ []) (length most + 1) ≡ to
+  start-end = ap (slice_index (starts ++ to ∷ [])) (sym are.ends) ∙ get_or-append_seam starts to [] 0
+
+  at-last : slice_index (starts ++ to ∷ []) (length most) ≡ from
+  at-last = start-at (length most) (omega (arith, are.ends)) ∙ are.last
+
+  later : (b : ℕ) → b < length most → slice_index (starts ++ to ∷ []) (b + 1) ≡ slice_index starts (b + 1)
+  later b lt = start-at (b + 1) (omega (arith, are.ends))
+
+  row-before : (b : ℕ) → b < length starts + 1
+      → slice_index_or (before ++ column_of sizes (snapshot_at events to) ∷ []) b []
+      ≡ column_of sizes (snapshot_at events (slice_index (starts ++ to ∷ []) b))
+  row-before b lt =
+      elim (cases_lt b (length starts)) [
+        | inl old ↦ get_or_append_left before (column_of sizes (snapshot_at events to) ∷ []) [] b (omega (arith, are.rows))
+            ∙ are.before_are b old ∙ ap (λ (m : ℕ). column_of sizes (snapshot_at events m)) (sym (start-at b old))
+        | inr past ↦
+            let same : b ≡ length before = omega (arith, are.rows) in
+            let also : b ≡ length most + 1 = omega (arith, are.ends) in
+            ap (λ (j : ℕ). slice_index_or (before ++ column_of sizes (snapshot_at events to) ∷ []) j []) same
+            ∙ get_or-append_seam before (column_of sizes (snapshot_at events to)) [] []
+            ∙ ap (λ (m : ℕ). column_of sizes (snapshot_at events m)) (sym (ap (slice_index (starts ++ to ∷ [])) also ∙ start-end))
+      ]
+
+  row-most : (b : ℕ) → b < length most + 1
+      → Bounds events sizes (slice_index (starts ++ to ∷ []) b) (slice_index (starts ++ to ∷ []) (b + 1)) (slice_index_or (most ++ row ∷ []) b [])
+  row-most b lt =
+      elim (cases_lt b (length most)) [
+        | inl old ↦ rw (get_or_append_left most (row ∷ []) [] b old, start-at b (omega (arith, are.ends)), later b old) (are.most_are b old)
+        | inr past ↦
+            let same : b ≡ length most = omega arith in
+            rw (same, get_or-append_seam most row [] [], at-last, start-end) bounds
+      ]
+
+  pub stretches-more : AreStretchesTo events sizes to (starts ++ to ∷ []) (before ++ column_of sizes (snapshot_at events to) ∷ [])
+      (most ++ row ∷ [])
+  stretches-more = record {
+    ends = omega (arith, starts-longer, most-longer, are.ends);
+    rows = omega (arith, starts-longer, length-append before (column_of sizes (snapshot_at events to) ∷ []), are.rows);
+    first = start-at 0 (omega (arith, are.ends)) ∙ are.first;
+    last = ap (slice_index (starts ++ to ∷ [])) most-longer ∙ start-end;
+    up = λ b lt. elim (cases_lt b (length most)) [
+      | inl old ↦ omega (arith, start-at b (omega (arith, are.ends)), later b old, are.up b old)
+      | inr past ↦
+          let same : b ≡ length most = omega (arith, most-longer) in
+          rw same (omega (arith, at-last, start-end))
+    ];
+    within = λ b lt. elim (cases_lt b (length starts)) [
+      | inl old ↦ omega (arith, start-at b old, are.within b old)
+      | inr past ↦
+          let same : b ≡ length most + 1 = omega (arith, starts-longer, are.ends) in
+          rw same (omega (arith, start-end))
+    ];
+    before_are = λ b lt. row-before b (omega (arith, starts-longer));
+    most_are = λ b lt. row-most b (omega (arith, most-longer));
+  }

@@ -1,0 +1,76 @@
+//! Which sizes of a timeline are requested.
+ghost use Rattle.std.specs.Prelude.{◌≡◌, ◌+◌, ◌<◌, ◌≤◌, IfOk, OnOk, length};
+ghost use Rattle.class_table.specs.Sizes.{largest_counted};
+ghost use Rattle.history_count.specs.Timelines.Stretches.{AreLinesBelow, AreRequested, AreSeen};
+ghost use Rattle.tuner_theory.specs.Timelines.{IsTimeline};
+
+use crate::timelines::counting::zeros;
+use crate::timelines::line::LARGE_SIZE;
+use crate::timelines::serving::{Largest, NO_LARGEST, with_event};
+use std::alloc::{AllocError, Global};
+use tuner_theory::SizeEvent;
+
+// a count for each size up to the largest that is counted
+const SIZES: usize = LARGE_SIZE as usize;
+
+/// The requested sizes that are counted.
+#[derive(Debug, Drop)]
+pub(crate) struct Requested {
+    /// The sizes, ascending, in bytes.
+    pub(crate) sizes: Vec<u32>,
+    /// The line of each size: its place among them, if it is one of them.
+    pub(crate) lines: Vec<u16>,
+    /// The largest of them.
+    pub(crate) largest: Largest,
+}
+
+/// The requested sizes of a timeline. It goes over the events once. The only error is that the allocator refuses memory.
+pub(crate) fn requested_in(alloc: Global, events: &[SizeEvent]) -> Result<Requested, AllocError>
+    requires { IsTimeline events.now }
+    ensures { IfOk result (λ requested. AreRequested events.now requested) }
+{
+    let mut seen = zeros(alloc, SIZES)?;
+    let mut largest = NO_LARGEST;
+    for k in 0..events.len() {
+        see_event(&mut seen, events, k);
+        largest = with_event(events, k, largest);
+    }
+    let mut requested = Requested {
+        sizes: Vec::new(alloc),
+        lines: vec![in alloc; 0u16; SIZES]?,
+        largest,
+    };
+    for n in 0..LARGE_SIZE {
+        add_size(&seen, n, &mut requested)?;
+    }
+    Ok(requested)
+}
+
+// notes the size of a request
+#[inline(always)]
+fn see_event(seen: &mut [u32], events: &[SizeEvent], k: usize)
+    requires event { k < length events.now }
+    requires seen { AreSeen events.now k seen.old }
+    ensures { AreSeen events.now (k + 1) seen.new }
+{
+    if let SizeEvent::Request { n } = events[k] {
+        if n < LARGE_SIZE {
+            seen[n as usize] = 1;
+        }
+    }
+}
+
+// adds a size, if it was seen
+fn add_size(seen: &[u32], n: u16, requested: &mut Requested) -> Result<(), AllocError>
+    requires seen { length seen.now ≡ largest_counted + 1 }
+    requires size { n ≤ largest_counted }
+    requires below { AreLinesBelow seen.now n requested.old.sizes.items requested.old.lines.items }
+    ensures below { OnOk result (AreLinesBelow seen.now (n + 1) requested.new.sizes.items requested.new.lines.items) }
+    ensures largest { requested.new.largest ≡ requested.old.largest }
+{
+    if seen[n as usize] > 0 {
+        requested.lines[n as usize] = requested.sizes.len() as u16;
+        requested.sizes.push(n as u32)?;
+    }
+    Ok(())
+}
