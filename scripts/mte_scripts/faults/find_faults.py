@@ -32,8 +32,8 @@ Usage: find_faults [OPTIONS] PROGRAM ARGS..
   --seed N        the seed of the random tags: 1 to 65535 (1)
   --seeds N       tell over how many of N seeds, spread over all, each error is caught
   --whole         replay all of a large log, as far as a trace has room, and not only what its errors meet
-  --measure SCUDO play the errors in LLVM's Scudo and in glibc with QEMU's memory tags, and tell in how many of 200 runs each catches
-                  them: of LLVM's sources SCUDO is the folder compiler-rt/lib/scudo/standalone
+  --measure SCUDO play the errors in LLVM's Scudo and in glibc, with QEMU's memory tags, and tell in how many of 200 runs each
+                  catches them; SCUDO is the folder compiler-rt/lib/scudo/standalone of LLVM's sources
   --keep FOLDER   keep the log, the profile, the sheet, the trace and the report in a new folder
   --read FOLDER   tell the errors of a log that --keep kept
   --page FILE     make a page for the browser too: each error, and the heap at that moment if scripts/page has built its engines
