@@ -137,7 +137,8 @@ def leave_recipe(plain: str, compiler: str, library: str, link: list, flags: lis
     as it is now: the driver, the environment, the compilers, or a file that this program reads. Without a place there is no recipe."""
     names = [os.environ.get(name, "") for name in ("TRACED_CC", "TRACED_CXX")]
     name = ".".join(os.path.basename(each) for each in (sys.argv[0], *names))
-    files = [os.path.abspath(sys.argv[0]), __file__, os.path.join(SHIMS, "accesses"), *SOURCES, *HEADERS, *map(which, (plain, compiler)), library]
+    own = [os.path.abspath(sys.argv[0]), __file__, os.path.join(os.path.dirname(__file__), "recipe.sh"), os.path.join(SHIMS, "accesses")]
+    files = [*own, *SOURCES, *HEADERS, *map(which, (plain, compiler)), library]
     listed = " ".join(map(quoted, files))
     lines = [f'[ "${{{name}-}}" = {quoted(os.environ.get(name, ""))} ] || return 0' for name in ("TRACED_CC", "TRACED_CXX")]
     lines += [f'[ "$0" = {quoted(files[0])} ] || return 0', f"is_private {quoted(library)} || return 0"]
