@@ -1,12 +1,12 @@
 -- What is kept of an input that is a timeline or another text.
-use Rattle.std.proofs.Common.{◌≡◌, ℕ, Bool, true, false, MatchBool, List, [], ◌∷◌, ◌++◌, Result, Err, refl, sym, ap, ◌∙◌, append_assoc, arith, drop, slice_index_or}
-use Rattle.std.proofs.lemmas.List.Elements.{All-append, All-nil}
+use Rattle.std.proofs.Common.{◌≡◌, ℕ, Bool, true, false, MatchBool, List, [], ◌∷◌, ◌++◌, Result, Err, refl, sym, ap, ◌∙◌, arith, drop, slice_index_or}
+use Rattle.std.proofs.lemmas.List.Elements.{All-nil}
 use Rattle.history_count.specs.HistoryText.{history_of, history_of_lines}
 use Rattle.history_count.specs.declared.fault.HistoryFault.TheVariants.{BadSnapshots}
 use Rattle.history_count.specs.Timelines.Pieces.{IsReadingOf, Reading}
 use Rattle.history_count.specs.Timelines.TimelineText.{head_line, timeline_of}
 use Rattle.history_count.proofs.TimelineLemmas.LawLemmas.{head_is_in_front, nothing_is_read}
-use Rattle.line_text.specs.Lines.{IsLine, ended, is_newline, lines, words}
+use Rattle.line_text.specs.Lines.{IsLine, ended, lines, words}
 use Rattle.line_text.proofs.LawLemmas.{cut_lines_are_read, line_in_front_is_read}
 use Rattle.tuner_theory.specs.declared.size_event.SizeEvent.{SizeEvent}
 use Rattle.mte_engine.specs.CountsInput.{GivesCounts, IsLineAndRest, KeepsLineAnd, KeepsTimelineOr}
@@ -18,17 +18,6 @@ use Rattle.mte_engine.specs.declared.fault.AnswerError.TheVariants.{OutOfMemory,
 use Rattle.mte_engine.specs.declared.fault.InputFault.{InputFault}
 
 -- ---- while it is read
-
--- the bytes are fed to the reader
-pub keeps_fed : (is : Bool) (old new : Reading) (text bytes piece : List ℕ) → is ≡ true
-    → ((read : List ℕ) → IsReadingOf old read → IsReadingOf new (read ++ piece)) → KeepsTimelineOr is old text bytes
-    → KeepsTimelineOr is new text (bytes ++ piece)
-keeps_fed true old new text bytes piece is fed (rest, parts, reading) = (
-  rest ++ piece,
-  ap (λ (all : List ℕ). all ++ piece) parts ∙ append_assoc (ended head_line) rest piece,
-  fed rest reading,
-)
-keeps_fed false old new text bytes piece is fed keeps = absurd cc
 
 -- or kept
 pub keeps_text : (is : Bool) (reading : Reading) (text text' bytes piece : List ℕ) → is ≡ false → text' ≡ text ++ piece
@@ -85,38 +74,6 @@ no_history true reading text bytes is (rest, parts, read) = ap history_of parts 
 no_history false reading text bytes is keeps = absurd cc
 
 -- ---- a line before it
-
-pub keeps_line_fed : (is : Bool) (line bytes piece : List ℕ) (old new : List ℕ → Type 0) → is ≡ true
-    → ((read : List ℕ) → old read → new (read ++ piece)) → KeepsLineAnd is line old bytes → KeepsLineAnd is line new (bytes ++ piece)
-keeps_line_fed false line bytes piece old new is fed keeps = absurd cc
-keeps_line_fed true line bytes piece old new is fed (rest, parts, is_line, taken) = (
-  rest ++ piece,
-  ap (λ (all : List ℕ). all ++ piece) parts ∙ append_assoc line (10 ∷ rest) piece,
-  is_line,
-  fed rest taken,
-)
-
-pub keeps_line_more : (is : Bool) (line line' bytes piece : List ℕ) (taken : List ℕ → Type 0) → is ≡ false → IsLine piece
-    → line' ≡ line ++ piece → KeepsLineAnd is line taken bytes → KeepsLineAnd is line' taken (bytes ++ piece)
-keeps_line_more true line line' bytes piece taken is is_line more keeps = absurd cc
-keeps_line_more false line line' bytes piece taken is is_line more keeps = (
-  more ∙ ap (λ (all : List ℕ). all ++ piece) keeps.0,
-  All-append (λ b. is_newline b ≡ false) bytes piece keeps.1 is_line,
-  keeps.2,
-)
-
-pub keeps_line_ended : (is : Bool) (line line' bytes piece end rest : List ℕ) (old new : List ℕ → Type 0) → is ≡ false → IsLine end
-    → piece ≡ end ++ 10 ∷ rest → line' ≡ line ++ end → ((read : List ℕ) → old read → new (read ++ rest))
-    → KeepsLineAnd is line old bytes → KeepsLineAnd true line' new (bytes ++ piece)
-keeps_line_ended true line line' bytes piece end rest old new is is_line cut more fed keeps = absurd cc
-keeps_line_ended false line line' bytes piece end rest old new is is_line cut more fed keeps =
-    let all : line' ≡ bytes ++ end = more ∙ ap (λ (front : List ℕ). front ++ end) keeps.0 in (
-      rest,
-      ap (λ (text : List ℕ). bytes ++ text) cut ∙ sym (append_assoc bytes end (10 ∷ rest))
-          ∙ ap (λ (front : List ℕ). front ++ 10 ∷ rest) (sym all),
-      rw all (All-append (λ b. is_newline b ≡ false) bytes end keeps.1 is_line),
-      fed [] keeps.2,
-    )
 
 abbrev first : List (List ℕ) → List ℕ
 first ls = slice_index_or ls 0 []

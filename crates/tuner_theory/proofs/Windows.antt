@@ -1,5 +1,5 @@
 -- What histories of windows say of the run.
-use Rattle.std.proofs.Common.{◌≡◌, ℕ, zero, suc, ◌+◌, ◌-◌, ◌*◌, ◌<◌, ◌≤◌, List, [], ◌∷◌, length, map, slice_index, get_or, arith, refl, ap, ◌∙◌, sym, All, Contains}
+use Rattle.std.proofs.Common.{◌≡◌, ℕ, zero, suc, ◌+◌, ◌-◌, ◌*◌, ◌<◌, ◌≤◌, List, [], ◌∷◌, length, map, slice_index, get_or, arith, refl, ap, ◌∙◌, All, Contains}
 use Rattle.std.specs.List.{AllZip, range_with_len}
 use Rattle.std.proofs.lemmas.List.{length-map}
 use Rattle.std.proofs.lemmas.List.FromFn.{get_or-map-range_with_len, length-map-range_with_len}
@@ -8,11 +8,10 @@ use Rattle.class_table.specs.Sizes.{largest_counted}
 use Rattle.class_table.specs.Tables.{IsLegalTable}
 use Rattle.tuner_theory.specs.Best.{IsCandidate}
 use Rattle.tuner_theory.specs.Footprint.{blocks, footprint_of}
-use Rattle.tuner_theory.specs.Histories.{AreSnapshots, most, peaks}
-use Rattle.tuner_theory.specs.Profiles.{IsCounted}
+use Rattle.tuner_theory.specs.Histories.{most, peaks}
 use Rattle.tuner_theory.specs.Served.{served}
 use Rattle.tuner_theory.specs.Sheets.{IsFitVerdict, Sheet}
-use Rattle.tuner_theory.specs.Timelines.{AreMoments, IsLeastOver, footprint_over, history_at, moments, snapshot_at}
+use Rattle.tuner_theory.specs.Timelines.{IsLeastOver, footprint_over, history_at, moments, snapshot_at}
 use Rattle.tuner_theory.specs.Waste.{Serves}
 use Rattle.tuner_theory.specs.Windows.{AreWindows, IsLowerHistory, IsUpperHistory, Window, most_in}
 use Rattle.tuner_theory.specs.declared.size_event.SizeEvent.{SizeEvent}

@@ -34,10 +34,6 @@ pub fed_reading : (old new : Reading) (bytes piece : List ℕ) → IsReadingOf o
 fed_reading old new bytes piece reading fed more =
     ap (λ (text : List ℕ). events_from 2 [] (lines text)) (append_assoc bytes piece more) ∙ reading (piece ++ more) ∙ fed more
 
--- after a fault no byte is looked at
-pub fed_failed : (r : Reading) (fault : TimelineFault) (piece : List ℕ) → r.fault ≡ Some fault → IsFed r piece r
-fed_failed r fault piece failed more = rw failed refl
-
 pub is_unfailed : (fault : Option TimelineFault) → is_some fault ≡ false → fault ≡ None
 is_unfailed None is = refl
 is_unfailed (Some fault) is = absurd cc
@@ -151,10 +147,6 @@ long_rest events (b ∷ line) more is long =
 
 -- ---- lines that are taken
 
-pub taken_none : (events : List SizeEvent) (ls : List (List ℕ)) → ls ≡ [] → (more : List (List ℕ))
-    → going_on events None (ls ++ more) ≡ going_on events None more
-taken_none events ls none more = rw none refl
-
 pub taken_more : (events : List SizeEvent) (ls new : List (List ℕ)) (line : List ℕ) (event : SizeEvent) → ls ≡ line ∷ new
     → next_event events line ≡ Ok event → (more : List (List ℕ))
     → going_on events None (ls ++ more) ≡ going_on (events ++ event ∷ []) None (new ++ more)
@@ -171,11 +163,6 @@ taken_faulty events ls new line fault parts is more =
 
 -- ---- the steps of a reader
 
-pub fed_whole : (old new : Reading) (live text : List ℕ) → AreWholeLines text → old.fault ≡ None → old.rest ≡ [] → new.rest ≡ []
-    → AreTaken old.events new.events new.fault live (lines text) → IsFed old text new
-fed_whole old new live text whole unfailed start start' taken more =
-    rw (unfailed, start, start') (ap (going_on old.events None) (whole more) ∙ taken.read (lines more))
-
 pub fed_newline : (old new : Reading) (live kept : List ℕ) → IsLine old.rest → old.fault ≡ None → kept ≡ old.rest ++ 10 ∷ []
     → new.rest ≡ [] → AreTaken old.events new.events new.fault live (lines kept) → IsFed old (10 ∷ []) new
 fed_newline old new live kept is unfailed kept-is start' taken more =
@@ -183,11 +170,6 @@ fed_newline old new live kept is unfailed kept-is start' taken more =
     ap lines (sym (append_assoc old.rest (10 ∷ []) more)) ∙ whole_ended old.rest more
     ∙ ap (λ (text : List ℕ). lines text ++ lines more) (sym kept-is) in
     rw (unfailed, start') (ap (going_on old.events None) all ∙ taken.read (lines more))
-
-pub fed_kept : (old new : Reading) (bytes : List ℕ) → new.events ≡ old.events → new.fault ≡ old.fault → new.rest ≡ old.rest ++ bytes
-    → IsFed old bytes new
-fed_kept old new bytes events fault rest more =
-    rw (events, fault, rest) (ap (λ (text : List ℕ). going_on old.events old.fault (lines text)) (sym (append_assoc old.rest bytes more)))
 
 pub fed_too_long : (old new : Reading) (bytes : List ℕ) → IsLine (old.rest ++ bytes) → 6 < length (old.rest ++ bytes) → old.fault ≡ None
     → new.events ≡ old.events → new.fault ≡ Some BadTimeline → IsFed old bytes new
