@@ -1,5 +1,4 @@
-use Rattle.std.proofs.Common.{◌≡◌, length}
-use Rattle.class_table.specs.Sizes.{largest_counted}
+use Rattle.std.proofs.Common.{◌≡◌}
 use Rattle.history_count.specs.Timelines.Requests.{IsLargestSoFar}
 use Rattle.history_count.specs.Timelines.Stretches.{AreLinesBelow, AreSeen}
 use Rattle.history_count.proofs.timelines.requested.requested_in.Given as goal
