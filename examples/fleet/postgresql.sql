@@ -60,6 +60,7 @@ end $$;
 commit;
 
 begin;
+set local work_mem = '64MB'; -- to sort them
 create temporary table arriving (
     program text, build text, machine text, day date, load bigint, weight bigint, moments text, sizes text, counts text
 ) on commit drop;
@@ -67,7 +68,8 @@ create temporary table arriving (
 -- in the order of the key: two loads at once then wait for each other, and neither for ever
 insert into loads as old
     select distinct on (machine, program, day, build) program, build, machine, day, load, weight,
-        translate(moments, '[]', '{}')::smallint[], translate(sizes, '[]', '{}')::smallint[], translate(counts, '[]', '{}')::bigint[]
+        replace(replace(moments, '[', '{'), ']', '}')::smallint[], replace(replace(sizes, '[', '{'), ']', '}')::smallint[],
+        replace(replace(counts, '[', '{'), ']', '}')::bigint[] -- `translate` takes ten times as long
     from arriving order by machine, program, day, build, load desc, length(sizes) desc
     on conflict (machine, program, day, build) do update
     set (load, weight, moments, sizes, counts) = (select load, weight, moments, sizes, counts from counted(old, excluded))

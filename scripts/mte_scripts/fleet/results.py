@@ -157,16 +157,22 @@ def missing_of(lines: "list[Line]", assigned: "dict[tuple[str, str], str]") -> "
 
 
 def compared(sums: dict, missing: "list[str]") -> Values:
-    """The values of machines; of a pilot, which has no other group, those before."""
+    """The values of machines; of a pilot, which has no other group, those before. Where most machines have days before, those that have
+    none are left out."""
     mean: Callable = lambda days, at: sum(day[at] for day in days.values()) / len(days)
     is_pilot = all(groups.keys() == {"before"} for groups in sums.values())
-    has_before = not is_pilot and all("before" in groups for groups in sums.values())
+    tried = [groups for groups in sums.values() if is_pilot or groups.keys() - {"before"}]
+    without = sum("before" not in groups for groups in tried)
+    has_before = not is_pilot and 2 * without < len(tried)
+    if has_before and without:
+        missing = [*missing, f"{without:,} of {len(tried):,} machines have no line before the trial, and are left out"]
     before = []
     resident: dict = {}
     requests: dict = {}
     for (program, _), groups in sums.items():
-        own = [group for group in groups if is_pilot or group != "before"]
-        for group in own:
+        if has_before and "before" not in groups:
+            continue
+        for group in [group for group in groups if is_pilot or group != "before"]:
             value = mean(groups[group], 0)
             if has_before:
                 before.append(mean(groups["before"], 0))

@@ -48,10 +48,10 @@ falls by that. plan says how many machines each group wants. read says what a re
 
 A RESULT has lines of six fields with tabs between: program, machine, group, day, resident and requests. The group is `control`,
 `tuned` or `before`; resident is the resident set in KiB, as the kernel has it (VmHWM of /proc/PID/status, or RssAnon at a set
-hour), requests what the machine served then. The value of a machine is the mean of its days. Where all machines have days `before`
-the trial too, it is the change since: this takes out what machines always differ by. A line can't count whose day does not exist, whose
-resident set is in another unit than most of its program's, or whose machine is in both groups: it is left out, and said. So are lines
-that did not come, where they are more than 5% of a group's machines and days.
+hour), requests what the machine served then. The value of a machine is the mean of its days. Where most machines have days `before`
+the trial too, it is the change since: this takes out what machines always differ by; those that have none are left out. A line can't
+count whose day does not exist, whose resident set is in another unit than most of its program's, or whose machine is in both groups: it
+is left out, and said. So are lines that did not come, where they are more than 5% of a group's machines and days.
 
 The difference is that of the means, for each program and over all, each program with its share of the machines; its interval is
 that of Welch. It rests on this: chance alone chose the groups, the machines do not depend on each other, each ran one table
