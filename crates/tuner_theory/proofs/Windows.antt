@@ -84,10 +84,10 @@ in-window : (events : List SizeEvent) (window : Window) (moment n : ℕ) → n �
 in-window events window moment n le from to =
     let all = map (snapshot_at events) (range_with_len window.first (window.last + 1 - window.first)) in
     let long : length all ≡ window.last + 1 - window.first =
-        length-map-range_with_len (snapshot_at events) window.first (window.last + 1 - window.first) in
+    length-map-range_with_len (snapshot_at events) window.first (window.last + 1 - window.first) in
     let here : get_or all (moment - window.first) [] ≡ snapshot_at events moment =
-        get_or-map-range_with_len (snapshot_at events) window.first (window.last + 1 - window.first) (moment - window.first) moment []
-        (omega arith) (omega arith) in
+    get_or-map-range_with_len (snapshot_at events) window.first (window.last + 1 - window.first) (moment - window.first) moment []
+    (omega arith) (omega arith) in
     omega (
       arith,
       peak-at all n 0 le,
@@ -100,8 +100,7 @@ pub windows_are_upper : (events : List SizeEvent) (windows : List Window) → Ar
 windows_are_upper events windows are moment le =
     let found = are moment le in
     let all = map (snapshot_at events) (range_with_len found.0.first (found.0.last + 1 - found.0.first)) in
-    let lives = snapshot-length events moment in
-    (
+    let lives = snapshot-length events moment in (
       most_in events found.0,
       contains-map (most_in events) windows found.0 found.1,
       zip-of (snapshot_at events moment) (most_in events found.0) (omega (arith, lives, peaks-length all))
@@ -127,8 +126,7 @@ interval events numbers upper fit least lower is legal meets serving best =
       legal = fitted.candidate.legal;
       few = fitted.candidate.few;
       serving = serves-served fit.forced events numbers fit.table fitted.candidate.serving serving;
-    } in
-    (
+    } in (
       lower_bounds events numbers fit least lower legal meets best.candidate,
       best.least fit.table candidate,
       upper_takes_more events upper fit.table is,
