@@ -14,7 +14,7 @@ def section(verdict: str, rows: list[Row], tuned: str, falls: int) -> str:
     return f"""<h2>Measured</h2>
 <p id="verdict">{escape(verdict)}</p>
 <figure>{bars(rows, foreseen, "wide", 760)}{bars(rows, foreseen, "narrow", 340)}
-<figcaption>A bar is the peak of the resident set, the middle of {len(default.peaks)} runs; the line at its end goes from the least to the most. The dashed
+<figcaption>A bar is the peak of the resident set, the middle of {len(default.peaks)} runs; the line at its end goes from the lowest to the highest. The dashed
 line is what was predicted of the table, from Scudo's default where it gives nothing back.</figcaption></figure>
 """
 

@@ -257,7 +257,7 @@ def headline(options: Options, found: figures.Figures, process: int) -> str:
     saved = f"{kibibytes(abs(saving))}{share} {'less' if saving >= 0 else 'more'} than {default.name}"
     if not process:
         return f"{options.name()}: {found.first.name}, {saved}"
-    helps = "" if abs(saving) >= verdict.SHARE * process else "no table helps this program; "
+    helps = "" if abs(saving) >= verdict.SHARE * process else "a table is not worth it here; "
     return f"{options.name()}: {helps}{found.first.name}, {saved}, {percent(abs(saving), process)} of the process"
 
 

@@ -122,11 +122,11 @@ def verdict(rows: list[Row], tuned: str) -> str:
         return f"{takes}. Nothing follows for Scudo, with which it ended otherwise."
     takes += f"; {kibibytes(price.default.peak())} with {DEFAULT}; and {kibibytes(price.tuned.peak())} with the table."
     if not price.plain.is_below(price.default):
-        saved = f"the table saves {kibibytes(price.back())} more" if price.tuned.is_below(price.default) else "no table helps"
+        saved = f"the table saves {kibibytes(price.back())} more" if price.tuned.is_below(price.default) else "the table saves nothing worth a word"
         return f"{takes} Hardening has no price here that can be told from chance, and {saved}."
     cost = f"Hardening costs {kibibytes(price.cost())}, {percent(price.cost(), now.peak())}"
     if not price.tuned.is_below(price.default):
-        return f"{takes} {cost}, and no table helps: take Scudo as it is."
+        return f"{takes} {cost}, and this table is not worth it: take Scudo as it is."
     low, high = price.range()
     share = f"the table pays back {100 * price.back() / price.cost():.0f}% of that ({100 * low:.0f} to {100 * high:.0f}%)"
     left = "so that it costs no memory" if not now.is_below(price.tuned) else f"so that it costs {kibibytes(price.tuned.peak() - now.peak())}"
@@ -136,7 +136,7 @@ def verdict(rows: list[Row], tuned: str) -> str:
 def lines(rows: list[Row]) -> list[str]:
     """A line for each allocator: its peak with the least and the most, the change against the present one, and its processor time."""
     now = rows[0]
-    cells: list[tuple] = [("Allocator", "peak, KiB", "least", "most", "change", "time, s")]
+    cells: list[tuple] = [("Allocator", "peak, KiB", "lowest", "highest", "change", "time, s")]
     for row in rows:
         sizes = (f"{each // 1024:,}" for each in (row.peak(), row.peaks[0], row.peaks[-1]))
         change = "" if row is now else f"{100 * (row.peak() / now.peak() - 1):+.1f}%"
