@@ -136,12 +136,13 @@ def modules_of_commands() -> "list[str]":
 
 def put_scripts(tree: Tree) -> None:
     """The scripts with what they use. Each is called by a name of its own."""
-    for name in [*modules_of_commands(), *tracked("scripts/shims")]:
+    for name in [*modules_of_commands(), *tracked("scripts/shims"), "scripts/mte_scripts/faults/recipe.sh"]:
         tree.copy(source(name), f"{PRIVATE}/{name}")
     for name in ["mte_tool", *COMMANDS]:
         first, rest = Path(source(f"scripts/{name}")).read_text(encoding="utf-8").split("\n", 1)
         # Debian's interpreters, and not the first ones on the path
-        shell = {"#!/bin/sh -": "#!/bin/bash -", "#!/usr/bin/env -S python3 -ISXutf8 --": "#!/usr/bin/python3 -ISXutf8"}[first]
+        known = {"#!/bin/sh -": "#!/bin/bash -", "#!/bin/sh": "#!/bin/sh", "#!/usr/bin/env -S python3 -ISXutf8 --": "#!/usr/bin/python3 -ISXutf8"}
+        shell, rest = known[first], rest.replace("\nexec python3 -ISXutf8", "\nexec /usr/bin/python3 -ISXutf8")
         tree.write(f"{PRIVATE}/scripts/{name}", f"{shell}\n{rest}", 0o755)
         if name != "mte_tool":
             tree.link(f"usr/bin/mte_{name}", f"{PRIVATE}/scripts/{name}")
