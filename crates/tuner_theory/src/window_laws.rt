@@ -21,17 +21,17 @@ pub fn law_windows()
 /// No table takes more over a run than over an upper history of it, and one that serves the sizes of this history serves each size that is
 /// live at a moment of the run.
 pub fn law_upper_history()
-    ensures footprint { (events : List SizeEvent) (upper : List (List ℕ)) (classes : List ℕ) → IsUpperHistory events upper
-        → footprint_over events classes ≤ footprint_of upper classes }
-    ensures sizes { (events : List SizeEvent) (upper : List (List ℕ)) (classes : List ℕ) → IsUpperHistory events upper
-        → Serves (peaks upper) classes → Serves (peaks (moments events)) classes }
+    ensures footprint { (events : List SizeEvent) (upper : List (List ℕ)) (classes : List ℕ)
+        → IsUpperHistory events upper → footprint_over events classes ≤ footprint_of upper classes }
+    ensures sizes { (events : List SizeEvent) (upper : List (List ℕ)) (classes : List ℕ)
+        → IsUpperHistory events upper → Serves (peaks upper) classes → Serves (peaks (moments events)) classes }
 {}
 
 /// A fit that is optimal over a lower history bounds from below what any table takes over the run, if it serves each size that is live at a
 /// moment, and where the fit's largest class is forced the largest size too.
 pub fn law_lower_history()
-    ensures { (events : List SizeEvent) (numbers : List ℕ) (fit : Sheet) (other : List ℕ) → IsLowerHistory events numbers
-        → IsLegalTable 1 fit.table → IsFitVerdict (history_at events numbers) fit Optimal
+    ensures { (events : List SizeEvent) (numbers : List ℕ) (fit : Sheet) (other : List ℕ)
+        → IsLowerHistory events numbers → IsLegalTable 1 fit.table → IsFitVerdict (history_at events numbers) fit Optimal
         → IsCandidate (served fit.forced (peaks (moments events))) fit.step fit.limit other
         → fit.cost ≤ footprint_over events other }
 {}

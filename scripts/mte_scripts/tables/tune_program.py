@@ -459,14 +459,15 @@ def made(options: Options, folder: Folder, others: list, recorded: long_runs.Rec
 def verify(options: Options, folder: Folder, found: figures.Figures, report: Callable[[str], None], scudo: verification.Place, work: str,
            kept: "str | None") -> None:
     """Runs the program in the real Scudo, leaves the tuned one in the folder, and adds to summary and report what was measured."""
-    tuned, path, made = found.first.name, recording.find_program(options.words[0]), f"libscudo_{options.name()}.so"
+    tuned, path, made = found.first.name, recording.find_program(options.words[0]), f"libscudo_{plain(options.name())}.so"
     own = verdict.present(path)
     libraries: "dict[str, str | None]" = {own: None, **{name: file for name, file in verdict.installed().items() if name != own}}
     for name, classes in ((verdict.DEFAULT, None), (tuned, found.first.classes)):
         texts.say("tune_program", f"compiling Scudo with {'its own table' if classes is None else 'this one'}; that takes about half a minute")
-        libraries[name] = file = os.path.join(work, "default.so" if classes is None else made)
+        libraries[name] = file = os.path.join(work, "default.so" if classes is None else "tuned.so")
         verification.build(scudo, file, classes, work)
-    folder.write(made, texts.read(os.path.join(work, made)))
+        verification.need_loaded(file)
+    folder.write(made, texts.read(os.path.join(work, "tuned.so")))
     folder.write(verification.CONFIG, scudo_map.config(found.first.classes))
     runner = os.path.join(work, "peak")
     verification.build_runner(scudo, runner, work)
@@ -478,6 +479,11 @@ def verify(options: Options, folder: Folder, found: figures.Figures, report: Cal
     texts.write(text)
 
 
+def plain(name: str) -> str:
+    """A name without what ends a name in LD_PRELOAD."""
+    return "".join("_" if each in " :" or not each.isprintable() else each for each in name)
+
+
 def measured_lines(options: Options, folder: Folder, found: figures.Figures, rows: "list[verdict.Row]", made: str, said: str) -> list[str]:
     """The verdict, and what it follows from."""
     lines = ["", *wrapped(f"Verdict on {said}", indent="  ")]
@@ -487,7 +493,11 @@ def measured_lines(options: Options, folder: Folder, found: figures.Figures, row
         if row.strange:
             lines += wrapped(f"! With {row.name} the program ended otherwise than with {rows[0].name}.", indent="  ")
     lines += ["", "To run it in Scudo with this table, which is in the folder beside its header:"]
-    return [*lines, f"  LD_PRELOAD={texts.path_word(os.path.abspath(folder.file(made)))} {texts.path_word(options.words[0])} .."]
+    file = os.path.abspath(folder.file(made))
+    lines.append(f"  LD_PRELOAD={texts.path_word(file)} {texts.path_word(options.words[0])} ..")
+    if plain(file) != file:
+        lines.append("! LD_PRELOAD ends a path at a space or a colon: copy the library first.")
+    return lines
 
 
 def fitted(options: Options, folder: Folder, timed: "figures.OverTime | None") -> "figures.OverTime | None":

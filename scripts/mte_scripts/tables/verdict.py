@@ -56,10 +56,6 @@ class Price(NamedTuple):
     def back(self) -> int:
         return self.default.peak() - self.tuned.peak()
 
-    def share(self) -> Optional[float]:
-        """The share that is paid back; None where hardening has no price that can be told from chance."""
-        return self.back() / self.cost() if self.plain.is_below(self.default) else None
-
     def range(self) -> tuple[float, float]:
         """The least and the most share that single runs allow."""
         ends = [(row.peaks[0], row.peaks[-1]) for row in self]

@@ -55,6 +55,13 @@ def build(scudo: Place, to: str, classes: Optional[list], work: str) -> None:
     compile_with([*words, *sources, "-o", to], work, "Scudo")
 
 
+def need_loaded(library: str) -> None:
+    """Refuses a library that does not come before a program's own: then each run would be one with the present allocator."""
+    shown = subprocess.run(["cat", "/proc/self/maps"], stdin=subprocess.DEVNULL, capture_output=True, env={**os.environ, "LD_PRELOAD": library})
+    if os.fsencode(library) not in shown.stdout:
+        raise Refused(3, f"{library} is not loaded by LD_PRELOAD, which ends a path at a space or a colon: set TMPDIR to another folder")
+
+
 def keep_input(to: str) -> bool:
     """Keeps standard input in a file, so that each run reads the same. False where there is none, or a person types it."""
     try:
