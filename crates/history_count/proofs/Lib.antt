@@ -5,7 +5,6 @@ pub mod Entries
 pub mod EntryLines
 pub mod Filling
 pub mod FirstFaults
-pub mod GivenSnapshots
 pub mod LawLemmas
 pub mod LineByLine
 pub mod OpenReadings

@@ -3,5 +3,4 @@ pub mod FaultText
 pub mod Histories
 pub mod HistoryText
 pub mod LineView
-pub mod TakenCounts
 pub mod Timelines

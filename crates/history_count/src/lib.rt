@@ -9,7 +9,6 @@ mod history;
 pub mod laws;
 mod line;
 mod of_rows;
-mod of_snapshots;
 mod reading;
 mod timelines;
 
@@ -18,6 +17,6 @@ pub use footprint::{blocks_between, line_from};
 pub use history::{History, Lines};
 pub use timelines::{
     Footprint, TIMELINE, Timeline, TimelineError, TimelineFault, TimelineIndex, TimelineReader,
-    footprint_over, snapshots_at, unserved_over,
+    footprint_over, unserved_over,
 };
 pub use tuner_theory::MOST_SNAPSHOTS;

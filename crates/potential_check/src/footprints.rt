@@ -14,5 +14,5 @@ pub use row_tests::test_rows;
 pub use slack::{BLOCK, WHOLE_SLACK, lower_slack, no_bounds};
 pub use span_costs::SpanCosts;
 pub use timelines::{
-    MOMENTS, OverRefusal, OverVerdict, check_over, history_over, moments_in, names_moments,
+    MOMENTS, OverRefusal, OverVerdict, check_over, moments_in, names_moments,
 };

@@ -23,7 +23,7 @@ pub use cost::{Cost, CostKind, OfFootprint, OfWaste};
 pub use fault::SheetError;
 pub use footprints::{
     BLOCK, HistorySpans, MOMENTS, OverRefusal, OverVerdict, SpanCosts, WHOLE_SLACK, check_fit,
-    check_over, history_over, lower_slack, moments_in, names_moments, no_bounds, test_rows,
+    check_over, lower_slack, moments_in, names_moments, no_bounds, test_rows,
 };
 pub use leading_sheet::LeadingSheet;
 pub use measured::RowTests;

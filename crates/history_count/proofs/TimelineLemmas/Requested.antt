@@ -1,5 +1,5 @@
 -- The requested sizes, after all events; and an event's size is one of them.
-use Rattle.std.proofs.Common.{◌≡◌, ℕ, ◌+◌, ◌-◌, ◌<◌, ◌≤◌, List, length, take, replicate, slice_index, get_or, arith, ap, add-one}
+use Rattle.std.proofs.Common.{◌≡◌, ℕ, ◌+◌, ◌<◌, ◌≤◌, List, length, take, replicate, slice_index, get_or, arith, ap, add-one}
 use Rattle.std.proofs.lemmas.List.{get_or-replicate, length-replicate, take_all}
 use Rattle.std.proofs.lemmas.List.Sums.{sum_by-take-le}
 use Rattle.class_table.specs.Sizes.{largest_counted}

@@ -1,12 +1,14 @@
 -- The requested sizes, one event more.
-use Rattle.std.proofs.Common.{◌≡◌, ◌≢◌, ℕ, suc, ◌+◌, ◌-◌, ◌<◌, ◌≤◌, ◌⊎◌, List, length, take, slice_index, get_or, arith, refl, ap, ◌∙◌, inl, inr, add-one, None, IsSome}
+use Rattle.std.proofs.Common.{◌≡◌, ◌≢◌, ◌↔◌, ℕ, suc, ◌+◌, ◌-◌, ◌<◌, ◌≤◌, ◌⊎◌, List, [], ◌∷◌, length, take, slice_index, get_or, arith, refl, ap, ◌∙◌, inl, inr, add-one, None, IsSome}
 use Rattle.std.proofs.lemmas.Bool.{cases_lt}
 use Rattle.std.proofs.lemmas.Bool.Decides.{eqb_tells, nat_tests}
 use Rattle.std.proofs.lemmas.List.{take_all, take-take}
 use Rattle.std.proofs.lemmas.List.Sums.{sum_by-take-le}
 use Rattle.class_table.specs.Sizes.{largest_counted}
 use Rattle.class_table.specs.Tables.{class_for}
-use Rattle.tuner_theory.specs.Timelines.{IsTimeline, requested, snapshot_at}
+use Rattle.tuner_theory.specs.Histories.{peaks}
+use Rattle.tuner_theory.specs.Timelines.{IsTimeline, moments, requested, snapshot_at}
+use Rattle.tuner_theory.specs.Waste.{Serves}
 use Rattle.tuner_theory.specs.declared.size_event.SizeEvent.{SizeEvent}
 use Rattle.tuner_theory.specs.declared.size_event.SizeEvent.TheVariants.{Request, Free}
 use Rattle.tuner_theory.proofs.Timelines.{live-at}
@@ -168,6 +170,24 @@ no_largest events k above moment all found unrequested =
       ))
       | inr none ↦ omega (arith, none)
     ])
+
+smaller_is_served : (classes : List ℕ) (n larger : ℕ) → n ≤ larger → IsSome (class_for classes larger) → IsSome (class_for classes n)
+smaller_is_served [] n larger le some = some
+smaller_is_served (c ∷ cs) n larger le some = grind (arith, nat_tests, smaller_is_served cs n larger)
+
+-- a table with a class for the largest one serves all
+pub largest_serves : (events : List SizeEvent) (classes : List ℕ) (k above moment : ℕ) → IsTimeline events → k ≡ length events
+    → IsLargestSoFar events k above moment
+    → (0 < above → IsSome (class_for classes (above - 1))) ↔ Serves (peaks (moments events)) classes
+largest_serves events classes k above moment timeline all found = (
+  λ served. (requested_sizes events classes timeline).1 (λ n le some.
+      let below = found.below n le (rw whole some) in
+      smaller_is_served classes n (above - 1) (omega (arith, below)) (served (omega (arith, below)))),
+  λ serves some. (requested_sizes events classes timeline).0 serves (above - 1) (omega (arith, found.counted)) (rw whole at (found.some some)),
+)
+  where
+    whole : take k events ≡ events
+    whole = take_all k events (omega (arith, all))
 
 -- ---- the least one without a class
 

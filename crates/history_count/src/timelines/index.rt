@@ -1,9 +1,11 @@
 //! An index of a timeline: what a table takes over it, and the history of some of its moments, without a pass over all events.
-ghost use Rattle.std.specs.Prelude.{◌≡◌, ◌<◌, ◌≤◌, ◌+◌, ◌*◌, ◌^◌, ℕ, IfOk, length, slice_index};
+ghost use Rattle.std.specs.Prelude.{◌≡◌, ◌↔◌, ◌<◌, ◌≤◌, ◌+◌, ◌*◌, ◌^◌, ℕ, IfOk, IsTrue, length, slice_index};
 ghost use Rattle.class_table.specs.Sizes.{largest_counted};
 ghost use Rattle.history_count.specs.Timelines.LiveBlocks.{AreFirsts};
 ghost use Rattle.history_count.specs.Timelines.Requests.{Decides, IsFirstLive, IsLargest};
-ghost use Rattle.tuner_theory.specs.Timelines.{AreMoments, IsTimeline, footprint_over, history_at, requested};
+ghost use Rattle.tuner_theory.specs.Histories.{peaks};
+ghost use Rattle.tuner_theory.specs.Timelines.{AreMoments, IsTimeline, footprint_over, history_at, moments, requested};
+ghost use Rattle.tuner_theory.specs.Waste.{Serves};
 
 use crate::footprint::line_from;
 use crate::history::History;
@@ -70,6 +72,17 @@ impl<'a> TimelineIndex<'a> {
         ensures none { ((n : ℕ) → n ≤ largest_counted → requested self.now n ≡ 0) → result ≡ 0 }
     {
         self.requested.largest.moment
+    }
+
+    /// Whether a table has a class for each counted size that is requested.
+    pub fn serves(&self, table: &ClassTable) -> bool
+        ensures { IsTrue result ↔ Serves (peaks (moments self.now)) table.now }
+    {
+        let above = self.requested.largest.above;
+        if above == 0 {
+            return true;
+        }
+        table.find(u32::from(above - 1)).is_some()
     }
 
     /// The history of some moments of the timeline, each by its number: of how many events it comes after. It goes over the events from the

@@ -7,7 +7,6 @@ ghost use Rattle.tuner_theory.specs.Timelines.{IsTimeline, snapshot_at};
 use crate::timelines::counting::zeros;
 use crate::timelines::line::LARGE_SIZE;
 use crate::timelines::requested::Requested;
-use crate::timelines::snapshots::push_copy;
 use std::alloc::{AllocError, Global};
 use tuner_theory::SizeEvent;
 
@@ -219,4 +218,12 @@ fn last_start(starts: &[usize], moment: usize) -> usize
         b -= 1;
     }
     b
+}
+
+// adds a copy of the counts
+fn push_copy(alloc: Global, rows: &mut Vec<Vec<u32>>, counts: &[u32]) -> Result<(), AllocError>
+    ensures { OnOk result (lists_of rows.new.items ≡ lists_of rows.old.items ++ counts.now ∷ []) }
+{
+    rows.push(Vec::from_slice(alloc, counts)?)?;
+    Ok(())
 }

@@ -1,17 +1,16 @@
 //! The checker. It trusts nobody: it takes the snapshots at the moments that a fit names out of the timeline itself.
-ghost use Rattle.std.specs.Prelude.{◌≡◌, IfOk};
+ghost use Rattle.std.specs.Prelude.{◌≡◌, ◌↔◌, ◌≤◌, IfOk, IsTrue, All, length};
 ghost use Rattle.potential_check.specs.Certificates.SheetView.{sheet_of};
 ghost use Rattle.potential_check.specs.Footprints.Timelines.Verdicts.{IsOverVerdict};
 ghost use Rattle.potential_check.specs.declared.footprints.timelines.verdict.OverVerdict.TheVariants.{Optimal};
-ghost use Rattle.tuner_theory.specs.Timelines.{IsLeastOver};
+ghost use Rattle.tuner_theory.specs.Timelines.{AreMoments, IsLeastOver};
 
 use crate::certificates::Fit;
 use crate::footprints::check_fit;
-use crate::footprints::timelines::history::{are_moments, history_over};
 use crate::footprints::timelines::verdict::{OverRefusal, OverVerdict};
-use history_count::{Timeline, footprint_over, unserved_over};
+use history_count::{MOST_SNAPSHOTS, Timeline, TimelineIndex};
 use std::alloc::{AllocError, Global};
-use tuner_theory::{Refusal, Verdict};
+use tuner_theory::{Refusal, SizeEvent, Verdict};
 
 /// The verdict on a fit over a timeline, whoever wrote it and whatever it and the numbers of its moments are: optimal, or the first refusal
 /// that holds. The table of an optimal fit has the least footprint over every moment: no table of at most `limit` classes that fits the step
@@ -30,17 +29,32 @@ pub fn check_over(
     if !are_moments(events, numbers) {
         return Ok(OverVerdict::Refused(OverRefusal::NotMoments));
     }
-    let history = history_over(alloc, events, numbers)?;
+    let index = TimelineIndex::new(alloc, events)?;
+    let history = index.history_at(alloc, numbers)?;
     if let Verdict::Refused(refusal) = check_fit(alloc, &history, fit)? {
         return Ok(OverVerdict::Refused(OverRefusal::OfFit(refusal)));
     }
-    if let Some(_size) = unserved_over(events, &fit.table) {
+    let _classes = fit.table.len();
+    if !index.serves(&fit.table) {
         return Ok(OverVerdict::Refused(OverRefusal::OfFit(Refusal::NotServing)));
     }
-    let _classes = fit.table.len();
-    let taken = footprint_over(alloc, events, &fit.table)?;
+    let taken = index.footprint(alloc, &fit.table)?;
     if taken.bytes != fit.cost {
         return Ok(OverVerdict::Refused(OverRefusal::OfFit(Refusal::WasteWrong)));
     }
     Ok(OverVerdict::Optimal)
+}
+
+// whether the numbers are those of some moments: 1 to 1,024 of them, none above the number of events
+fn are_moments(events: &[SizeEvent], numbers: &[usize]) -> bool
+    ensures { IsTrue result ↔ AreMoments events.now numbers.now }
+{
+    !numbers.is_empty() && numbers.len() <= MOST_SNAPSHOTS && are_within(events.len(), numbers)
+}
+
+// whether no number is above the most
+fn are_within(most: usize, numbers: &[usize]) -> bool
+    ensures { IsTrue result ↔ All (λ number. number ≤ most) numbers.now }
+{
+    numbers.iter().all(|number| *number <= most)
 }
