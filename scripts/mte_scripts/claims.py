@@ -110,6 +110,15 @@ TEMPLATES = {
     "interval.one": "Over {over} no table takes less than {low}; this one takes at most {high}.",
     "interval.rests": "The moments are the run's own, so over {over} no table takes less either; the first one takes at most {high} there. That "
     "rests on the recorder, which is tested and not proved.",
+    # of a place in the source, had it requested fewer bytes: two fits, and {saved} of one and the other
+    "who.one": "{place} requests {size}, {count} live at the peak of their class, in blocks of {block} bytes; {fewer} fewer and the best table "
+    "takes {saved} less.",
+    "who.none": "{place} requests {size}, {count} live at the peak of their class, in blocks of {block} bytes; {fewer} fewer and the best table "
+    "takes no less.",
+    "who.unjudged": "{place} requests {size}, {count} live at the peak of their class, in blocks of {block} bytes; of {fewer} fewer nothing is "
+    "said, since a fit has no certificate.",
+    "who.input": "Each of these is of two fits over the recorded run, one of which has the requests of that place and size changed: tables of "
+    "{limit}; `check-fit` says `optimal` of both. So it holds where the program then requests the same otherwise.",
     # pools: {what} is pools.runs or pools.snapshots, and {pools} is "1 pool" or "4 pools"
     "pools.claim": "of the sets of at most {pools} that serve {what}, with blocks of a multiple of {unit} bytes of which {overhead} hold no "
     "request, none takes less than {cost}.",
@@ -275,6 +284,19 @@ def interval(low: int, high: int, events: int, trust: Trust) -> "tuple[str, str]
     one = TEMPLATES["interval.one"].format(over=over, low=mebibytes(low, 0), high=mebibytes(high, 1))
     unproved = "" if trust.is_proved else "If the program is right: "
     return f"{unproved}{one}", TEMPLATES["interval.rests"].format(over=over, high=byte_text(high))
+
+
+def who(place: str, size: int, count: int, block: int, fewer: int, saved: "str | None", is_judged: bool) -> str:
+    """What a place in the source costs, and what the table of the changed run takes less; None where that is nothing."""
+    name_ = "who.unjudged" if not is_judged else "who.none" if saved is None else "who.one"
+    terms = {"size": byte_text(size), "count": f"{count:,}", "block": f"{block:,}", "fewer": byte_text(fewer)}
+    return TEMPLATES[name_].format(place=place, saved=saved, **terms)
+
+
+def who_input(limit: int, step: int) -> str:
+    """Of which tables and of which run that is."""
+    words = TEMPLATES["limit.one" if limit == 1 else "limit.many"].format(count=limit, block=GRANULE * step)
+    return TEMPLATES["who.input"].format(limit=words)
 
 
 def mebibytes(count: int, up: int) -> str:

@@ -26,7 +26,7 @@
 #include "timeline_text.h"
 #include "traced.h"
 
-enum { PATIENCE = 2000, WHILE_FULL = 500, ABOUT_TO_END = 200, SAMPLES = 20, LOOKS = 10, LEFT = 32 };  // milliseconds, samples, processes
+enum { PATIENCE = 2000, WHILE_FULL = 500, ABOUT_TO_END = 200, SAMPLES = 20, LOOKS = 10, LEFT = 32, NAMED = 16, LOOKED_AT = 8 };  // milliseconds, samples, processes
 // mte_scripts/recording/notes.py reads it
 static struct notes {
   uint64_t version;                            // how often the texts were written; 0 while there are none
@@ -41,13 +41,17 @@ static struct notes {
   uint64_t events, snapshots, is_cut;          // of a timeline, and whether it became a history; of a trace, and whether it is cut
   uint64_t variables, shared;                  // of a trace: blocks with a variable of their own and without
   uint64_t left, processes[LEFT];              // those that run on; as many of them as there is room for
+  uint64_t sites;                              // the bytes of what sites.h writes after the upper history
   int64_t taken[TABLES];                       // the bytes that each table of TABLES takes over the run
   char why[128];                               // why nothing is followed
   char allocator[NAME] __attribute__((aligned(NAME)));
+  struct named { char name[24]; uint64_t processes, requests, resident; } named[NAMED];  // the programs of the processes
+  char followed[24];                           // that of the process that is followed
 } *notes;
 _Static_assert(sizeof(struct notes) <= PAGE, "the notes are one page");
 
 static struct stream *stream;
+WITH_STACKS(static struct stacks *stacks;)
 static uint64_t number_of_rings;
 static int found, opened = -1;
 static struct reading {
@@ -77,6 +81,8 @@ static uint64_t now(void) {  // milliseconds
 
 // ---- the records
 
+static uint32_t stack;  // of the request that is taken
+
 // Whether a realloc leaves a block as it is: one to more bytes than there can be; and with Scudo one that fits in the block, and makes it
 // larger, or smaller by less than a page. (Scudo also leaves it where a larger size has the same class, which does not show.)
 static int stays(const struct block *block, uint64_t size) {
@@ -93,6 +99,7 @@ static void go(uint64_t address) {
     return;
   }
   if (most_traced) trace_free(address, block->more);
+  WITH_STACKS(sites.current = block->site;)
   event(block->size, -1);
   remove_block(block);
 }
@@ -101,7 +108,8 @@ static void come(int kind, uint64_t address, uint64_t size) {
   if (address && block_of(address)->key) go(address), notes->lost++;  // the record of its free is missing
   int variable = most_traced ? trace_block(kind == CALLOC ? "calloc" : "malloc", address, size) : 0;
   if (!address) return;
-  put_block((struct block){address, size, variable});
+  WITH_STACKS(sites.current = site_of(stack, counter_of(size));)
+  put_block((struct block){address, size, variable WITH_STACKS(, sites.current, stack)});
   event(size, 1);
 }
 
@@ -113,6 +121,7 @@ static void move(uint64_t address, uint64_t size) {
     if (most_traced) trace_wrong(address, &size);
     return;
   }
+  WITH_STACKS(sites.current = block.site, block.stack = stack;)
   if (!stays(&block, size)) event(block.size, -1);
   remove_block(block_of(address));
   block.key |= MOVING;
@@ -128,26 +137,29 @@ static void moved(uint64_t address, uint64_t old, uint64_t size) {
   }
   remove_block(block_of(old | MOVING));
   int as_it_was = stays(&block, size) || !address;
+  WITH_STACKS(if (!as_it_was) block.site = site_of(block.stack, counter_of(size));)
+  WITH_STACKS(sites.current = block.site;)
   if (!as_it_was || !stays(&block, size)) event(as_it_was ? block.size : size, 1);
   if (most_traced) block.more = trace_moved(block.more, old, address, size);
   else if (address) block.more = as_it_was ? block.size - size : 0;
-  put_block((struct block){address ? address : old, as_it_was ? block.size : size, block.more});
+  put_block((struct block){address ? address : old, as_it_was ? block.size : size, block.more WITH_STACKS(, block.site, block.stack)});
 }
 
 // How many records the call at an index has, 0 where it is not whole yet; does it.
 static int take(struct reading *reading, uint64_t i, uint64_t end) {
 #define AT(k) __atomic_load_n(&reading->records[(k) & (RING - 1)], __ATOMIC_ACQUIRE)
   uint64_t one = AT(i), address = one >> ADDRESS << 3, size = one >> 4 & ((1 << SIZE_BITS) - 1);
-  int kind = one & 15, is_large = size == LARGE && kind != OLD && kind != SIZE, number = 1 + (kind == REALLOC) + is_large;
+  int kind = one & 15, is_request = kind < FREE || kind == MOVES, has_size = kind < OLD && kind != FREE, is_large = size == LARGE && has_size;
+  int has_stack = HAS_STACKS && is_request, number = 1 + (kind == REALLOC) + is_large + has_stack;
   if (!one || end - i < (uint64_t)number) return 0;
-  uint64_t last = AT(i + number - 1);
-  int has_size = kind != FREE && kind != OLD && kind != SIZE, is_whole = kind >= MALLOC && kind <= SIZE;
-  if (kind != SIZE) is_whole &= size <= (has_size ? LARGE : 0);
+  uint64_t last = AT(i + number - 1 - has_stack), whose = AT(i + number - 1);
+  int is_whole = kind >= MALLOC && kind <= (HAS_STACKS ? STACK : SIZE);
+  if (kind < SIZE) is_whole &= size <= (has_size ? LARGE : 0);
   if (is_large) is_whole &= (last & 15) == SIZE && last >> 4 >= LARGE;
   if (kind == REALLOC) is_whole &= (AT(i + 1) & 15) == OLD;
+  if (has_stack) is_whole &= (whose & 15) == STACK && whose >> 4 <= STACKS_MOST, stack = whose >> 4;
   if (!is_whole) return notes->spoiled = 1, number;
   if (is_large) size = last >> 4;
-  int is_request = kind < FREE || kind == MOVES;
   if (is_request) {
     reading->requests++;
     if (reading->is_counted) all[counter_of(size)]++, notes->requests++;
@@ -163,6 +175,16 @@ static int take(struct reading *reading, uint64_t i, uint64_t end) {
 
 // ---- the rings
 
+// What is noted of the programs with a name; nothing where there are too many.
+static struct named *named_as(const char *name) {
+  static struct named nowhere;
+  for (struct named *each = notes->named; each < notes->named + NAMED; each++) {
+    if (!*each->name) memcpy(each->name, name, sizeof each->name);
+    if (!strncmp(each->name, name, sizeof each->name)) return each;
+  }
+  return &nowhere;
+}
+
 static void begin_ring(int k, uint64_t start) {
   struct ring *ring = &stream->rings[k];
   struct reading *reading = &readings[k];
@@ -172,8 +194,9 @@ static void begin_ring(int k, uint64_t start) {
   int is_named = !only || !strncmp(only, ring->name, sizeof ring->name - 1), is_all = !strcmp(wanted, "all");
   *reading = (struct reading){.records = records, .start = start, .since = now(), .is_named = is_named, .is_counted = is_named && is_all};
   if (is_named) notes->started = 1;
+  if (!is_all) named_as(ring->name)->processes++;
   if (!is_all && is_named && (!main_process || ring->process == (uint64_t)main_process)) {
-    main_process = ring->process, reading->is_main = 1, notes->executed = 0;  // the ring before it was read to its end
+    main_process = ring->process, reading->is_main = 1, notes->executed = 0, memcpy(notes->followed, ring->name, sizeof notes->followed);  // the ring before it was read to its end
     begin_kept(), trace.length = trace.events = trace.variables = trace.shared = trace.wrong = trace.has_ended = 0;
     memset(trace.addresses, 0, sizeof trace.addresses), memset(trace.freed, 0, sizeof trace.freed);
     notes->lost = notes->wrong = 0;
@@ -239,6 +262,7 @@ static int is_over(int k, int last) {
 static void end_ring(int k) {
   struct ring *ring = &stream->rings[k];
   struct reading *reading = &readings[k];
+  if (strcmp(wanted, "all")) named_as(ring->name)->requests += reading->requests;
   if (reading->is_main || reading->is_counted) notes->gaps |= ring->overrun;
   else if (reading->is_named && reading->requests) notes->others++, notes->other_requests += reading->requests;
   int has_next = 0;
@@ -281,21 +305,47 @@ static uint64_t read_all(void) {
 
 // ---- what is found
 
+static uint64_t resident_of(pid_t process) {  // KiB, 0 where it is gone
+  char path[64], line[256];
+  snprintf(path, sizeof path, "/proc/%d/status", process);
+  FILE *file = process > 0 ? fopen(path, "re") : NULL;
+  unsigned long kibibytes = 0;
+  while (file && fgets(line, sizeof line, file) && sscanf(line, "VmHWM: %lu", &kibibytes) != 1) ;
+  if (file) fclose(file);
+  return kibibytes;
+}
+
+// of a few processes that are not followed, what they take at most
+static void sample_others(void) {
+  int looked = 0;
+  for (uint64_t k = 0; k < number_of_rings && k < stream->turn && looked < LOOKED_AT; k++) {
+    if (!stream->rings[k].start || !readings[k].records || readings[k].is_main) continue;
+    struct named *named = named_as(stream->rings[k].name);
+    uint64_t bytes = resident_of(stream->rings[k].process) * 1024;
+    if (bytes > named->resident) named->resident = bytes;
+    looked++;
+  }
+}
+
+// the bytes that the table of the stacks takes, which are the program's too
+static uint64_t bytes_of_stacks(void) {
+  uint64_t bytes = 0;
+#ifdef STACKS
+  for (off_t at = stream->stacks, end; (at = lseek(opened, at, SEEK_DATA)) >= 0 && (end = lseek(opened, at, SEEK_HOLE)) > at; at = end) bytes += end - at;
+#endif
+  return bytes;
+}
+
 static void note_resident(uint64_t kibibytes) {
-  uint64_t bytes = kibibytes * 1024, less = 0;
+  uint64_t bytes = kibibytes * 1024, less = bytes_of_stacks();
   for (uint64_t k = 0; k < number_of_rings; k++)
-    if (readings[k].is_main && stream->rings[k].process) less = (stream->rings[k].next < RING ? stream->rings[k].next : RING) * 8;
+    if (readings[k].is_main && stream->rings[k].process) less += (stream->rings[k].next < RING ? stream->rings[k].next : RING) * 8;
   if (bytes > less && bytes - less > notes->resident) notes->resident = bytes - less;
 }
 
 static void sample_resident(void) {
-  char path[64], line[256];
-  snprintf(path, sizeof path, "/proc/%d/status", main_process);
-  FILE *file = main_process > 0 ? fopen(path, "re") : NULL;
-  unsigned long kibibytes;
-  while (file && fgets(line, sizeof line, file))
-    if (sscanf(line, "VmHWM: %lu", &kibibytes) == 1) note_resident(kibibytes);
-  if (file) fclose(file);
+  note_resident(resident_of(main_process));
+  if (strcmp(wanted, "all")) sample_others();
 }
 
 static void note(void) {
@@ -333,8 +383,10 @@ static void write_texts(void) {
   long text = ftell(to) - PAGE - profile;
   if (windows.wanted && kept.is_reduced) write_moments(to, 1);
   long upper = ftell(to) - PAGE - profile - text;
+  WITH_STACKS(if (record_of && !kept.is_reduced) write_sites(to, kept.piece, stacks);)
+  long sites_ = ftell(to) - PAGE - profile - text - upper;
   if (fclose(to)) give_up("there is no room for what is recorded");
-  notes->profile = profile, notes->text = text, notes->upper = upper;
+  notes->profile = profile, notes->text = text, notes->upper = upper, notes->sites = sites_;
   note();
   __atomic_fetch_add(&notes->version, 1, __ATOMIC_RELEASE);
 }
@@ -374,13 +426,16 @@ static const char *make_stream(const char *file) {
   opened = *file ? open(made, O_RDWR | O_CREAT | O_EXCL | O_NOFOLLOW | O_CLOEXEC, 0600) : memfd_create("mte_stream", MFD_CLOEXEC);
   if (opened < 0) return strerror(errno);
   const char *why = NULL;
-  if (ftruncate(opened, HEAD + number_of_rings * RING * 8) || (*file && fallocate(opened, 0, 0, HEAD + RING * 8))) {
+  uint64_t bytes = HEAD + number_of_rings * RING * 8;
+  if (ftruncate(opened, bytes WITH_STACKS(+ sizeof *stacks)) || (*file && fallocate(opened, 0, 0, HEAD + RING * 8))) {
     why = "there is no room for a stream";
   } else if ((stream = mmap(NULL, HEAD, PROT_READ | PROT_WRITE, MAP_SHARED, opened, 0)) == MAP_FAILED) {
     stream = NULL, why = "it has no memory";
   } else {
     stream->number = number_of_rings, stream->reader = getpid(), stream->found = found;
     stream->space = own_space(), stream->form = FORM;
+    WITH_STACKS(stacks = mmap(NULL, sizeof *stacks, PROT_READ | PROT_WRITE, MAP_SHARED | MAP_NORESERVE, opened, bytes);)
+    WITH_STACKS(stream->stacks = stacks == MAP_FAILED ? 0 : bytes; if (!stream->stacks) why = "it has no memory";)
     if (*file && renameat2(AT_FDCWD, made, AT_FDCWD, file, RENAME_NOREPLACE)) why = strerror(errno);
   }
   if (why && *file) unlink(made);

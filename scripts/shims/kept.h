@@ -7,10 +7,14 @@
 #define KEPT_H
 #include <unistd.h>
 #include "windows.h"
+#ifdef STACKS
+#include "sites.h"
+#endif
 
 // ---- the live blocks: a table by address. A block that moves has another key, since its address may be another's before the realloc ends.
 
-struct block { uint64_t key, size : 48, more : 16; };  // `more`: by how much the program has less; or of a trace, the variable
+// `more`: by how much the program has less; or of a trace, the variable
+struct block { uint64_t key, size : 48, more : 16; WITH_STACKS(uint32_t site, stack;) };
 static struct { struct block *at; uint64_t mask, used; } blocks;
 static const uint64_t MOVING = 1ULL << 63;
 
@@ -109,6 +113,7 @@ static void record_event(int counter, int is_free) {
   if (kept.is_reduced ? kept.piece == PIECE : kept.text + line > MOST_TEXT || kept.piece == PIECES * PIECE) reduce_pieces();
   uint16_t **piece = &pieces[kept.piece / PIECE];
   if (!*piece) *piece = some(PIECE * sizeof **piece);
+  WITH_STACKS(sites.events[kept.piece] = sites.current << 1 | is_free;)
   (*piece)[kept.piece++ % PIECE] = counter | (is_free ? FREED : 0), kept.text += line;
 }
 
@@ -132,6 +137,7 @@ static void begin_kept(void) {
   kept.spacing = 1, kept.is_reduced = record_of == REDUCES, kept.text = strlen("timeline\n");
   for (int k = 0; k < number_of_snapshots; k++) snapshots[k].at = 0;
   begin_moments(), begin_windows();
+  WITH_STACKS(begin_sites();)
 }
 
 // ---- its texts

@@ -25,6 +25,13 @@
 #include <sys/syscall.h>
 #include <unistd.h>
 #include "stream.h"
+#ifdef STACKS
+#include "stacks.h"
+#define FRAME __builtin_frame_address(0)
+#else
+#define FRAME NULL
+#define stack_of(frame) 0
+#endif
 #if __has_include(<sys/single_threaded.h>)
 #include <sys/single_threaded.h>
 #else
@@ -143,6 +150,7 @@ static void begin(void) {
     const char *wrong = map_stream(opened);
     if (wrong && stream) refuse(NO_FILE); else if (wrong) say(wrong);
     if (mapped) munmap(mapped, RING * 8), mapped = NULL;
+    WITH_STACKS(if (!wrong) begin_stacks(opened, stream->stacks);)
     taken = !wrong && !stream->closed && take_ring(opened);
     close(opened);
   }
@@ -228,22 +236,25 @@ static inline uint64_t record(int kind, void *block, size_t size) {
 }
 static inline uint64_t whole(size_t size) { return SIZE | (size >> 60 ? ~0ULL : size) << 4; }
 
-static inline void *request(int kind, void *block, size_t size) {
-  if (__builtin_expect(size <= LARGEST_SIZE, 1)) put(1, record(kind, block, size), 0, 0);
-  else put(2, record(kind, block, size), whole(size), 0);
+// a request, or the begin of a move, from the function with this frame
+static inline void *request(int kind, void *block, size_t size, const void *frame) {
+  uint64_t stack = HAS_STACKS ? STACK | stack_of(frame) << 4 : 0;
+  if (__builtin_expect(size <= LARGEST_SIZE, 1)) put(1 + HAS_STACKS, record(kind, block, size), stack, 0);
+  else put(2 + HAS_STACKS, record(kind, block, size), whole(size), stack);
   return block;
 }
+#define REQUEST(kind, block, size) request(kind, block, size, FRAME)
 
 void *malloc(size_t size) {
   void *block = TO(malloc)(size);
-  return IS_INNER ? block : request(MALLOC, block, size);
+  return IS_INNER ? block : REQUEST(MALLOC, block, size);
 }
 
 void *calloc(size_t number, size_t each) {
   size_t size;
   if (__builtin_mul_overflow(number, each, &size)) size = -1;
   void *block = TO(calloc)(number, each);
-  return IS_INNER ? block : request(CALLOC, block, size);
+  return IS_INNER ? block : REQUEST(CALLOC, block, size);
 }
 
 void free(void *block) {
@@ -254,14 +265,13 @@ void free(void *block) {
 // Of a realloc the reader sees before it that the block may move, and after it where it is. One to 0 bytes is a free.
 void *realloc(void *block, size_t size) {
   if (IS_INNER) return TO(realloc)(block, size);
-  if (!block) return request(MALLOC, TO(realloc)(block, size), size);
+  if (!block) return REQUEST(MALLOC, TO(realloc)(block, size), size);
   if (!size) {
     put(1, record(FREE, block, 0), 0, 0);
     void *other = TO(realloc)(block, size);
-    return other ? request(MALLOC, other, size) : other;
+    return other ? REQUEST(MALLOC, other, size) : other;
   }
-  if (size <= LARGEST_SIZE) put(1, record(MOVES, block, size), 0, 0);
-  else put(2, record(MOVES, block, size), whole(size), 0);
+  REQUEST(MOVES, block, size);
   void *moved = TO(realloc)(block, size);
   if (size <= LARGEST_SIZE) put(2, record(REALLOC, moved, size), record(OLD, block, 0), 0);
   else put(3, record(REALLOC, moved, size), record(OLD, block, 0), whole(size));
@@ -269,24 +279,24 @@ void *realloc(void *block, size_t size) {
 }
 
 // an aligned request counts as the bytes that an allocator with 16-byte granules sets aside for it
-static inline void *aligned(size_t alignment, size_t size, void *block, int inner) {
+static inline void *aligned(size_t alignment, size_t size, void *block, int inner, const void *frame) {
   size_t all = size;
   if (alignment > 16 && __builtin_add_overflow(size, alignment - 16, &all)) all = -1;
-  return inner ? block : request(ALIGNED, block, all);
+  return inner ? block : request(ALIGNED, block, all, frame);
 }
 
-void *memalign(size_t alignment, size_t size) { return aligned(alignment, size, TO(memalign)(alignment, size), IS_INNER); }
-void *aligned_alloc(size_t alignment, size_t size) { return aligned(alignment, size, TO(aligned_alloc)(alignment, size), IS_INNER); }
-void *valloc(size_t size) { return aligned(getpagesize(), size, TO(valloc)(size), IS_INNER); }
+void *memalign(size_t alignment, size_t size) { return aligned(alignment, size, TO(memalign)(alignment, size), IS_INNER, FRAME); }
+void *aligned_alloc(size_t alignment, size_t size) { return aligned(alignment, size, TO(aligned_alloc)(alignment, size), IS_INNER, FRAME); }
+void *valloc(size_t size) { return aligned(getpagesize(), size, TO(valloc)(size), IS_INNER, FRAME); }
 
 void *pvalloc(size_t size) {
   size_t page = getpagesize(), all = size <= -page ? (size + page - 1) / page * page : size;
-  return aligned(page, all, TO(pvalloc)(size), IS_INNER);
+  return aligned(page, all, TO(pvalloc)(size), IS_INNER, FRAME);
 }
 
 int posix_memalign(void **result, size_t alignment, size_t size) {
   int refused = TO(posix_memalign)(result, alignment, size);
-  if (refused != EINVAL) aligned(alignment, size, refused ? NULL : *result, IS_INNER);
+  if (refused != EINVAL) aligned(alignment, size, refused ? NULL : *result, IS_INNER, FRAME);
   return refused;
 }
 

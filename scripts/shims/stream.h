@@ -12,7 +12,15 @@
 enum { RINGS = 1024, RING = 1 << 17, LARGE = LARGEST_SIZE + 1, COUNTERS = LARGE + 1, SIZE_BITS = 14, ADDRESS = 18, NAME = 1024 };
 // Of a record: 4 bits of kind, 14 of size (LARGE: a record SIZE follows), and the address by 8. A request without an address failed.
 // A realloc is MOVES with the old address before it, and after it REALLOC with the new one, and OLD.
-enum { MALLOC = 1, CALLOC, ALIGNED, FREE, MOVES, REALLOC, OLD, SIZE };
+// With stacks, STACK with the number of the stack comes last of a request and of MOVES.
+enum { MALLOC = 1, CALLOC, ALIGNED, FREE, MOVES, REALLOC, OLD, SIZE, STACK };
+#ifdef STACKS
+#define WITH_STACKS(...) __VA_ARGS__
+enum { HAS_STACKS = 1 };
+#else
+#define WITH_STACKS(...)
+enum { HAS_STACKS = 0 };
+#endif
 // why a process has no ring
 enum { NO_RING, NO_MEMORY, NO_FILE, SEALED, REASONS };
 
@@ -33,7 +41,23 @@ struct stream {
   uint64_t untouched;           // how many processes have an allocator that can't be followed
   uint64_t foreign;             // how many have another one than glibc's that is followed
   char allocator[NAME];         // the file that has the allocator of the last process that has another one
+  uint64_t stacks;              // where the stacks are in the file, 0 where none are wanted
   struct ring rings[RINGS];
+};
+
+// The stacks of all processes, after the rings: addresses of calls, the innermost first, and the objects that these are in. The images tell
+// apart the layouts of different programs.
+enum { STACKS_MOST = 1 << 20, STACK_WORDS = 1 << 25, MODULES = 1024, DEEP = 128 };
+// A key is the image and the address, exclusive-or the rule, so that no half of one is taken.
+struct kept_rule { uint64_t key, rule; };
+struct kept_stack { uint64_t hash, at; };  // the place of its first word, from 1, of which 0 means that there was no room
+struct module { uint64_t image, low, high, bias; char name[480]; };
+struct stacks {
+  uint64_t used, images, modules, unused;
+  struct module module[MODULES];
+  struct kept_rule rule[1 << 16];  // of addresses: where the caller's frame is
+  struct kept_stack place[STACKS_MOST];
+  uint64_t words[STACK_WORDS];  // of a stack: the image and how many addresses, and these
 };
 // the namespace of this process, 0 where it can't be seen
 static inline uint64_t own_space(void) {

@@ -16,6 +16,16 @@ def numbers(names: str) -> list:
     return [(name, ctypes.c_uint64) for name in names.split()]
 
 
+class Named(ctypes.Structure):
+    """The processes whose program has a name: how many, their requests, and the most resident memory of one that was looked at, in bytes."""
+
+    _fields_ = [("name", ctypes.c_char * 24), *numbers("processes requests resident")]
+
+    def line(self, resident: int) -> str:
+        """That as a line, with the name last; one of its processes is known to have had so many bytes."""
+        return f"{self.processes} {self.requests} {max(resident, self.resident)} {os.fsdecode(self.name)}"
+
+
 class Notes(ctypes.Structure):
     """What the reader noted; the texts are there once `version` is not 0."""
 
@@ -24,11 +34,14 @@ class Notes(ctypes.Structure):
         ("refused", ctypes.c_uint64 * len(REASONS)),
         *numbers("lost wrong spoiled gaps events snapshots is_cut variables shared left"),
         ("processes", ctypes.c_uint64 * 32),
+        *numbers("sites"),
         ("taken", ctypes.c_int64 * (TABLES + 4)),
         ("words", ctypes.c_char * 128),
-        ("room", ctypes.c_char * 144),
+        ("room", ctypes.c_char * 136),
         ("name", ctypes.c_char * 1024),
-        ("rest", ctypes.c_char * (PAGE - 2048)),
+        ("named", Named * 16),
+        ("followed", ctypes.c_char * 24),
+        ("rest", ctypes.c_char * (PAGE - 2048 - 16 * ctypes.sizeof(Named) - 24)),
     ]
 
     @classmethod
@@ -45,6 +58,11 @@ class Notes(ctypes.Structure):
     def why(self) -> str:
         """Why nothing could be followed."""
         return os.fsdecode(self.words)
+
+    def programs(self) -> "list[str]":
+        """A line for each program that had processes, that of the followed one first."""
+        found = sorted((each for each in self.named if each.name), key=lambda each: each.name != self.followed)
+        return [each.line(self.resident if each.name == self.followed else 0) for each in found]
 
     def remaining(self) -> list:
         """The processes that run on, or some of them."""

@@ -24,7 +24,7 @@ Run a program, and print how often it requested each size: a profile, the input 
 
 Usage: profile_program [--live] [--only NAME] [--said FILE] PROGRAM ARGS..
        profile_program --timeline|--history[=T]|--windows[=N]|--classes TABLE [--peak FILE] [--upper FILE] [--measured FILE]
-                       [--only NAME] PROGRAM ARGS..
+                       [--stacks FILE] [--processes FILE] [--only NAME] PROGRAM ARGS..
        profile_program --library [DIR]
        profile_program --follow STREAM [the options above]
        profile_program --read STREAM
@@ -47,6 +47,11 @@ Usage: profile_program [--live] [--only NAME] [--said FILE] PROGRAM ARGS..
                  `large N`, blocks above {texts.LARGEST_SIZE:,} bytes, and `resident N`, its resident set without what the recorder takes;
                  how many requests and frees there were, `events N`; and of each TABLE `footprint N`, what it takes over the whole
                  run, or `footprint none` where it does not serve a size
+  --stacks FILE  with --timeline of a run: write into FILE, for tune_program --who, which calls made each request. The run takes
+                 more time, by the depth of the calls. FILE is empty where the run is too long for a timeline
+  --processes FILE
+                 with these and --live: write into FILE a line for each program that had processes, that of the counted one first: how
+                 many, their requests, the most resident memory of one in bytes, 0 where none was seen, and the name
   --as-scudo     with these and --live: a realloc leaves a block as it was where LLVM's Scudo does, which makes it smaller by up to
                  4,095 bytes in its place, and as large again as it had been
   --only NAME    count only processes whose program has this name, as NAME of /usr/bin/NAME
@@ -152,7 +157,9 @@ class Options(argparse.Namespace):
             raise Refused(2, "--peak goes with --timeline, --history, --windows or --classes")
         if self.upper and not self.read and self.live not in ("--timeline", "--windows"):
             raise Refused(2, "--upper goes with --windows, --timeline or --read")
-        for name in ("measured", "as_scudo"):
+        if self.stacks and (self.live != "--timeline" or not self.words):
+            raise Refused(2, "--stacks goes with --timeline and a program to run")
+        for name in ("measured", "as_scudo", "processes"):
             if getattr(self, name) and not self.live:
                 raise Refused(2, f"--{name.replace('_', '-')} goes with --live, --timeline, --history, --windows or --classes")
 
@@ -361,8 +368,10 @@ def say_left(speaker: recording.Speaker, options: Options, notes: Notes) -> None
 
 def run_program(options: Options, speaker: recording.Speaker, path: str, work: private_folder.Folder) -> int:
     program = options.words[0]
-    with recording.Run(speaker, work, options.wanted(), options.only, options.table_words()) as run:
+    with recording.Run(speaker, work, options.wanted(), options.only, options.table_words(), bool(options.stacks)) as run:
         notes = run.run(options.words, path)
+        write_beside(options.stacks, run.found.sites())
+        write_beside(options.processes, "".join(f"{line}\n" for line in notes.programs()))
         if notes.left:
             say_left(speaker, options, notes)
             run.library.keep()

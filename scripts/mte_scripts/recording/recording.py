@@ -24,6 +24,9 @@ RECORDERS = os.path.join(texts.ROOT, "recorders")  # of a package
 # The library, and its reader. Without -fno-builtin gcc makes a calloc of a malloc and a memset, also inside calloc.
 FLAGS = {"stream": ["-O2", "-fno-builtin", "-shared", "-fPIC", "-Wall"], "follow": ["-O2", "-Wall"]}
 ENDINGS = {"stream": ".so", "follow": ""}
+WITH_STACKS = {"stacks": "stream", "sites": "follow"}  # what is made of the same source, and records the stack of each request too
+for _name, _source in WITH_STACKS.items():
+    FLAGS[_name], ENDINGS[_name] = FLAGS[_source], ENDINGS[_source]
 WATCHED = 1  # a line on a terminal every so many seconds
 NO_NOTES = {3: "there is no room for what is recorded"}  # the reader's status, where it could not note it
 ANOTHER_PLACE = "set XDG_CACHE_HOME to another place"
@@ -80,7 +83,8 @@ def make(name: str, work: private_folder.Folder) -> str:
     if texts.IS_PACKAGED and (path := packaged(name)):
         return path
     source = os.path.join(SHIMS, f"{name}.c")
-    file = f"{name}-{sum_of(FLAGS[name], [source])}{ENDINGS[name]}"
+    sources = [source, *(os.path.join(SHIMS, f"{each}.c") for each in [WITH_STACKS.get(name)] if each)]
+    file = f"{name}-{sum_of(FLAGS[name], sources)}{ENDINGS[name]}"
     with cache_or(work, file) as place:
         return place.kept(file, lambda new: compile_source(name, source, new))
 
@@ -97,7 +101,7 @@ def packaged(name: str) -> "str | None":
 def tried(name: str, path: str) -> bytes:
     """What the loader says against it: the reader ends without a word where it gets none."""
     small = shutil.which("cat", path=f"{os.defpath}:{os.environ.get('PATH', '')}") or sys.executable
-    words, more = ([path], {}) if name == "follow" else ([small, os.devnull], {"LD_PRELOAD": path, "MTE_STREAM": ""})
+    words, more = ([path], {}) if not ENDINGS[name] else ([small, os.devnull], {"LD_PRELOAD": path, "MTE_STREAM": ""})
     how: dict = {"stdin": subprocess.DEVNULL, "stdout": subprocess.PIPE, "stderr": subprocess.STDOUT, "env": {**os.environ, **more}}
     return subprocess.run(words, **how).stdout
 
@@ -123,8 +127,8 @@ def compile_source(name: str, source: str, to: str) -> None:
 class Library:
     """The library and a name of it that the loader takes, in a folder of its own where there has to be one."""
 
-    def __init__(self, work: private_folder.Folder) -> None:
-        self.path, self.work = make("stream", work), work
+    def __init__(self, work: private_folder.Folder, name: str = "stream") -> None:
+        self.path, self.work = make(name, work), work
         self.link: "private_folder.Folder | None" = None
         self.name = self.path if is_plain(self.path) else self.linked()
 
@@ -232,6 +236,11 @@ class Found:
             file.seek(PAGE)
             return file.read(notes.profile), file.read(notes.text), file.read(notes.upper)
 
+    def sites(self) -> bytes:
+        """The stacks, as sites.py reads them; empty where there are none."""
+        notes = self.notes()
+        return os.pread(self.descriptor, notes.sites, PAGE + notes.profile + notes.text + notes.upper)
+
 
 @contextlib.contextmanager
 def of_timeline(path: str, work: private_folder.Folder, wanted: str, tables: str) -> "Iterator[Found]":
@@ -252,9 +261,10 @@ def of_timeline(path: str, work: private_folder.Folder, wanted: str, tables: str
 class Run:
     """The run of a program with the library, and what its reader finds. WANTED, ONLY and TABLES are the words of shims/follow.c."""
 
-    def __init__(self, speaker: Speaker, work: private_folder.Folder, wanted: str, only: "str | None" = None, tables: str = "") -> None:
+    def __init__(self, speaker: Speaker, work: private_folder.Folder, wanted: str, only: "str | None" = None, tables: str = "",
+                 stacks: bool = False) -> None:
         self.speaker, self.only = speaker, only
-        self.library, self.reader = Library(work), make("follow", work)
+        self.library, self.reader = Library(work, "stacks" if stacks else "stream"), make("sites" if stacks else "follow", work)
         self.found = Found(os.memfd_create("mte_found", 0))
         self.words = [wanted, only or "", tables]
         self.status = 0

@@ -8,9 +8,11 @@ from typing import Any
 from mte_scripts import private_folder, texts
 from mte_scripts.builds import web_page
 from mte_scripts.claims import numbered
-from mte_scripts.recording import recording, timelines
-from mte_scripts.reports import measured_section, report_page
-from mte_scripts.tables import draw_waste, figures, long_runs, scudo_map, verdict, verification
+from mte_scripts.recording import recording, sites, timelines
+from mte_scripts.recording.imports import heaptrack_stacks
+from mte_scripts.reports import measured_section, report_page, who_section
+from mte_scripts.reports.pictures import escape
+from mte_scripts.tables import draw_waste, figures, long_runs, processes, scudo_map, verdict, verification, who
 from mte_scripts.tables.figures import kibibytes, number, percent
 from mte_scripts.texts import printable, wrapped
 from mte_scripts.words import TABLES, ProgramWords, between, named, some
@@ -34,6 +36,9 @@ Usage: tune_program [OPTION..] PROGRAM ARGS..
                    back. For a program that ends by itself and does the same each time. Its standard input is kept for that; what
                    these runs print is not shown. The tuned Scudo stays in the folder, as a library for LD_PRELOAD, with its header.
                    It wants LLVM 19 or a later one, and clang++ or what CXX names
+  --who            say which places in the source request the blocks that cost, and what is saved where one requests some bytes fewer: by
+                   the calls that made each request, which are recorded too, or stand in FILE of --read where heaptrack wrote it.
+                   Recording takes more time then, by the depth of the calls. Names want binutils, lines debug symbols
   --only NAME      count only processes whose program has this name, as NAME of /usr/bin/NAME
   --against TABLE  a file with a class line: another table to compare with, besides Scudo's default and its table for Android
   --output FOLDER  the folder to make; without it, the name of the program or of FILE with `.tuned`, in the current folder
@@ -59,7 +64,8 @@ tuned_map.inc (a table for LLVM's Scudo), waste.svg (the waste by the number of 
 claims.txt (what is shown of each table, and the command that checks it) and summary.txt, which is printed too. Beside these it
 has program.timeline, fitted.fit (the other table and its certificate) and moments.history (the moments that the fit names, for
 merge_profiles); or program.history, fitted.fit and, of a long run, upper.history. Where the engines of scripts/page are at hand,
-page.html is its page of the same counts, to which report.html has a link. If a step fails, what was made before it stays.
+page.html is its page of the same counts, to which report.html has a link. With --who there are who.txt (the places), who.svg and
+who_lost.svg (flame graphs of what is taken, and of what is lost by rounding) and who.speedscope.json. If a step fails, what was made before it stays.
 
 MTE_TOOL=PATH in the environment takes the program at PATH in place of the built one; the summary and the page say so.
 
@@ -74,6 +80,7 @@ Example:
 """.replace("{MOST_RUNS}", str(long_runs.MOST_RUNS))
 
 WIDTH, HEIGHT = 80, 24
+KEPT = ("program.timeline", "program.history", "program.profile")  # the records
 FILES = [
     ("program.profile", "what was counted"),
     ("tuned.sheet", "table, certificate"),
@@ -84,6 +91,7 @@ FILES = [
     ("fitted.fit", "table, certificate"),
     ("moments.history", "the fit's moments"),
     ("claims.txt", "what is shown"),
+    ("who.txt", "who requests it"),
     ("waste.svg", "waste by classes"),
     ("report.html", "all of it as a page"),
     ("summary.txt", "this summary"),
@@ -111,6 +119,8 @@ class Options(argparse.Namespace):
             raise texts.Refused(2, "--upper goes with --read")
         if self.verify is not None and (self.read is not None or self.all or self.only is not None):
             raise texts.Refused(2, "--verify runs the program itself, so there is no place for --read, --all or --only")
+        if self.who and (self.all or self.upper is not None):
+            raise texts.Refused(2, f"--who takes each moment of a run, so there is no place for {'--all' if self.all else '--upper'}")
         if self.limit == 1 and self.largest:
             raise texts.Refused(2, "--limit 1 has no class beside 1024: take --no-largest too, or a higher limit")
         if self.read is None:
@@ -135,6 +145,10 @@ class Folder:
     """The new folder. What a step has made stays there, also where a later step fails."""
 
     def __init__(self, path: str) -> None:
+        kept = next((name for name in KEPT if os.path.isfile(os.path.join(path, name))), None)
+        if kept:
+            again = f"--read {texts.path_word(os.path.join(path, kept))} --output ANOTHER"
+            raise texts.Refused(3, f"{path} is there already: name another folder by --output, or tune its record again, without a run: {again}")
         self.place = texts.new_folder(path, "--output")
         self.path = path
 
@@ -157,10 +171,16 @@ class Folder:
                 os.remove(self.at(name))  # what is there of it is no use
             raise
 
+    def drop_record(self) -> None:
+        """What was recorded is of no use."""
+        for name in KEPT:
+            if self.has(name):
+                os.remove(self.at(name))
+
     def drop_empty(self) -> None:
         """Without a profile nothing is worth keeping: then the next run finds its folder free."""
         try:
-            for name in ("program.profile", "program.timeline", "program.history"):
+            for name in KEPT:
                 if self.has(name) and not os.path.getsize(self.at(name)):
                     os.remove(self.at(name))
             os.rmdir(self.path)
@@ -261,41 +281,62 @@ def headline(options: Options, found: figures.Figures, process: int) -> str:
     return f"{options.name()}: {helps}{found.first.name}, {saved}, {percent(abs(saving), process)} of the process"
 
 
-def summary(options: Options, found: figures.Figures, folder: Folder, noted: list[str], measured: dict[str, int]) -> str:
-    """The summary: it fits a terminal of 80 columns and 24 lines, unless there are many tables, warnings or a record over time."""
-    lines = [*wrapped(headline(options, found, measured.get("resident", 0)), indent="  "), ""]
+def summary(options: Options, found: figures.Figures, folder: Folder, noted: list[str], measured: dict[str, int],
+            what_ifs: "list[who.WhatIf]") -> str:
+    """The summary. It fits a terminal of 80 columns and 24 lines, unless there are many tables or warnings: what it has no room for is in the
+    page."""
+    lines = wrapped(headline(options, found, measured.get("resident", 0)), indent="  ")
     for text in found.interval()[:1]:
         lines += wrapped(text)
     if found.timed:
         lines += wrapped(recorded(found.timed))
-    what = f"{numbered(found.requests, 'request')} of {numbered(found.bytes, 'byte')}"
-    lines += wrapped(f"Counted: {what}, {counted(options, found.timed)}.")
+    else:
+        what = f"{numbered(found.requests, 'request')} of {numbered(found.bytes, 'byte')}"
+        lines += ["", *wrapped(f"Counted: {what}, {counted(options, found.timed)}.")]
     if found.large or measured.get("large"):
-        most = f"; of such at most {figures.byte_text(measured['large'])} were live" if measured.get("large") else ""
+        most = f"; at most {figures.byte_text(measured['large'])} live" if measured.get("large") else ""
         lines += wrapped(f"In no figure: {numbered(found.large, 'large request')}, above {number(texts.LARGEST_SIZE)} bytes{most}.")
-    if found.timed:
-        lines += ["", *over_time(found, measured)]
-    lines += ["", *comparison(found)]
-    lines += wrapped(
-        "Waste: lost by rounding, with its share of the requested bytes. "
-        "Saving: by the first table, with its share of all blocks with that table."
-        + (" Of all requests, these are sums over time, and no memory." if options.all else "")
-    )
-    for known in [*found.known(), *found.interval()[1:]]:
-        lines += wrapped(known)
-    for text in noted:
-        lines += wrapped(f"! {text}", indent="  ")
-    said = {"tuned_map.inc": f"map of {found.first.name}", "tuned.sheet": found.best.name, "fitted.fit": found.fitted.name} if found.fitted else {}
-    files = [f"{name:17}{said.get(name, words)}" for name, words in FILES if name in ("summary.txt", "report.html") or folder.has(name)]
-    half = (len(files) + 1) // 2
-    lines += ["", f"In the folder {folder.path}:"]
-    lines += [f"  {left:40}{right}".rstrip() for left, right in zip(files[:half], files[half:] + [""])]
-    if folder.has("tuned_map.inc"):
-        lines.append("Next, with Scudo's sources in $SCUDO (docs/TUNING.md, section 6):")
-        lines.append(f"  cp {texts.path_word(folder.file('tuned_map.inc'))} $SCUDO/")
+    lines += over_time(found, measured) if found.timed else ["", *comparison(found), *wrapped(legend(options))]
+    rest = [line for known in [*found.known()[:1], *found.interval()[1:]] for line in wrapped(known)]
+    rest += [line for each in what_ifs for line in wrapped(each.said())]
+    rest += [line for text in noted for line in wrapped(f"! {text}", indent="  ")]
+    rest += left(found, folder) if found.timed else listed(found, folder)
+    if found.timed and len(lines) + len(rest) + len(foreseen := wrapped(predicted(found))) <= HEIGHT:
+        lines += foreseen
+    lines += rest
     if len(lines) > HEIGHT:
         lines = [line for line in lines if line]
     return "".join(f"{printable(line)}\n" for line in lines)
+
+
+def legend(options: Options) -> str:
+    """What the columns of the tables without a record over time are."""
+    sums = " Of all requests, these are sums over time, and no memory." if options.all else ""
+    return (
+        "Waste: lost by rounding, with its share of the requested bytes. "
+        f"Saving: by the first table, with its share of all blocks with that table.{sums}"
+    )
+
+
+def left(found: figures.Figures, folder: Folder) -> list[str]:
+    """What the folder has, in short, and the next step."""
+    lines = wrapped(f"In {folder.path}: report.html has all of it as a page, claims.txt what is shown, and how to check it.")
+    if folder.has("tuned_map.inc"):
+        lines += wrapped(f"Next (docs/TUNING.md, section 6): cp {texts.path_word(folder.file('tuned_map.inc'))} $SCUDO/", indent="  ")
+    return lines
+
+
+def listed(found: figures.Figures, folder: Folder) -> list[str]:
+    """The files of the folder, and the next step."""
+    said = {"tuned_map.inc": f"map of {found.first.name}", "tuned.sheet": found.best.name, "fitted.fit": found.fitted.name} if found.fitted else {}
+    files = [f"{name:17}{said.get(name, words)}" for name, words in FILES if name in ("summary.txt", "report.html") or folder.has(name)]
+    half = (len(files) + 1) // 2
+    lines = ["", f"In the folder {folder.path}:"]
+    lines += [f"  {one:40}{other}".rstrip() for one, other in zip(files[:half], files[half:] + [""])]
+    if folder.has("tuned_map.inc"):
+        lines.append("Next, with Scudo's sources in $SCUDO (docs/TUNING.md, section 6):")
+        lines.append(f"  cp {texts.path_word(folder.file('tuned_map.inc'))} $SCUDO/")
+    return lines
 
 
 def recorded(timed: figures.OverTime) -> str:
@@ -308,21 +349,29 @@ def recorded(timed: figures.OverTime) -> str:
 
 
 def over_time(found: figures.Figures, measured: dict[str, int]) -> list[str]:
-    """The footprint of each table beside what the process takes now, and what is predicted of it."""
-    rows = [(table.name, table.footprint, found.saved_footprint(table)) for table in (found.first, *found.rest) if table.footprint is not None]
-    if measured.get("resident"):
-        rows.append(("the process now", measured["resident"], None))
-    width = max(len(name) for name, *_ in rows)
-    lines = ["Footprint, the most memory of the classes over time:"]
-    for name, taken_, saved in rows:
-        saving = "" if saved is None or name == found.first.name else f"  the first one saves {kibibytes(saved)}, {percent(saved, taken_)}"
-        lines.append(f"  {name:{width}}  {kibibytes(taken_):>14}{saving}"[:WIDTH])
+    """The footprint and the waste of each table, and what the process takes now."""
+    rows: list[tuple] = [("Table", "footprint", "saving", "share", "classes", "waste")]
     for table in (found.first, *found.rest):
         if table.footprint is None:
-            most = 16 * table.classes[-1] - 16 if table.classes else -1
-            above = figures.byte_text(found.most(lambda size: size if size > most else 0))
-            lines += wrapped(f"  {table.name} serves no size above {number(most)} bytes, of which at most {above} were live.", indent="  ")
-    return lines + wrapped(predicted(found)) + wrapped(larger_blocks(found))
+            rows.append((table.name, unserved(found, table)))
+            continue
+        saved = found.saved_footprint(table)
+        saving = ("", "") if saved is None or table is found.first else (kibibytes(saved), percent(saved, table.footprint))
+        waste = "" if table.waste is None else percent(table.waste, found.bytes)
+        rows.append((table.name, kibibytes(table.footprint), *saving, number(len(table.classes)), waste))
+    if measured.get("resident"):
+        rows.append(("the process now", kibibytes(measured["resident"]), "", "", "", ""))
+    return texts.columns(rows, most=WIDTH) + wrapped(
+        "Footprint: the most memory of the classes over time; the first table saves so much of it. Waste: the share of the blocks live at the peak "
+        "that rounding loses."
+    )
+
+
+def unserved(found: figures.Figures, table: figures.Table) -> str:
+    """Which sizes a table does not serve."""
+    most = 16 * table.classes[-1] - 16 if table.classes else -1
+    above = figures.byte_text(found.most(lambda size: size if size > most else 0))
+    return f"serves none above {number(most)} bytes, of which {above} were live"
 
 
 def larger_blocks(found: figures.Figures) -> str:
@@ -344,9 +393,8 @@ def predicted(found: figures.Figures) -> str:
     at_once = found.most_live(default) - found.most_live(found.first)
     rests = "each moment of the run" if found.timed.kind == "timeline" else "the recorded moments"
     return (
-        f"Predicted of Scudo from {rests}, and not proved: against {default.name} the peak memory {moved(found.saved_in_scudo)} "
-        f"where it gives nothing back, in whole pages and with its lists of free blocks, and {moved(at_once)} where it gives back each "
-        "block as it is freed."
+        f"Predicted of Scudo from {rests}, and not proved: against {default.name} the peak {moved(found.saved_in_scudo)} "
+        f"where it gives nothing back, in whole pages, and {moved(at_once)} where it gives back each block."
     )
 
 
@@ -370,22 +418,33 @@ def comparison(found: figures.Figures) -> list[str]:
 def tune(words: list[str]) -> int:
     options = Options(words)
     others = figures.other_tables(options.against)
-    given = None if options.read is None or is_long(options) else read_given(options)
+    record = heaptrack_stacks.read(options.read) if options.who and options.read is not None else None
+    given = read_stacks(options, record) if record else None if options.read is None or is_long(options) else read_given(options)
     scudo = None if options.verify is None else verification.place(options.verify)
+    if options.read is None:
+        need_program(options)
     folder = Folder(options.output or options.name() + ".tuned")
     with private_folder.temporary_folder() as work:
-        return tuned_in(options, folder, others, given, scudo, work)
+        return tuned_in(options, folder, others, given, scudo, work, record and who.of_heaptrack(record))
+
+
+def need_program(options: Options) -> None:
+    """Refuses at once where no table could be made: before the user's program runs for nothing."""
+    try:
+        texts.parse_sheet(figures.run(["tune", *figures.options(options.limit, options.step, options.largest)], "16 1\n")[1])
+    except texts.Refused as refused:
+        raise texts.Refused(3, f"{refused.text}: there is no program to tune with, so nothing was run") from None
 
 
 def tuned_in(options: Options, folder: Folder, others: list, given: "dict | None", scudo: "verification.Place | None",
-             work: private_folder.Folder) -> int:
+             work: private_folder.Folder, run: "who.Run | None") -> int:
     """All steps in a new folder, with one for what is needed meanwhile."""
     recorded, runs, kept = long_runs.Recorded(0, [], {}, {}, b""), None, None
     try:
         if given is None:
             kept = work.file("input") if scudo and verification.keep_input(work.file("input")) else None
             runs = long_runs.runs_of(options, work, kept)
-            recorded = long_runs.count(options, folder, runs, others)
+            recorded, run = count(options, folder, runs, others)
         else:
             recorded = recorded._replace(upper=given.pop("upper.history", "").encode())
             for name, text in given.items():
@@ -395,7 +454,7 @@ def tuned_in(options: Options, folder: Folder, others: list, given: "dict | None
     status = recorded.status
     try:
         timed, recorded = long_runs.narrowed(options, folder, runs, recorded, others)
-        found, report = made(options, folder, others, recorded, timed)
+        found, report = made(options, folder, others, recorded, timed, run)
         if scudo:
             verify(options, folder, found, report, scudo, work.path, kept)
     except texts.Refused as refused:
@@ -406,8 +465,46 @@ def tuned_in(options: Options, folder: Folder, others: list, given: "dict | None
     return status
 
 
-def made(options: Options, folder: Folder, others: list, recorded: long_runs.Recorded,
-         timed: "figures.OverTime | None") -> tuple[figures.Figures, Callable[[str], None]]:
+def count(options: Options, folder: Folder, runs: long_runs.Runs, others: list) -> "tuple[long_runs.Recorded, who.Run | None]":
+    """Runs the program; with its stacks where they are wanted, and the run is not too long for a timeline. Behind a wrapper it is run again, for
+    the program that makes nearly all requests."""
+    if options.all or options.read is not None:
+        return long_runs.count(options, folder, runs, others), None
+    words = runs.words
+    while True:
+        beside = ["--processes", runs.file("processes"), *(["--stacks", runs.file("stacks")] if options.who else [])]
+        runs.words = [*beside, *words]
+        recorded = long_runs.count(options, folder, runs, others)
+        runs.words, stacks = words, runs.taken("stacks")
+        try:
+            name = None if options.only else processes.other(runs.taken("processes").decode(errors="surrogateescape"), options.words)
+        except texts.Refused:
+            folder.drop_record()
+            raise
+        if name is None:
+            break
+        folder.drop_record()
+        if why := runs.why_not(recorded, long_runs.MOST_RUNS):
+            raise texts.Refused(3, f"{processes.most(name)}; that is not run again, since {why}: take `--only {name}`")
+        texts.say("tune_program", f"{processes.most(name)}: it is run again for that, as with --only {name}")
+        options.only, words = name, ["--only", name, *words]
+    if not options.who:
+        return recorded, None
+    if recorded.upper or not stacks:
+        return recorded._replace(notes=[*recorded.notes, "Who requests the blocks is not told: the run is too long for that."]), None
+    return recorded, who.of_sites(sites.parsed(stacks))
+
+
+def read_stacks(options: Options, record: heaptrack_stacks.Record) -> "dict[str, str | bytes]":
+    """The files of heaptrack's record."""
+    text = who.timeline_of(who.of_heaptrack(record), {})
+    options.agree_on(text)
+    peak = timelines.history_at(text, [timelines.most_of(text, int)[1]])
+    return {"program.profile": texts.profile_text({size: counts[0] for size, counts in peak.counts.items()}), "program.timeline": text}
+
+
+def made(options: Options, folder: Folder, others: list, recorded: long_runs.Recorded, timed: "figures.OverTime | None",
+         run: "who.Run | None") -> tuple[figures.Figures, Callable[[str], None]]:
     """All that follows from program.profile, and from the record over time, whose fit may be there already; and what writes report.html anew, with
     a further part."""
     profile = texts.read_profile(folder.at("program.profile")) if folder.has("program.profile") else {}
@@ -442,12 +539,17 @@ def made(options: Options, folder: Folder, others: list, recorded: long_runs.Rec
     said = [f"{known}\n\n    {command}\n\n" for known, command in zip(found.known(), checks)]
     folder.write("claims.txt", "".join([*said, *(f"{text}\n\n" for text in found.interval())]))
     beside = "page.html" if folder.has("page.html") else None
+    found_who = who.Who(run, timed) if run and timed else None
+    for name, text in found_who.files(options.name()).items() if found_who else ():
+        folder.write(name, text)
+    part = f"<p>{escape(predicted(found))} {escape(larger_blocks(found))}</p>\n" if timed else ""
+    part += who_section.section(found_who) if found_who else ""
 
     def report(measured: str = "") -> None:
-        folder.write("report.html", report_page.page(found, options.name(), counted(options, timed), noted, checks, beside, measured))
+        folder.write("report.html", report_page.page(found, options.name(), counted(options, timed), noted, checks, beside, measured + part))
 
     report()
-    text = summary(options, found, folder, noted, recorded.measured)
+    text = summary(options, found, folder, noted, recorded.measured, found_who.what_ifs[:1] if found_who else [])
     folder.write("summary.txt", text)
     texts.write(text)
     failed += found.unheld()

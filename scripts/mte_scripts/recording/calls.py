@@ -1,0 +1,98 @@
+"""The names of calls: the functions and lines of addresses, by addr2line and nm of binutils, also of an object's separate debug file."""
+
+import bisect
+import os
+import re
+import shutil
+import subprocess
+from collections import defaultdict
+from collections.abc import Iterable
+from typing import NamedTuple
+
+from mte_scripts.recording.sites import Module
+
+Address = tuple[int, int]  # the image that it is of, and the address
+
+
+class Frame(NamedTuple):
+    """A function that was called, and where: FILE is empty where no line is known. Of an unknown function the name is its object's, with the
+    place there."""
+
+    function: str
+    file: str
+    line: int
+
+    def __str__(self) -> str:
+        return f"{os.path.basename(self.file)}:{self.line} ({self.function})" if self.file else self.function
+
+
+class Names:
+    """The frames of addresses, the innermost inlined one first."""
+
+    def __init__(self, modules: list[Module]) -> None:
+        self.modules = modules
+        self.frames: dict[Address, tuple[Frame, ...]] = {}
+
+    def learn(self, addresses: Iterable[Address]) -> None:
+        """Looks up all of them at once."""
+        wanted: dict[str, dict[Address, int]] = defaultdict(dict)
+        for image, address in set(addresses) - self.frames.keys():
+            module = next((each for each in self.modules if each.image == image and each.low <= address < each.high), None)
+            place = address - module.bias if module else address
+            where = os.path.basename(module.path) if module else "an unknown object"
+            self.frames[image, address] = (Frame(f"{where}+0x{place:x}", "", 0),)
+            if module:
+                wanted[module.path][image, address] = place
+        for path, places in wanted.items():
+            if os.path.isfile(path):
+                self.ask(path, places)
+
+    def ask(self, path: str, places: dict[Address, int]) -> None:
+        """Asks for addresses of one object, as its file has them."""
+        unknown = dict(places)
+        if shutil.which("addr2line"):
+            words, given = ["addr2line", "-a", "-f", "-C", "-i", "-e", path], "\n".join(map(hex, places.values())).encode()
+            done = subprocess.run(words, input=given, stdout=subprocess.PIPE, stderr=subprocess.DEVNULL)
+            said = re.split(r"(?m)^0x[0-9a-f]+\n", done.stdout.decode(errors="replace"))[1:]
+            for each, text in zip(places, said):
+                if found := frames_of(text):
+                    self.frames[each] = found
+                    del unknown[each]
+        named = symbols(path) if unknown and shutil.which("nm") else []
+        for each, place in unknown.items():
+            at = bisect.bisect_right(named, (place, 1 << 64, "")) - 1
+            if at >= 0 and place < named[at][0] + named[at][1]:
+                self.frames[each] = (Frame(f"{named[at][2]} in {os.path.basename(path)}", "", 0),)
+
+
+def frames_of(text: str) -> tuple[Frame, ...]:
+    """What addr2line says of an address: a line with a function, and one with its place, for each. Without a line it is none: then the function
+    is the symbol before the address, whose end may be before it too."""
+    lines, frames = text.splitlines(), []
+    for function, place in zip(lines[::2], lines[1::2]):
+        source, _, line = place.split(" (")[0].rpartition(":")
+        if not source.startswith("??") and line.isdigit() and line != "0":
+            frames.append(Frame(plain(function), source, int(line)))
+    return tuple(frames)
+
+
+def symbols(path: str) -> list[tuple[int, int, str]]:
+    """The functions that an object names, in the order of their addresses, each with its bytes."""
+    found = set()
+    for table in ("--no-sort", "--dynamic"):
+        words = ["nm", table, "-S", "-C", "--defined-only", path]
+        done = subprocess.run(words, stdin=subprocess.DEVNULL, stdout=subprocess.PIPE, stderr=subprocess.DEVNULL)
+        found |= set(re.findall(r"(?m)^([0-9a-f]+) ([0-9a-f]+) [TtWwiI] ([^@\n]+)", done.stdout.decode(errors="replace")))
+    return sorted((int(place, 16), int(size, 16), plain(name)) for place, size, name in found)
+
+
+def plain(function: str) -> str:
+    """A function's name without its parameters; without the values of templates too where it is long."""
+    name, depth = "", 0
+    if function.startswith("operator") or "::operator" in function:
+        return function[:80]
+    for each in re.sub(r"\((?!anonymous).*$", "", function, count=1, flags=re.S) or function:
+        depth += each == "<" and len(function) > 60
+        name += each if not depth else ""
+        depth -= each == ">" and depth > 0
+    return name

@@ -1,0 +1,278 @@
+"""Which code requests the blocks that cost: what each place in the source takes of the footprint, each class at the moment of its most blocks,
+and what is gained where it requests some bytes fewer."""
+
+import bisect
+import concurrent.futures
+import multiprocessing
+import os
+import re
+from array import array
+from collections import Counter, defaultdict
+from collections.abc import Callable, Iterable, Iterator
+from typing import NamedTuple, Optional
+
+from mte_scripts import claims, texts
+from mte_scripts.recording import timelines
+from mte_scripts.recording.calls import Frame, Names
+from mte_scripts.recording.imports import heaptrack_stacks
+from mte_scripts.recording.sites import Sites
+from mte_scripts.reports import flames
+from mte_scripts.tables import figures
+from mte_scripts.tables.figures import GRANULE, kibibytes, number, percent
+
+PLACES, WHAT_IFS, WORKERS = 10, 5, 4
+WORTH = 1000  # bytes of the footprint, of which one has to be taken by the blocks of a place and a size that is tried
+# functions that hand requests on, by their names; and a function with so many callers and sizes is one
+HANDS_ON = re.compile(
+    r"(^|_|::)(m|c|re|x|xm|xc|xre|z|g_m|g_)?alloc(ate)?(_|$|\(|<| in )|[mMcC]alloc|[rR]ealloc|operator new|^([\w:<>*& ]+ )?(std|__gnu_cxx)::"
+    r"|^_?_?str(n)?dup|Str(N)?Dup|(^|in )libc\.so|(in )libstdc\+\+\.so|^libstdc\+\+\.so"
+)
+CALLERS = SIZES = 8
+KEPT, KEPT_FILE = figures.OTHERS[0]
+Stack = tuple[Frame, ...]
+
+
+class Run(NamedTuple):
+    """The events of a run, twice their site and 1 for a free; each site's size; and what gives the frames of some sites, the innermost first."""
+
+    events: array
+    sizes: array
+    frames: Callable[[Iterable[int]], dict[int, Stack]]
+
+
+def of_sites(record: Sites) -> Run:
+    names = Names(record.modules)
+
+    def frames(sites: Iterable[int]) -> dict[int, Stack]:
+        stacks = {site: [(record.stacks[site][0], address) for address in record.stacks[site][1]] for site in sites}
+        names.learn(each for stack in stacks.values() for each in stack)
+        return {site: tuple(frame for each in stack for frame in names.frames[each]) for site, stack in stacks.items()}
+
+    return Run(record.events, record.sizes, frames)
+
+
+def of_heaptrack(record: heaptrack_stacks.Record) -> Run:
+    return Run(record.events, record.sizes, lambda sites: {site: tuple(record.frames(site)) for site in sites})
+
+
+def timeline_of(run: Run, smaller: "dict[int, int]") -> bytes:
+    """The timeline of a run, where some sites request another size."""
+    lines = timelines.event_lines()
+    of_event = [lines[smaller.get(site, size) | freed] for site, size in enumerate(run.sizes) for freed in (0, timelines.FREED)]
+    return b"timeline\n" + b"".join(map(of_event.__getitem__, run.events))
+
+
+class Part(NamedTuple):
+    """The blocks of a site at the moment when their class has the most."""
+
+    site: int
+    blocks: int
+    block: int  # bytes
+
+    def taken(self) -> int:
+        return self.blocks * self.block
+
+
+class Fewer(NamedTuple):
+    """Of a place and a size with so many bytes fewer: by how much less a table takes. The block is the one that it has now."""
+
+    block: int
+    fewer: int
+    saved: Optional[int]  # None where a fit has no certificate
+
+
+class WhatIf(NamedTuple):
+    """A place and a size, of which so many blocks are live at the peak of their class, and what is saved by fewer bytes: by tables that are made
+    for that, and by a table that stays as it is, if a smaller block of that would serve."""
+
+    place: str
+    size: int
+    blocks: int
+    made: Fewer
+    kept: Optional[Fewer]
+
+    def said(self) -> str:
+        made, kept = self.made, self.kept
+        text = claims.who(self.place, self.size, self.blocks, made.block, made.fewer, saving(made.saved), made.saved is not None)
+        if kept and saving(kept.saved):
+            fewer = claims.byte_text(kept.fewer)
+            text += f" With {KEPT} its blocks are of {number(kept.block)}, and {fewer} fewer take {saving(kept.saved)} less."
+        return text
+
+
+def saving(saved: Optional[int]) -> Optional[str]:
+    """The bytes that are saved, if any are."""
+    return None if (saved or 0) <= 0 else claims.byte_text(saved) if saved < 1024 else kibibytes(saved)
+
+
+def granule_of(size: int) -> int:
+    """The fewest bytes less by which a request falls into a smaller block, if a table has that."""
+    return (size - 1) % GRANULE + 1
+
+
+def at_peaks(run: Run, classes: list[int], moments: list[int]) -> list[Part]:
+    """The blocks that are live of each class at the one of these moments when it has the most. Large blocks have no class."""
+    place = timelines.place_in(classes)
+    groups = [place(size) if size < timelines.LARGE else 0 for size in run.sizes]
+    live: Counter = Counter()
+    most, found, begin = [0] * (len(classes) + 2), defaultdict[int, dict](dict), 0
+    for moment in moments:
+        for event, times in Counter(run.events[begin:moment]).items():
+            live[event >> 1] += -times if event & 1 else times
+        begin = moment
+        now: "dict[int, dict[int, int]]" = defaultdict(dict)
+        for site, blocks in live.items():
+            if blocks and groups[site]:
+                now[groups[site]][site] = blocks
+        for group, sites in now.items():
+            if (total := sum(sites.values())) > most[group]:
+                most[group], found[group] = total, sites
+    return [Part(site, blocks, GRANULE * classes[group - 1]) for group, sites in found.items() for site, blocks in sites.items()]
+
+
+class Who:
+    """What the places of a run take of the footprint of a fit's table."""
+
+    def __init__(self, run: Run, timed: figures.OverTime) -> None:
+        self.run, self.timed = run, timed
+        fit = timed.fit
+        self.parts = at_peaks(run, fit.classes, sorted(set(fit.moments or timelines.peaks_of(timed.text, fit.classes))))
+        self.footprint = sum(part.taken() for part in self.parts)
+        if timed.verdict == "optimal" and self.footprint != fit.footprint:
+            raise texts.Refused(3, f"the stacks are of another run: the blocks at the peaks take {self.footprint:,} bytes, not {fit.footprint:,}")
+        self.stacks = run.frames([part.site for part in self.parts])
+        self.handing = self.find_handing()
+        self.kept = texts.class_line(os.path.join(texts.EXAMPLES, KEPT_FILE))
+        self.kept_takes = figures.footprint(self.kept, timed.text)
+        self.what_ifs = sorted(self.tried(), key=lambda each: -(each.made.saved or 0))
+
+    def hands_on(self, function: str) -> bool:
+        return function in self.handing or bool(HANDS_ON.search(function))
+
+    def find_handing(self) -> set[str]:
+        """The functions that hand requests on, by their callers and sizes, from the innermost ones outwards."""
+        self.handing = set[str]()
+        while True:
+            callers, sizes = defaultdict[str, set](set), defaultdict[str, set](set)
+            for site, stack in self.stacks.items():
+                left = [frame for frame in stack if not self.hands_on(frame.function)][:2]
+                if len(left) == 2:
+                    callers[left[0].function].add(left[1].function)
+                    sizes[left[0].function].add(self.run.sizes[site])
+            new = {each for each in callers if len(callers[each]) >= CALLERS and len(sizes[each]) >= SIZES}
+            if not new:
+                return self.handing
+            self.handing |= new
+
+    def place(self, stack: Stack) -> str:
+        """The innermost call that hands no request on."""
+        return str(next((frame for frame in stack if not self.hands_on(frame.function)), stack[0] if stack else "an unknown place"))
+
+    def places(self) -> "list[tuple[str, list[Part]]]":
+        """Each place with its parts, the one that takes most first."""
+        found = defaultdict[str, list](list)
+        for part in self.parts:
+            found[self.place(self.stacks[part.site])].append(part)
+        return sorted(found.items(), key=lambda pair: (-sum(part.taken() for part in pair[1]), pair[0]))
+
+    def tried(self) -> "list[WhatIf]":
+        """The places and sizes with the most blocks, each with a second fit."""
+        blocks_of, block_of = Counter[tuple[str, int]](), dict[tuple[str, int], int]()
+        for part in self.parts:
+            key = self.place(self.stacks[part.site]), self.run.sizes[part.site]
+            blocks_of[key] += part.blocks
+            block_of[key] = part.block
+        worth = [(key, blocks) for key, blocks in blocks_of.most_common() if blocks * block_of[key] * WORTH >= self.footprint]
+        able = [(key, blocks) for key, blocks in worth if key[1] > GRANULE][:WHAT_IFS]
+        sizes = {size for (_, size), _ in able}
+        others = self.run.frames([site for site, size in enumerate(self.run.sizes) if size in sizes])
+        sites = defaultdict[tuple, list](list)  # also those that were not live then
+        for site, stack in others.items():
+            sites[self.place(stack), self.run.sizes[site]].append(site)
+        made = [(sites[key], key[1] - granule_of(key[1]), False) for key, _ in able]
+        kept = [(sites[key], below, True) for key, _ in able if (below := self.below(key[1]))]
+        with concurrent.futures.ProcessPoolExecutor(WORKERS, multiprocessing.get_context("fork"), begin_worker, (self,)) as workers:
+            saved = list(workers.map(of_worker, made + kept))
+        of_kept = iter(saved[len(made) :])
+        found = []
+        for ((place, size), blocks), each in zip(able, saved):
+            below = self.below(size)
+            kept_ = Fewer(figures.block_of(self.kept, size), size - below, next(of_kept)) if below else None
+            found.append(WhatIf(place, size, blocks, Fewer(block_of[place, size], granule_of(size), each), kept_))
+        return found
+
+    def below(self, size: int) -> int:
+        """The most bytes that a smaller class of the table that stays serves; 0 where there is none, or it does not serve this size."""
+        at = bisect.bisect_left(self.kept, timelines.need_of(size))
+        return GRANULE * (self.kept[at - 1] - 1) if 0 < at < len(self.kept) and self.kept_takes is not None else 0
+
+    def saved_by(self, change: "tuple[list[int], int, bool]") -> Optional[int]:
+        """By how many bytes the table of another fit takes less, or the one that stays, over the run where these sites request this size."""
+        sites, size, is_kept = change
+        text = timeline_of(self.run, dict.fromkeys(sites, size))
+        if is_kept:
+            takes = figures.footprint(self.kept, text)
+            return None if takes is None or self.kept_takes is None else self.kept_takes - takes
+        fit = self.timed.fit
+        status, answer = figures.run(["fit", *figures.options(fit.limit, fit.step, fit.forced)], text)
+        if status or self.timed.verdict != "optimal" or figures.run(["check-fit"], texts.joined(answer, text))[1] != "optimal":
+            return None
+        return fit.footprint - texts.parse_fit(answer).footprint
+
+    def lost(self, part: Part) -> int:
+        """The bytes that rounding loses."""
+        return part.blocks * (part.block - GRANULE - self.run.sizes[part.site])
+
+    def weights(self) -> "dict[str, flames.Weighed]":
+        """The bytes of each stack, the outermost call first, that its blocks take, and that they lose."""
+        stacks = {site: (*map(str, reversed(stack)), f"{number(self.run.sizes[site])} bytes") for site, stack in self.stacks.items()}
+        kinds = (("footprint", Part.taken), ("lost by rounding", self.lost))
+        return {kind: [(stacks[part.site], weight) for part in self.parts if (weight := of(part)) > 0] for kind, of in kinds}
+
+    def rows(self) -> Iterator[tuple]:
+        """Of each of the first places: what it takes, its share, what is lost, its blocks, their size, and the place."""
+        for place, parts in self.places()[:PLACES]:
+            sizes = Counter[int]()
+            for part in parts:
+                sizes[self.run.sizes[part.site]] += part.blocks
+            size, times = sizes.most_common(1)[0]
+            blocks, taken = sum(sizes.values()), sum(part.taken() for part in parts)
+            said = number(size) if len(sizes) == 1 else f"{100 * times // blocks}% {number(size)}"
+            yield kibibytes(taken), percent(taken, self.footprint), kibibytes(sum(map(self.lost, parts))), number(blocks), said, place
+
+    def input(self) -> str:
+        return claims.who_input(self.timed.fit.limit, self.timed.fit.step) if self.timed.verdict == "optimal" else ""
+
+    def text(self) -> str:
+        """All of it as a text."""
+        rows = [("Taken", "share", "lost", "blocks", "bytes"), *(row[:-1] for row in self.rows())]
+        places = ["place", *(row[-1] for row in self.rows())]
+        lines = texts.wrapped(self.lead())
+        lines += ["", *(f"{line}  {place}" for line, place in zip(texts.columns(rows, left=10), places)), ""]
+        for each in self.what_ifs:
+            lines += texts.wrapped(f"- {each.said()}", indent="  ")
+        return "".join(f"{texts.printable(line)}\n" for line in lines + texts.wrapped(self.input()))
+
+    def lead(self) -> str:
+        lost = sum(map(self.lost, self.parts))
+        return (
+            f"The footprint of {kibibytes(self.footprint)} by the places that request it, each class at the moment of its most blocks. "
+            f"{kibibytes(lost)} of it, {percent(lost, self.footprint)}, are lost by rounding. A place is the innermost call that hands no request on."
+        )
+
+    def files(self, name: str) -> "dict[str, str]":
+        """The text, the flame graphs, and the file for speedscope."""
+        kinds = self.weights()
+        pictures = {f"who{suffix}.svg": flames.svg(f"{name}: {kind}", kinds[kind]) for suffix, kind in (("", "footprint"), ("_lost", "lost by rounding"))}
+        return {"who.txt": self.text(), **pictures, "who.speedscope.json": flames.speedscope(name, kinds)}
+
+
+_OF_WORKER: "list[Who]" = []
+
+
+def begin_worker(who: Who) -> None:
+    _OF_WORKER.append(who)
+
+
+def of_worker(change: "tuple[list[int], int, bool]") -> Optional[int]:
+    return _OF_WORKER[0].saved_by(change)

@@ -1,0 +1,3 @@
+// follow.c with the stack of each request.
+#define STACKS
+#include "follow.c"

@@ -1,0 +1,280 @@
+// The stack of each request, as a number: which functions were called, from the one that requests outwards. A program does not keep frame
+// pointers, so each return address is found by the tables that C++'s exceptions have (.eh_frame): what they say of an address is read once,
+// and kept. Nothing is called for a stack that was seen before, and no lock is taken.
+//
+// The stacks are a table beside the rings of the stream, by a hash of 64 bits of their addresses; the number of a stack is its place there.
+// A stack ends where no table tells more; on another processor than x86-64, whose registers these are, it is its first caller alone.
+#ifndef STACKS_H
+#define STACKS_H
+#include <pthread.h>
+#include <sys/resource.h>
+#include "stream.h"
+
+extern void *__libc_stack_end;
+#ifdef __x86_64__
+enum { IS_KNOWN = 1 };  // the numbers of its registers
+#else
+enum { IS_KNOWN = 0 };
+#endif
+enum { NOWHERE, BY_SP, BY_BP, AT_BP };  // where the caller's frame is: at an offset from rsp or rbp, or at what stands at one from rbp
+struct rule { int32_t offset; int16_t saved; uint8_t base, keeps; };  // rbp is saved at the caller's frame + saved, unless the function keeps it
+static struct stacks *stacks;
+static uint64_t image;      // the number of this program's layout, which its forks have too
+static uintptr_t deepest;   // bytes of the first thread's stack
+static struct { uintptr_t low, high; const uint8_t *table; } known[MODULES];
+static int number_known;
+
+// ---- .eh_frame, as the Linux Standard Base has it
+
+static uint64_t uleb(const uint8_t **at) {
+  uint64_t value = 0;
+  for (int shift = 0;; shift += 7) {
+    uint8_t byte = *(*at)++;
+    if (shift < 64) value |= (uint64_t)(byte & 127) << shift;
+    if (byte < 128) return value;
+  }
+}
+static int64_t sleb(const uint8_t **at) {
+  int64_t value = 0;
+  for (int shift = 0;;) {
+    uint8_t byte = *(*at)++;
+    if (shift < 64) value |= (int64_t)(byte & 127) << shift;
+    shift += 7;
+    if (byte < 128) return byte & 64 && shift < 64 ? value | -(1LL << shift) : value;
+  }
+}
+static uint64_t fixed(const uint8_t **at, int bytes) {
+  uint64_t value = 0;
+  memcpy(&value, *at, bytes), *at += bytes;
+  return value;
+}
+// a pointer of this encoding; its bytes are 0 where that is another one than compilers for Linux take
+static int bytes_of(int encoding) { return (encoding & 7) == 0 || (encoding & 7) == 4 ? 8 : (encoding & 7) == 3 ? 4 : (encoding & 7) == 2 ? 2 : 0; }
+static uintptr_t pointer(const uint8_t **at, int encoding) {
+  uintptr_t from = (uintptr_t)*at;
+  int bytes = bytes_of(encoding);
+  int64_t value = fixed(at, bytes);
+  if (encoding & 8) value = (int64_t)((uint64_t)value << (64 - 8 * bytes)) >> (64 - 8 * bytes);
+  return (encoding & 0x70) == 0x10 ? from + value : (uintptr_t)value;
+}
+
+struct row { struct rule rule; int is_last; };
+enum { BP = 6, SP = 7, RETURN = 16, REMEMBERED = 8 };
+
+static void by_register(struct row *row, uint64_t number, int64_t offset) {
+  row->rule.base = number == SP ? BY_SP : number == BP ? BY_BP : NOWHERE, row->rule.offset = offset;
+}
+static void saved_at(struct row *row, uint64_t number, int64_t offset) {
+  if (number == BP) row->rule.saved = offset, row->rule.keeps = offset != (int16_t)offset;
+}
+static void restore(struct row *row, const struct row *first, uint64_t number) {
+  if (number == BP && first) row->rule.saved = first->rule.saved, row->rule.keeps = first->rule.keeps;
+}
+
+// Does the instructions up to an address, for what holds there.
+static void follow_rows(const uint8_t *at, const uint8_t *end, uintptr_t from, uintptr_t to, uint64_t unit, int64_t factor, int encoding,
+                        const struct row *first, struct row *row) {
+  struct row remembered[REMEMBERED];
+  int number = 0;
+  while (at < end && from <= to) {
+    uint8_t code = *at++, low = code & 63;
+    uint64_t reg = 0, bytes;
+    const uint8_t *block;
+    switch (code & 192 ? code & 192 : code) {
+      case 0x40: from += low * unit; break;
+      case 0x80: saved_at(row, low, uleb(&at) * factor); break;
+      case 0xc0: restore(row, first, low); break;
+      case 0x01: from = pointer(&at, encoding); break;
+      case 0x02: from += fixed(&at, 1) * unit; break;
+      case 0x03: from += fixed(&at, 2) * unit; break;
+      case 0x04: from += fixed(&at, 4) * unit; break;
+      case 0x05: reg = uleb(&at), saved_at(row, reg, uleb(&at) * factor); break;
+      case 0x06: restore(row, first, uleb(&at)); break;
+      case 0x07: row->is_last |= uleb(&at) == RETURN; break;
+      case 0x08: if (uleb(&at) == BP) row->rule.keeps = 1; break;
+      case 0x09: uleb(&at), uleb(&at); break;
+      case 0x0a: if (number < REMEMBERED) remembered[number] = *row; number++; break;
+      case 0x0b: if (number && --number < REMEMBERED) *row = remembered[number]; break;
+      case 0x0c: reg = uleb(&at), by_register(row, reg, uleb(&at)); break;
+      case 0x0d: by_register(row, uleb(&at), row->rule.offset); break;
+      case 0x0e: row->rule.offset = uleb(&at); break;
+      case 0x0f:  // of a function that aligns its stack: what stands at an offset from rbp
+        bytes = uleb(&at), block = at, at += bytes, row->rule.base = NOWHERE;
+        if (bytes > 2 && *block++ == 0x70 + BP && (row->rule.offset = sleb(&block), *block == 0x06) && block + 1 == at) row->rule.base = AT_BP;
+        break;
+      case 0x10: reg = uleb(&at); bytes = uleb(&at); at += bytes; if (reg == BP) row->rule.saved = 0, row->rule.keeps = 0; break;
+      case 0x11: reg = uleb(&at), saved_at(row, reg, sleb(&at) * factor); break;
+      case 0x12: reg = uleb(&at), by_register(row, reg, sleb(&at) * factor); break;
+      case 0x13: row->rule.offset = sleb(&at) * factor; break;
+      case 0x14: case 0x15: case 0x16: row->rule.base = NOWHERE; return;  // a value, which no compiler gives rbp
+      case 0x2e: uleb(&at); break;
+      case 0x00: break;
+      default: row->rule.base = NOWHERE; return;
+    }
+  }
+}
+
+// What the frame description at FDE says of an address that it has.
+static struct rule read_frame(const uint8_t *fde, uintptr_t address) {
+  static const struct rule nothing = {.base = NOWHERE};
+  struct row row = {.rule = {.keeps = 1}};
+  const uint8_t *at = fde + 4, *end = at + *(const uint32_t *)fde, *common = at - *(const uint32_t *)at;
+  const uint8_t *last = common + 4 + *(const uint32_t *)common, *name = common + 9;
+  if (end == at || *(const uint32_t *)fde == ~0U || *name != 'z') return nothing;
+  int encoding = 0;
+  common = name + strlen((const char *)name) + 1;
+  uint64_t unit = uleb(&common);
+  int64_t factor = sleb(&common);
+  uleb(&common);  // the register of the return address
+  uint64_t bytes = uleb(&common);
+  const uint8_t *more = common;
+  common += bytes, at += 4;
+  for (name++; *name; name++) {
+    if (*name == 'R') encoding = *more++;
+    else if (*name == 'L') more++;
+    else if (*name == 'P' && bytes_of(*more)) more++, pointer(&more, more[-1]);
+    else return nothing;  // of a signal's frame, or unknown
+  }
+  if (!bytes_of(encoding)) return nothing;
+  uintptr_t from = pointer(&at, encoding), size = pointer(&at, encoding & 7);
+  if (address - from >= size) return nothing;
+  bytes = uleb(&at), at += bytes;
+  follow_rows(common, last, 0, 0, unit, factor, encoding, NULL, &row);
+  struct row first = row;
+  follow_rows(at, end, from, address, unit, factor, encoding, &first, &row);
+  return row.is_last ? nothing : row.rule;
+}
+
+// The description of an address by the sorted table of its object, which linkers make in this form alone.
+static struct rule look_up(const uint8_t *table, uintptr_t address) {
+  static const struct rule nothing = {.base = NOWHERE};
+  if (table[0] != 1 || table[2] != 3 || table[3] != 0x3b) return nothing;
+  const uint8_t *at = table + 4;
+  pointer(&at, table[1]);
+  uint32_t low = 0, high = fixed(&at, 4);
+  const struct { int32_t begin, fde; } *sorted = (const void *)at;
+  int64_t offset = address - (uintptr_t)table;
+  if (!high || sorted[0].begin > offset) return nothing;
+  while (high - low > 1) {
+    uint32_t middle = low + (high - low) / 2;
+    if (sorted[middle].begin <= offset) low = middle; else high = middle;
+  }
+  return read_frame(table + sorted[low].fde, address);
+}
+
+// ---- the objects that are loaded
+
+static int note_object(struct dl_phdr_info *object, size_t size, void *address) {
+  (void)size;
+  uintptr_t low = -1, high = 0;
+  const uint8_t *table = NULL;
+  for (int i = 0; i < object->dlpi_phnum; i++) {
+    const ElfW(Phdr) *header = &object->dlpi_phdr[i];
+    uintptr_t begin = object->dlpi_addr + header->p_vaddr;
+    if (header->p_type == PT_GNU_EH_FRAME) table = (const uint8_t *)begin;
+    if (header->p_type != PT_LOAD) continue;
+    if (begin < low) low = begin;
+    if (begin + header->p_memsz > high) high = begin + header->p_memsz;
+  }
+  if (*(uintptr_t *)address - low >= high - low) return 0;
+  int number = __atomic_fetch_add(&number_known, 1, __ATOMIC_ACQ_REL);
+  if (number >= MODULES) return 1;
+  known[number].low = low, known[number].table = table;
+  __atomic_store_n(&known[number].high, high, __ATOMIC_RELEASE);
+  uint64_t k = __atomic_fetch_add(&stacks->modules, 1, __ATOMIC_RELAXED);
+  if (k >= MODULES) return 1;
+  struct module *module = &stacks->module[k];
+  *module = (struct module){.image = image, .low = low, .high = high, .bias = object->dlpi_addr};
+  if (*object->dlpi_name) strncpy(module->name, object->dlpi_name, sizeof module->name - 1);
+  else if (readlink("/proc/self/exe", module->name, sizeof module->name - 1) < 0) *module->name = 0;
+  return 1;
+}
+
+static __attribute__((noinline, cold)) struct rule find_rule(uintptr_t address) {
+  for (int tries = 0; tries < 2; tries++) {  // the object is noted on every processor: it has the names
+    for (int i = 0; i < MODULES && i < __atomic_load_n(&number_known, __ATOMIC_ACQUIRE); i++)
+      if (address < __atomic_load_n(&known[i].high, __ATOMIC_ACQUIRE) && address >= known[i].low)
+        return known[i].table && IS_KNOWN ? look_up(known[i].table, address) : (struct rule){.base = NOWHERE};
+    if (!tries) dl_iterate_phdr(note_object, &address);
+  }
+  return (struct rule){.base = NOWHERE};
+}
+
+// ---- a stack
+
+static inline struct rule rule_of(uintptr_t address) {
+  struct kept_rule *kept = &stacks->rule[(address ^ image << 40) * 0x9E3779B97F4A7C15ULL >> 48];
+  uint64_t word = __atomic_load_n(&kept->rule, __ATOMIC_RELAXED), key = address ^ image << 48;
+  struct rule rule;
+  if (__builtin_expect((__atomic_load_n(&kept->key, __ATOMIC_RELAXED) ^ word) != key, 0)) {
+    rule = find_rule(address);
+    memcpy(&word, &rule, sizeof word);
+    __atomic_store_n(&kept->rule, word, __ATOMIC_RELAXED), __atomic_store_n(&kept->key, word ^ key, __ATOMIC_RELAXED);
+    return rule;
+  }
+  memcpy(&rule, &word, sizeof rule);
+  return rule;
+}
+
+// Up to where the stack may be read. That of a thread ends at what the thread is known by; of another stack no more than the page is sure.
+static inline uintptr_t end_of(uintptr_t at) {
+  uintptr_t last = (uintptr_t)__libc_stack_end, own = (uintptr_t)pthread_self();
+  if (at < last && last - at <= deepest) return last;
+  if (at < own && own - at < 1 << 28) return own;
+  return at | (PAGE - 1);
+}
+
+static __attribute__((noinline, cold)) void keep_stack(struct kept_stack *place, const uintptr_t *addresses, int number) {
+  uint64_t at = __atomic_fetch_add(&stacks->used, number + 1, __ATOMIC_RELAXED);
+  if (at + number + 1 > STACK_WORDS) return;
+  stacks->words[at] = image << 32 | number;
+  for (int i = 0; i < number; i++) stacks->words[at + 1 + i] = addresses[i];
+  __atomic_store_n(&place->at, at + 1, __ATOMIC_RELEASE);
+}
+
+// The number of the stack above a function whose frame pointer this is; 0 where there is none, or no room for it.
+static __attribute__((noinline)) uint64_t stack_of(const uintptr_t *frame) {
+  if (!stacks) return 0;
+  uintptr_t addresses[DEEP], bp = frame[0], address = frame[1], sp = (uintptr_t)(frame + 2), end = end_of(sp) - 8;
+  uint64_t hash = image;
+  int number = 0;
+  while (number < DEEP && address > PAGE) {
+    addresses[number++] = --address;
+    hash = (hash ^ address) * 0x9E3779B97F4A7C15ULL, hash ^= hash >> 29;
+    struct rule rule = rule_of(address);
+    uintptr_t caller = rule.base == BY_SP ? sp + rule.offset : bp + rule.offset;
+    uintptr_t saved = caller + rule.saved;
+    if (rule.base == AT_BP) {
+      if (caller < sp || caller > end || caller & 7) break;
+      caller = *(uintptr_t *)caller, saved = bp;
+    }
+    if (rule.base == NOWHERE || caller < sp + 8 || caller > end || caller & 7) break;
+    if (!rule.keeps) {
+      if (saved < sp || saved >= caller || saved & 7) break;
+      bp = *(uintptr_t *)saved;
+    }
+    address = ((uintptr_t *)caller)[-1], sp = caller;
+  }
+  hash |= 1;
+  for (uint64_t at = hash >> 44, tries = 0; tries < 64; tries++, at = (at + 1) & (STACKS_MOST - 1)) {
+    struct kept_stack *place = &stacks->place[at];
+    uint64_t there = __atomic_load_n(&place->hash, __ATOMIC_RELAXED);
+    if (there == hash) return at + 1;
+    if (there) continue;
+    if (__atomic_compare_exchange_n(&place->hash, &there, hash, 0, __ATOMIC_RELAXED, __ATOMIC_RELAXED)) return keep_stack(place, addresses, number), at + 1;
+    if (there == hash) return at + 1;
+  }
+  return 0;
+}
+
+static void begin_stacks(int opened, uint64_t offset) {
+  struct rlimit limit;
+  deepest = 1 << 27;
+  if (!getrlimit(RLIMIT_STACK, &limit) && limit.rlim_cur < deepest) deepest = limit.rlim_cur;
+  if (stacks || !offset) return;
+  void *all = mmap(NULL, sizeof *stacks, PROT_READ | PROT_WRITE, MAP_SHARED | MAP_NORESERVE, opened, offset);
+  if (all == MAP_FAILED) return;
+  madvise(all, sizeof *stacks, MADV_DONTDUMP);
+  image = __atomic_add_fetch(&((struct stacks *)all)->images, 1, __ATOMIC_RELAXED) & 0xFFFFFFFF, stacks = all;
+}
+#endif
