@@ -20,13 +20,13 @@ class Notes(ctypes.Structure):
     """What the reader noted; the texts are there once `version` is not 0."""
 
     _fields_ = [
-        *numbers("version profile text upper status error started executed requests live large resident others other_requests untouched foreign"),
+        *numbers("version profile text upper at status error started executed requests live large resident others other_requests untouched foreign"),
         ("refused", ctypes.c_uint64 * len(REASONS)),
         *numbers("lost wrong spoiled gaps events snapshots is_cut variables shared left"),
         ("processes", ctypes.c_uint64 * 32),
         ("taken", ctypes.c_int64 * (TABLES + 4)),
         ("words", ctypes.c_char * 128),
-        ("room", ctypes.c_char * 144),
+        ("room", ctypes.c_char * 136),
         ("name", ctypes.c_char * 1024),
         ("rest", ctypes.c_char * (PAGE - 2048)),
     ]
