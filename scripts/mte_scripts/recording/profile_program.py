@@ -39,8 +39,8 @@ Usage: profile_program [--live] [--only NAME] [--said FILE] PROGRAM ARGS..
                  in N windows of the run, 1 to {WINDOWS}, and others; {USUAL_WINDOWS} where N is left out
   --upper FILE   with --windows, or a timeline that is too long: write into FILE a history over which each table takes at least what
                  it takes over the run
-  --again FILE   with --windows: the moments in FILE, which --measured of an earlier run wrote, are among the others. So over an equal
-                 run no table takes less over this history than over the earlier one
+  --again FILE   with --windows: the moments in FILE, which --measured of an earlier run wrote, are among the others. So over an
+                 equal run no table takes less over this history than over the earlier one
   --classes TABLE
                  print a history of the moments at which each class of a table has the most blocks. TABLE is a file whose first line
                  is a class line, such as a sheet or a fit. With --windows these moments are among the others; up to {TABLES} times
