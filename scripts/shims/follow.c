@@ -4,8 +4,8 @@
 //
 // FOUND is a descriptor: a page of notes, and then the texts that they give the lengths of. LIBRARIES are those of the program's
 // LD_PRELOAD, stream.c's first. WANTED is `all`: all requests of all processes; or of the first process, with what it runs in its own
-// place: `live`, the blocks live at the peak; `history N`, these and N snapshots; `timeline`, the record of the run; `windows N`, its moments
-// and N windows, and a history of the windows' most after that; `classes`, its moments for the classes of TABLES alone, class lines with a
+// place: `live`, the blocks live at the peak; `history N`, these and N snapshots; `timeline`, the record of the run; `windows N AT..`, its
+// moments, N windows and those after AT events, a history of the windows' most after that, and AT of each moment; `classes`, its moments for the classes of TABLES alone, class lines with a
 // comma between them; `trace N`, at most N events. With `-` before it a realloc leaves a block where Scudo does. `none`: nothing is followed,
 // and only the most resident memory is noted. ONLY: processes whose program has this name. PATH is the program's file, the words its own.
 // Without a program the stream is the file STREAM, of processes that something else starts; or for `-` it is the timeline, of any length, on
@@ -30,7 +30,7 @@ enum { PATIENCE = 2000, WHILE_FULL = 500, ABOUT_TO_END = 200, SAMPLES = 20, LOOK
 // mte_scripts/recording/notes.py reads it
 static struct notes {
   uint64_t version;                            // how often the texts were written; 0 while there are none
-  uint64_t profile, text, upper;               // the bytes of the profile, of what else is wanted after it, and of the upper history
+  uint64_t profile, text, upper, at;           // the bytes of the profile, of what else is wanted, of the upper history, and of the moments' numbers
   uint64_t status, error;                      // the program's, as a shell has it; why it could not be run
   uint64_t started, executed;                  // whether there is a process that is followed; how many ran another program at last, unseen
   uint64_t requests, live;                     // of all that are counted; the bytes that are live
@@ -362,8 +362,9 @@ static void write_texts(void) {
   FILE *to = fdopen(fcntl(found, F_DUPFD_CLOEXEC, 0), "w");
   if (!to) give_up("it has no memory");
   setvbuf(to, NULL, _IOFBF, 1 << 20);
+  static uint64_t numbers[MOST_SNAPSHOTS];
   int is_all = !strcmp(wanted, "all");
-  write_profile(to, is_all ? NULL : kept.peak.live, all);
+  write_profile(to, is_all ? all : NULL);
   long profile = ftell(to) - PAGE;
   notes->events = kept.events, notes->snapshots = 0, notes->is_cut = kept.is_reduced && record_of == RECORDS;
   if (most_traced) {
@@ -372,21 +373,24 @@ static void write_texts(void) {
     notes->is_cut = trace.has_ended, notes->wrong = trace.wrong;
   } else if (record_of && kept.is_reduced) {
     reduce_pieces();
-    notes->snapshots = write_moments(to, 0);
+    write_moments(to, 0), notes->snapshots = number_chosen;
+    for (int k = 0; k < number_chosen; k++) numbers[k] = chosen[k]->at;
     for (int t = 0; t < given_tables; t++) notes->taken[t] = taken_by(&tables[number_of_tables - given_tables + t]);
   } else if (record_of) {
     if (kept.events) write_timeline(to);
   } else if (*wanted == 'h') {
-    choose_all(snapshots, number_of_snapshots), choose(&kept.peak);
-    notes->snapshots = write_history(to);
+    number_chosen = 0, choose_all(snapshots, number_of_snapshots), choose(&kept.peak);
+    write_history(to), notes->snapshots = number_chosen;
   }
   long text = ftell(to) - PAGE - profile;
   if (windows.wanted && kept.is_reduced) write_moments(to, 1);
   long upper = ftell(to) - PAGE - profile - text;
+  for (uint64_t k = 0; record_of && k < notes->snapshots; k++) fprintf(to, "%lu\n", (unsigned long)numbers[k]);
+  long at = ftell(to) - PAGE - profile - text - upper;
   WITH_STACKS(if (record_of && !kept.is_reduced) write_sites(to, kept.piece, stacks);)
-  long sites_ = ftell(to) - PAGE - profile - text - upper;
+  long sites_ = ftell(to) - PAGE - profile - text - upper - at;
   if (fclose(to)) give_up("there is no room for what is recorded");
-  notes->profile = profile, notes->text = text, notes->upper = upper, notes->sites = sites_;
+  notes->profile = profile, notes->text = text, notes->upper = upper, notes->at = at, notes->sites = sites_;
   note();
   __atomic_fetch_add(&notes->version, 1, __ATOMIC_RELEASE);
 }
@@ -451,13 +455,17 @@ static void wait_for_program(int how) {
 }
 
 static void begin_wanted(const char *words) {
-  long number = strtol(wanted + strcspn(wanted, " "), NULL, 10);
+  char *more;
+  long number = strtol(wanted + strcspn(wanted, " "), &more, 10);
   if (*wanted == 'h') snapshots = some((number_of_snapshots = number - 1) * sizeof *snapshots + 1);
   if (*wanted == 'w' || !strcmp(wanted, "classes")) record_of = REDUCES;
   if (!strncmp(wanted, "timeline", 8)) record_of = RECORDS;
   if (*wanted == 'w' || record_of == RECORDS) {
     windows.wanted = number ? number : USUAL_WINDOWS, begin_table(&tables[number_of_tables++], NULL);
     for (int k = 0; WEIGHED[k]; k++) begin_table(&tables[number_of_tables++], WEIGHED[k]);
+    for (uint64_t last = 0; held.number < MOST_SNAPSHOTS && (held.at[held.number] = strtoul(more, &more, 10)) > last; held.number++)
+      last = held.at[held.number];
+    held.moments = some(held.number * sizeof *held.moments + 1);
   }
   if (!strncmp(wanted, "trace", 5)) most_traced = number;
   while (words && *words && number_of_tables < TABLES) words = begin_table(&tables[number_of_tables++], words), given_tables++;

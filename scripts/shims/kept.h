@@ -2,7 +2,7 @@
 // evenly spaced requests, or the record of the run.
 //
 // The record: its events, two bytes each, as long as a command takes their text. Then, or from the start where that is wanted, it goes on as
-// a history, a piece of events at a time (moments.h, windows.h).
+// a history, a piece of events at a time (moments.h, windows.h). All counts are by places.
 #ifndef KEPT_H
 #define KEPT_H
 #include <unistd.h>
@@ -64,7 +64,7 @@ static struct kept {
   int64_t bytes, most, large, most_large, events, requests;
   int live[COUNTERS];
   struct moment peak;
-  int is_open, changes, is_changed[COUNTERS], changed[COUNTERS];  // whether the last event was the peak's; the counters in which it differs
+  int is_open, changes, is_changed[COUNTERS], changed[COUNTERS];  // whether the last event was the peak's; the places in which it differs
   uint64_t spacing, text;                // of the snapshots; the bytes of the record's text
   int is_reduced, piece;                 // whether the record is a history; of its events, in the pieces
 } kept;
@@ -83,7 +83,7 @@ static void take_snapshot(void) {
   for (;;) {
     for (int k = 0; k < number_of_snapshots; k++)
       if (!snapshots[k].at) {
-        snapshots[k].at = kept.requests, memcpy(snapshots[k].live, kept.live, sizeof kept.live);
+        snapshots[k].at = kept.requests, memcpy(snapshots[k].live, kept.live, sizes.number * sizeof(int));
         return;
       }
     kept.spacing *= 2;
@@ -96,7 +96,7 @@ static void take_snapshot(void) {
 static void reduce_pieces(void) {
   for (int k = 0; k * PIECE < kept.piece; k++) {
     int number = kept.piece - k * PIECE < PIECE ? kept.piece - k * PIECE : PIECE;
-    keep_peaks(pieces[k], number), add_to_windows(pieces[k], number);
+    keep_piece(pieces[k], number);
     if (k) munmap(pieces[k], PIECE * sizeof **pieces), pieces[k] = NULL;
   }
   kept.is_reduced = 1, kept.piece = 0;
@@ -108,26 +108,26 @@ static int line_of(int counter) {  // the bytes of its line
   return line;
 }
 
-static void record_event(int counter, int is_free) {
+static void record_event(int counter, int place, int is_free) {
   int line = line_of(counter) + is_free;
   if (kept.is_reduced ? kept.piece == PIECE : kept.text + line > MOST_TEXT || kept.piece == PIECES * PIECE) reduce_pieces();
   uint16_t **piece = &pieces[kept.piece / PIECE];
   if (!*piece) *piece = some(PIECE * sizeof **piece);
   WITH_STACKS(sites.events[kept.piece] = sites.current << 1 | is_free;)
-  (*piece)[kept.piece++ % PIECE] = counter | (is_free ? FREED : 0), kept.text += line;
+  (*piece)[kept.piece++ % PIECE] = place | (is_free ? FREED : 0), kept.text += line;
 }
 
 // a block comes, or goes
 static void event(uint64_t size, int by) {
-  int counter = counter_of(size);
+  int counter = counter_of(size), place = place_of(counter);
   int64_t after = kept.bytes + by * (int64_t)size;
   if (kept.is_open && after <= kept.most) follow_peak();
-  kept.live[counter] += by, kept.bytes = after, kept.events++, kept.requests += by > 0;
-  if (!kept.is_changed[counter]) kept.is_changed[counter] = 1, kept.changed[kept.changes++] = counter;
+  kept.live[place] += by, kept.bytes = after, kept.events++, kept.requests += by > 0;
+  if (!kept.is_changed[place]) kept.is_changed[place] = 1, kept.changed[kept.changes++] = place;
   if (after > kept.most) kept.most = after, kept.is_open = 1, kept.peak.at = record_of ? kept.events : kept.requests;
   if (counter == LARGE && (kept.large += by * (int64_t)size) > kept.most_large) kept.most_large = kept.large;
   if (number_of_snapshots && by > 0 && !(kept.requests & (kept.spacing - 1))) take_snapshot();
-  if (record_of) record_event(counter, by < 0);
+  if (record_of) record_event(counter, place, by < 0);
 }
 
 static void begin_kept(void) {
@@ -142,24 +142,26 @@ static void begin_kept(void) {
 
 // ---- its texts
 
-static void write_profile(FILE *to, const int *counts, const int64_t *long_counts) {
+// Writes a profile: these counts, or that of the peak where there are none.
+static void write_profile(FILE *to, const int64_t *counts) {
   for (int i = 0; i < COUNTERS; i++) {
-    int64_t count = counts ? counts[i] : long_counts[i];
+    int place = sizes.places[i] - 1;
+    int64_t count = counts ? counts[i] : place < 0 ? 0 : kept.peak.live[place];
     if (count) write_size(to, i), fprintf(to, " %lld\n", (long long)count);
   }
 }
 
-// Writes the history of a run without a record, or with IS_UPPER the one over which no table takes less than over the run; how many moments
-// it has. What the tables need comes first: there may be no more room for the windows.
-static int write_moments(FILE *to, int is_upper) {
-  join_windows(windows.wanted);
-  struct moment *all = windows_of(is_upper);
-  for (int t = number_of_tables; t-- && !is_upper;) choose_all(tables[t].moments, tables[t].groups);
+// Writes the history of a run without a record, or with IS_UPPER the one over which no table takes less than over the run. What the tables
+// need comes first: there may be no more room for the windows.
+static void write_moments(FILE *to, int is_upper) {
+  join_windows(windows.wanted), number_chosen = 0;
+  for (int t = number_of_tables; t-- && !is_upper;) {
+    if (t + 1 == number_of_tables - given_tables) choose_all(held.moments, held.number);
+    choose_all(tables[t].moments, tables[t].groups);
+  }
   if (!is_upper) choose(&kept.peak);
-  for (int k = 0; k < windows.number; k++) choose_unlike(&all[k]);
-  int number = write_history(to);
-  drop_windows(all);
-  return number;
+  for (int k = 0; k < windows.number; k++) choose_unlike(is_upper ? windows.all[k].most : windows.all[k].live);
+  write_history(to);
 }
 
 static void write_timeline(FILE *to) {
@@ -168,7 +170,7 @@ static void write_timeline(FILE *to) {
   strcpy(lines[LARGE], "large\n");
   fputs("timeline\n", to);
   for (int i = 0; i < kept.piece; i++) {
-    int code = pieces[i / PIECE][i % PIECE], counter = code & (AT_PEAK - 1);
+    int code = pieces[i / PIECE][i % PIECE], counter = sizes.counters[place_in(code)];
     if (code & FREED) putc_unlocked('-', to);
     fwrite_unlocked(lines[counter], 1, line_of(counter), to);
   }

@@ -1,6 +1,9 @@
 // What the reader keeps of a run that is too long for a record, a piece of it at a time: the moments at which the classes of tables have more
-// blocks than ever before, and windows.h. The tables are the finest one, in which a class is a granule wide, and some others, or those that
-// are given, or all. What one of them takes over the run is exact at any length, since each of its classes has a counter.
+// blocks than ever before, those that are wanted by their number, and windows.h. The tables are the finest one, in which a class is a granule
+// wide, and some others, or those that are given, or all. What one of them takes over the run is exact at any length, since each of its classes
+// has a counter.
+//
+// A size has a place from 0 on, in the order in which they come: so what is kept of a moment is small.
 #ifndef MOMENTS_H
 #define MOMENTS_H
 #include <stdio.h>
@@ -18,37 +21,50 @@ static void *some(size_t bytes) {  // pages of zeros
 }
 
 enum { CLASSES = LARGEST_SIZE / 16 + 2, TABLES = 32 };
-enum { FREED = 1 << 15, AT_PEAK = 1 << 14 };  // of an event; the other bits are the counter of its size. AT_PEAK is its own
-struct moment { uint64_t at; int live[COUNTERS]; };  // the events, or requests, before it; 0 where there is none
+enum { FREED = 1 << 15, AT_PEAK = 1 << 14 };  // of an event; the other bits are the place of its size
+struct moment { uint64_t at; int live[COUNTERS]; };  // by places; the events, or requests, before it; 0 where there is none
+
+static struct { int number, counters[COUNTERS], places[COUNTERS]; } sizes;  // a place is one more here, and 0 where a size has none yet
 
 static int counter_of(uint64_t size) { return size < LARGE ? size : LARGE; }
 static int class_of(int counter) { return counter ? (counter + 31) / 16 : 2; }
 static int by_of(int event) { return event & FREED ? -1 : 1; }
+static int place_in(int event) { return event & (AT_PEAK - 1); }
 
-// The groups of the sizes that a table's classes serve, and one more of those above, whose class is CLASSES.
+static void copy_moment(struct moment *to, const struct moment *from) {
+  to->at = from->at, memcpy(to->live, from->live, sizes.number * sizeof *to->live);
+}
+
+// The groups of the sizes that a table's classes serve, and one more of those above, whose class is CLASSES. Large blocks are of none.
 static struct table {
   int groups, classes[CLASSES];
-  uint16_t of[COUNTERS];
-  int64_t now[CLASSES], most[CLASSES];  // the live blocks of a group
-  struct moment *moments;               // the last at which it had more of them than ever before
+  uint16_t of[COUNTERS];                        // by places
+  int64_t now[CLASSES + 1], most[CLASSES + 1];  // the live blocks of a group
+  struct moment *moments;                       // the last at which it had more of them than ever before
 } tables[TABLES];
 static int number_of_tables, given_tables;  // those that are given are the last ones
 static struct moment before;                // the piece
+static struct { int number, next; struct moment *moments; uint64_t at[MOST_SNAPSHOTS]; } held;  // those that are wanted
 
 // Makes the table of these words, granules up to a comma, or the finest one where there are none. What comes after it.
 static const char *begin_table(struct table *table, const char *words) {
-  table->groups = 0;
-  for (int counter = 0, last = 0; counter < COUNTERS; counter++) {
-    if (class_of(counter) > last) {
-      char *rest = (char *)words;
-      last = words ? strtol(words, &rest, 10) : class_of(counter);
-      if (last < class_of(counter)) last = CLASSES;
-      words = rest, table->classes[table->groups++] = last;
-    }
-    table->of[counter] = table->groups - 1;
-  }
-  return words && *words == ',' ? words + 1 : NULL;
+  char *rest = (char *)words;
+  for (table->groups = 0; words ? *rest && *rest != ',' : table->groups < CLASSES - 2; table->groups++)
+    table->classes[table->groups] = words ? strtol(rest, &rest, 10) : table->groups + 2;
+  table->classes[table->groups++] = CLASSES;
+  return rest && *rest ? rest + 1 : NULL;
 }
+
+static int new_place(int counter) {
+  for (struct table *table = tables; table < tables + number_of_tables; table++) {
+    int group = counter == LARGE ? table->groups : 0;
+    while (counter != LARGE && table->classes[group] < class_of(counter)) group++;
+    table->of[sizes.number] = group;
+  }
+  sizes.counters[sizes.number++] = counter, sizes.places[counter] = sizes.number;
+  return sizes.number - 1;
+}
+static inline int place_of(int counter) { return sizes.places[counter] ? sizes.places[counter] - 1 : new_place(counter); }
 
 // the bytes that it takes over the run; -1 where it does not serve a size
 static int64_t taken_by(const struct table *table) {
@@ -61,7 +77,8 @@ static int64_t taken_by(const struct table *table) {
 }
 
 static void begin_moments(void) {
-  memset(&before, 0, sizeof before);
+  memset(&before, 0, sizeof before), held.next = 0;
+  for (int k = 0; k < held.number; k++) held.moments[k].at = 0;
   for (struct table *table = tables; table < tables + number_of_tables; table++) {
     memset(table->now, 0, sizeof table->now), memset(table->most, 0, sizeof table->most);
     for (int group = 0; table->moments && group < table->groups; group++) table->moments[group].at = 0;
@@ -71,10 +88,9 @@ static void begin_moments(void) {
 // Marks the events of the piece after which a group has the most blocks, where these are more than before.
 static void mark_peaks(struct table *table, int *at, uint16_t *piece, int number) {
   if (!table->moments) table->moments = some(table->groups * sizeof *table->moments);
-  for (int group = 0; group < table->groups; group++) at[group] = -1;
+  memset(at, -1, table->groups * sizeof *at);
   for (int i = 0; i < number; i++) {
-    int counter = piece[i] & (AT_PEAK - 1), group = table->of[counter];
-    if (counter == LARGE) continue;
+    int group = table->of[place_in(piece[i])];
     table->now[group] += by_of(piece[i]);
     if (table->now[group] > table->most[group]) table->most[group] = table->now[group], at[group] = i;
   }
@@ -82,17 +98,15 @@ static void mark_peaks(struct table *table, int *at, uint16_t *piece, int number
     if (at[group] >= 0) piece[at[group]] |= AT_PEAK;
 }
 
-// keeps the moments of the piece at which groups have the most blocks
-static void keep_peaks(uint16_t *piece, int number) {
-  static int at[TABLES][CLASSES];
-  for (int t = 0; t < number_of_tables; t++) mark_peaks(&tables[t], at[t], piece, number);
-  for (int i = 0; i < number; i++) {
-    int counter = piece[i] & (AT_PEAK - 1);
-    before.live[counter] += by_of(piece[i]), before.at++;
-    if (!(piece[i] & AT_PEAK)) continue;
-    for (int t = 0; t < number_of_tables; t++)
-      if (at[t][tables[t].of[counter]] == i) tables[t].moments[tables[t].of[counter]] = before;
-  }
+static void mark_held(uint16_t *piece, int number) {
+  for (int k = held.next; k < held.number && held.at[k] - before.at <= (uint64_t)number; k++) piece[held.at[k] - before.at - 1] |= AT_PEAK;
+}
+
+// keeps the moment after event i of the piece for whatever it is marked for
+static void keep_moment(int at[TABLES][CLASSES + 1], int place, int i) {
+  for (int t = 0; t < number_of_tables; t++)
+    if (at[t][tables[t].of[place]] == i) copy_moment(&tables[t].moments[tables[t].of[place]], &before);
+  if (held.next < held.number && held.at[held.next] == before.at) copy_moment(&held.moments[held.next++], &before);
 }
 
 // ---- the text of a history
@@ -105,15 +119,15 @@ static void choose(struct moment *moment) {
   int i = 0;
   for (int k = 0; k < number_chosen; k++)
     if (chosen[k]->at == moment->at) return;
-  while (i < COUNTERS && !moment->live[i]) i++;
-  if (moment->at && i < COUNTERS && number_chosen < MOST_SNAPSHOTS) chosen[number_chosen++] = moment;
+  while (i < sizes.number && !moment->live[i]) i++;
+  if (moment->at && i < sizes.number && number_chosen < MOST_SNAPSHOTS) chosen[number_chosen++] = moment;
 }
 
 // The same, unless a moment of the history has as many blocks of each size: then every table takes the same without it.
 static void choose_unlike(struct moment *moment) {
   for (int k = 0, i = 0; k < number_chosen; k++, i = 0) {
-    while (i < COUNTERS && moment->live[i] <= chosen[k]->live[i]) i++;
-    if (i == COUNTERS) return;
+    while (i < sizes.number && moment->live[i] <= chosen[k]->live[i]) i++;
+    if (i == sizes.number) return;
   }
   choose(moment);
 }
@@ -129,20 +143,17 @@ static int is_later(const void *one, const void *other) {
 
 static void write_size(FILE *to, int counter) { counter == LARGE ? fputs("large", to) : fprintf(to, "%d", counter); }
 
-// Writes the history of what is chosen, in the order of time; how many moments it has.
-static int write_history(FILE *to) {
-  int number = number_chosen;
-  qsort(chosen, number, sizeof *chosen, is_later);
-  if (number) fprintf(to, "snapshots %d\n", number);
+// Writes the history of what is chosen, in the order of time.
+static void write_history(FILE *to) {
+  qsort(chosen, number_chosen, sizeof *chosen, is_later);
+  if (number_chosen) fprintf(to, "snapshots %d\n", number_chosen);
   for (int i = 0; i < COUNTERS; i++) {
-    int k = 0;
-    while (k < number && !chosen[k]->live[i]) k++;
-    if (k == number) continue;
+    int k = 0, place = sizes.places[i] - 1;
+    while (k < number_chosen && (place < 0 || !chosen[k]->live[place])) k++;
+    if (k == number_chosen) continue;
     write_size(to, i);
-    for (k = 0; k < number; k++) fprintf(to, " %d", chosen[k]->live[i]);
+    for (k = 0; k < number_chosen; k++) fprintf(to, " %d", chosen[k]->live[place]);
     fputc('\n', to);
   }
-  number_chosen = 0;
-  return number;
 }
 #endif

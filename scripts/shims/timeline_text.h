@@ -21,7 +21,7 @@ static void read_timeline(const volatile sig_atomic_t *ends) {
     int by = 0;
     line[strcspn(line, "\n")] = 0;
     int counter = number == 1 ? strcmp(line, "timeline") ? -1 : 0 : read_event(line, &by);
-    if (counter >= 0 && kept.live[counter] + by >= 0) {
+    if (counter >= 0 && (by >= 0 || kept.live[place_of(counter)] > 0)) {
       if (by) event(counter, by);
       continue;
     }

@@ -11,14 +11,12 @@
 #ifndef IN_WINDOW
 #define IN_WINDOW 2048  // events, at least
 #endif
-enum { USUAL_WINDOWS = 64, MOST_WINDOWS = 512, GROUPS = MOST_CLASSES + 1 };
-struct window { uint64_t begin, at; int64_t bytes; int *most, *live; };  // the events before it, and before its moment of the most bytes
-struct cost { int64_t rise, growth; };                                 // of a join with the next: of the peaks, and of what is joined, in bytes
-// A size has a place from 0 on, in the order in which they come: so what is kept of a window is small.
+enum { USUAL_WINDOWS = 64, MOST_WINDOWS = 512, GROUPS = MOST_CLASSES + 2 };
+struct window { int64_t bytes; struct moment *most, *live; };  // of its first moment and of the most bytes, and these
+struct cost { int64_t rise, growth; };  // of a join with the next: of the peaks, and of what is joined, in bytes
 static struct {
-  int wanted, number, left, sizes, counters[COUNTERS], places[COUNTERS];  // left: events of the last window; a place is one more here
-  int64_t bytes;
-  struct moment now;  // by places
+  int wanted, number, left;  // left: events of the last window
+  int64_t bytes;             // of the blocks that are live
   struct window *all;
   struct cost costs[2 * MOST_WINDOWS];
 } windows;
@@ -31,13 +29,12 @@ static const char *const WEIGHED[] = {
   "4 6 9 13 19 28 40 58 84 122 177 256 371 537 740 1024", "8 64 256 1024", NULL,
 };
 static int sums[TABLES][GROUPS], peaks[TABLES][GROUPS];
-static uint8_t group_at[TABLES][COUNTERS];  // of a place
 
 static void sum_up(const struct window *one, const struct window *other) {
   memset(sums, 0, sizeof sums);
-  for (int k = 0; k < windows.sizes; k++) {
-    int most = one->most[k] > other->most[k] ? one->most[k] : other->most[k];
-    for (int t = 1; t < number_of_tables; t++) sums[t][group_at[t][k]] += most;
+  for (int k = 0; k < sizes.number; k++) {
+    int most = one->most->live[k] > other->most->live[k] ? one->most->live[k] : other->most->live[k];
+    for (int t = 1; t < number_of_tables; t++) sums[t][tables[t].of[k]] += most;
   }
 }
 
@@ -57,8 +54,8 @@ static void weigh(int k) {
   const struct window *one = &windows.all[k], *other = one + 1;
   int64_t first = 0, second = 0;
   if (k < 0 || k + 1 >= windows.number) return;
-  for (int i = 0; i < windows.sizes; i++) {
-    int64_t by = 16LL * class_of(windows.counters[i]) * (one->most[i] - other->most[i]);
+  for (int i = 0; i < sizes.number; i++) {
+    int64_t by = 16LL * class_of(sizes.counters[i]) * (one->most->live[i] - other->most->live[i]);
     if (by > 0) first += by; else second -= by;
   }
   sum_up(one, other);
@@ -66,14 +63,11 @@ static void weigh(int k) {
 }
 
 static void join(int k) {
-  struct window *one = &windows.all[k], *other = one + 1, gone;
-  for (int i = 0; i < windows.sizes; i++)
-    if (other->most[i] > one->most[i]) one->most[i] = other->most[i];
-  if (other->bytes > one->bytes) {
-    int *live = one->live;
-    one->live = other->live, one->bytes = other->bytes, one->at = other->at, other->live = live;
-  }
-  gone = *other, windows.number--;
+  struct window *one = &windows.all[k], *other = one + 1, gone = *other;
+  for (int i = 0; i < sizes.number; i++)
+    if (other->most->live[i] > one->most->live[i]) one->most->live[i] = other->most->live[i];
+  if (other->bytes > one->bytes) gone.live = one->live, one->live = other->live, one->bytes = other->bytes;
+  windows.number--;
   memmove(other, other + 1, (windows.number - k - 1) * sizeof *other), windows.all[windows.number] = gone;
   memmove(&windows.costs[k], &windows.costs[k + 1], (windows.number - k) * sizeof *windows.costs);
   sum_up(one, one), raise_peaks(0), weigh(k - 1), weigh(k);
@@ -96,66 +90,52 @@ static void join_windows(int wanted) {
 
 // ---- what is added
 
-static void begin_windows(void) {
-  windows.number = windows.left = windows.bytes = 0, memset(&windows.now, 0, sizeof windows.now);
-}
-
-static int place_of(int counter) {
-  if (!windows.places[counter]) {
-    for (int t = 1; t < number_of_tables; t++) group_at[t][windows.sizes] = tables[t].of[counter];
-    windows.counters[windows.sizes++] = counter, windows.places[counter] = windows.sizes;
-  }
-  return windows.places[counter] - 1;
-}
+static void begin_windows(void) { windows.number = windows.left = windows.bytes = 0; }
 
 static struct window *next_window(void) {
-  size_t bytes = COUNTERS * sizeof(int);
+  int room = 2 * windows.wanted;
   if (!windows.all) {
-    windows.all = some(2 * windows.wanted * sizeof *windows.all);
-    for (int k = 0; k < 2 * windows.wanted; k++) windows.all[k].most = some(bytes), windows.all[k].live = some(bytes);
+    struct moment *moments = some(2 * room * sizeof *moments);
+    windows.all = some(room * sizeof *windows.all);
+    for (int k = 0; k < room; k++) windows.all[k] = (struct window){0, moments + 2 * k, moments + 2 * k + 1};
   }
-  if (windows.number == 2 * windows.wanted) join_windows(windows.wanted);
+  if (windows.number == room) join_windows(windows.wanted);
   struct window *next = &windows.all[windows.number++];
-  next->begin = next->at = windows.now.at, next->bytes = windows.bytes;
-  memcpy(next->most, windows.now.live, windows.sizes * sizeof(int)), memcpy(next->live, windows.now.live, windows.sizes * sizeof(int));
-  windows.left = windows.sizes < 256 ? IN_WINDOW : windows.sizes * IN_WINDOW / 256;
+  copy_moment(next->most, &before), copy_moment(next->live, &before);
+  next->most->at++, next->bytes = windows.bytes;
+  windows.left = sizes.number < 256 ? IN_WINDOW : sizes.number * IN_WINDOW / 256;
   return next;
 }
 
-// Adds events to a window: its moment of the most bytes is found first, so that its blocks are copied once.
-static void add_to_window(struct window *window, const uint16_t *events, int number) {
-  int top = -1, *live = windows.now.live;
+// The event of these after which the most bytes are live in the window, where these are more than before; -1 where there is none.
+static int top_of(struct window *window, const uint16_t *events, int number) {
+  int top = -1;
   for (int i = 0; i < number; i++) {
-    int counter = events[i] & (AT_PEAK - 1);
+    int counter = sizes.counters[place_in(events[i])];
     windows.bytes += counter == LARGE ? 0 : 16 * class_of(counter) * by_of(events[i]);
     if (windows.bytes > window->bytes) window->bytes = windows.bytes, top = i;
   }
-  for (int i = 0; i < number; i++) {
-    int place = place_of(events[i] & (AT_PEAK - 1)), now = live[place] += by_of(events[i]);
-    if (now > window->most[place]) window->most[place] = now;
-    windows.now.at++;
-    if (i == top) window->at = windows.now.at, memcpy(window->live, live, windows.sizes * sizeof(int));
-  }
+  return top;
 }
 
-static void add_to_windows(const uint16_t *piece, int number) {
-  for (int i = 0, part; i < number && windows.wanted; i += part) {
-    struct window *window = windows.left ? &windows.all[windows.number - 1] : next_window();
-    part = number - i < windows.left ? number - i : windows.left, windows.left -= part;
-    add_to_window(window, piece + i, part);
+// Keeps of a piece of the run what is wanted.
+static void keep_piece(uint16_t *piece, int number) {
+  static int at[TABLES][CLASSES + 1];
+  static struct moment none;
+  struct window unwanted = {0, &none, &none}, *window = &unwanted;
+  for (int t = 0; t < number_of_tables; t++) mark_peaks(&tables[t], at[t], piece, number);
+  mark_held(piece, number);
+  for (int i = 0, end = 0, top = -1; i < number; i++) {
+    if (i == end && windows.wanted) {
+      window = windows.left ? &windows.all[windows.number - 1] : next_window();
+      int part = number - i < windows.left ? number - i : windows.left;
+      windows.left -= part, end = i + part, top = i + top_of(window, piece + i, part);
+    }
+    int place = place_in(piece[i]), now = before.live[place] += by_of(piece[i]);
+    before.at++;
+    if (now > window->most->live[place]) window->most->live[place] = now;
+    if (i == top) copy_moment(window->live, &before);
+    if (piece[i] & AT_PEAK) keep_moment(at, place, i);
   }
 }
-
-// The windows as moments: of the most blocks of each size, or of those that were live. They go by drop_windows.
-static struct moment *windows_of(int is_upper) {
-  struct moment *all = some(windows.number * sizeof *all + 1);
-  for (int k = 0; k < windows.number; k++) {
-    const struct window *window = &windows.all[k];
-    all[k].at = is_upper ? window->begin + 1 : window->at;
-    for (int i = 0; i < windows.sizes; i++) all[k].live[windows.counters[i]] = (is_upper ? window->most : window->live)[i];
-  }
-  return all;
-}
-
-static void drop_windows(struct moment *all) { munmap(all, windows.number * sizeof *all + 1); }
 #endif

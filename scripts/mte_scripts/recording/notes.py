@@ -30,14 +30,14 @@ class Notes(ctypes.Structure):
     """What the reader noted; the texts are there once `version` is not 0."""
 
     _fields_ = [
-        *numbers("version profile text upper status error started executed requests live large resident others other_requests untouched foreign"),
+        *numbers("version profile text upper at status error started executed requests live large resident others other_requests untouched foreign"),
         ("refused", ctypes.c_uint64 * len(REASONS)),
         *numbers("lost wrong spoiled gaps events snapshots is_cut variables shared left"),
         ("processes", ctypes.c_uint64 * 32),
         *numbers("sites"),
         ("taken", ctypes.c_int64 * (TABLES + 4)),
         ("words", ctypes.c_char * 128),
-        ("room", ctypes.c_char * 136),
+        ("room", ctypes.c_char * 128),
         ("name", ctypes.c_char * 1024),
         ("named", Named * 16),
         ("followed", ctypes.c_char * 24),

@@ -3,6 +3,7 @@
 import argparse
 import os
 import pathlib
+import re
 import signal
 import stat
 import struct
@@ -24,12 +25,18 @@ Run a program, and print how often it requested each size: a profile, the input 
 
 Usage: profile_program [--live] [--only NAME] [--said FILE] PROGRAM ARGS..
        profile_program --timeline|--history[=T]|--windows[=N]|--classes TABLE [--peak FILE] [--upper FILE] [--measured FILE]
-                       [--stacks FILE] [--processes FILE] [--only NAME] PROGRAM ARGS..
+                 how many requests and frees there were, `events N`; of each TABLE `footprint N`, what it takes over the whole run,
+                 or `footprint none` where it does not serve a size; and of each moment of --windows `moment N`, after N events
+  --stacks FILE  with --timeline of a run: write into FILE, for tune_program --who, which calls made each request. The run takes
+                 more time, by the depth of the calls. FILE is empty where the run is too long for a timeline
+  --processes FILE
+                 with these and --live: write into FILE a line for each program that had processes, that of the counted one first: how
+                 many, their requests, the most resident memory of one in bytes, 0 where none was seen, and the name
        profile_program --library [DIR]
        profile_program --follow STREAM [the options above]
        profile_program --read STREAM
        profile_program --import FILE [--as FORMAT] [--live|--timeline|--history[=T]] [--peak FILE]
-       profile_program --import TIMELINE --windows[=N]|--classes TABLE [--peak FILE] [--upper FILE] [--measured FILE]
+       profile_program --import TIMELINE --windows[=N]|--classes TABLE [--peak FILE] [--upper FILE] [--measured FILE] [--again FILE]
 
   --live         count only the blocks that are live at the peak: when the most bytes are live
   --timeline     print a timeline instead: each request and each free of the run, by size
@@ -38,6 +45,8 @@ Usage: profile_program [--live] [--only NAME] [--said FILE] PROGRAM ARGS..
                  in N windows of the run, 1 to {WINDOWS}, and others; {USUAL_WINDOWS} where N is left out
   --upper FILE   with --windows, or a timeline that is too long: write into FILE a history over which each table takes at least what
                  it takes over the run
+  --again FILE   with --windows: the moments in FILE, which --measured of an earlier run wrote, are among the others. So over an
+                 equal run no table takes less over this history than over the earlier one
   --classes TABLE
                  print a history of the moments at which each class of a table has the most blocks. TABLE is a file whose first line
                  is a class line, such as a sheet or a fit. With --windows these moments are among the others; up to {TABLES} times
@@ -45,13 +54,11 @@ Usage: profile_program [--live] [--only NAME] [--said FILE] PROGRAM ARGS..
   --measured FILE
                  with these and --live: write into FILE what the process took of memory at most, in bytes, as lines
                  `large N`, blocks above {texts.LARGEST_SIZE:,} bytes, and `resident N`, its resident set without what the recorder takes;
-                 how many requests and frees there were, `events N`; and of each TABLE `footprint N`, what it takes over the whole
-                 run, or `footprint none` where it does not serve a size
-  --stacks FILE  with --timeline of a run: write into FILE, for tune_program --who, which calls made each request. The run takes
-                 more time, by the depth of the calls. FILE is empty where the run is too long for a timeline
-  --processes FILE
-                 with these and --live: write into FILE a line for each program that had processes, that of the counted one first: how
-                 many, their requests, the most resident memory of one in bytes, 0 where none was seen, and the name
+        if self.again and self.live != "--windows":
+            raise Refused(2, "--again goes with --windows")
+        if self.stacks and (self.live != "--timeline" or not self.words):
+            raise Refused(2, "--stacks goes with --timeline and a program to run")
+        for name in ("measured", "as_scudo", "processes"):
   --as-scudo     with these and --live: a realloc leaves a block as it was where LLVM's Scudo does, which makes it smaller by up to
                  4,095 bytes in its place, and as large again as it had been
   --only NAME    count only processes whose program has this name, as NAME of /usr/bin/NAME
@@ -136,6 +143,7 @@ class Options(argparse.Namespace):
         kinds["classes"] = {"action": "append", "type": some, "default": []}
         ProgramWords(HELP, as_=named(*importing.NAMES), **kinds).take(words, into=self)
         self.tables = [texts.class_line(path) for path in self.classes]
+        self.moments = [] if self.again is None else moments_in(self.again)
         if not all(self.tables):
             raise Refused(2, "the table of --classes has no class")
         self.choose()
@@ -157,9 +165,15 @@ class Options(argparse.Namespace):
             raise Refused(2, "--peak goes with --timeline, --history, --windows or --classes")
         if self.upper and not self.read and self.live not in ("--timeline", "--windows"):
             raise Refused(2, "--upper goes with --windows, --timeline or --read")
+<<<<<<< HEAD
         if self.stacks and (self.live != "--timeline" or not self.words):
             raise Refused(2, "--stacks goes with --timeline and a program to run")
         for name in ("measured", "as_scudo", "processes"):
+=======
+        if self.again and self.live != "--windows":
+            raise Refused(2, "--again goes with --windows")
+        for name in ("measured", "as_scudo"):
+>>>>>>> 74f2d5fff1196929ccced5e419b30c378e751822
             if getattr(self, name) and not self.live:
                 raise Refused(2, f"--{name.replace('_', '-')} goes with --live, --timeline, --history, --windows or --classes")
 
@@ -184,17 +198,26 @@ class Options(argparse.Namespace):
     def wanted(self) -> str:
         """What the reader is asked for."""
         kinds = {None: "all", "--live": "live", "--history": f"history {self.history}", "--timeline": "timeline", "--classes": "classes",
-                 "--windows": f"windows {self.windows}"}
+                 "--windows": " ".join(map(str, ["windows", self.windows, *self.moments]))}
         return ("-" if self.as_scudo else "") + kinds[self.live]
+
+
+def moments_in(path: str) -> "list[int]":
+    """The moments that a file of --measured names."""
+    lines = texts.read(path).decode(errors="replace").splitlines()
+    found_ = [line.removeprefix("moment ") for line in lines if line.startswith("moment ")]
+    if not found_ or not all(re.fullmatch("[1-9][0-9]{0,17}", each) for each in found_):
+        raise Refused(2, f"{texts.named(path)} names no moments: --measured of --windows writes them")
+    return sorted({int(each) for each in found_})
 
 
 # ---- what was found
 
-def print_found(options: Options, speaker: recording.Speaker, notes: Notes, profile: bytes, text: bytes, upper: bytes) -> bool:
+def print_found(options: Options, speaker: recording.Speaker, notes: Notes, profile: bytes, text: bytes, upper: bytes, moments: bytes) -> bool:
     """Prints what was counted. False where that is nothing."""
     counts = {size if size == "large" else int(size): int(count) for size, count in map(str.split, profile.decode().splitlines())}
     if options.measured:
-        texts.write_file(options.measured, "".join(f"{line}\n" for line in measured(options, notes)))
+        texts.write_file(options.measured, "".join(f"{line}\n" for line in measured(options, notes, moments)))
     if notes.is_cut:
         instead = f"a history of {notes.snapshots} of its moments is made in its place"
         speaker.say(f"the timeline of {notes.events:,} events would have more than {timelines.MOST_TEXT:,} bytes: {instead}")
@@ -208,12 +231,12 @@ def print_found(options: Options, speaker: recording.Speaker, notes: Notes, prof
     return bool(text or counts)
 
 
-def measured(options: Options, notes: Notes) -> "list[str]":
+def measured(options: Options, notes: Notes, moments: bytes) -> "list[str]":
     """What was measured of the run. The footprints are counted where there is a history."""
     found_ = {"large": notes.large, "resident": notes.resident, "events": notes.events}
     lines = [f"{name} {value}" for name, value in found_.items() if value]
     taken = notes.taken[: len(options.tables)] if notes.snapshots else []
-    return [*lines, *(f"footprint {'none' if each < 0 else each}" for each in taken)]
+    return [*lines, *(f"footprint {'none' if each < 0 else each}" for each in taken), *(f"moment {each}" for each in moments.decode().split())]
 
 
 def write_beside(path: "str | None", text: "str | bytes") -> None:
@@ -375,11 +398,12 @@ def run_program(options: Options, speaker: recording.Speaker, path: str, work: p
         if notes.left:
             say_left(speaker, options, notes)
             run.library.keep()
-        if not print_run(options, speaker, run.found, program):
-            recording.refuse_nothing(program, notes, "counted")
+        whose = options.only or program
+        if not print_run(options, speaker, run.found, whose):
+            recording.refuse_nothing(whose, notes, "counted")
         if notes.untouched:
-            whose = f"the last one in {notes.allocator}"
-            speaker.say(f"{notes.untouched} processes with an allocator of their own, {whose}, are not counted")
+            last = f"the last one in {notes.allocator}"
+            speaker.say(f"{notes.untouched} processes with an allocator of their own, {last}, are not counted")
     return 1 if run.status else 0
 
 

@@ -229,17 +229,17 @@ class Found:
     def notes(self) -> Notes:
         return Notes.of(os.pread(self.descriptor, PAGE, 0))
 
-    def texts(self) -> "tuple[bytes, bytes, bytes]":
-        """The profile, what else was wanted, and the upper history."""
+    def texts(self) -> "tuple[bytes, bytes, bytes, bytes]":
+        """The profile, what else was wanted, the upper history, and the numbers of its moments."""
         notes = self.notes()
         with open(os.dup(self.descriptor), "rb") as file:
             file.seek(PAGE)
-            return file.read(notes.profile), file.read(notes.text), file.read(notes.upper)
+            return file.read(notes.profile), file.read(notes.text), file.read(notes.upper), file.read(notes.at)
 
     def sites(self) -> bytes:
         """The stacks, as sites.py reads them; empty where there are none."""
         notes = self.notes()
-        return os.pread(self.descriptor, notes.sites, PAGE + notes.profile + notes.text + notes.upper)
+        return os.pread(self.descriptor, notes.sites, PAGE + notes.profile + notes.text + notes.upper + notes.at)
 
 
 @contextlib.contextmanager

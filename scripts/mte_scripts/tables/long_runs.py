@@ -1,31 +1,39 @@
 """A table for a run that is longer than a timeline may be, and the interval in which its footprint lies: the run is recorded as two
 histories, and where it can be made again, tables are counted over it until the interval is narrow."""
 
+import bisect
+import math
+import operator
 import os
 import stat
-from collections.abc import Callable
+from collections.abc import Callable, Iterable
 from typing import Any, NamedTuple, Optional
 
 from mte_scripts import private_folder, texts
-from mte_scripts.recording import children
+from mte_scripts.recording import children, timelines
 from mte_scripts.recording.notes import TABLES
 from mte_scripts.tables import figures
 
 MOST_RUNS = 8
-MOST_MADE = 16  # tables that are counted over a run, of those that fits made
+WINDOWS = 64
+MOST_MADE = 24  # tables that are counted over a run, of those that fits made
 MOST_OTHERS = TABLES - MOST_MADE
-FIRST_WINDOWS, MOST_WINDOWS = 64, 256
+MOST_HELD = texts.MOST_SNAPSHOTS - 300  # moments of a run that the next one has too: there is room for the peaks of new tables
+GUESSES = 10  # tables that are made for the next run
+Span = tuple[int, int]
 
 
 class Recorded(NamedTuple):
     """A run: its status, 0 or 1; what profile_program said of it; what it measured, by name; and what tables take over it, None where one of
-    them does not serve a size. `upper` is the upper history, empty where there is a timeline."""
+    them does not serve a size. `upper` is the upper history, empty where there is a timeline; `moments` are those of the lower one, by the
+    number of events before them."""
 
     status: int
     notes: list[str]
     measured: dict[str, int]
     counted: dict[figures.Classes, Optional[int]]
     upper: bytes
+    moments: tuple[int, ...] = ()
 
 
 class Runs:
@@ -41,12 +49,16 @@ class Runs:
     def file(self, name: str) -> str:
         return self.work.file(f"run-{name}")
 
-    def record(self, kind: list[str], tables: list[figures.Classes], to: str) -> Recorded:
-        """Runs it once. What is printed goes to the file TO, and the profile at the peak to self.file("peak"). The status may be a refusal's."""
+    def record(self, kind: list[str], tables: list[figures.Classes], to: str, moments: Iterable[int] = ()) -> Recorded:
+        """Runs it once; with these moments in its lower history, if it has them. What is printed goes to the file TO, and the profile at the
+        peak to self.file("peak"). The status may be a refusal's."""
         words = [*kind, "--upper", self.file("upper"), "--peak", self.file("peak"), "--measured", self.file("measured")] if kind else []
         for at, table in enumerate(tables):
             texts.write_file(self.file(f"{at}.classes"), figures.class_text(list(table)) + "\n")
             words += ["--classes", self.file(f"{at}.classes")]
+        if moments:
+            texts.write_file(self.file("again"), "".join(f"moment {each}\n" for each in moments))
+            words += ["--again", self.file("again")]
         command = [os.path.join(texts.SCRIPTS, "profile_program"), *words, "--said", self.file("said"), *self.words]
         self.number += 1
         if self.number > 1 and self.offset is not None:
@@ -55,9 +67,10 @@ class Runs:
             status = children.run(command, signals=self.signals, stdout=file, stdin=again if self.given else None)
         measured = [line.split() for line in self.taken("measured").decode().splitlines()]
         taken = [None if value == "none" else int(value) for name, value in measured if name == "footprint"]
-        found = {name: int(value) for name, value in measured if name != "footprint"}
+        found = {name: int(value) for name, value in measured if name not in ("footprint", "moment")}
+        seen = tuple(int(value) for name, value in measured if name == "moment")
         said = [line for line in self.taken("said").decode(errors="replace").splitlines() if line]
-        return Recorded(status, said, found, dict(zip(tables, taken)), self.taken("upper"))
+        return Recorded(status, said, found, dict(zip(tables, taken)), self.taken("upper"), seen)
 
     def taken(self, name: str) -> bytes:
         """The text of a file that is no longer needed, empty where there is none."""
@@ -88,31 +101,109 @@ def offset_of_input() -> "int | None":
         return 0
 
 
+def is_within(lower: texts.History, upper: bytes) -> bool:
+    """Whether each moment of a lower history is in a window of this upper one, which has at least as many blocks of every size."""
+    windows, none = texts.parse_history(upper), [0] * texts.MOST_SNAPSHOTS
+    most = list(zip(*(windows.counts.get(size, none[: windows.snapshots]) for size in lower.counts)))
+    return all(any(all(map(operator.le, moment, each)) for each in most) for moment in zip(*lower.counts.values()))
+
+
 def interval_of(timed: figures.OverTime, run: Recorded, made: list[figures.Classes]) -> "figures.Interval | None":
     """That of a fit over the lower history of a run: of the tables that were made, the one that takes least. None where nothing bounds one."""
     fitted = tuple(timed.fit.classes)
     above = {table: taken for table, taken in run.counted.items() if taken is not None and table in made}
     if fitted not in above and (high := figures.footprint(timed.fit.classes, run.upper)) is not None:
         above[fitted] = high
+    if not is_within(timed.history, run.upper):
+        raise texts.Refused(2, "the two histories are of different runs: a moment is in no window")
+    cost, classes = joined(Spans(timed.history), run.counted, timed.fit)
+    counted = {**run.counted, **({classes: cost} if classes else {})}
+    above |= {classes: cost} if classes else {}
     if not above:
         return None
     chosen = min(above, key=lambda table: (above[table], table != fitted))
     if above[chosen] < timed.fit.footprint:
         raise texts.Refused(2, "the two histories are of different runs")
-    return figures.Interval(list(chosen), timed.fit.footprint, above[chosen], run.measured.get("events", 0), run.counted)
+    return figures.Interval(list(chosen), timed.fit.footprint, above[chosen], run.measured.get("events", 0), counted)
+
+
+class Spans:
+    """Of a history, the most blocks that spans of needs have at one snapshot. A span is the needs above the first of two up to the second."""
+
+    def __init__(self, history: texts.History) -> None:
+        self.snapshots = history.snapshots
+        self.rows = sorted((timelines.need_of(size), counts) for size, counts in history.counts.items() if size != "large")
+        self.needs = [need for need, _ in self.rows]
+        self.known: dict[Span, tuple[int, int]] = {}
+
+    def floor(self, need: int) -> int:
+        """The greatest need that is counted, up to this one; 0 where there is none."""
+        at = bisect.bisect_right(self.needs, need)
+        return self.needs[at - 1] if at else 0
+
+    def peak(self, span: Span) -> tuple[int, int]:
+        """The most blocks, and the first snapshot that has them."""
+        if span not in self.known:
+            begin, end = (bisect.bisect_right(self.needs, need) for need in span)
+            sums = list(map(sum, zip(*(counts for _, counts in self.rows[begin:end])))) or [0]
+            self.known[span] = max(sums), sums.index(max(sums))
+        return self.known[span]
+
+    def of(self, classes: Iterable[int]) -> list[Span]:
+        """Those that the classes of a table serve, from a need that is counted."""
+        ends = list(classes)
+        return [(self.floor(begin), end) for begin, end in zip([0, *ends], ends)]
+
+    def cost(self, span: Span) -> int:
+        return figures.GRANULE * span[1] * self.peak(span)[0]
+
+
+def joined(spans: Spans, counted: dict[figures.Classes, Optional[int]], fit: texts.Fit) -> "tuple[int, figures.Classes]":
+    """Of the tables that join spans of tables that were counted, and may be that of this fit, the one that takes least, and what it takes over
+    the run; no classes where there is none. A span's peak is in the history where its table takes there what was counted."""
+    usable = [table for table, taken in counted.items() if sum(map(spans.cost, spans.of(table))) == taken]
+    edges = {span for table in usable for span in spans.of(table) if span[1] % fit.step == 0 and spans.floor(span[1]) > span[0]}
+    best: dict[Span, tuple[int, figures.Classes]] = {(0, 0): (0, ())}  # up to a need, with so many classes
+    for begin, end in sorted(edges, key=operator.itemgetter(1)):
+        for number in range(fit.limit):
+            if (begin, number) in best:
+                cost, classes = best[begin, number]
+                found, at = (cost + spans.cost((begin, end)), (*classes, end)), (spans.floor(end), number + 1)
+                best[at] = min(found, best.get(at, found))
+    whole = [found for (need, number), found in best.items() if number and need == spans.needs[-1]]
+    if fit.forced:
+        whole = [(cost, tuple(sorted({*classes, texts.LARGEST_CLASS}))) for cost, classes in whole]
+    return min((found for found in whole if len(found[1]) <= fit.limit), default=(0, ()))
+
+
+def with_guesses(history: texts.History, classes: figures.Classes) -> texts.History:
+    """A history with a snapshot more for each class of a table: its blocks at its peak, and as many more as the root of their number."""
+    spans, counts = Spans(history), {size: list(each) for size, each in history.counts.items()}
+    for span in spans.of(classes):
+        peak, at = spans.peak(span)
+        share, whole = 1 + 1 / math.sqrt(peak or 1), 0.0
+        for size, each in counts.items():
+            is_inside = size != "large" and span[0] < timelines.need_of(size) <= span[1]
+            before, whole = whole, whole + each[at] * share * is_inside
+            each.append(round(whole) - round(before))
+    return texts.History(history.snapshots + len(classes), counts)
 
 
 class Narrowing:
     """Narrows the interval of a run. FIT makes the fit of a history with at most so many classes, or with those of the options for 0. TAKE puts
-    the files of another run in the place of those before, OTHERS are tables that are compared, and most so many runs are made."""
+    the files of another run in the place of those before, OTHERS are tables that are compared, and most so many runs are made.
+
+    The next run counts tables that took least over parts of what is known of the run, and has the moments that are known: so where it is an
+    equal run, the lower end of its interval is at least as high, but for moments that there is no room for."""
 
     def __init__(self, runs: Runs, fit: Callable[[bytes, int], figures.OverTime], take: Callable[[bytes, bytes], None],
                  others: list[figures.Classes], most: int) -> None:
         self.runs, self.fit, self.take, self.others, self.most = runs, fit, take, others[:MOST_OTHERS], most
+        self.needed: set[int] = set()  # moments at which a class of a fit's table has the most blocks
 
     def narrowed(self, first: Recorded, lower: bytes) -> tuple[figures.OverTime, Recorded]:
         """The fit with its interval, and the run that both are of: the last one."""
-        run, windows = first, FIRST_WINDOWS
+        run = first
         made: list[figures.Classes] = []
         while True:
             timed = self.fit(lower, 0)
@@ -122,21 +213,35 @@ class Narrowing:
                 return timed, run
             if why := self.runs.why_not(run, self.most):
                 return timed, run._replace(notes=[*run.notes, f"The bounds of the footprint differ by more than 1%: {why}."])
-            made, windows = self.with_tables(made, timed, lower, run.upper), min(2 * windows, MOST_WINDOWS)
+            made = self.with_tables(made, timed, run)
             texts.say("tune_program", f"run {self.runs.number} is too long for a timeline, and is made again to count what a table takes over it")
-            again = self.runs.record([f"--windows={windows}"], [*self.others, *made], self.runs.file("history"))
+            again = self.runs.record([f"--windows={WINDOWS}"], [*self.others, *made], self.runs.file("history"), self.held(run.moments))
             if again.status or self.runs.signals:
                 return self.kept(timed, run)
             lower = self.runs.taken("history")
             run = with_difference(again, run, self.runs.number)
             self.take(lower, self.runs.taken("peak"))
 
-    def with_tables(self, made: list[figures.Classes], timed: figures.OverTime, lower: bytes, upper: bytes) -> list[figures.Classes]:
-        """The tables to count next: of both fits, and of fewer classes, so that the moments of more than one are in the next lower history."""
-        number = len(timed.fit.classes)
-        fits = [self.fit(lower, limit) for limit in sorted({number // 2, number * 3 // 4}) if limit > 1]
-        found = [tuple(each.fit.classes) for each in (*fits, self.fit(upper, 0), timed)]
-        return list(dict.fromkeys([*made, *found]))[-MOST_MADE:]
+    def with_tables(self, made: list[figures.Classes], timed: figures.OverTime, run: Recorded) -> list[figures.Classes]:
+        """The tables to count next: that of the fit; what would be fitted next if each class of those before had some more blocks than are seen;
+        and those of fewer classes and of the upper history. The peaks of their classes are in the next lower history."""
+        history, spans, found = timed.history, Spans(timed.history), [tuple(timed.fit.classes)]
+        while len(found) < GUESSES and history.snapshots + len(found[-1]) <= texts.MOST_SNAPSHOTS:
+            history = with_guesses(history, found[-1])
+            found.append(tuple(self.fit(texts.history_text(history).encode(), 0).fit.classes))
+        if len(run.moments) == spans.snapshots:
+            self.needed |= {run.moments[spans.peak(span)[1]] for table in found for span in spans.of(table)}
+        more = [(run.upper, 0), *[(timed.text, len(found[0]) * 3 // 4)] * (len(found[0]) > 2)]
+        found += [tuple(self.fit(text, limit).fit.classes) for text, limit in more]
+        return list(dict.fromkeys([*made, *reversed(found)]))[-MOST_MADE:]
+
+    def held(self, moments: tuple[int, ...]) -> list[int]:
+        """The moments of a run that the next one is to have: those that a fit needs, and of the others as many as there is room for."""
+        needed = [each for each in moments if each in self.needed]
+        others = [each for each in moments if each not in self.needed]
+        room = MOST_HELD - len(needed)
+        spread = others if len(others) <= room else [others[at * len(others) // room] for at in range(max(room, 0))]
+        return sorted([*needed[-MOST_HELD:], *spread])
 
     def kept(self, timed: figures.OverTime, run: Recorded) -> tuple[figures.OverTime, Recorded]:
         """What there was, where another run failed."""
