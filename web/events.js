@@ -8,7 +8,7 @@ const LAWS = {
     "An access to a slot of the other parity is a fault: slots with even numbers take odd tags, and slots with odd numbers even ones. " +
     "Both neighbours of a slot have the other parity.",
   law_freed:
-    "An access to the pointer's own slot after its free is a fault, until the slot's next user is freed too: the free drew another tag.",
+    "An access to the pointer's own slot after its free is a fault, until the slot is reused and freed again: the free drew another tag.",
   law_own_pointer: "free and realloc take the own pointer of a live chunk, and no other pointer but null.",
   law_accesses: "A load or a store outside of the region is unmapped. A null pointer leads outside of it.",
 };

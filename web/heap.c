@@ -1,5 +1,5 @@
-/* The heap of the page's engines: rattle_alloc, rattle_realloc and rattle_dealloc over blocks of powers of two, and two exports for the
-   page. Nothing is proved of it. All addresses stay below 2^32 - 2^16, so that the module may be lowered to a memory of 32 bits. */
+/* The heap of the engines in WebAssembly: rattle_alloc, rattle_realloc and rattle_dealloc over blocks of powers of two, and two exports for
+   the page. Nothing is proved of it. All addresses stay below 2^32 - 2^16, so that the module may be lowered to a memory of 32 bits. */
 
 /* the toolchain's clang has no headers */
 typedef __SIZE_TYPE__ size_t;
@@ -74,8 +74,15 @@ answer rattle_realloc(void *block, size_t kept, size_t count, size_t alignment) 
 
 void rattle_dealloc(void *block) { give(block); }
 
-__attribute__((export_name("web_take"))) void *web_take(size_t count) { return take(count ? count : 1); }
+/* checker.c has exports of its own */
+#ifdef CHECKER
+#define EXPORT(name)
+#else
+#define EXPORT(name) __attribute__((export_name(name)))
+#endif
 
-__attribute__((export_name("web_give"))) void web_give(void *block) {
+EXPORT("web_take") void *web_take(size_t count) { return take(count ? count : 1); }
+
+EXPORT("web_give") void web_give(void *block) {
   if (block) give(block);
 }

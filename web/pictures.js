@@ -15,9 +15,9 @@ const markOf = (style) => `<svg viewBox="-7 -7 14 14" aria-hidden="true"><polygo
 const barOf = (number, most, style) =>
   `<svg viewBox="0 0 100 10" preserveAspectRatio="none" aria-hidden="true"><rect width="${short((100 * Number(number)) / (Number(most) || 1))}" height="10" fill="var(--c${style})"/></svg>`;
 
-function byteText(n) {
+function byteText(n, digits = 3) {
   const [unit, name] = [[1 << 30, "GiB"], [1 << 20, "MiB"], [1 << 10, "KiB"], [1, "bytes"]].find(([of]) => n >= of) ?? [1, "bytes"];
-  return `${(n / unit).toLocaleString("en", { maximumSignificantDigits: 3 })} ${name}`;
+  return `${(n / unit).toLocaleString("en", { maximumSignificantDigits: digits })} ${name}`;
 }
 
 /** A round number, of which up to five make the top. */
@@ -26,24 +26,29 @@ function roundStep(top) {
   return [1, 2, 2.5, 5, 10].map((n) => n * ten).find((step) => step >= top / 5);
 }
 
-/** A picture with a vertical scale of bytes, from 0 to MOST and some room. Where OF is given, the levels are its percents. */
+/** A picture with a vertical scale of bytes, up to MOST and some room. It begins at 0, or where LOW, the least that is drawn, is above half
+ * of MOST, at a round number near LOW. Where OF is given, the levels are its percents. */
 class Picture {
-  constructor(svg, height, most, room, of) {
+  constructor(svg, height, most, room, of, low = 0) {
     const width = Math.max(280, Math.min(1000, Math.round(svg.parentElement.clientWidth || 760)));
     Object.assign(this, { svg, width, height, left: 64, right: width - 12, upper: 12, lower: height - 46, parts: [] });
     [this.wide, this.high] = [this.right - this.left, this.lower - this.upper];
     const unit = of ? Number(of) / 100 : 1024 ** Math.floor(Math.log(Math.max(1, Number(most))) / Math.log(1024));
-    this.top = room * Number(most) || unit;
-    const step = roundStep(this.top / unit);
-    for (let level = 0; level * unit <= this.top; level += step) {
-      const y = this.y(level * unit);
-      this.parts.push(`<path class="${level ? "gridline" : "axis"}" d="M${this.left} ${short(y)}H${this.right}"/>`);
-      this.text(this.left - 6, y + 4, of ? `${shortLevel(level)}%` : level ? byteText(level * unit) : "0", "end");
+    const from = Number(low) > Number(most) / 2 && Number(low) < Number(most) ? Number(low) : 0;
+    this.top = from + room * (Number(most) - from) || unit;
+    const step = roundStep((this.top - from) / unit);
+    const first = Math.floor(from / unit / step);
+    const digits = Math.max(3, Math.ceil(Math.log10((first + 6) * step) - Math.log10(step)) + 1);
+    this.base = first * step * unit;
+    for (let at = first; at * step * unit <= this.top; at += 1) {
+      const [level, y] = [at * step, this.y(at * step * unit)];
+      this.parts.push(`<path class="${at === first ? "axis" : "gridline"}" d="M${this.left} ${short(y)}H${this.right}"/>`);
+      this.text(this.left - 6, y + 4, of ? `${shortLevel(level)}%` : level ? byteText(level * unit, first ? digits : 3) : "0", "end");
     }
   }
 
   y(bytes) {
-    return this.lower - (this.high * Number(bytes)) / this.top;
+    return this.lower - (this.high * (Number(bytes) - this.base)) / (this.top - this.base);
   }
 
   text(x, y, words, anchor = "middle") {
@@ -66,7 +71,8 @@ class Picture {
  * percents, and else bytes. */
 function drawCurve(svg, least, tables, label, of) {
   const highest = Math.max(...[least[Math.min(7, least.length - 1)] ?? 0, ...tables.map((t) => t.total)].map(Number));
-  const picture = new Picture(svg, 320, highest, 1.15, of);
+  const lowest = Math.min(...[least.at(-1) ?? 0, ...tables.map((t) => t.total)].map(Number));
+  const picture = new Picture(svg, 320, highest, 1.15, of, lowest);
   const x = (classes) => picture.left + 8 + ((picture.wide - 16) * (classes - 1)) / 31;
   for (const classes of [1, 4, 8, 12, 16, 20, 24, 28, 32]) picture.text(x(classes), picture.lower + 18, classes);
   picture.text(picture.left + picture.wide / 2, picture.height - 8, "classes in the table");
@@ -157,7 +163,11 @@ function drawHistogram(svg, sizes, classes, other) {
     picture.parts.push(`<path class="border" d="${line}"><title>serves up to ${grouped(16 * c - 16)} bytes</title></path>`);
   }
   for (const c of other) picture.parts.push(`<path class="scudo" d="M${short(x(16 * c - 16))} ${picture.lower + 2}v8"/>`);
-  for (const [size, words] of TICKS) picture.text(x(size), picture.lower + 26, words, size === TICKS.at(-1)[0] ? "end" : "middle");
+  const last = TICKS.at(-1)[0];
+  for (const [size, words] of TICKS) {
+    if (size === last) picture.text(x(size), picture.lower + 26, words, "end");
+    else if (x(last) - x(size) > 60) picture.text(x(size), picture.lower + 26, words); // else the last one has no room
+  }
   picture.text(picture.left + picture.wide / 2, picture.height - 4, "size in bytes");
   picture.finish(`The bytes by size, in ${counted(groups.size, "bar")}, with ${counted(classes.length, "border")} of the table.`);
 }

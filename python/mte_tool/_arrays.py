@@ -1,6 +1,8 @@
 """The same over numbers. Sizes are in bytes, 0 to 16,368; classes in granules of 16 bytes, 2 to 1,024, ascending. Of an entry that is
-refused Error.at is the index, in the order of the sizes."""
+refused Error.at is the index, in the order of the sizes. Numbers come from any sequence; those of a buffer, as of array.array or numpy, are
+taken without a Python object that stays for each."""
 
+import array
 import ctypes
 from ctypes import c_uint8, c_uint16, c_uint32, c_uint64
 from typing import Any, Iterable, List, Mapping, NamedTuple, Sequence
@@ -10,6 +12,8 @@ from mte_tool._calls import Cost, Verdict
 
 MOST_CLASSES, MOST_NEEDS, MOST_MOMENTS = 32, 1023, 1024
 STEPS = (1, 2, 4, 8)
+LETTERS = {c_uint8: "B", c_uint16: "H", c_uint32: "I", c_uint64: "Q"}
+FLAGS = "?"  # a buffer of what is true or not
 
 
 class Table(NamedTuple):
@@ -29,16 +33,41 @@ class Table(NamedTuple):
     bound: int
 
 
-def array(kind: Any, numbers: Iterable[int]) -> Any:
+def buffer_of(numbers: Any) -> "memoryview | None":
+    """What a buffer holds; None of what is no buffer."""
+    try:
+        view = memoryview(numbers)
+    except TypeError:
+        return None
+    if view.ndim != 1:
+        raise ValueError(f"the numbers have {view.ndim} dimensions, and not one")
+    return view
+
+
+def numbers_of(kind: Any, numbers: Iterable[int]) -> Any:
     """An array of C. A number that it can't hold is its largest, which the library refuses: not for rows."""
-    most = 2 ** (8 * ctypes.sizeof(kind)) - 1
-    taken = [number if 0 <= number <= most else most for number in numbers]
-    return (kind * len(taken))(*taken)
+    letter, view = LETTERS[kind], buffer_of(numbers)
+    if view and view.contiguous and view.format in (letter, FLAGS if letter == "B" else letter):
+        made = array.array(letter, view.tobytes())
+    else:
+        taken = list(numbers) if view is None else view.tolist()
+        try:
+            made = array.array(letter, taken)
+        except OverflowError:
+            most = 2 ** (8 * ctypes.sizeof(kind)) - 1
+            made = array.array(letter, [number if 0 <= number <= most else most for number in taken])
+    return (kind * len(made)).from_buffer(made) if made else (kind * 0)()
+
+
+def flags_of(flags: Sequence[bool]) -> Any:
+    """An array of C with 1 for what is true."""
+    view = buffer_of(flags)
+    return numbers_of(c_uint8, view if view and view.format == FLAGS else map(bool, flags if view is None else view.tolist()))
 
 
 def profile_of(profile: Mapping[int, int]) -> _c.Profile:
     sizes = sorted(profile)
-    return _c.Profile(array(c_uint32, sizes), array(c_uint32, [profile[size] for size in sizes]), len(sizes))
+    return _c.Profile(numbers_of(c_uint32, sizes), numbers_of(c_uint32, [profile[size] for size in sizes]), len(sizes))
 
 
 def history_of(history: Mapping[int, Sequence[int]], snapshots: int) -> _c.History:
@@ -46,18 +75,18 @@ def history_of(history: Mapping[int, Sequence[int]], snapshots: int) -> _c.Histo
     for size in sizes:
         if len(history[size]) != snapshots:
             raise ValueError(f"size {size} has {len(history[size])} counts, and not one for each of {snapshots} snapshots")
-    counts = array(c_uint32, [count for size in sizes for count in history[size]])
-    return _c.History(array(c_uint32, sizes), counts, len(sizes), _calls.whole(snapshots, "the number of snapshots"))
+    counts = numbers_of(c_uint32, [count for size in sizes for count in history[size]])
+    return _c.History(numbers_of(c_uint32, sizes), counts, len(sizes), _calls.whole(snapshots, "the number of snapshots"))
 
 
 def timeline_of(sizes: Sequence[int], frees: Sequence[bool]) -> _c.Timeline:
     if len(sizes) != len(frees):
         raise ValueError(f"there are {len(sizes)} sizes, and of {len(frees)} it is said whether they are freed")
-    return _c.Timeline(array(c_uint32, sizes), array(c_uint8, map(bool, frees)), len(sizes))
+    return _c.Timeline(numbers_of(c_uint32, sizes), flags_of(frees), len(sizes))
 
 
 def cost_of(name: str, classes: Sequence[int], data: ctypes.Structure) -> Cost:
-    table = array(c_uint16, classes)
+    table = numbers_of(c_uint16, classes)
     function = getattr(_c.library, f"mte_tool_{name}")
     yes, result = _calls.made(lambda to: function(None, table, len(table), ctypes.byref(data), to))
     return Cost(yes, result.bytes, result.at)
@@ -82,7 +111,7 @@ def verdict_of(name: str, table: Table, data: ctypes.Structure, limit: int, step
     if table.rows and are_options and (len(table.rows) != limit or len(set(map(len, table.rows))) > 1):
         raise _calls.Error(f"the certificate has to have {limit} rows of one length", _c.MISUSE)
     numbers = [_calls.whole(number, "a number of a row") for row in table.rows for number in row]
-    classes, rows, moments = array(c_uint16, table.classes), array(c_uint64, numbers), array(c_uint32, table.moments)
+    classes, rows, moments = numbers_of(c_uint16, table.classes), numbers_of(c_uint64, numbers), numbers_of(c_uint32, table.moments)
     claim = [classes, len(classes), _calls.whole(table.bytes, "a cost"), rows, len(rows), *([moments, len(moments)] if has_moments else [])]
     function = getattr(_c.library, f"mte_tool_{name}")
     yes, result = _calls.made(lambda to: function(ctypes.byref(options), *claim, ctypes.byref(data), to))

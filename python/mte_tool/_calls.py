@@ -23,6 +23,10 @@ class Error(Exception):
         #: the index of the first faulty entry of numbers, from 0 on
         self.at = at
 
+    def __reduce__(self) -> "tuple[Any, ...]":
+        """For pickle, and so for what a pool of processes raises."""
+        return Error, (str(self), self.end, self.code, self.line, self.at)
+
 
 Error.__module__ = "mte_tool"
 

@@ -1,4 +1,4 @@
-"""The commands over texts. A text is bytes, or a str of ASCII, and has at most 67,108,864 bytes.
+"""The commands over texts. A text is bytes, a str of ASCII or the path of a file, and has at most 67,108,864 bytes.
 
 Written by scripts/tests/formats from scripts/mte_scripts/formats.py.
 """

@@ -5,7 +5,7 @@ from types import TracebackType
 from typing import NamedTuple, Optional, Sequence, Type
 
 from mte_tool import _c, _calls
-from mte_tool._arrays import array
+from mte_tool._arrays import numbers_of
 
 KINDS = ("slack", "header", "tail", "dead", "other")
 MOST_LOAD = 64
@@ -47,7 +47,7 @@ class Heap:
     def __init__(self, classes: Sequence[int], *, granules: int = 65_536, quarantine: int = 65_536, seed: int = 1):
         self._held = _c.Heap()
         options = _calls.options(granules=granules, quarantine=quarantine, seed=seed)
-        table = array(ctypes.c_uint16, classes)
+        table = numbers_of(ctypes.c_uint16, classes)
         self._made("new", ctypes.byref(options), table, len(table))
 
     def close(self) -> None:
@@ -67,7 +67,7 @@ class Heap:
         outcome, result = _c.Outcome(), _c.Result()
         end = getattr(_c.library, f"mte_tool_heap_{name}")(ctypes.byref(self._held), *arguments, ctypes.byref(outcome))
         result.code = outcome.code
-        yes, kind = _calls.is_yes(end, result), KINDS[outcome.granule_kind]
+        yes, kind = _calls.is_yes(end, result), _kind(outcome.granule_kind)
         return Outcome(yes, outcome.code, outcome.value, outcome.granule, outcome.memory_tag, outcome.pointer_tag, kind, b"")
 
     def malloc(self, size: int) -> Outcome:
@@ -100,6 +100,11 @@ class Heap:
         """The address so many granules (0 to 63) further up, with its tag counted up by so many steps (0 to 15)."""
         numbers = (number if 0 <= number <= _calls.MOST else _calls.MOST for number in (granules, step))
         return self._made("addg", _address(address), *numbers)
+
+
+def _kind(number: int) -> str:
+    """What a granule is. A later library may know more kinds."""
+    return KINDS[number] if number < len(KINDS) else f"kind {number}"
 
 
 def _address(address: int) -> int:

@@ -1,12 +1,13 @@
 """Calls over texts."""
 
 import ctypes
+import os
 from typing import NamedTuple, Union
 
 from mte_tool import _c, _calls
 from mte_tool._calls import Cost, Fit, Verdict
 
-Bytes = Union[bytes, bytearray, memoryview, str]
+Bytes = Union[bytes, bytearray, memoryview, str, "os.PathLike[str]"]
 
 
 class Answer(NamedTuple):
@@ -27,6 +28,10 @@ class Answer(NamedTuple):
 
 
 def as_bytes(text: Bytes) -> bytes:
+    """The bytes of a text, or of the file at a path."""
+    if isinstance(text, os.PathLike):
+        with open(text, "rb") as file:
+            return file.read()
     return text.encode() if isinstance(text, str) else bytes(text)
 
 

@@ -217,7 +217,7 @@ def commands_of_python():
             f"    return called({given}).{command.gives}{'' if command.gives == 'text' else '()'}\n"
         )
     return "\n\n".join([
-        f'"""The commands over texts. A text is bytes, or a str of ASCII, and has at most {formats.MOST_INPUT:,} bytes.\n\n'
+        f'"""The commands over texts. A text is bytes, a str of ASCII or the path of a file, and has at most {formats.MOST_INPUT:,} bytes.\n\n'
         f'{WRITTEN}\n"""\n\nfrom mte_tool._calls import Cost, Fit, Verdict\nfrom mte_tool._texts import Bytes, called\n',
         *made,
     ])

@@ -15,9 +15,11 @@ HELP = """\
 Print a page in HTML that tunes tables and shows the tagged heap step by step, in any browser.
 
 Usage: page [--profile FILE] [--trace FILE] > page.html
+       page --checker > checker.wasm
 
   --profile FILE  the profile, or the history, that the page begins with; one of the examples where it is left out
   --trace FILE    the trace that the page begins with; a use after free where it is left out. Without --profile its profile is tuned
+  --checker       print no page: a module of WebAssembly that checks sheets and fits, as docs/LIBRARY.md says
 
 The page is one file. It loads nothing from elsewhere, and opens from the disk: take other files by dropping them on it. The engines are
 in it as WebAssembly. They are proved as MIR, which is what the compiler makes LLVM's module from; the steps from there to WebAssembly
@@ -41,6 +43,7 @@ WORKER = ("formats", "engine", "words", "users", "events", "worker")
 SCRIPT = ("formats", "base", "words", "claims", "counts", "pictures", "tune", "pair", "heap", "link", "main")
 # the crate of each module, and how the names of its exported functions begin
 MODULES = {"tool": ("mte_c", "mte_c_"), "steps": ("mte_step", "mte_step_")}
+CHECKER = "checker"  # the module that checks certificates alone, of the first one's crate
 # what the page's policy lets it do: compile the engines, and start the worker that it makes of its own text
 ALLOWED = {"script-src": "'wasm-unsafe-eval'", "worker-src": "blob:"}
 Named = tuple[str, str]  # a name and a text
@@ -69,7 +72,7 @@ def newest_source() -> float:
     """When a source of the crates, or of the way to WebAssembly, was changed last."""
     from mte_scripts.builds import webassembly
 
-    files = [os.path.join(ROOT, "crates.txt"), webassembly.HEAP, webassembly.__file__]
+    files = [os.path.join(ROOT, "crates.txt"), webassembly.HEAP, webassembly.CHECKER, webassembly.__file__]
     for folder, below, names in os.walk(os.path.join(ROOT, "crates")):
         below[:] = [name for name in below if name != "out"]
         files += [os.path.join(folder, name) for name in names if name.endswith((".rt", ".antt"))]
@@ -80,6 +83,8 @@ def kept_at(name: str) -> str:
     """Where a module is kept: in an installed package beside the sources of the page, else in its crate."""
     if texts.IS_PACKAGED:
         return os.path.join(WEB, f"{name}.wasm")
+    if name == CHECKER:
+        return os.path.join(ROOT, "crates", MODULES["tool"][0], "out", "checker.wasm")
     return os.path.join(ROOT, "crates", MODULES[name][0], "out", KEPT)
 
 
@@ -106,7 +111,9 @@ def keep(kept: str, data: bytes, newest: float, sources: str) -> None:
 
 def at_hand() -> "dict[str, bytes] | None":
     """The bytes of each module where nothing has to be built for them, else None."""
-    places = {name: kept_at(name) for name in MODULES}
+    places = {name: kept_at(name) for name in (*MODULES, CHECKER)}
+    if texts.IS_PACKAGED and not os.path.exists(places[CHECKER]):  # made of a page, which has none
+        del places[CHECKER]
     if not all(map(os.path.exists, places.values())):
         return None
     newest = 0 if texts.IS_PACKAGED else newest_source()
@@ -117,13 +124,15 @@ def engines(tell: "Callable[[str], None]" = lambda words: None) -> "dict[str, by
     """The bytes of each module, built where it is none of these sources."""
     from mte_scripts.builds import webassembly
 
-    found, newest = {}, newest_source()
+    found: "dict[str, bytes]" = {}
+    newest = newest_source()
     for name, (crate, prefix) in MODULES.items():
-        kept = kept_at(name)
-        if is_old(kept, newest):
+        made = (name, CHECKER) if name == "tool" else (name,)
+        if any(is_old(kept_at(each), newest) for each in made):
             tell(f"proving {crate} and compiling it to WebAssembly; the first time this takes as long as proving all")
-            keep(kept, webassembly.wasm(crate, prefix), newest, sources_at_first())
-        found[name] = texts.read(kept)
+            for each, data in zip(made, webassembly.modules(crate, prefix, CHECKER in made)):
+                keep(kept_at(each), data, newest, sources_at_first())
+        found |= {each: texts.read(kept_at(each)) for each in made}
     return found
 
 
@@ -148,7 +157,7 @@ def page(modules: "dict[str, bytes]", profile: "Named | None" = None, trace: "Na
     """The page. A profile (or a history) and a trace are (name, text), or left out. OPTIONS are those with which it tunes first: the limit,
     the step, and whether class 1024 is kept. A trace may come with its replay: the class line, the numbers of the heap, and notes, each
     (event, text)."""
-    data: dict = {name: base64.b64encode(bytes_).decode() for name, bytes_ in modules.items()}
+    data: dict = {name: base64.b64encode(modules[name]).decode() for name in MODULES}
     data["examples"] = {name: example(file) for name, file in EXAMPLES.items()}
     data["scudo"], data["android"] = example("scudo.classes").strip(), example("scudo_android.classes").strip()
     data["importer"] = f"{texts.called('profile_program')} --import"
@@ -183,4 +192,11 @@ def given(path: str) -> Named:
 
 def print_page(words: "list[str]") -> int:
     files = {name: file for name, file in vars(Words(HELP, profile=given, trace=given).take(words)).items() if file}
-    return texts.write(page(built("page"), **files))
+    if not files.pop("checker", False):
+        return texts.write(page(built("page"), **files))
+    if files:
+        raise texts.Refused(2, "--checker prints no page, which would begin with a file")
+    modules = built("page")
+    if CHECKER not in modules:
+        raise texts.Refused(3, "this package was made of a page, and has no checker")
+    return texts.write(modules[CHECKER])

@@ -12,6 +12,7 @@ from mte_scripts.builds import static_libraries
 from mte_scripts.builds.static_libraries import ROOT, run
 
 HEAP = os.path.join(ROOT, "web", "heap.c")
+CHECKER = os.path.join(ROOT, "web", "checker.c")
 HERE = "x86_64-unknown-linux-gnu"
 THERE = "wasm64-unknown-unknown"
 # LLVM's name for what every engine since 2023 has: multivalue, bulk memory and so on
@@ -87,7 +88,7 @@ def without_x86(module: str) -> str:
 
 
 def as_wasm64(module: str, prefix: str, folder: str) -> str:
-    """The module as text for wasm64: with its data layout, without the attributes of x86; it exports the functions of this prefix."""
+    """The module as text for wasm64: with its data layout, without the attributes of x86; it exports the functions of this prefix, if any."""
     clang, text = f"{kit()}/toolchain/bin/clang", f"{folder}/module.ll"
     as_it_is = ["-O0", "-Xclang", "-disable-llvm-passes"]
     run([clang, f"--target={HERE}", "--no-default-config", "-x", "ir", "-S", "-emit-llvm", *as_it_is, module, "-o", text])
@@ -98,23 +99,27 @@ def as_wasm64(module: str, prefix: str, folder: str) -> str:
     module = re.sub(r"^target triple = .*$", f'target triple = "{THERE}"', module, flags=re.M)
     module = without_x86(module)
     module = re.sub(r' ?"(probe-stack|stack-probe-size|target-cpu|target-features|tune-cpu)"="[^"]*"', "", module)
-    exported = rf"^(define [^@\n]*@({prefix}\w*)\(.*\).*?) (#\d+ \{{|\{{)$"
-    module, count = re.subn(exported, r'\1 "wasm-export-name"="\2" \3', module, flags=re.M)
-    if not count:
-        raise ValueError(f"the module defines no function {prefix}..")
+    if prefix:
+        exported = rf"^(define [^@\n]*@({prefix}\w*)\(.*\).*?) (#\d+ \{{|\{{)$"
+        module, count = re.subn(exported, r'\1 "wasm-export-name"="\2" \3', module, flags=re.M)
+        if not count:
+            raise ValueError(f"the module defines no function {prefix}..")
     Path(text).write_text(module, encoding="utf-8")
     return text
 
 
-def linked(text: str, folder: str) -> str:
-    """The module with the heap, as WebAssembly of 64 bits."""
+def linked(text: str, files: "dict[str, tuple[str, ...]]", folder: str) -> str:
+    """The module with these C files, each with its options, as WebAssembly of 64 bits."""
     clang, tools = f"{kit()}/toolchain/bin/clang", f"{kit()}/toolchain"
     common = [clang, f"--target={THERE}", PROCESSOR, "--no-default-config", "-ffunction-sections", "-c"]
     sound = ["-fdata-sections", "-mllvm", "-trap-unreachable", "-mllvm", "-expand-div-rem-bits=64"]
-    run([*common, *sound, "-O3", "-x", "ir", text, "-o", f"{folder}/module.o"])
-    run([*common, "-O2", "-ffreestanding", "-nostdlib", "-Wall", HEAP, "-o", f"{folder}/heap.o"])
-    run([f"{tools}/bin/llvm-ar", "rcsD", f"{folder}/both.a", f"{folder}/module.o", f"{folder}/heap.o"])
-    run([f"{kit()}/bin/rattle-link", "--target", THERE, "--toolchain", tools, "-o", f"{folder}/wide.wasm", f"{folder}/both.a"])
+    objects = [f"{folder}/module.o"]
+    run([*common, *sound, "-O3", "-x", "ir", text, "-o", objects[0]])
+    for file, options in files.items():
+        objects.append(f"{folder}/{os.path.basename(file)}.o")
+        run([*common, "-O2", "-ffreestanding", "-nostdlib", "-Wall", "-Werror", *options, file, "-o", objects[-1]])
+    run([f"{tools}/bin/llvm-ar", "rcsD", f"{folder}/all.a", *objects])
+    run([f"{kit()}/bin/rattle-link", "--target", THERE, "--toolchain", tools, "-o", f"{folder}/wide.wasm", f"{folder}/all.a"])
     return f"{folder}/wide.wasm"
 
 
@@ -156,14 +161,22 @@ def with_narrow_tables(data: bytes) -> bytes:
     return bytes(out)
 
 
-def wasm(crate: str, prefix: str) -> bytes:
-    """The bytes of the crate's library as WebAssembly of 32 bits. Its functions that begin with PREFIX are exported."""
+def lowered(wide: str, folder: str) -> bytes:
+    """The bytes of a module of 64 bits as one of 32."""
+    Path(folder, "tables.wasm").write_bytes(with_narrow_tables(Path(wide).read_bytes()))
+    run(["wasm-opt", "--enable-memory64", "--enable-bulk-memory", "--enable-sign-ext", "--enable-mutable-globals",
+         "--enable-nontrapping-float-to-int", "--enable-multivalue", "--enable-extended-const", "--memory64-lowering", "-O2",
+         "--strip-debug", "--strip-producers", f"{folder}/tables.wasm", "-o", f"{folder}/small.wasm"])  # fmt: skip
+    return Path(folder, "small.wasm").read_bytes()
+
+
+def modules(crate: str, prefix: str, with_checker: bool) -> "list[bytes]":
+    """The bytes of the crate's library as WebAssembly of 32 bits, whose functions that begin with PREFIX are exported; and of the checker,
+    where that is asked for."""
+    made: "list[tuple[str, dict]]" = [(prefix, {HEAP: ()})]
+    if with_checker:
+        made.append(("", {HEAP: ("-DCHECKER",), CHECKER: ()}))
     with private_folder.temporary() as folder:
         module = f"{folder}/module.bc"
         llvm_module(crate, module, folder)
-        wide = linked(as_wasm64(module, prefix, folder), folder)
-        Path(folder, "tables.wasm").write_bytes(with_narrow_tables(Path(wide).read_bytes()))
-        run(["wasm-opt", "--enable-memory64", "--enable-bulk-memory", "--enable-sign-ext", "--enable-mutable-globals",
-             "--enable-nontrapping-float-to-int", "--enable-multivalue", "--enable-extended-const",
-             "--memory64-lowering", "-O2", f"{folder}/tables.wasm", "-o", f"{folder}/small.wasm"])  # fmt: skip
-        return Path(folder, "small.wasm").read_bytes()
+        return [lowered(linked(as_wasm64(module, exported, folder), files, folder), folder) for exported, files in made]

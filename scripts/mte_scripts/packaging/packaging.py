@@ -201,7 +201,8 @@ def soname_of(tree: Tree) -> str:
 
 def put_documents(tree: Tree, parts: Parts) -> None:
     for name in tracked("README.md", "docs"):
-        tree.copy(source(name), f"{DOCUMENTS}/{name}")
+        if not name.startswith("docs/page.html"):  # the package has a page of its own
+            tree.copy(source(name), f"{DOCUMENTS}/{name}")
     for name in tracked("examples"):
         mode = 0o755 if os.access(source(name), os.X_OK) else 0o644
         tree.copy(source(name), f"{SHARE}/{name}", mode)
@@ -217,8 +218,8 @@ def put_page(tree: Tree, modules: "dict[str, bytes] | None") -> None:
         if not name.endswith(".c"):
             tree.copy(source(name), f"{SHARE}/{name}")
     if modules:
-        for name in web_page.MODULES:
-            tree.write(f"{SHARE}/web/{name}.wasm", modules[name])
+        for name, module in modules.items():
+            tree.write(f"{SHARE}/web/{name}.wasm", module)
         tree.write(f"{SHARE}/page.html", run([tree.path("usr/bin/mte_page")]))
         tree.link(f"{DOCUMENTS}/page.html", f"{SHARE}/page.html")
 

@@ -25,13 +25,7 @@ Run a program, and print how often it requested each size: a profile, the input 
 
 Usage: profile_program [--live] [--only NAME] [--said FILE] PROGRAM ARGS..
        profile_program --timeline|--history[=T]|--windows[=N]|--classes TABLE [--peak FILE] [--upper FILE] [--measured FILE]
-                 how many requests and frees there were, `events N`; of each TABLE `footprint N`, what it takes over the whole run,
-                 or `footprint none` where it does not serve a size; and of each moment of --windows `moment N`, after N events
-  --stacks FILE  with --timeline of a run: write into FILE, for tune_program --who, which calls made each request. The run takes
-                 more time, by the depth of the calls. FILE is empty where the run is too long for a timeline
-  --processes FILE
-                 with these and --live: write into FILE a line for each program that had processes, that of the counted one first: how
-                 many, their requests, the most resident memory of one in bytes, 0 where none was seen, and the name
+                       [--stacks FILE] [--processes FILE] [--again FILE] [--only NAME] PROGRAM ARGS..
        profile_program --library [DIR]
        profile_program --follow STREAM [the options above]
        profile_program --read STREAM
@@ -54,11 +48,13 @@ Usage: profile_program [--live] [--only NAME] [--said FILE] PROGRAM ARGS..
   --measured FILE
                  with these and --live: write into FILE what the process took of memory at most, in bytes, as lines
                  `large N`, blocks above {texts.LARGEST_SIZE:,} bytes, and `resident N`, its resident set without what the recorder takes;
-        if self.again and self.live != "--windows":
-            raise Refused(2, "--again goes with --windows")
-        if self.stacks and (self.live != "--timeline" or not self.words):
-            raise Refused(2, "--stacks goes with --timeline and a program to run")
-        for name in ("measured", "as_scudo", "processes"):
+                 how many requests and frees there were, `events N`; of each TABLE `footprint N`, what it takes over the whole run,
+                 or `footprint none` where it does not serve a size; and of each moment of --windows `moment N`, after N events
+  --stacks FILE  with --timeline of a run: write into FILE, for tune_program --who, which calls made each request. The run takes
+                 more time, by the depth of the calls. FILE is empty where the run is too long for a timeline
+  --processes FILE
+                 with these and --live: write into FILE a line for each program that had processes, that of the counted one first: how
+                 many, their requests, the most resident memory of one in bytes, 0 where none was seen, and the name
   --as-scudo     with these and --live: a realloc leaves a block as it was where LLVM's Scudo does, which makes it smaller by up to
                  4,095 bytes in its place, and as large again as it had been
   --only NAME    count only processes whose program has this name, as NAME of /usr/bin/NAME
@@ -165,15 +161,11 @@ class Options(argparse.Namespace):
             raise Refused(2, "--peak goes with --timeline, --history, --windows or --classes")
         if self.upper and not self.read and self.live not in ("--timeline", "--windows"):
             raise Refused(2, "--upper goes with --windows, --timeline or --read")
-<<<<<<< HEAD
+        if self.again and self.live != "--windows":
+            raise Refused(2, "--again goes with --windows")
         if self.stacks and (self.live != "--timeline" or not self.words):
             raise Refused(2, "--stacks goes with --timeline and a program to run")
         for name in ("measured", "as_scudo", "processes"):
-=======
-        if self.again and self.live != "--windows":
-            raise Refused(2, "--again goes with --windows")
-        for name in ("measured", "as_scudo"):
->>>>>>> 74f2d5fff1196929ccced5e419b30c378e751822
             if getattr(self, name) and not self.live:
                 raise Refused(2, f"--{name.replace('_', '-')} goes with --live, --timeline, --history, --windows or --classes")
 

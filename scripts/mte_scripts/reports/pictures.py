@@ -17,11 +17,10 @@ def shown(value: float) -> str:
     return f"{value:.1f}".removesuffix(".0")
 
 
-def round_values(top: float, most: int) -> list[float]:
-    """The multiples of a step from 0 to TOP, at most so many above 0. The step is 1, 2 or 5, or one of these times a power of 10."""
+def round_step(top: float, most: int) -> float:
+    """The least of 1, 2 and 5, and of these times a power of 10, of which so many make TOP."""
     power = 10.0 ** math.floor(math.log10(top / most))
-    step = next(power * factor for factor in (1, 2, 5, 10) if power * factor * most >= top)
-    return [step * at for at in range(int(top / step) + 1)]
+    return next(power * factor for factor in (1, 2, 5, 10) if power * factor * most >= top)
 
 
 class Picture:
@@ -33,6 +32,7 @@ class Picture:
         self.height = height
         self.left, self.right, self.top, self.bottom = 62, width - 20, 26, height - below
         self.middle = (self.left + self.right) // 2
+        self.base = 0.0
         self.parts: "list[str]" = []
         self.text(0, 12, title)
 
@@ -44,14 +44,17 @@ class Picture:
         return self.left + (self.right - self.left) * share
 
     def y(self, value: float, top: float) -> float:
-        return self.bottom - (self.bottom - self.top) * value / top
+        return self.bottom - (self.bottom - self.top) * (value - self.base) / (top - self.base)
 
-    def levels(self, top: float, most: int, words: "Callable[[float], str]") -> None:
-        """The grid of round values from 0 to TOP."""
-        for value in round_values(top, most):
-            y = shown(self.y(value, top))
-            self.parts.append(f'<path class="grid" d="M{self.left} {y}H{self.right}"/>')
-            self.text(self.left - 6, self.y(value, top) + 4, words(value), "end")
+    def levels(self, top: float, most: int, words: "Callable[[float], str]", unit: float = 1, low: float = 0) -> None:
+        """The left axis, with the grid of round numbers of units up to TOP. It begins at the one next below LOW."""
+        step = round_step((top - low) / unit, most)
+        first = math.floor(low / unit / step)
+        self.base = first * step * unit
+        for at in range(first, int(top / unit / step) + 1):
+            y = self.y(step * at * unit, top)
+            self.parts.append(f'<path class="grid" d="M{self.left} {shown(y)}H{self.right}"/>')
+            self.text(self.left - 6, y + 4, words(step * at), "end")
 
     def tick(self, x: float, words: object) -> None:
         self.parts.append(f'<path class="axis" d="M{shown(x)} {self.bottom}v4"/>')

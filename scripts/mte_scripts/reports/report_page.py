@@ -9,15 +9,15 @@ from mte_scripts.reports.pictures import Picture, escape, shown
 from mte_scripts.tables.figures import GRANULE, Figures, Table, byte_text, class_text, kibibytes, number, percent
 
 STYLE = """\
-:root { --c0: #0969da; --c1: #bc4c00; --c2: #1a7f37; --c3: #8250df; --c4: #cf222e; --c5: #9a6700 }
+:root { --c0: #0969da; --c1: #bc4c00; --c2: #1a7f37; --c3: #8250df; --c4: #9a6700; --c5: #cf222e }
 @media (prefers-color-scheme: dark) {
-  :root { --c0: #4493f8; --c1: #f0883e; --c2: #3fb950; --c3: #ab7df8; --c4: #f85149; --c5: #d29922 }
+  :root { --c0: #4493f8; --c1: #f0883e; --c2: #3fb950; --c3: #ab7df8; --c4: #d29922; --c5: #f85149 }
 }
 body { max-width: 58rem }
 p { max-width: 46rem }
 .lead { font-size: 1.125rem }
 .soft, figcaption { color: var(--soft); font-size: .875rem }
-.warning { border-left: 4px solid var(--c5); padding: .25rem .75rem; background: var(--shade) }
+.warning { border-left: 4px solid var(--c4); padding: .25rem .75rem; background: var(--shade) }
 dl { display: grid; grid-template-columns: repeat(auto-fit, minmax(10rem, 1fr)); gap: .75rem; margin: 1rem 0 }
 dl div { background: var(--shade); border: 1px solid var(--line); border-radius: 6px; padding: .5rem .75rem }
 dt, dd small { color: var(--soft); font-size: .8125rem; font-weight: 400 }
@@ -59,7 +59,8 @@ svg text { fill: var(--soft); font: 12px system-ui, -apple-system, "Segoe UI", "
 }
 """
 
-COLORS = 6  # --c0, of the first table, to --c5
+COLORS = 6  # --c0 to --c5
+SCUDO = 2  # its tables are the first of the others
 PARTS = 200  # of a timeline, as the picture of the live blocks has columns
 FOOTPRINT = ["Footprint", "The first one saves"]
 CLASS_COLUMNS = {"waste": ("Requests", "Bytes lost"), "footprint": ("Blocks at most", "Their bytes")}
@@ -224,28 +225,29 @@ def class_row(figures: Figures, block: int, least: int, most: int, count: int, c
     return f'<tr data-block="{block}"{form}>{cells}</tr>'
 
 
+# of the first table, of Scudo's two, and of the others in turn: the same colors and marks as in the page of scripts/page
 MARKS = [
-    None,
+    ((-6, 0), (0, -6), (6, 0), (0, 6)),
     ((-5, -5), (5, -5), (5, 5), (-5, 5)),
-    ((0, -7), (7, 0), (0, 7), (-7, 0)),
     ((0, -6), (6, 5), (-6, 5)),
     ((0, 6), (6, -5), (-6, -5)),
     ((-7, -2.5), (7, -2.5), (7, 2.5), (-7, 2.5)),
+    ((-7, 0), (0, -3), (7, 0), (0, 3)),
 ]
 
 
 def mark(style: int, x: float, y: float, title: str = "") -> str:
     """The mark of a table: its shape tells it from others where its color does not."""
-    inner = f'fill="var(--c{style})"><title>{escape(title)}</title></'
-    if style == 0:
-        return f'<circle cx="{shown(x)}" cy="{shown(y)}" r="5" {inner}circle>'
     points = " ".join(f"{shown(x + right)},{shown(y + down)}" for right, down in MARKS[style])
-    return f'<polygon points="{points}" {inner}polygon>'
+    return f'<polygon points="{points}" fill="var(--c{style})"><title>{escape(title)}</title></polygon>'
 
 
-def style_of(at: int) -> int:
-    """The style of the other table at this place."""
-    return 1 + at % (COLORS - 1)
+def styles(figures: Figures) -> list[tuple[int, Table]]:
+    """All tables, the first one first, each with its style."""
+    own = [figures.first, *figures.others[:SCUDO]]
+    others = [table for table in figures.rest if table not in own]
+    style = {id(table): at for at, table in enumerate(own)} | {id(table): len(own) + at % (COLORS - len(own)) for at, table in enumerate(others)}
+    return [(style[id(table)], table) for table in (figures.first, *figures.rest)]
 
 
 def key(entries: Iterable[tuple[int, str]]) -> str:
@@ -255,8 +257,7 @@ def key(entries: Iterable[tuple[int, str]]) -> str:
 
 def served(figures: Figures) -> list[tuple[int, Table]]:
     """The tables that serve what is given, each with its style."""
-    rest = [(style_of(at), table) for at, table in enumerate(figures.rest) if figures.cost(table) is not None]
-    return [(0, figures.first)] + rest
+    return [(style, table) for style, table in styles(figures) if figures.cost(table) is not None]
 
 
 def curve_key(figures: Figures) -> str:
@@ -267,10 +268,11 @@ def cost_text(figures: Figures, table: Table) -> str:
     return share(figures, table) if figures.objective == "waste" else kibibytes(table.footprint)
 
 
-def byte_levels(picture: Picture, top: float, most: int) -> None:
+def byte_levels(picture: Picture, top: float, most: int, low: float = 0) -> None:
     """The grid of round numbers of bytes, KiB and so on, up to so many bytes."""
-    unit = 1024 ** (int(math.log2(top)) // 10)
-    picture.levels(top / unit, most, lambda value: byte_text(value * unit) if value else "0")
+    power = int(math.log2(top)) // 10
+    name = ("bytes", "KiB", "MiB", "GiB", "TiB", "PiB")[power]
+    picture.levels(top, most, lambda value: f"{value:,g} {name}" if value else "0", 1024**power, low)
 
 
 def curve(figures: Figures, kind: str, width: int, height: int) -> str:
@@ -278,17 +280,20 @@ def curve(figures: Figures, kind: str, width: int, height: int) -> str:
     words, is_waste = claims.TEMPLATES, figures.objective == "waste"
     picture = Picture(kind, width, height, 46 if is_waste else 70, words[f"{figures.judged[0].kind}.curve.axis"])
     most = max([len(figures.least)] + [len(table.classes) for _, table in served(figures)])
-    # as high as the worst table, or as 8 classes, and some more: tables of very few classes cost far more
-    top = 1.15 * max([figures.least[:8][-1]] + [figures.cost(table) for _, table in served(figures)]) or figures.bytes / 100
+    # as high as the worst table, or as 8 classes, and some more: tables of very few classes cost far more; from 0, or near the lowest
+    costs = [figures.least[-1]] + [figures.cost(table) for _, table in served(figures)]
+    highest = max(figures.least[:8][-1], *costs)
+    low = min(costs) if highest / 2 < min(costs) < highest else 0
+    top = low + 1.15 * (highest - low) or figures.bytes / 100
 
     def at(classes: int, cost: int) -> tuple[float, float]:
         x = picture.left + 8 + (picture.right - picture.left - 8) * (classes - 1) / max(most - 1, 1)
         return x, picture.y(cost, top)
 
     if is_waste:
-        picture.levels(100 * top / figures.bytes, 5, lambda value: f"{value:g}%")
+        picture.levels(top, 5, lambda value: f"{value:g}%", figures.bytes / 100, low)
     else:
-        byte_levels(picture, top, 5)
+        byte_levels(picture, top, 5, low)
     for classes in (1, *range(4, most + 1, 4)):
         picture.tick(at(classes, 0)[0], classes)
     picture.text(picture.middle, height - 6, "classes in the table", "middle")
@@ -303,15 +308,8 @@ def curve(figures: Figures, kind: str, width: int, height: int) -> str:
     return picture.svg(words[f"{figures.judged[0].kind}.curve"])
 
 
-def default_of(figures: Figures) -> tuple[int, Table]:
-    """Scudo's default, with its style."""
-    default = figures.others[0]
-    return style_of(figures.rest.index(default)), default
-
-
 def border_key(figures: Figures) -> str:
-    style, default = default_of(figures)
-    return key([(0, f"borders of {figures.first.name}"), (style, f"borders of {default.name}")])
+    return key([(0, f"borders of {figures.first.name}"), (1, f"borders of {figures.others[0].name}")])
 
 
 def over_time_section(figures: Figures) -> str:
@@ -408,7 +406,7 @@ def histogram(figures: Figures, kind: str, width: int, height: int, per_octave: 
     for size, words in SIZE_TICKS:
         picture.tick(x(size), words)
     borders(figures.first, picture.top, picture.bottom, 'stroke="var(--c0)" stroke-opacity=".25"')
-    for row, (words, style, table) in enumerate([("first", 0, figures.first), ("Scudo", *default_of(figures))]):
+    for row, (words, style, table) in enumerate([("first", 0, figures.first), ("Scudo", 1, figures.others[0])]):
         y = picture.bottom + 26 + 20 * row
         picture.text(picture.left - 6, y + 12, words, "end")
         borders(table, y, y + 16, f'stroke="var(--c{style})" stroke-width="1.5"')

@@ -1,0 +1,28 @@
+"""Draws what hardening costs some programs: for each a bar of its peak as it is, in Scudo, and in Scudo with sizes of its own."""
+
+from mte_scripts.reports.pictures import Drawing, escape, shown
+
+WIDTH, HEIGHT, BELOW, WIDE = 760, 300, 62, 30
+# each with the number of its color
+BARS = (("as it is, with glibc", 7), ("Scudo's own sizes", 1), ("sizes for the program", 0))
+Row = tuple[str, tuple[int, int, int]]  # a program, and its peaks in KiB
+
+
+def picture(rows: "list[Row]") -> str:
+    drawing = Drawing(WIDTH, HEIGHT, BELOW, "peak memory, MiB")
+    top = 1.1 * max(max(peaks) for _, peaks in rows) / 1024
+    drawing.levels(top, 6, lambda value: f"{value:g}")
+    for at, (name, peaks) in enumerate(rows):
+        middle = drawing.x((at + 0.5) / len(rows))
+        drawing.text(middle, drawing.bottom + 18, name, "middle")
+        for place, (peak, (words, color)) in enumerate(zip(peaks, BARS)):
+            x, y = middle + (place - 1.5) * WIDE, drawing.y(peak / 1024, top)
+            box = f'x="{shown(x + 1)}" y="{shown(y)}" width="{WIDE - 2}" height="{shown(drawing.bottom - y)}"'
+            title = f"<title>{escape(f'{name}, {words}: {peak:,} KiB')}</title>"
+            drawing.parts.append(f'<g class="c{color}"><rect class="mark" {box}>{title}</rect></g>')
+            drawing.text(x + WIDE / 2, y - 4, f"{peak / 1024:.0f}", "middle")
+    for at, (words, color) in enumerate(BARS):
+        x = drawing.left + 10 + at * 190
+        drawing.parts.append(f'<g class="c{color}"><rect class="mark" x="{shown(x)}" y="{HEIGHT - 22}" width="12" height="12"/></g>')
+        drawing.text(x + 18, HEIGHT - 11, words)
+    return drawing.svg("Peak memory of some programs: " + "; ".join(f"{name} {', '.join(f'{peak:,}' for peak in peaks)} KiB" for name, peaks in rows))
