@@ -13,6 +13,4 @@ pub use on_history::check_fit;
 pub use row_tests::test_rows;
 pub use slack::{BLOCK, WHOLE_SLACK, lower_slack, no_bounds};
 pub use span_costs::SpanCosts;
-pub use timelines::{
-    MOMENTS, OverRefusal, OverVerdict, check_over, moments_in, names_moments,
-};
+pub use timelines::{MOMENTS, OverRefusal, OverVerdict, check_over, moments_in, names_moments};

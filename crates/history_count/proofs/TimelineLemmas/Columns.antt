@@ -12,9 +12,11 @@ use Rattle.tuner_theory.specs.declared.size_event.SizeEvent.{SizeEvent}
 use Rattle.tuner_theory.specs.declared.size_event.SizeEvent.TheVariants.{Request, Free}
 use Rattle.tuner_theory.proofs.Timelines.{snapshot-length}
 use Rattle.history_count.specs.CountedLines.{AreFew, AreSizes, CountsSizes, spread}
+use Rattle.history_count.specs.Timelines.Runs.{after_event, may_come, size_of}
 use Rattle.history_count.specs.Timelines.Stretches.{AreRequested, AreStretchesTo, Bounds, IsLineOf, column_of}
 use Rattle.history_count.specs.declared.timelines.requested.Requested.{Requested}
 use Rattle.history_count.proofs.RowPeaks.{spread-column}
+use Rattle.history_count.proofs.TimelineLemmas.Requested.{free-requests, request-requests}
 use Rattle.history_count.proofs.TimelineLemmas.Requests.{unrequested-before}
 use Rattle.history_count.proofs.TimelineLemmas.Walk.{free_counts, free_is_live, large_free_counts, large_request_counts, request_counts, snapshot_none, snapshot_small}
 
@@ -68,7 +70,13 @@ line-read events r n line are counted some read =
     subst (λ (l : ℕ). IsLineOf r.sizes.items n l) (sym (read ∙ get_or_default r.lines.items n line 0 (omega (arith, are.lines_len))))
     (are.line n counted some)
 
-pub column-request : (events : List SizeEvent) (sizes : List ℕ) (k n line : ℕ) → IsTimeline events → AreSizes sizes → k < length events
+-- of these counts the one of this line is that after an event, and the others are the same
+pub record IsCountedAt (sizes : List ℕ) (line : ℕ) (event : SizeEvent) (counts newer : List ℕ) : Type 0 where
+  pub within : line < length sizes
+  pub may : may_come event (slice_index counts line)
+  pub after : slice_set counts line (after_event event (slice_index counts line)) ≡ newer
+
+column-request : (events : List SizeEvent) (sizes : List ℕ) (k n line : ℕ) → IsTimeline events → AreSizes sizes → k < length events
     → get_or events k (Request 0) ≡ Request n → n ≤ largest_counted → line < length sizes → slice_index sizes line ≡ n
     → slice_set (column_of sizes (snapshot_at events k)) line (slice_index (column_of sizes (snapshot_at events k)) line + 1)
     ≡ column_of sizes (snapshot_at events (k + 1))
@@ -79,7 +87,7 @@ column-request events sizes k n line timeline are lt event counted within there 
     (omega (arith, snapshot-length events k)))
     ∙ ap (column_of sizes) (request_counts events k n (Request 0) lt timeline event counted)
 
-pub column-live : (events : List SizeEvent) (sizes : List ℕ) (k n line : ℕ) → IsTimeline events → k < length events
+column-live : (events : List SizeEvent) (sizes : List ℕ) (k n line : ℕ) → IsTimeline events → k < length events
     → get_or events k (Request 0) ≡ Free n → n ≤ largest_counted → line < length sizes → slice_index sizes line ≡ n
     → 0 < slice_index (column_of sizes (snapshot_at events k)) line
 column-live events sizes k n line timeline lt event counted within there =
@@ -87,7 +95,7 @@ column-live events sizes k n line timeline lt event counted within there =
     column-at sizes (snapshot_at events k) line within ∙ ap (slice_index (snapshot_at events k)) there in
     omega (arith, here, free_is_live events k n (Request 0) lt event counted timeline)
 
-pub column-free : (events : List SizeEvent) (sizes : List ℕ) (k n line : ℕ) → IsTimeline events → AreSizes sizes → k < length events
+column-free : (events : List SizeEvent) (sizes : List ℕ) (k n line : ℕ) → IsTimeline events → AreSizes sizes → k < length events
     → get_or events k (Request 0) ≡ Free n → n ≤ largest_counted → line < length sizes → slice_index sizes line ≡ n
     → slice_set (column_of sizes (snapshot_at events k)) line (slice_index (column_of sizes (snapshot_at events k)) line - 1)
     ≡ column_of sizes (snapshot_at events (k + 1))
@@ -99,17 +107,33 @@ column-free events sizes k n line timeline are lt event counted within there =
     ∙ ap (column_of sizes)
     (free_counts events k n (Request 0) lt timeline event counted (free_is_live events k n (Request 0) lt event counted timeline))
 
-pub column-large_request : (events : List SizeEvent) (sizes : List ℕ) (k n : ℕ) → IsTimeline events → k < length events
-    → get_or events k (Request 0) ≡ Request n → largest_counted < n
-    → column_of sizes (snapshot_at events k) ≡ column_of sizes (snapshot_at events (k + 1))
-column-large_request events sizes k n timeline lt event large =
-    ap (column_of sizes) (large_request_counts events k n (Request 0) lt timeline event large)
+-- an event's line, and its count after it
+pub column-event : (events : List SizeEvent) (r : Requested) (k : ℕ) (event : SizeEvent) → IsTimeline events → AreRequested events r
+    → k < length events → get_or events k (Request 0) ≡ event → size_of event ≤ largest_counted → (line : ℕ)
+    → line ≡ get_or r.lines.items (size_of event) line
+    → IsCountedAt r.sizes.items line event (column_of r.sizes.items (snapshot_at events k)) (column_of r.sizes.items (snapshot_at events (k + 1)))
+column-event events r k (Request n) timeline are lt is counted line read =
+    let its = line-read events r n line are counted (request-requests events k n lt is) read in
+    record {
+      within = its.within;
+      may = tt;
+      after = column-request events r.sizes.items k n line timeline are.sizes_are lt is counted its.within its.there;
+    }
+column-event events r k (Free n) timeline are lt is counted line read =
+    let its = line-read events r n line are counted (free-requests events k n timeline lt counted is) read in
+    record {
+      within = its.within;
+      may = column-live events r.sizes.items k n line timeline lt is counted its.within its.there;
+      after = column-free events r.sizes.items k n line timeline are.sizes_are lt is counted its.within its.there;
+    }
 
-pub column-large_free : (events : List SizeEvent) (sizes : List ℕ) (k n : ℕ) → IsTimeline events → k < length events
-    → get_or events k (Request 0) ≡ Free n → largest_counted < n
+pub column-large : (events : List SizeEvent) (sizes : List ℕ) (k : ℕ) (event : SizeEvent) → IsTimeline events → k < length events
+    → get_or events k (Request 0) ≡ event → largest_counted < size_of event
     → column_of sizes (snapshot_at events k) ≡ column_of sizes (snapshot_at events (k + 1))
-column-large_free events sizes k n timeline lt event large =
-    ap (column_of sizes) (large_free_counts events k n (Request 0) lt timeline event large)
+column-large events sizes k (Request n) timeline lt is large =
+    ap (column_of sizes) (large_request_counts events k n (Request 0) lt timeline is large)
+column-large events sizes k (Free n) timeline lt is large =
+    ap (column_of sizes) (large_free_counts events k n (Request 0) lt timeline is large)
 
 pub column-none : (events : List SizeEvent) (sizes : List ℕ) → AreSizes sizes
     → replicate (length sizes) 0 ≡ column_of sizes (snapshot_at events 0)

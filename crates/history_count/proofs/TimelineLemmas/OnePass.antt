@@ -1,5 +1,5 @@
 -- A line that is read in one pass.
-use Rattle.std.proofs.Common.{◌≡◌, ℕ, ◌≤◌, true, List, [], ◌∷◌, drop, take, length, Option, Some, None, option_and_then, option_map, refl, sym, ap, ◌∙◌, arith, slice_get}
+use Rattle.std.proofs.Common.{◌≡◌, ℕ, ◌≤◌, Bool, true, false, List, [], ◌∷◌, drop, take, length, Option, Some, None, option_and_then, option_map, refl, sym, ap, ◌∙◌, arith, slice_get}
 use Rattle.std.specs.Str.{bytes_eq}
 use Rattle.std.proofs.lemmas.Bool.{le-leb}
 use Rattle.std.proofs.lemmas.Slice.Eq.{bytes_eq-Decides}
@@ -10,7 +10,8 @@ use Rattle.line_text.specs.Rows.{AreRowWords, IsRow}
 use Rattle.line_text.proofs.LawLemmas.{text_laws as laws}
 use Rattle.tuner_theory.specs.declared.size_event.SizeEvent.{SizeEvent}
 use Rattle.tuner_theory.specs.declared.size_event.SizeEvent.TheVariants.{Request, Free}
-use Rattle.history_count.specs.Timelines.TimelineText.{counted_size, event_in}
+use Rattle.history_count.specs.Timelines.TimelineText.{IsSigned, counted_size, event_in, event_of}
+use Rattle.history_count.specs.Timelines.Runs.{size_of}
 use Rattle.history_count.proofs.TimelineLemmas.EventLines.{free_in, request_in, size_in-counted}
 
 -- the counted size that the first line spells
@@ -36,12 +37,12 @@ row-size (line ∷ ls) n [] none row le = by_words (words line) refl row
         rw (read, le-leb n largest_counted le) refl
     by_words (w ∷ v ∷ ws) is row = let none = (rw is at row).1 in absurd none
 
-pub size-request : (ls : List (List ℕ)) (n : ℕ) → first_size ls ≡ Some n → first_event ls ≡ Some (Request n)
+size-request : (ls : List (List ℕ)) (n : ℕ) → first_size ls ≡ Some n → first_event ls ≡ Some (Request n)
 size-request [] n is = absurd cc
 size-request (line ∷ ls) n is = request_in line n (size_in-counted line n is)
 
 -- `-` before a text is before its first line
-pub size-free : (text : List ℕ) (n : ℕ) → first_size (lines text) ≡ Some n → first_event (lines (45 ∷ text)) ≡ Some (Free n)
+size-free : (text : List ℕ) (n : ℕ) → first_size (lines text) ≡ Some n → first_event (lines (45 ∷ text)) ≡ Some (Free n)
 unfolding lines
 size-free text n is = go (lines text) refl
   where
@@ -49,13 +50,27 @@ size-free text n is = go (lines text) refl
     go [] parts = let none = rw parts at is in absurd cc
     go (line ∷ ls) parts = rw parts (free_in line n (size_in-counted line n (rw parts at is)))
 
-pub drop-free : (text : List ℕ) (n : ℕ) → first_size (lines text) ≡ Some n → drop 1 (lines (45 ∷ text)) ≡ drop 1 (lines text)
+drop-free : (text : List ℕ) (n : ℕ) → first_size (lines text) ≡ Some n → drop 1 (lines (45 ∷ text)) ≡ drop 1 (lines text)
 unfolding lines
 drop-free text n is = go (lines text) refl
   where
     go : (ls : List (List ℕ)) → lines text ≡ ls → drop 1 (lines (45 ∷ text)) ≡ drop 1 (lines text)
     go [] parts = let none = rw parts at is in absurd cc
     go (line ∷ ls) parts = rw parts refl
+
+pub signed-event : (text word : List ℕ) (is_free : Bool) (n : ℕ) → IsSigned text is_free word → first_size (lines word) ≡ Some n
+    → first_event (lines text) ≡ Some (event_of is_free n)
+signed-event text word true n is size = rw is (size-free word n size)
+signed-event text word false n is size = size-request (lines text) n (rw is at size)
+
+pub signed-rest : (text word : List ℕ) (is_free : Bool) (n : ℕ) → IsSigned text is_free word → first_size (lines word) ≡ Some n
+    → drop 1 (lines word) ≡ drop 1 (lines text)
+signed-rest text word true n is size = rw is (sym (drop-free word n size))
+signed-rest text word false n is size = ap (λ (t : List ℕ). drop 1 (lines t)) is
+
+pub signed-size : (is_free : Bool) (n : ℕ) → size_of (event_of is_free n) ≡ n
+signed-size true n = refl
+signed-size false n = refl
 
 -- what comes after `-`
 pub after-minus : (text word : List ℕ) → bytes_eq (take 1 text) (45 ∷ []) ≡ true → word ≡ drop 1 text → text ≡ 45 ∷ word

@@ -1,16 +1,18 @@
 -- The requested sizes, after all events; and an event's size is one of them.
-use Rattle.std.proofs.Common.{◌≡◌, ℕ, ◌+◌, ◌<◌, ◌≤◌, List, length, take, replicate, slice_index, get_or, arith, ap, add-one}
-use Rattle.std.proofs.lemmas.List.{get_or-replicate, length-replicate, take_all}
+use Rattle.std.proofs.Common.{◌≡◌, ℕ, ◌+◌, ◌<◌, ◌≤◌, List, length, take, replicate, slice_index, slice_set, get_or, arith, ap, inl, inr, ◌∙◌}
+use Rattle.std.proofs.lemmas.Bool.Decides.{eqb_tells}
+use Rattle.std.proofs.lemmas.List.{get_or-replicate, get_or-set_other, get_or-set_same, length-replicate, length-set, take_all}
 use Rattle.std.proofs.lemmas.List.Sums.{sum_by-take-le}
 use Rattle.class_table.specs.Sizes.{largest_counted}
-use Rattle.tuner_theory.specs.Timelines.{IsTimeline, freed, requested}
+use Rattle.tuner_theory.specs.Timelines.{IsTimeline, requested}
 use Rattle.tuner_theory.specs.declared.size_event.SizeEvent.{SizeEvent}
 use Rattle.tuner_theory.specs.declared.size_event.SizeEvent.TheVariants.{Request, Free}
-use Rattle.tuner_theory.proofs.TimelineSteps.{frees_at, freed-more, requests_at}
+use Rattle.tuner_theory.proofs.TimelineSteps.{requests_at}
 use Rattle.history_count.specs.Timelines.Requests.{IsLargestSoFar}
+use Rattle.history_count.specs.Timelines.Runs.{size_of}
 use Rattle.history_count.specs.Timelines.Stretches.{AreLinesBelow, AreRequested, AreSeen}
 use Rattle.history_count.specs.declared.timelines.requested.Requested.{Requested}
-use Rattle.history_count.proofs.TimelineLemmas.Requests.{own-request, requested-next}
+use Rattle.history_count.proofs.TimelineLemmas.Requests.{freed-before, own-request, requested-free, requested-next, requested-other}
 
 -- ---- the marks
 
@@ -22,6 +24,31 @@ seen-none events = record {
     λ some. absurd (omega (arith, some)),
   );
 }
+
+-- one event more
+pub seen-more : (events : List SizeEvent) (k : ℕ) (seen : List ℕ) (event : SizeEvent) → IsTimeline events → k < length events
+    → AreSeen events k seen → get_or events k (Request 0) ≡ event → size_of event ≤ largest_counted
+    → AreSeen events (k + 1) (slice_set seen (size_of event) 1)
+seen-more events k seen event timeline lt are is counted = record {
+  len = length-set seen (size_of event) 1 ∙ are.len;
+  marks = λ n le. elim (eqb_tells n (size_of event)) [
+    | inl same ↦ (
+      λ _. rw same.1 (own events k event timeline lt is counted),
+      λ _. omega (arith, ap (λ m. get_or (slice_set seen (size_of event) 1) m 0) same.1, get_or-set_same seen (size_of event) 1 0 (omega (arith, are.len))),
+    )
+    | inr differs ↦
+        let there = get_or-set_other seen (size_of event) n 1 0 differs.1 in
+        let still = requested-other events k n event lt is differs.1 in (
+          λ some. omega (arith, still, (are.marks n le).0 (omega (arith, some, there))),
+          λ some. omega (arith, there, (are.marks n le).1 (omega (arith, some, still))),
+        )
+  ];
+}
+  where
+    own : (events : List SizeEvent) (k : ℕ) (event : SizeEvent) → IsTimeline events → k < length events
+        → get_or events k (Request 0) ≡ event → size_of event ≤ largest_counted → 0 < requested (take (k + 1) events) (size_of event)
+    own events k (Request n) timeline lt is counted = omega (arith, requested-next events k n (Request n) lt is, own-request n)
+    own events k (Free n) timeline lt is counted = omega (arith, requested-free events k n n lt is, freed-before events k n timeline lt counted is)
 
 -- ---- the requested sizes
 
@@ -51,11 +78,4 @@ request-requests events k n lt is =
 pub free-requests : (events : List SizeEvent) (k n : ℕ) → IsTimeline events → k < length events → n ≤ largest_counted
     → get_or events k (Request 0) ≡ Free n → 0 < requested events n
 free-requests events k n timeline lt counted is =
-    some-request events k n (omega (
-      arith,
-      timeline.live (k + 1) n counted,
-      ap (λ j. freed (take j events) n) (add-one k),
-      freed-more events k n (Request 0) lt,
-      ap (frees_at n) is,
-      own-request n,
-    ))
+    omega (arith, freed-before events k n timeline lt counted is, sum_by-take-le (requests_at n) events k)

@@ -7,12 +7,13 @@ use Rattle.std.proofs.lemmas.List.Sums.{sum_by-take-le}
 use Rattle.class_table.specs.Sizes.{largest_counted}
 use Rattle.class_table.specs.Tables.{class_for}
 use Rattle.tuner_theory.specs.Histories.{peaks}
-use Rattle.tuner_theory.specs.Timelines.{IsTimeline, moments, requested, snapshot_at}
+use Rattle.tuner_theory.specs.Timelines.{IsTimeline, freed, moments, requested, snapshot_at}
 use Rattle.tuner_theory.specs.Waste.{Serves}
 use Rattle.tuner_theory.specs.declared.size_event.SizeEvent.{SizeEvent}
 use Rattle.tuner_theory.specs.declared.size_event.SizeEvent.TheVariants.{Request, Free}
 use Rattle.tuner_theory.proofs.Timelines.{live-at}
 use Rattle.tuner_theory.proofs.TimelineSteps.{frees_at, freed-more, largest_is_live, requested-more, requested_sizes, requests_at}
+use Rattle.history_count.specs.Timelines.Runs.{size_of}
 use Rattle.history_count.specs.Timelines.Requests.{Decides, IsFirstLive, IsLargest, IsLargestSoFar, IsLeastSoFar, IsLeastUnserved}
 
 -- how many requests of a size there are after one event more
@@ -32,11 +33,34 @@ requested-still : (events : List SizeEvent) (k m n : ℕ) → k < length events 
     → requested (take (k + 1) events) m ≡ requested (take k events) m
 requested-still events k m n lt is other = omega (arith, requested-next events k m (Request n) lt is, other-request m n other)
 
-requested-free : (events : List SizeEvent) (k m n : ℕ) → k < length events → get_or events k (Request 0) ≡ Free n
+pub requested-free : (events : List SizeEvent) (k m n : ℕ) → k < length events → get_or events k (Request 0) ≡ Free n
     → requested (take (k + 1) events) m ≡ requested (take k events) m
 requested-free events k m n lt is = omega (arith, requested-next events k m (Free n) lt is)
 
+-- an event of another size requests nothing of this one
+pub requested-other : (events : List SizeEvent) (k m : ℕ) (event : SizeEvent) → k < length events → get_or events k (Request 0) ≡ event
+    → m ≢ size_of event → requested (take (k + 1) events) m ≡ requested (take k events) m
+requested-other events k m (Request n) lt is other = requested-still events k m n lt is other
+requested-other events k m (Free n) lt is other = requested-free events k m n lt is
+
 -- ---- the largest one
+
+own-free : (n : ℕ) → frees_at n (Free n) ≡ 1
+own-free n = grind (arith, nat_tests)
+
+-- what is freed was requested before
+pub freed-before : (events : List SizeEvent) (k n : ℕ) → IsTimeline events → k < length events → n ≤ largest_counted
+    → get_or events k (Request 0) ≡ Free n → 0 < requested (take k events) n
+freed-before events k n timeline lt counted is =
+    omega (
+      arith,
+      requested-free events k n n lt is,
+      timeline.live (k + 1) n counted,
+      ap (λ j. freed (take j events) n) (add-one k),
+      freed-more events k n (Request 0) lt,
+      ap (frees_at n) is,
+      own-free n,
+    )
 
 pub largest_none : (events : List SizeEvent) → IsLargestSoFar events 0 0 0
 largest_none events = record {
@@ -60,7 +84,7 @@ unrequested-before events k earlier n le counted none =
       none,
     )
 
-pub largest_request : (events : List SizeEvent) (k above moment n : ℕ) → IsTimeline events → k < length events
+largest_request : (events : List SizeEvent) (k above moment n : ℕ) → IsTimeline events → k < length events
     → IsLargestSoFar events k above moment → get_or events k (Request 0) ≡ Request n → above ≤ n → n ≤ largest_counted
     → IsLargestSoFar events (k + 1) (n + 1) (k + 1)
 largest_request events k above moment n timeline lt found is larger counted = record {
@@ -101,7 +125,7 @@ largest_request events k above moment n timeline lt found is larger counted = re
     no-free : (m : ℕ) (event : SizeEvent) → event ≡ Request n → frees_at m event ≡ 0
     no-free m event e = rw e refl
 
-pub largest_other : (events : List SizeEvent) (k above moment n : ℕ) → k < length events → IsLargestSoFar events k above moment
+largest_other : (events : List SizeEvent) (k above moment n : ℕ) → k < length events → IsLargestSoFar events k above moment
     → get_or events k (Request 0) ≡ Request n → (n < above) ⊎ (largest_counted < n) → IsLargestSoFar events (k + 1) above moment
 largest_other events k above moment n lt found is which = record {
   within = omega (arith, found.within);
@@ -118,7 +142,7 @@ largest_other events k above moment n lt found is which = record {
   none = found.none;
 }
 
-pub largest_free : (events : List SizeEvent) (k above moment n : ℕ) → k < length events → IsLargestSoFar events k above moment
+largest_free : (events : List SizeEvent) (k above moment n : ℕ) → k < length events → IsLargestSoFar events k above moment
     → get_or events k (Request 0) ≡ Free n → IsLargestSoFar events (k + 1) above moment
 largest_free events k above moment n lt found is = record {
   within = omega (arith, found.within);
@@ -128,6 +152,22 @@ largest_free events k above moment n lt found is = record {
   first = found.first;
   none = found.none;
 }
+
+-- an event of a size that is below, or is not counted,
+pub largest_kept : (events : List SizeEvent) (k above moment : ℕ) (event : SizeEvent) → k < length events
+    → IsLargestSoFar events k above moment → get_or events k (Request 0) ≡ event → (size_of event < above) ⊎ (largest_counted < size_of event)
+    → IsLargestSoFar events (k + 1) above moment
+largest_kept events k above moment (Request n) lt found is which = largest_other events k above moment n lt found is which
+largest_kept events k above moment (Free n) lt found is which = largest_free events k above moment n lt found is
+
+-- and one of a larger size, which is a request.
+pub largest_moved : (events : List SizeEvent) (k above moment : ℕ) (event : SizeEvent) → IsTimeline events → k < length events
+    → IsLargestSoFar events k above moment → get_or events k (Request 0) ≡ event → above ≤ size_of event → size_of event ≤ largest_counted
+    → IsLargestSoFar events (k + 1) (size_of event + 1) (k + 1)
+largest_moved events k above moment (Request n) timeline lt found is larger counted =
+    largest_request events k above moment n timeline lt found is larger counted
+largest_moved events k above moment (Free n) timeline lt found is larger counted =
+    absurd (omega (arith, larger, found.below n counted (freed-before events k n timeline lt counted is)))
 
 pub largest_decides : (events : List SizeEvent) (k above moment : ℕ) → IsTimeline events → k ≡ length events
     → IsLargestSoFar events k above moment → Decides events moment

@@ -1,6 +1,6 @@
 -- One event more of a run.
-use Rattle.std.proofs.Common.{◌≡◌, ◌≢◌, ℕ, ◌+◌, ◌-◌, ◌<◌, ◌≤◌, true, List, [], ◌∷◌, ◌++◌, length, take, cond, refl, ◌∙◌, arith, inl, inr, slice_index, slice_set, replicate, length-append, eqb}
-use Rattle.std.proofs.lemmas.Bool.{cases_lt, lt-ltb, ltb-true}
+use Rattle.std.proofs.Common.{◌≡◌, ◌≢◌, ℕ, ◌+◌, ◌-◌, ◌<◌, ◌≤◌, true, false, List, [], ◌∷◌, ◌++◌, length, take, cond, refl, sym, ◌∙◌, arith, inl, inr, slice_index, slice_set, replicate, length-append, eqb}
+use Rattle.std.proofs.lemmas.Bool.{cases_lt, le-ltb, lt-ltb, ltb-true}
 use Rattle.std.proofs.lemmas.Bool.Decides.{eqb_tells, nat_tests}
 use Rattle.std.proofs.lemmas.List.{get_or-replicate, get_or-set_other, get_or-set_same, length-replicate, length-set, take-append-le, take_all}
 use Rattle.std.proofs.lemmas.List.Elements.{All-append, All-cons, All-nil}
@@ -10,7 +10,7 @@ use Rattle.tuner_theory.specs.Timelines.{IsTimeline, freed, requested}
 use Rattle.tuner_theory.specs.declared.size_event.SizeEvent.{SizeEvent}
 use Rattle.tuner_theory.specs.declared.size_event.SizeEvent.TheVariants.{Request, Free}
 use Rattle.tuner_theory.proofs.TimelineSteps.{frees_at, requests_at}
-use Rattle.history_count.specs.Timelines.Runs.{AreLiveCounts, IsRun, large_size, size_of}
+use Rattle.history_count.specs.Timelines.Runs.{AreLiveCounts, IsRun, after_event, large_size, may_come, size_of}
 use Rattle.history_count.specs.Timelines.TimelineText.{finds_live}
 
 pub requested-append : (events : List SizeEvent) (event : SizeEvent) (n : ℕ)
@@ -97,7 +97,7 @@ other-event size n other = grind (arith, nat_tests)
 own-event : (n : ℕ) → cond {A = ℕ} (eqb n n) 1 0 ≡ 1
 own-event n = grind (arith, nat_tests)
 
-pub live_counts-request : (events : List SizeEvent) (live : List ℕ) (size : ℕ) → AreLiveCounts events live → size ≤ large_size
+live_counts-request : (events : List SizeEvent) (live : List ℕ) (size : ℕ) → AreLiveCounts events live → size ≤ large_size
     → length events < greatest_count → AreLiveCounts (events ++ Request size ∷ []) (slice_set live size (slice_index live size + 1))
 live_counts-request events live size are le room = record {
   few = omega (arith, length-append events (Request size ∷ []));
@@ -122,7 +122,7 @@ live_counts-request events live size are le room = record {
   ];
 }
 
-pub live_counts-free : (events : List SizeEvent) (live : List ℕ) (size : ℕ) → AreLiveCounts events live → size ≤ large_size
+live_counts-free : (events : List SizeEvent) (live : List ℕ) (size : ℕ) → AreLiveCounts events live → size ≤ large_size
     → length events < greatest_count → 0 < slice_index live size
     → AreLiveCounts (events ++ Free size ∷ []) (slice_set live size (slice_index live size - 1))
 live_counts-free events live size are le room some = record {
@@ -147,3 +147,24 @@ live_counts-free events live size are le room some = record {
     )
   ];
 }
+
+-- an event that may come
+pub live_counts-event : (events : List SizeEvent) (live : List ℕ) (event : SizeEvent) → AreLiveCounts events live → size_of event ≤ large_size
+    → length events < greatest_count → may_come event (slice_index live (size_of event))
+    → AreLiveCounts (events ++ event ∷ []) (slice_set live (size_of event) (after_event event (slice_index live (size_of event))))
+live_counts-event events live (Request n) are le room may = live_counts-request events live n are le room
+live_counts-event events live (Free n) are le room may = live_counts-free events live n are le room may
+
+pub finds-some : (events : List SizeEvent) (live : List ℕ) (event : SizeEvent) → AreLiveCounts events live → size_of event ≤ large_size
+    → may_come event (slice_index live (size_of event)) → true ≡ finds_live events event
+finds-some events live (Request n) are le may = refl
+finds-some events live (Free n) are le may = sym (lt-ltb (freed events n) (requested events n) (omega (arith, are.balance n le, may)))
+
+pub finds-none : (events : List SizeEvent) (live : List ℕ) (event : SizeEvent) → AreLiveCounts events live → size_of event ≤ large_size
+    → (may_come event (slice_index live (size_of event)) → ⊥) → false ≡ finds_live events event
+finds-none events live (Request n) are le none = absurd (none tt)
+finds-none events live (Free n) are le none =
+    sym (le-ltb (freed events n) (requested events n) (elim (cases_lt 0 (slice_index live n)) [
+      | inl some ↦ absurd (none some)
+      | inr nothing ↦ omega (arith, are.balance n le, nothing)
+    ]))

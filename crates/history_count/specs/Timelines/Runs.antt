@@ -1,5 +1,5 @@
 -- Runs as a text spells them: all sizes above the largest that is counted go by one size, and their frees find live blocks too.
-use Rattle.std.specs.Prelude.{◌≡◌, ℕ, ◌+◌, ◌≤◌, List, length, take, slice_index, All}
+use Rattle.std.specs.Prelude.{◌≡◌, ℕ, ◌+◌, ◌-◌, ◌<◌, ◌≤◌, List, length, take, slice_index, All}
 use Rattle.class_table.specs.Sizes.{largest_counted}
 use Rattle.tuner_theory.specs.Profiles.{greatest_count}
 use Rattle.tuner_theory.specs.Timelines.{freed, requested}
@@ -13,6 +13,16 @@ large_size = largest_counted + 1
 abbrev pub size_of : SizeEvent → ℕ
 size_of (Request n) = n
 size_of (Free n) = n
+
+-- How many blocks of an event's size are live after it, where so many were before.
+abbrev pub after_event : SizeEvent → ℕ → ℕ
+after_event (Request n) count = count + 1
+after_event (Free n) count = count - 1
+
+-- A free needs a live block.
+abbrev pub may_come : SizeEvent → ℕ → Type 0
+may_come (Request n) count = Unit {0}
+may_come (Free n) count = 0 < count
 
 -- Each free finds a live block of its size.
 pub record IsRun (events : List SizeEvent) : Type 0 where

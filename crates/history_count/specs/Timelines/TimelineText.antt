@@ -52,6 +52,15 @@ abbrev pub event_in : List ℕ → Option SizeEvent
 event_in [] = None
 event_in (b ∷ word) = if b == 45 then option_map (λ n. Free n) (size_in word) else option_map (λ n. Request n) (size_in (b ∷ word))
 
+-- What comes after the sign of a free, 45, if a text begins with it.
+abbrev pub IsSigned : List ℕ → Bool → List ℕ → Type 0
+IsSigned text true word = text ≡ 45 ∷ word
+IsSigned text false word = word ≡ text
+
+abbrev pub event_of : Bool → ℕ → SizeEvent
+event_of true n = Free n
+event_of false n = Request n
+
 -- A free has to find a live block of its size.
 abbrev pub finds_live : List SizeEvent → SizeEvent → Bool
 finds_live events (Request n) = true

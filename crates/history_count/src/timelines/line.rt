@@ -5,7 +5,7 @@ ghost use Rattle.class_table.specs.Sizes.{largest_counted};
 ghost use Rattle.line_text.specs.Lines.{lines};
 ghost use Rattle.line_text.specs.Numbers.{number_of};
 ghost use Rattle.history_count.specs.Timelines.Runs.{large_size, size_of};
-ghost use Rattle.history_count.specs.Timelines.TimelineText.{counted_size, event_in, size_in};
+ghost use Rattle.history_count.specs.Timelines.TimelineText.{IsSigned, counted_size, event_in, event_of, size_in};
 
 use class_table::LARGEST_COUNTED;
 use line_text::{Lines, capped_number_in, lines_in};
@@ -43,18 +43,45 @@ fn next_counted(lines: &mut Lines<'_>) -> Option<SizeEvent>
     ensures taken { IfSome result (λ _. lines.new ≡ drop 1 lines.old) }
     ensures kept { IfNone result (lines.new ≡ lines.old) }
 {
-    let text = lines.rest();
+    let signed = signed_in(lines.rest());
+    let (n, rest) = size_line(signed.word)?;
+    *lines = rest;
+    Some(event_of(signed.is_free, n))
+}
+
+// a text after the sign of a free, if it begins with one
+#[derive(Clone, Copy, Drop)]
+struct Signed<'a> {
+    word: &'a [u8],
+    is_free: bool,
+}
+
+// a text by its sign
+#[inline(always)]
+fn signed_in(text: &[u8]) -> Signed<'_>
+    ensures { IsSigned text.now result.is_free result.word.now }
+{
     match text.strip_prefix(b"-") {
-        Some(word) => {
-            let (n, rest) = size_line(word)?;
-            *lines = rest;
-            Some(SizeEvent::Free { n })
-        }
-        None => {
-            let (n, rest) = size_line(text)?;
-            *lines = rest;
-            Some(SizeEvent::Request { n })
-        }
+        Some(word) => Signed {
+            word,
+            is_free: true,
+        },
+        None => Signed {
+            word: text,
+            is_free: false,
+        },
+    }
+}
+
+// the event of a size
+#[inline(always)]
+fn event_of(is_free: bool, n: u16) -> SizeEvent
+    ensures { result ≡ event_of is_free n }
+{
+    if is_free {
+        SizeEvent::Free { n }
+    } else {
+        SizeEvent::Request { n }
     }
 }
 

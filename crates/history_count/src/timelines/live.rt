@@ -1,7 +1,7 @@
 //! How many blocks of each size are live while a timeline is read.
-ghost use Rattle.std.specs.Prelude.{◌≡◌, ◌≤◌, ◌++◌, [], ◌∷◌, ℕ, ◌<◌, length, IfOk, IfSome};
+ghost use Rattle.std.specs.Prelude.{◌≡◌, ◌↔◌, ◌≤◌, ◌++◌, [], ◌∷◌, ℕ, ◌<◌, length, IfOk, IfSome, IsTrue};
 ghost use Rattle.std.specs.Bool.{OnTrue};
-ghost use Rattle.history_count.specs.Timelines.Runs.{AreLiveCounts, large_size, size_of};
+ghost use Rattle.history_count.specs.Timelines.Runs.{AreLiveCounts, after_event, large_size, may_come, size_of};
 ghost use Rattle.history_count.specs.Timelines.TimelineText.{finds_live, may_follow};
 
 use crate::timelines::fault::TimelineFault;
@@ -10,6 +10,43 @@ use tuner_theory::{GREATEST_COUNT, SizeEvent};
 
 /// How many sizes are counted while a timeline is read: one for all larger ones.
 pub(crate) const SIZES: usize = LARGE_SIZE as usize + 1;
+
+/// The size of an event.
+#[inline(always)]
+pub(crate) fn event_size(event: SizeEvent) -> u16
+    ensures { result ≡ size_of event }
+{
+    match event {
+        SizeEvent::Request { n } => n,
+        SizeEvent::Free { n } => n,
+    }
+}
+
+/// A count after an event of its size. No jump depends on the kind of the event, which a processor cannot foresee.
+#[inline(always)]
+pub(crate) fn counted(count: u32, event: SizeEvent) -> u32
+    requires few { count ≤ GREATEST_COUNT }
+    requires live { may_come event count }
+    ensures { result ≡ after_event event count }
+{
+    match event {
+        SizeEvent::Request { .. } => count + 1,
+        SizeEvent::Free { .. } => count - 1,
+    }
+}
+
+// whether an event may come where so many blocks of its size are live: a free needs one
+#[inline(always)]
+fn may_come(event: SizeEvent, count: u32) -> bool
+    requires { count ≤ GREATEST_COUNT }
+    ensures { IsTrue result ↔ may_come event count }
+{
+    let requests = match event {
+        SizeEvent::Request { .. } => 1,
+        SizeEvent::Free { .. } => 0,
+    };
+    count + requests > 0
+}
 
 /// What a line's event, or that it spells none, adds to the events before it. `live` has the counts after these, and then after the event too.
 #[inline(always)]
@@ -43,16 +80,10 @@ fn count(events: &[SizeEvent], live: &mut [u32], event: SizeEvent) -> bool
     ensures found { result ≡ finds_live events.now event }
     ensures live { OnTrue result (AreLiveCounts (events.now ++ event ∷ []) live.new) }
 {
-    match event {
-        SizeEvent::Request { n } => {
-            live[n as usize] += 1;
-        }
-        SizeEvent::Free { n } => {
-            if live[n as usize] == 0 {
-                return false;
-            }
-            live[n as usize] -= 1;
-        }
+    let n = event_size(event) as usize;
+    if !may_come(event, live[n]) {
+        return false;
     }
+    live[n] = counted(live[n], event);
     true
 }

@@ -6,6 +6,7 @@ ghost use Rattle.tuner_theory.specs.Timelines.{IsTimeline};
 
 use crate::timelines::counting::zeros;
 use crate::timelines::line::LARGE_SIZE;
+use crate::timelines::live::event_size;
 use crate::timelines::serving::{Largest, NO_LARGEST, with_event};
 use std::alloc::{AllocError, Global};
 use tuner_theory::SizeEvent;
@@ -46,17 +47,17 @@ pub(crate) fn requested_in(alloc: Global, events: &[SizeEvent]) -> Result<Reques
     Ok(requested)
 }
 
-// notes the size of a request
+// notes the size of an event: what is freed was requested
 #[inline(always)]
 fn see_event(seen: &mut [u32], events: &[SizeEvent], k: usize)
+    requires timeline { IsTimeline events.now }
     requires event { k < length events.now }
     requires seen { AreSeen events.now k seen.old }
     ensures { AreSeen events.now (k + 1) seen.new }
 {
-    if let SizeEvent::Request { n } = events[k] {
-        if n < LARGE_SIZE {
-            seen[n as usize] = 1;
-        }
+    let n = event_size(events[k]);
+    if n < LARGE_SIZE {
+        seen[n as usize] = 1;
     }
 }
 

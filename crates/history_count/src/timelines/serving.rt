@@ -6,6 +6,7 @@ ghost use Rattle.history_count.specs.Timelines.Requests.{IsLargestSoFar, IsLeast
 ghost use Rattle.tuner_theory.specs.Timelines.{IsTimeline, requested};
 
 use crate::timelines::line::LARGE_SIZE;
+use crate::timelines::live::event_size;
 use class_table::{ClassTable, FEWEST_GRANULES, Layout};
 use tuner_theory::SizeEvent;
 
@@ -72,19 +73,16 @@ pub(crate) fn with_event(events: &[SizeEvent], k: usize, found: Largest) -> Larg
     requires found { IsLargestSoFar events.now k found.above found.moment }
     ensures { IsLargestSoFar events.now (k + 1) result.above result.moment }
 {
-    match events[k] {
-        SizeEvent::Request { n } => {
-            if n < found.above {
-                return found;
-            }
-            if n >= LARGE_SIZE {
-                return found;
-            }
-            Largest {
-                above: n + 1,
-                moment: k + 1,
-            }
-        }
-        SizeEvent::Free { .. } => found,
+    // what is freed was requested, so it is below
+    let n = event_size(events[k]);
+    if n < found.above {
+        return found;
+    }
+    if n >= LARGE_SIZE {
+        return found;
+    }
+    Largest {
+        above: n + 1,
+        moment: k + 1,
     }
 }

@@ -6,6 +6,7 @@ ghost use Rattle.tuner_theory.specs.Timelines.{IsTimeline, snapshot_at};
 
 use crate::timelines::counting::zeros;
 use crate::timelines::line::LARGE_SIZE;
+use crate::timelines::live::{counted, event_size};
 use crate::timelines::requested::Requested;
 use std::alloc::{AllocError, Global};
 use tuner_theory::SizeEvent;
@@ -148,7 +149,7 @@ fn count_most(
     }
 }
 
-// counts one event more by the line of its size; gives the line whose count is raised
+// counts one event more by the line of its size; gives this line, the only one whose count may be raised
 #[inline(always)]
 fn count_line(
     counts: &mut [u32],
@@ -161,25 +162,17 @@ fn count_line(
     requires event { k < length events.now }
     requires counts { counts.old ≡ column_of requested.now.sizes.items (snapshot_at events.now k) }
     ensures counts { counts.new ≡ column_of requested.now.sizes.items (snapshot_at events.now (k + 1)) }
-    ensures raised { IfSome result (λ line. line < length requested.now.sizes.items) }
+    ensures line { IfSome result (λ line. line < length requested.now.sizes.items) }
     ensures others { (j : ℕ) → (result ≡ Some j → ⊥) → slice_index counts.new j ≤ slice_index counts.old j }
 {
-    match events[k] {
-        SizeEvent::Request { n } => {
-            if n < LARGE_SIZE {
-                let line = requested.lines[n as usize] as usize;
-                counts[line] += 1;
-                return Some(line);
-            }
-        }
-        SizeEvent::Free { n } => {
-            if n < LARGE_SIZE {
-                let line = requested.lines[n as usize] as usize;
-                counts[line] -= 1;
-            }
-        }
+    let event = events[k];
+    let n = event_size(event);
+    if n >= LARGE_SIZE {
+        return None;
     }
-    None
+    let line = requested.lines[n as usize] as usize;
+    counts[line] = counted(counts[line], event);
+    Some(line)
 }
 
 /// How many blocks of each requested size are live at a moment. It goes over the events from the last start of a stretch before it. The only

@@ -1,20 +1,26 @@
-use Rattle.std.proofs.Common.{◌≤◌, List, ℕ, length, slice_index, arith, ap, ◌∙◌}
-use Rattle.class_table.specs.Sizes.{largest_counted}
+use Rattle.std.proofs.Common.{List, ℕ, length, slice_index, get_or, arith, ap, refl, ◌∙◌}
 use Rattle.tuner_theory.specs.Timelines.{snapshot_at}
-use Rattle.history_count.proofs.TimelineLemmas.Columns.{bounds-start, column-free, column-large_free, column-large_request, column-length, column-live, column-request, line-read}
-use Rattle.history_count.proofs.TimelineLemmas.Requested.{free-requests, request-requests}
+use Rattle.tuner_theory.specs.declared.size_event.SizeEvent.TheVariants.{Request}
+use Rattle.history_count.proofs.TimelineLemmas.Columns.{bounds-start, column-event, column-large, column-length}
 use Rattle.history_count.proofs.timelines.stretches.count_line.Goals as goal
+
+pub returns-then-n-ge-LARGE_SIZE-clause-counts : goal.returns-then-n-ge-LARGE_SIZE-clause-counts
+returns-then-n-ge-LARGE_SIZE-clause-counts c =
+    let events = c.args.events.now in
+    c.requires.counts
+    ∙ column-large events c.args.requested.now.sizes.items c.args.k (get_or events c.args.k (Request 0)) c.requires.timeline c.requires.event refl
+    (omega (arith, c.event_size-n.ensures, c.if-n-ge-LARGE_SIZE.true))
 
 pub bounds-counts-line : goal.bounds-counts-line
 bounds-counts-line c =
     let events = c.args.events.now in
     let r = c.args.requested.now in
-    let its = line-read events r c.in-Request.n c.index.result.now c.requires.requested (omega (arith, c.if-n-lt-LARGE_SIZE.true))
-    (request-requests events c.args.k c.in-Request.n c.requires.event c.in-Request.is) c.index.ensures in
+    let its = column-event events r c.args.k (get_or events c.args.k (Request 0)) c.requires.timeline c.requires.requested c.requires.event refl
+    (omega (arith, c.event_size-n.ensures, c.if-n-ge-LARGE_SIZE.false)) c.index.result.now (rw c.event_size-n.ensures at c.index.ensures) in
     omega (arith, its.within, ap length c.requires.counts, column-length r.sizes.items (snapshot_at events c.args.k))
 
-pub overflow_add-counts : goal.overflow_add-counts
-overflow_add-counts c =
+pub counted-requires-clause-few : goal.counted-requires-clause-few
+counted-requires-clause-few c =
     omega (
       arith,
       ap (λ (s : List ℕ). slice_index s c.index.result.now) c.requires.counts,
@@ -22,83 +28,34 @@ overflow_add-counts c =
           c.index.result.now,
     )
 
-pub bounds-counts-line-then-n-lt-LARGE_SIZE : goal.bounds-counts-line-then-n-lt-LARGE_SIZE
-bounds-counts-line-then-n-lt-LARGE_SIZE c =
+pub counted-requires-clause-live : goal.counted-requires-clause-live
+counted-requires-clause-live c =
     let events = c.args.events.now in
     let r = c.args.requested.now in
-    let its = line-read events r c.in-Request.n c.index.result.now c.requires.requested (omega (arith, c.if-n-lt-LARGE_SIZE.true))
-    (request-requests events c.args.k c.in-Request.n c.requires.event c.in-Request.is) c.index.ensures in
+    let its = column-event events r c.args.k (get_or events c.args.k (Request 0)) c.requires.timeline c.requires.requested c.requires.event refl
+    (omega (arith, c.event_size-n.ensures, c.if-n-ge-LARGE_SIZE.false)) c.index.result.now (rw c.event_size-n.ensures at c.index.ensures) in
+    rw c.requires.counts its.may
+
+pub bounds-counts-line-2 : goal.bounds-counts-line-2
+bounds-counts-line-2 c =
+    let events = c.args.events.now in
+    let r = c.args.requested.now in
+    let its = column-event events r c.args.k (get_or events c.args.k (Request 0)) c.requires.timeline c.requires.requested c.requires.event refl
+    (omega (arith, c.event_size-n.ensures, c.if-n-ge-LARGE_SIZE.false)) c.index.result.now (rw c.event_size-n.ensures at c.index.ensures) in
     omega (arith, its.within, ap length c.requires.counts, column-length r.sizes.items (snapshot_at events c.args.k))
 
-pub returns-then-n-lt-LARGE_SIZE-clause-counts : goal.returns-then-n-lt-LARGE_SIZE-clause-counts
-returns-then-n-lt-LARGE_SIZE-clause-counts c =
+pub returns-clause-counts : goal.returns-clause-counts
+returns-clause-counts c =
     let events = c.args.events.now in
     let r = c.args.requested.now in
-    let n = c.in-Request.n in
-    let counted : n ≤ largest_counted = omega (arith, c.if-n-lt-LARGE_SIZE.true) in
-    let its = line-read events r n c.index.result.now c.requires.requested counted
-    (request-requests events c.args.k n c.requires.event c.in-Request.is) c.index.ensures in
-    rw c.requires.counts
-    (column-request events r.sizes.items c.args.k n c.index.result.now c.requires.timeline c.requires.requested.sizes_are c.requires.event
-    c.in-Request.is counted its.within its.there)
+    let its = column-event events r c.args.k (get_or events c.args.k (Request 0)) c.requires.timeline c.requires.requested c.requires.event refl
+    (omega (arith, c.event_size-n.ensures, c.if-n-ge-LARGE_SIZE.false)) c.index.result.now (rw c.event_size-n.ensures at c.index.ensures) in
+    rw (c.counted.ensures, c.requires.counts) its.after
 
-pub returns-then-n-lt-LARGE_SIZE-clause-raised : goal.returns-then-n-lt-LARGE_SIZE-clause-raised
-returns-then-n-lt-LARGE_SIZE-clause-raised c =
-    (line-read c.args.events.now c.args.requested.now c.in-Request.n c.index.result.now c.requires.requested
-    (omega (arith, c.if-n-lt-LARGE_SIZE.true))
-    (request-requests c.args.events.now c.args.k c.in-Request.n c.requires.event c.in-Request.is) c.index.ensures).within
-
-pub bounds-counts-line-then-n-lt-LARGE_SIZE-2 : goal.bounds-counts-line-then-n-lt-LARGE_SIZE-2
-bounds-counts-line-then-n-lt-LARGE_SIZE-2 c =
+pub returns-clause-line : goal.returns-clause-line
+returns-clause-line c =
     let events = c.args.events.now in
     let r = c.args.requested.now in
-    let counted : c.in-Free.n ≤ largest_counted = omega (arith, c.if-n-lt-LARGE_SIZE-2.true) in
-    let its = line-read events r c.in-Free.n c.index-then-n-lt-LARGE_SIZE-2.result.now c.requires.requested counted
-    (free-requests events c.args.k c.in-Free.n c.requires.timeline c.requires.event counted c.in-Free.is) c.index-then-n-lt-LARGE_SIZE-2.ensures in
-    omega (arith, its.within, ap length c.requires.counts, column-length r.sizes.items (snapshot_at events c.args.k))
-
-pub overflow_sub-counts : goal.overflow_sub-counts
-overflow_sub-counts c =
-    let events = c.args.events.now in
-    let r = c.args.requested.now in
-    let counted : c.in-Free.n ≤ largest_counted = omega (arith, c.if-n-lt-LARGE_SIZE-2.true) in
-    let its = line-read events r c.in-Free.n c.index-then-n-lt-LARGE_SIZE-2.result.now c.requires.requested counted
-    (free-requests events c.args.k c.in-Free.n c.requires.timeline c.requires.event counted c.in-Free.is) c.index-then-n-lt-LARGE_SIZE-2.ensures in
-    omega (
-      arith,
-      ap (λ (s : List ℕ). slice_index s c.index-then-n-lt-LARGE_SIZE-2.result.now) c.requires.counts,
-      column-live events r.sizes.items c.args.k c.in-Free.n c.index-then-n-lt-LARGE_SIZE-2.result.now c.requires.timeline c.requires.event
-          c.in-Free.is counted its.within its.there,
-    )
-
-pub bounds-counts-line-then-n-lt-LARGE_SIZE-2-2 : goal.bounds-counts-line-then-n-lt-LARGE_SIZE-2-2
-bounds-counts-line-then-n-lt-LARGE_SIZE-2-2 c =
-    let events = c.args.events.now in
-    let r = c.args.requested.now in
-    let counted : c.in-Free.n ≤ largest_counted = omega (arith, c.if-n-lt-LARGE_SIZE-2.true) in
-    let its = line-read events r c.in-Free.n c.index-then-n-lt-LARGE_SIZE-2.result.now c.requires.requested counted
-    (free-requests events c.args.k c.in-Free.n c.requires.timeline c.requires.event counted c.in-Free.is) c.index-then-n-lt-LARGE_SIZE-2.ensures in
-    omega (arith, its.within, ap length c.requires.counts, column-length r.sizes.items (snapshot_at events c.args.k))
-
-pub returns-then-n-lt-LARGE_SIZE-2-clause-counts : goal.returns-then-n-lt-LARGE_SIZE-2-clause-counts
-returns-then-n-lt-LARGE_SIZE-2-clause-counts c =
-    let events = c.args.events.now in
-    let r = c.args.requested.now in
-    let counted : c.in-Free.n ≤ largest_counted = omega (arith, c.if-n-lt-LARGE_SIZE-2.true) in
-    let its = line-read events r c.in-Free.n c.index-then-n-lt-LARGE_SIZE-2.result.now c.requires.requested counted
-    (free-requests events c.args.k c.in-Free.n c.requires.timeline c.requires.event counted c.in-Free.is) c.index-then-n-lt-LARGE_SIZE-2.ensures in
-    rw c.requires.counts
-    (column-free events r.sizes.items c.args.k c.in-Free.n c.index-then-n-lt-LARGE_SIZE-2.result.now c.requires.timeline
-    c.requires.requested.sizes_are c.requires.event c.in-Free.is counted its.within its.there)
-
-pub returns-else-n-lt-LARGE_SIZE-clause-counts : goal.returns-else-n-lt-LARGE_SIZE-clause-counts
-returns-else-n-lt-LARGE_SIZE-clause-counts c =
-    c.requires.counts
-    ∙ column-large_request c.args.events.now c.args.requested.now.sizes.items c.args.k c.in-Request.n c.requires.timeline c.requires.event
-    c.in-Request.is (omega (arith, c.if-n-lt-LARGE_SIZE.false))
-
-pub returns-else-n-lt-LARGE_SIZE-2-clause-counts : goal.returns-else-n-lt-LARGE_SIZE-2-clause-counts
-returns-else-n-lt-LARGE_SIZE-2-clause-counts c =
-    c.requires.counts
-    ∙ column-large_free c.args.events.now c.args.requested.now.sizes.items c.args.k c.in-Free.n c.requires.timeline c.requires.event
-    c.in-Free.is (omega (arith, c.if-n-lt-LARGE_SIZE-2.false))
+    let its = column-event events r c.args.k (get_or events c.args.k (Request 0)) c.requires.timeline c.requires.requested c.requires.event refl
+    (omega (arith, c.event_size-n.ensures, c.if-n-ge-LARGE_SIZE.false)) c.index.result.now (rw c.event_size-n.ensures at c.index.ensures) in
+    its.within
