@@ -109,6 +109,21 @@ def built() -> str:
     return PROGRAM
 
 
+def with_heap() -> str:
+    """The program that is tested, where the library is there too that find_faults asks. It is built where no crate below it has to be proved
+    for that."""
+    from mte_scripts.builds import static_libraries
+    from mte_scripts.faults import heap_reader
+
+    if not os.environ.get("MTE_LIBRARY"):
+        before = os.environ.get("MTE_TOOL_BUILD", "")
+        if static_libraries.is_cheap("mte_c"):
+            os.environ["MTE_TOOL_BUILD"] = "yes"
+        os.environ["MTE_LIBRARY"] = heap_reader.library()
+        os.environ["MTE_TOOL_BUILD"] = before
+    return built()
+
+
 def any_program(place: str) -> Optional[str]:
     """A program for MTE_TOOL: the one that it names, None for the built one, or a plain one that is compiled in PLACE; empty where there is
     none."""

@@ -33,7 +33,6 @@ Example:
 """
 
 SOURCES = sources_in(os.path.join(SHIMS, "accesses"), ".c", ".h")
-READER, READER_FLAGS = os.path.join(SHIMS, "reader", "neighbourhood.c"), ["-O2", "-g", "-Wall"]
 RUNTIME = "libmte_accesses.so"
 RUNTIME_FLAGS = "-O2 -g -Wall -fPIC -shared -fvisibility=hidden -fno-builtin -fomit-frame-pointer -static-libgcc".split()
 RUNTIME_FLAGS += [f"-Wl,-soname,{RUNTIME}", "-Wl,--exclude-libs,ALL"]
@@ -78,17 +77,6 @@ def is_clang(compiler: str) -> bool:
 def runtime(plain: str) -> str:
     """The path of the runtime, built once for each version of its sources."""
     return kept(f"accesses-{sum_of(RUNTIME_FLAGS, SOURCES)}", RUNTIME, lambda new: build(plain, new))
-
-
-def reader() -> "str | None":
-    """The path of the program that reduces large logs, built as the runtime is; None where there is no compiler or no place for it."""
-    try:
-        plain = found("TRACED_CC", "gcc", "clang")
-        words = [plain, *READER_FLAGS, READER, "-o"]
-        folder = f"reader-{sum_of(READER_FLAGS, [READER])}"
-        return kept(folder, "neighbourhood", lambda new: compile_alone([*words, new], "the reader could not be compiled"))
-    except Refused:
-        return None
 
 
 def kept(folder: str, name: str, build_new: "Callable[[str], None]") -> str:

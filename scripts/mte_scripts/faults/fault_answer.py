@@ -13,8 +13,8 @@ from mte_scripts.faults.fault_report import MOST_USES
 
 PROCESS = re.compile(r"[0-9]{1,10}(\.[2-9])?")  # the name of a log of one of many processes
 
-# A process: the name of its log and of its program, its log, its replays, and what was found: entries, and findings in the same order.
-Judged = namedtuple("Judged", "name program log trace whole table reports found places odds values files differing")
+# A process: the name of its log and of its program, its log, what the heaps answered, and what was found: entries, and findings in the same order.
+Judged = namedtuple("Judged", "name program log answers table reports found places odds values files differing")
 
 
 def logs(folder: str, has_children: bool) -> list[str]:
@@ -35,13 +35,10 @@ def new(judged: Judged) -> list[Entry]:
 
 def of_one(judged: Judged, options: argparse.Namespace) -> list[str]:
     """The text of a process that was run alone."""
-    log, trace = judged.log, judged.trace
+    log = judged.log
     if options.seeds:
         return list(fault_report.tell_seeds(log, new(judged), judged.places, judged.reports, judged.odds))
-    lines = fault_report.tell(log, new(judged), judged.places, judged.odds) + fault_report.totals(log, new(judged), trace)
-    if judged.whole is not trace:
-        lines.append(fault_report.changed_promises(trace, judged.whole))
-    return lines
+    return fault_report.tell(log, new(judged), judged.places, judged.odds) + fault_report.totals(log, new(judged), judged.answers)
 
 
 def of_many(processes: list[Judged], options: argparse.Namespace) -> list[str]:

@@ -3,7 +3,7 @@
     found = entries(log, verdicts, reports, places)
     found[0].kind                 one of KINDS, or CRASH
     found[0].uses[0]              the first wrong access or free of this cause; the others follow, each place and outcome once
-    found[0].uses[0].error        fault_log.Error, with .verdict, the fault_trace.Verdict that its replay was asked for
+    found[0].uses[0].error        fault_log.Error, with .verdict, what the heap has to answer to it (heap_answers.Verdict)
     found[0].uses[0].result       CAUGHT, NOT_CAUGHT or NOT_REPLAYED, and .why
     found[0].uses[0].times        how often the program did it, as far as the recorder saw
     found[0].result               of the cause: caught where one of its uses is

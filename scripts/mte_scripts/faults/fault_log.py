@@ -8,12 +8,11 @@ import re
 import stat
 import struct
 from array import array
-from collections import Counter, namedtuple
-from collections.abc import Iterator
+from collections import namedtuple
+from collections.abc import Iterator, Sequence
 from typing import BinaryIO, Optional
 
 from mte_scripts import checksum
-from mte_scripts.formats import LARGEST_SIZE, MOST_COUNT
 
 WINDOW = 64  # the bytes of the longest access of a trace
 
@@ -67,7 +66,7 @@ class Error(namedtuple("Error", "letter block offset size stack state times pois
         """(offset, length) of what a trace asks: from the first wrong byte on, at most 64 bytes."""
         is_past = self.state == "live" and self.offset >= 0 and not self.is_inside()
         begin = max(self.offset, block_size) if is_past else self.offset
-        return begin, min(self.offset + self.size - begin, WINDOW)
+        return begin, max(1, min(self.offset + self.size - begin, WINDOW))
 
 
 def opened(path: str) -> BinaryIO:
@@ -140,8 +139,8 @@ class Log:
     """Records in their order. A record has a letter and up to three numbers: m and c (block, size), r (old block, new block, size),
     f (block), l and s (block, offset, length), and E (number of the error, from 0). Blocks are numbered from 1. `crash` is the Crash
     that ended the program, `status` its exit status, each None where the log has none. What is `missing` of the log is a list of
-    sentences. A log that took the place of a large one (fault_neighbourhood.py) has the places that its errors meet there; it is replayed
-    with the quarantine 0, and leaves some blocks out."""
+    sentences, `length` the bytes of its lines that were read. A log that `is_small` tells of the errors of a large one, and has not all of
+    its blocks (scripts/shims/reader/heap_answers.c)."""
 
     def __init__(self, path: str) -> None:
         self.letters = bytearray()
@@ -154,10 +153,7 @@ class Log:
         self.modules: list[Module] = []
         self.crash: Optional[Crash] = None
         self.status: Optional[int] = None
-        self.places: Optional[list[str]] = None
-        self.quarantine: Optional[int] = None
-        self._profile: Optional[str] = None
-        self.left_out = 0
+        self.length, self.is_small = 0, False
         self.alignment: dict[int, int] = {}  # of a block that was requested with a larger one than malloc's
         self._times: dict[int, int] = {}
         self._numbers = {0: 0}
@@ -181,6 +177,7 @@ class Log:
         for number, line in enumerate(lines, 1):
             try:
                 self._read(line)
+                self.length += len(line) + 1
             except (NoLog, ValueError, IndexError, KeyError, OverflowError):
                 for _ in lines:  # the checksum says whether this was a log once
                     pass
@@ -351,6 +348,10 @@ class Log:
                 self.errors.append(errors[self.first[at]])
                 self.first[at] = len(self.errors) - 1
 
+    def kept(self) -> "Sequence[int]":
+        """The numbers that the errors have among those of the log, some of which the runtime took back."""
+        return range(len(self.errors)) if self._kept is None else self._kept
+
     def _stack(self, word: bytes) -> int:
         match = STACK.fullmatch(word)
         if not match:
@@ -362,20 +363,3 @@ class Log:
                 return len(self.stacks) - 1
             self._numbers[number] = len(self.stacks) - 1
         return self._numbers[number]
-
-    def take_place(self, profile: str, places: "list[str]", missing: "list[str]") -> None:
-        """Is the log in place of a large one, with its profile, the place of each error, and what is missing of it."""
-        self._profile, self.quarantine, self.missing = profile, 0, missing
-        self.places = [places[at] for at in self._kept] if self._kept is not None else places
-        blocks = sum(int(line.split()[1]) for line in profile.split("\n") if line)
-        self.left_out = max(0, blocks - len(self.size) + 1)
-
-    def profile(self) -> str:
-        """How often each size was requested, as the text of a profile."""
-        if self._profile is not None:
-            return self._profile
-        counts: Counter[int] = Counter()
-        for letter, second, third in zip(self.letters, self.second, self.third):
-            if letter in b"mcr":
-                counts[min(third if letter == ord("r") else second, LARGEST_SIZE + 1)] += 1
-        return "".join(f"{size if size <= LARGEST_SIZE else 'large'} {min(counts[size], MOST_COUNT)}\n" for size in sorted(counts))

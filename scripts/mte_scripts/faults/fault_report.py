@@ -2,13 +2,13 @@
 
 import html
 from collections import Counter
-from collections.abc import Iterable, Iterator
+from collections.abc import Iterator
 
 from mte_scripts import html_safe
 from mte_scripts.faults.fault_entries import CAUGHT, NOT_CAUGHT, NOT_REPLAYED, RESULTS, Entry, Left, block_of, entries, stacks_of
 from mte_scripts.faults.fault_log import Crash, Error, Log, Mark
 from mte_scripts.faults.fault_places import Places
-from mte_scripts.faults.fault_trace import Trace, Verdict
+from mte_scripts.faults.heap_answers import Answers, Verdict
 from mte_scripts.faults.odds import Odds
 from mte_scripts.running import printable
 
@@ -146,13 +146,13 @@ def often(times: int) -> str:
     return f" ({times} times)" if times > 1 else ""
 
 
-def notes(log: Log, trace: Trace, report: "dict[int, str]") -> "Iterator[tuple[int, str]]":
+def notes(log: Log, answers: Answers) -> "Iterator[tuple[int, str]]":
     """For each error that an event of the trace asks: the event, and what the program did, what came of it, and whose block it was."""
-    asked = [(error, verdict) for error, verdict in zip(log.errors, trace.verdicts) if verdict.event]
+    asked = [(error, verdict) for error, verdict in zip(log.errors, answers.verdicts) if verdict.event]
     places = Places(log)
     places.learn(stacks_of(log, [error for error, _ in asked]))
     for error, verdict in asked:
-        result, why = outcome(verdict, report)
+        result, why = outcome(verdict, answers.reports[0])
         text = f"{places.show(error.stack, callers=False)}: {sentence(error, log)}. {result.capitalize()}: {why}."
         text += f" Allocated at {places.show(log.made[error.block])}."
         if error.state != "live":
@@ -160,7 +160,7 @@ def notes(log: Log, trace: Trace, report: "dict[int, str]") -> "Iterator[tuple[i
         yield verdict.event, printable(text)
 
 
-def totals(log: Log, found: "list[Entry]", trace: Trace) -> "list[str]":
+def totals(log: Log, found: "list[Entry]", answers: Answers) -> "list[str]":
     lines = [f"errors {len(found)}"]
     reasons = Counter((entry.result, entry.uses[0].why) for entry in found if entry.result not in (CAUGHT, None))
     for result in RESULTS:
@@ -169,38 +169,14 @@ def totals(log: Log, found: "list[Entry]", trace: Trace) -> "list[str]":
     if log.crash:
         lines.append("crashed 1")
     lines.append(f"wrong accesses and frees {sum(use.times for entry in found for use in entry.uses)}")
-    lines.append(f"events {len(trace.lines)}")
-    lines += [f"left out: {number} {words}" for words, number in sorted(trace.left_out.items())]
+    lines.append(f"events {answers.events}")
+    lines += [f"left out: {number} {words}" for words, number in sorted(answers.left_out.items())]
     return lines
 
 
 def ending(status: int) -> list:
     """A line where the program did not end well."""
     return [f"the program ended with status {status}"] if status else []
-
-
-def answers(verdicts: "list[Verdict]") -> "list[str]":
-    """What the laws promise of each error, in a word."""
-    by_kind = {"left": "not replayed", "large": "not caught", "ruled": "caught"}
-    by_answer = {"refused": "caught", "accepted": "not caught", "open": "open"}
-    return [by_kind.get(verdict.kind) or by_answer[verdict.promise.answer] for verdict in verdicts]
-
-
-def changed_promises(trace: Trace, whole: Trace) -> str:
-    """A line on the promises that the blocks which the trace leaves out change; whole is the trace of everything."""
-    changes = Counter(both for both in zip(answers(trace.verdicts), answers(whole.verdicts)) if both[0] != both[1])
-    text = "".join(f", {number} from {mine} to {all_of_it}" for (mine, all_of_it), number in sorted(changes.items()))
-    return f"promises that the blocks left out change: {sum(changes.values())}{text}"
-
-
-def tell_differences(differences: "Iterable[tuple]", trace: Trace) -> "Iterator[str]":
-    """What to say where the replay, the recorder and the laws do not agree."""
-    for event, promise, line in differences:
-        wanted = promise.report if promise.report is not None else promise.answer
-        found = f"the promise is {wanted} ({promise.reason}), the replay has {line or 'no line'}"
-        yield f"event {event}, {trace.lines[event - 1]}: {found}"
-    for event in trace.conflicts:
-        yield f"event {event}, {trace.lines[event - 1]}: the model of the slots does not let this right access succeed"
 
 
 def tell_seeds(log: Log, found: "list[Entry]", places: Places, reports: "list[dict[int, str]]", odds: Odds) -> "Iterator[str]":

@@ -8,13 +8,11 @@ from typing import Any
 
 from mte_scripts import private_folder, texts
 from mte_scripts.builds import web_page
-from mte_scripts.faults import fault_answer, fault_neighbourhood, fault_report, findings, real_heaps, sarif, tombstone, unfreed
+from mte_scripts.faults import fault_answer, fault_report, findings, real_heaps, sarif, tombstone, unfreed
 from mte_scripts.faults.fault_answer import Judged
 from mte_scripts.faults.fault_log import Log, NoLog
-from mte_scripts.faults.fault_trace import Trace, differences
-from mte_scripts.faults.fault_variables import Choice, Everything
+from mte_scripts.faults.heap_answers import Answers
 from mte_scripts.faults.odds import Odds
-from mte_scripts.faults.slot_model import Slots
 from mte_scripts.formats import MOST_GRANULES, OPTIONS
 from mte_scripts.recording import children, recording
 from mte_scripts.texts import Refused
@@ -31,10 +29,9 @@ Usage: find_faults [OPTIONS] PROGRAM ARGS..
   --quarantine Q  bytes of freed blocks that the heap holds back: 0 to 4194304 (65536)
   --seed N        the seed of the random tags: 1 to 65535 (1)
   --seeds N       tell over how many of N seeds, spread over all, each error is caught
-  --whole         replay all of a large log, as far as a trace has room, and not only what its errors meet
   --measure SCUDO play the errors in LLVM's Scudo and in glibc, with QEMU's memory tags, and tell in how many of 200 runs each
                   catches them; SCUDO is the folder compiler-rt/lib/scudo/standalone of LLVM's sources
-  --keep FOLDER   keep the log, the profile, the sheet, the trace and the report in a new folder
+  --keep FOLDER   keep the log, the profile and the sheet in a new folder, and the trace and its report where a trace has room
   --read FOLDER   tell the errors of a log that --keep kept
   --page FILE     make a page for the browser too: each error, and the heap at that moment if scripts/page has built its engines
   --only NAME     record the first process whose program has this name, as NAME of /usr/bin/NAME
@@ -50,14 +47,14 @@ Usage: find_faults [OPTIONS] PROGRAM ARGS..
 
 Without --children the first process that traced_cc built is recorded, neither its forks nor what they run. Its standard input is
 its own, its standard output goes to standard error. Ctrl-C, SIGTERM and SIGHUP are for the program. What it did until a signal
-ended it, or until the log could not grow, is told, and a line `incomplete` says what is missing. A replay has 1,023 variables and a
-million events; the last lines say what of the program it leaves out. docs/FAULTS.md says what is seen, what is caught, and why.
+ended it, or until the log could not grow, is told, and a line `incomplete` says what is missing. docs/FAULTS.md says what is
+seen, what is caught, and why.
 
 Exit status:
   0  no error in the whole run but those passed over or known, and the program ended well
   1  errors, which standard output has; a crash is one
   2  the words are refused, or the log of --read
-  3  the log is incomplete, it could not be told, or the replay, the recorder and the laws do not agree
+  3  the log is incomplete, it could not be told, or the heap, the recorder and the laws do not agree
   4  no error was found, but the program failed: its exit status is not 0, or a signal ended it
 
 Example:
@@ -72,7 +69,6 @@ RANGES = {  # of an option: the least and the most, and where it is left out
 }
 NAME = "find_faults"
 GRACE = 10  # seconds that the program has to end by a signal that is handed on to it
-NO_REPLAY: tuple = (None, None, None, [], {}, [])
 ENDED = "status"  # the file of a kept folder that has the exit status of the program
 
 
@@ -133,17 +129,6 @@ def read_log(path: str) -> Log:
     return log
 
 
-def small_log(options: argparse.Namespace, path: str) -> "Log | None":
-    """A log in place of a large one, unless all of it is asked for."""
-
-    def table_of(profile: str) -> "list[int]":
-        return texts.parse_sheet(run_tool(["tune", "--limit", str(options.limit)], profile.encode())).classes
-
-    if options.whole or options.unfreed or options.measure:
-        return None
-    return fault_neighbourhood.small(path, table_of, options.granules, options.quarantine)
-
-
 def run_tool(words: list[str], given: bytes) -> bytes:
     status, output, said = texts.mte_tool(words, given)
     if status:
@@ -151,62 +136,54 @@ def run_tool(words: list[str], given: bytes) -> bytes:
     return output
 
 
-def quarantine_of(options: argparse.Namespace, log: Log) -> int:
-    """The bytes that the replay of a log holds back."""
-    return options.quarantine if log.quarantine is None else log.quarantine
-
-
-def replay(options: argparse.Namespace, log: Log, seed: int, given: bytes) -> tuple[dict[int, str], bytes]:
-    """The lines of the report that say more than the bytes of a load, by the number of their event; and the whole report."""
-    words = ["replay", "--granules", str(options.granules), "--quarantine", str(quarantine_of(options, log)), "--seed", str(seed)]
-    output = run_tool(words, given)
-    lines = (line.split(" ", 1) for line in output.decode().splitlines())
-    return {int(number): rest for number, rest in lines if number.isdigit() and not rest.startswith("data ")}, output
-
-
 def spread(number: int) -> list[int]:
     """So many seeds, each once. Small seeds have the same high bits, which the tags from the third draw on come from."""
     return [at * 40503 % 65536 for at in range(1, number + 1)]
 
 
-def replayed(options: argparse.Namespace, log: Log) -> tuple[Trace, Trace, list[int], list[dict[int, str]], dict[str, bytes], list]:
-    """The trace of a log, that of all its blocks, the table, the reports of the seeds, the files to keep, and what differs from the laws."""
-    profile = log.profile().encode()
-    sheet = run_tool(["tune", "--limit", str(options.limit)], profile)
-    table = texts.parse_sheet(sheet).classes
+def answered(options: argparse.Namespace, path: str) -> "tuple[Log, Answers | None]":
+    """The log of a process, and what the heaps say of it. Of a large one it is a small log, unless all blocks are asked for. Of many processes
+    those without an error are not asked."""
+    seeds = spread(options.seeds) if options.seeds else [options.seed]
+    heap = options.limit, options.granules, options.quarantine
+    small = None if options.unfreed or options.measure else Answers.small(path, heap, seeds)
+    if small:
+        return small
+    log = read_log(path)
+    try:
+        return log, None if options.children and not log.errors else Answers(log, path, log.length, heap, seeds)
+    except NoLog as why:
+        raise Refused(2, f"{path} is no log of a program that traced_cc built, or of another version of it: {why}") from None
 
-    def slots() -> Slots:
-        return Slots(table, options.granules, quarantine_of(options, log))
 
-    trace = Trace(log, slots(), Choice(log, slots()))
-    whole = Trace(log, slots(), Everything(log), is_asked=False) if log.errors and trace.choice.left_out else trace
-    events = "".join(line + "\n" for line in trace.lines).encode()
-    given = texts.joined(sheet.split(b"\n", 1)[0], events)
-    reports, output = [], b""
-    differing: list[str] = []
-    for seed in spread(options.seeds) if options.seeds else [options.seed]:
-        report, output = replay(options, log, seed, given)
-        reports.append(report)
-        differing += fault_report.tell_differences(differences(trace, report), trace)
-    return trace, whole, table, reports, {"profile": profile, "sheet": sheet, "trace": events, "report": output}, differing
+def files_of(options: argparse.Namespace, answers: Answers) -> "tuple[dict[str, bytes], list[str]]":
+    """What is kept of a process, and where the replay of its trace is not what the heap said."""
+    files, differing = {"profile": answers.profile, "sheet": answers.sheet}, []
+    if answers.trace:
+        seed = spread(1)[0] if options.seeds else options.seed
+        words = ["replay", "--granules", str(options.granules), "--quarantine", str(options.quarantine), "--seed", str(seed)]
+        output = run_tool(words, texts.joined(answers.sheet.split(b"\n", 1)[0], answers.trace))
+        files |= {"trace": answers.trace, "report": output}
+        lines = (line.split(" ", 1) for line in output.decode().splitlines())
+        differing = list(answers.replayed({int(number): rest for number, rest in lines if number.isdigit() and not rest.startswith("data ")}))
+    return files, differing
 
 
 def judge(options: argparse.Namespace, path: str, lists: "Lists", heaps: "str | None") -> Judged:
-    """The log of a process with its replays, and what is found in them. `heaps`: where the programs of the real heaps are, if they are played."""
-    log = small_log(options, path) or read_log(path)
-    replays = NO_REPLAY if options.children and not log.errors else replayed(options, log)
-    if log.places is not None and replays[0] and (replays[0].misplaced or replays[-1]):
-        log = read_log(path)
-        replays = replayed(options, log)
-    trace, whole, table, reports, files, differing = replays
-    found, places = fault_report.found_by(log, trace.verdicts if trace else [], reports[0] if reports else {})
+    """The log of a process with what the heaps say, and what is found. `heaps`: where the programs of the real heaps are, if they are played."""
+    log, answers = answered(options, path)
+    verdicts, reports = (answers.verdicts, answers.reports) if answers else ([], [])
+    files, differing = files_of(options, answers) if answers and (options.keep or options.read) else ({}, [])
+    differing += answers.differences() if answers else []
+    found, places = fault_report.found_by(log, verdicts, reports[0] if reports else {})
     if options.unfreed:
         found += unfreed.lost(log, places)
-    odds = Odds(log, whole.verdicts if whole else [], real_heaps.measured(heaps, log) if heaps and log.errors else None)
+    odds = Odds(log, verdicts, real_heaps.measured(heaps, log) if heaps and log.errors else None)
     values = findings.all_of(log, found, places, odds)
     lists.mark(values)
     name, program = os.path.basename(path), fault_answer.program_of(log)
-    return Judged(name, program, log, trace, whole, table, reports, found, places, odds, values, files, differing)
+    table = texts.parse_sheet(answers.sheet).classes if answers else None
+    return Judged(name, program, log, answers, table, reports, found, places, odds, values, files, differing)
 
 
 def find(options: argparse.Namespace, folder: str) -> int:
@@ -225,7 +202,7 @@ def find(options: argparse.Namespace, folder: str) -> int:
     for line in differing[:20]:
         texts.say(NAME, line)
     if differing:
-        texts.say(NAME, f"{len(differing)} events are not as the laws promise: this is an error of mte_tool, please report it")
+        texts.say(NAME, f"{len(differing)} answers are not as the laws promise: this is an error of mte_tool, please report it")
     return status
 
 
@@ -290,15 +267,18 @@ class Lists:
 
 
 def write_page(options: argparse.Namespace, judged: Judged, lines: list[str]) -> None:
-    """The page with the replay and a note at each error that an event asks; without the page's engines, that of the report alone."""
+    """The page with the replay and a note at each error that an event asks; without the page's engines, or a trace that has room, that of the
+    report alone."""
     name = os.path.basename(options.words[0] if options.words else os.path.abspath(options.read))
     modules = web_page.at_hand()
-    if modules:
-        heap = {"granules": options.granules, "seed": spread(1)[0] if options.seeds else options.seed, "quarantine": quarantine_of(options, judged.log)}
+    if modules and judged.answers.trace:
+        heap = {"granules": options.granules, "seed": spread(1)[0] if options.seeds else options.seed, "quarantine": options.quarantine}
         line = "classes " + " ".join(map(str, judged.table)) if judged.table else "classes"
-        replayed = {"line": line, "heap": heap, "notes": list(fault_report.notes(judged.log, judged.trace, judged.reports[0]))}
-        text = web_page.page(modules, trace=(texts.printable(name), judged.files["trace"].decode()), replay=replayed)
+        replayed = {"line": line, "heap": heap, "notes": list(fault_report.notes(judged.log, judged.answers))}
+        text = web_page.page(modules, trace=(texts.printable(name), judged.answers.trace.decode()), replay=replayed)
     else:
+        if modules:
+            texts.say(NAME, f"no trace has room for this run: {options.page} has the report alone")
         text = fault_report.page(texts.printable(name), lines)
     texts.write_file(options.page, text)
 

@@ -58,10 +58,10 @@ class Past:
 
 class Histories:
     """Follows the requests, frees and reallocs of a log. `wanted`: the blocks of which Past is asked, or None for all. A small log in place
-    of a large one (fault_neighbourhood.py) has only some of the blocks, and the sizes of moved ones only up to `largest`."""
+    of a large one lacks other blocks."""
 
-    def __init__(self, wanted: "set[int] | None" = None, largest: "int | None" = None) -> None:
-        self.wanted, self.largest = wanted, largest
+    def __init__(self, wanted: "set[int] | None" = None, is_small: bool = False) -> None:
+        self.wanted, self.is_small = wanted, is_small
         self.requests, self.frees, self.has_freed = 0, 0, False
         self.freed: dict[int, int] = {}  # of a room: the size of the largest block of a slot with it that was freed
         self.rooms: dict[int, int] = {}  # of a block, where it is not the one of its size
@@ -87,7 +87,7 @@ class Histories:
         """`is_known`: the old block was recorded."""
         self.requests, self.has_freed = self.requests + 1, True
         slot = self.slots.get(old)
-        is_sure = is_known and not (self.largest and size > self.largest) and not (slot and slot.is_lost) and old not in self.aligned
+        is_sure = is_known and not (slot and slot.is_lost) and old not in self.aligned
         room = self._room(old, old_size)
         if self._is_wanted(old) or self._is_wanted(new):
             self.next[old], self.made[new], self.sizes[new] = new, (old_size, self.requests), size
@@ -117,9 +117,9 @@ class Histories:
         slot = self.slots.get(block) or Slot(0, 0, 0, is_lost=True)
         since = self.requests - requests if requests is not None and is_known else None
         # a small log lacks other blocks' requests and frees
-        cut_from = before if at == self.requests and not self.largest else 0
+        cut_from = before if at == self.requests and not self.is_small else 0
         copy = replace(slot, marks=set(slot.marks))
-        return Past(copy, since, 1 if self.largest else self.frees - frees, block in self.cut, block in self.aligned, cut_from, tuple(later))
+        return Past(copy, since, 1 if self.is_small else self.frees - frees, block in self.cut, block in self.aligned, cut_from, tuple(later))
 
     def _is_wanted(self, block: int) -> bool:
         return self.wanted is None or block in self.wanted
@@ -133,7 +133,7 @@ class Histories:
             self.rooms[block] = room
             self.aligned.add(block)
         if self._is_wanted(block):
-            doubtful = UNBOUNDED if self.largest and self.has_freed else max(self.freed.get(room, 0), self.freed.get(0, 0))
+            doubtful = UNBOUNDED if self.is_small and self.has_freed else max(self.freed.get(room, 0), self.freed.get(0, 0))
             slot = Slot(size, room, min(doubtful, room), room > SCUDO_ROOMS[-1], alignment <= GRANULE)
             slot.resize(size)
             self.slots[block] = slot

@@ -12,13 +12,11 @@ from fractions import Fraction
 from functools import lru_cache
 
 from mte_scripts.faults.fault_log import Log
-from mte_scripts.faults.fault_trace import Verdict
+from mte_scripts.faults.heap_answers import Meeting, Verdict
 from mte_scripts.faults.histories import GRANULE, Histories, Past
 from mte_scripts.faults.other_heaps import ALL, EVEN, PADDED, on_glibc, on_scudo
 from mte_scripts.faults.real_heaps import Measured
 from mte_scripts.faults.shares import ALWAYS, NEVER, UNKNOWN, Share, as_value, in_words, together
-from mte_scripts.faults.slot_model import Meeting
-from mte_scripts.formats import LARGEST_SIZE
 
 ODD = 8  # how many tags a slot takes that has an even number; one with an odd one takes EVEN, and without parity each takes ALL
 LONGEST_CHAIN = 200  # of draws: from there on the last tag is as good as independent of the first, to more than 100 digits
@@ -149,7 +147,7 @@ def pasts(log: Log) -> "Iterator[Past]":
     """Of each error, what its block went through."""
     chains = {log.chain[error.block] for error in log.errors if error.block}
     wanted = {block for block, chain in enumerate(log.chain) if chain in chains}
-    histories = Histories(wanted, LARGEST_SIZE if log.places is not None else None)
+    histories = Histories(wanted, log.is_small)
     for letter, one, two, three in zip(log.letters, log.first, log.second, log.third):
         if letter == ERROR:
             yield histories.past(log.errors[one].block, not log.unrecorded)
@@ -162,7 +160,7 @@ def pasts(log: Log) -> "Iterator[Past]":
 
 
 class Odds:
-    """verdicts: of each error of the log, by the model over all blocks. measured: what Scudo and glibc made of them, if they were played."""
+    """verdicts: of each error of the log. measured: what Scudo and glibc made of them, if they were played."""
 
     def __init__(self, log: Log, verdicts: list[Verdict], measured: "Measured | None" = None) -> None:
         self.log, self.verdicts, self.measured = log, verdicts, measured

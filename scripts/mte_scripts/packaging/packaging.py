@@ -12,6 +12,7 @@ from typing import NamedTuple
 
 from mte_scripts import helps, manifest, texts
 from mte_scripts.builds import web_page
+from mte_scripts.faults import heap_reader
 from mte_scripts.packaging import completions, manual
 from mte_scripts.packaging.tree import Tree, run, source, tracked
 from mte_scripts.recording.recording import ENDINGS, FLAGS
@@ -163,6 +164,20 @@ def put_recorders(tree: Tree) -> "str | None":
     return None
 
 
+def put_reader(tree: Tree, folder: str) -> "str | None":
+    """The program by which find_faults asks the heap, compiled with the library that scripts/library laid out."""
+    compiler = os.environ.get("CC", "cc")
+    if not shutil.which(compiler):
+        return f"the reader of find_faults: the C compiler {compiler} is missing"
+    at = f"{PRIVATE}/recorders/{heap_reader.NAME}"
+    place, name = os.path.split(heap_reader.SOURCE)
+    words = [*heap_reader.FLAGS, *HARDENED, f"-I{os.path.abspath(folder)}/include", name, os.path.abspath(heap_reader.static(folder))]
+    run([compiler, *words, "-o", tree.path(at)], cwd=place)
+    tree.stripped(at)
+    os.chmod(tree.path(at), 0o755)
+    return None
+
+
 def put_library(tree: Tree, folder: str, number: str) -> None:
     """What scripts/library laid out, where Debian has it."""
     for name in sorted(os.listdir(f"{folder}/include")):
@@ -307,7 +322,11 @@ def stage(folder: str, parts: Parts) -> Tree:
     tree = Tree(folder)
     put_program(tree, parts)
     put_scripts(tree)
-    if missing := put_recorders(tree):
+    if parts.library:
+        reader = put_reader(tree, parts.library)
+    else:
+        reader = "the reader of find_faults, which asks the heap of the library"
+    for missing in filter(None, (put_recorders(tree), reader)):
         texts.say("package", f"left out: {missing}")
         parts.left_out.append(missing)
     if parts.library:

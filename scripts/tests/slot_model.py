@@ -1,23 +1,14 @@
-"""The slots of the heap of docs/HEAP.md without their tags: which slot each request takes, what each granule is, and what the laws promise
-of an access and of a free. It has no tags, so where the answer hangs on a tag that was drawn, it says that nothing is promised."""
+"""A second opinion on what the heap answers to the errors of a log: the slots of the heap of docs/HEAP.md without their tags, which slot each
+request takes, what each granule is, and what the laws promise of an access and of a free. It has no tags, so where the answer hangs on a tag
+that was drawn, it says that nothing is promised."""
 
 from bisect import bisect_left
-from collections import deque, namedtuple
+from collections import deque
+
+from mte_scripts.faults.heap_answers import IN_PLACE, LAST_GRANULE, REUSED, SAME_PARITY, Meeting, Promise, Verdict
+from mte_scripts.formats import FARTHEST_ACCESS, LARGEST_SIZE
 
 GRANULE = 16
-
-# What is known of an event before its replay. The answer is `refused` (it is a fault, or the free is refused), `accepted`, or `open`. The
-# report is the line that the report must have, as (granule, kind) for a tag fault, or None where any fault does. The reason is the law
-# that promises it, or why nothing is promised.
-Promise = namedtuple("Promise", "answer report reason")
-
-# The chunk whose tag decides an access or a free: of which slot and generation the pointer is, and the chunk.
-Meeting = namedtuple("Meeting", "own generation other other_generation is_dead")
-
-LAST_GRANULE = "it is inside the last granule of its chunk"
-IN_PLACE = "the block was resized in place, and the old pointer is still its own"
-SAME_PARITY = "it falls in a slot of the same parity that has the same tag"
-REUSED = "it comes after the slot's next user was freed, and the same tag came again"
 
 
 class Slot:
@@ -134,7 +125,7 @@ class Slots:
         if slot is own and slot.generation == generation:
             return Promise("accepted", None, IN_PLACE)
         if (slot.number - own.number) % 2 or (slot is own and slot.generation == generation + 1):
-            return Promise("refused", "refused wrong-tag", "law_own_pointer")
+            return Promise("refused", (own.start + moved + 1, "other"), "law_own_pointer")
         return Promise("open", None, REUSED if slot is own else SAME_PARITY)
 
     def meeting(self, pointer: tuple[Slot, int], offset: int, length: int) -> "Meeting | None":
@@ -153,8 +144,49 @@ class Slots:
 
 
 def meets(pointer: tuple[Slot, int], slot: Slot) -> Meeting:
-    return Meeting(pointer[0].number, pointer[1], slot.number, slot.generation, not slot.is_live)
+    own, other = (2 * each.start + each.number % 2 for each in (pointer[0], slot))
+    return Meeting(own, pointer[1], other, slot.generation, not slot.is_live)
 
 
 def chunk_granules(size: int) -> int:
     return max(1, -(-size // GRANULE))
+
+
+def asked(log, slots):
+    """The verdict on each error of a log that is asked, without its event; None for another."""
+    pointer, verdicts = {}, []
+
+    def request(block, size):
+        given = slots.take(size) if size <= LARGEST_SIZE else None
+        if given:
+            pointer[block] = given
+
+    for letter, first, second, third in zip(map(chr, log.letters), log.first, log.second, log.third):
+        if letter in "mc":
+            request(first, second)
+        elif letter == "f" and first in pointer:
+            slots.free(pointer[first][0])
+        elif letter == "r":
+            old = pointer[first][0] if first in pointer else None
+            if old and third <= LARGEST_SIZE and slots.class_of(third) == old.class_number:
+                old.size, pointer[second] = third, pointer[first]
+                continue
+            request(second, third)
+            if old:
+                slots.free(old)
+        elif letter == "E":
+            verdicts.append(verdict(log, slots, log.errors[first], pointer.get(log.errors[first].block)))
+    return verdicts
+
+
+def verdict(log, slots, error, pointer):
+    if not pointer or error.letter == "n":
+        return None
+    if error.is_free():
+        moved = error.offset // GRANULE
+        return None if error.offset % GRANULE else Verdict("asked", slots.freeing(pointer, moved), None, True, slots.meeting_of_free(pointer, moved))
+    offset, length = error.window(log.size[error.block])
+    promise = slots.access(pointer, offset, length)
+    if promise.reason == LAST_GRANULE and error.state == "resized":
+        promise = promise._replace(reason=IN_PLACE)
+    return Verdict("asked", promise, None, False, slots.meeting(pointer, offset, length)) if abs(offset) <= FARTHEST_ACCESS else None

@@ -1,0 +1,57 @@
+"""The program that asks the proved heap about a log (scripts/shims/reader). A package has it built. In the repository it is compiled with
+libmte_tool.a, which is proved and built first where that was not done: it stands in the folder `out` of its crate, or MTE_LIBRARY names a
+folder of scripts/library."""
+
+import fcntl
+import os
+import subprocess
+
+from mte_scripts import manifest
+from mte_scripts.faults import compiler_driver
+from mte_scripts.places import ROOT
+from mte_scripts.recording.shims import SHIMS, compile_alone, sum_of
+from mte_scripts.running import Refused, say
+
+NAME = "heap_answers"
+SOURCE, FLAGS = os.path.join(SHIMS, "reader", f"{NAME}.c"), ["-std=gnu11", "-O2", "-g", "-Wall"]
+PACKED = os.path.join(ROOT, "recorders", NAME)
+CRATE = os.path.join(ROOT, "crates", "mte_c")
+
+
+def static(folder: str) -> str:
+    return os.path.join(folder, "lib", "libmte_tool.a")
+
+
+def library() -> str:
+    """The folder of the library, built of these sources or named by MTE_LIBRARY."""
+    if named := os.environ.get("MTE_LIBRARY"):
+        if not os.path.isfile(static(named)):
+            raise Refused(3, f"MTE_LIBRARY names {named}, which is no folder of scripts/library")
+        return named
+    if not os.path.isdir(CRATE):
+        raise Refused(3, "this package has no library: it was made without one, and nothing can ask the heap")
+    folder = os.path.join(CRATE, "out", "library")
+    with open(os.path.join(CRATE, "src", "lib.rt"), "rb") as lock:  # one build at a time; the others wait for it
+        fcntl.flock(lock, fcntl.LOCK_EX)
+        if manifest.why_unproved(static(folder), ROOT):
+            build(folder)
+    return folder
+
+
+def build(folder: str) -> None:
+    if os.environ.get("MTE_TOOL_BUILD") == "no":
+        raise Refused(3, f"the library is not built of these sources, and MTE_TOOL_BUILD=no forbids to build it now; `scripts/library {folder}` builds it")
+    say(NAME, "the library with the heap is built first; this is done once, and takes some minutes")
+    done = subprocess.run([os.path.join(ROOT, "scripts", "library"), folder], stdin=subprocess.DEVNULL, stdout=2)
+    if done.returncode:
+        raise Refused(3, "without the heap's library no error can be told; it needs the Rattle kit, or MTE_LIBRARY names its folder")
+
+
+def path() -> str:
+    """Where the program is, which is compiled once for each version of its source and of the library."""
+    if os.access(PACKED, os.X_OK):
+        return PACKED
+    folder = library()
+    needed = [SOURCE, static(folder)]
+    words = [compiler_driver.found("TRACED_CC", "gcc", "clang"), *FLAGS, f"-I{folder}/include", *needed, "-o"]
+    return compiler_driver.kept(f"reader-{sum_of(FLAGS, needed)}", NAME, lambda new: compile_alone([*words, new], "the reader could not be compiled"))
