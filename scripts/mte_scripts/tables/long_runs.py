@@ -16,10 +16,11 @@ from mte_scripts.tables import figures
 
 MOST_RUNS = 8
 WINDOWS = 64
-MOST_MADE = 24  # tables that are counted over a run, of those that fits made
+MOST_MADE = 24  # tables that are counted over a run, beside those that are compared
 MOST_OTHERS = TABLES - MOST_MADE
 MOST_HELD = texts.MOST_SNAPSHOTS - 300  # moments of a run that the next one has too: there is room for the peaks of new tables
 GUESSES = 10  # tables that are made for the next run
+SPREAD = 8  # those that are counted before there is a fit
 Span = tuple[int, int]
 
 
@@ -108,12 +109,12 @@ def is_within(lower: texts.History, upper: bytes) -> bool:
     return all(any(all(map(operator.le, moment, each)) for each in most) for moment in zip(*lower.counts.values()))
 
 
-def interval_of(timed: figures.OverTime, run: Recorded, made: list[figures.Classes]) -> "figures.Interval | None":
-    """That of a fit over the lower history of a run: of the tables that were made, the one that takes least. None where nothing bounds one."""
+def interval_of(timed: figures.OverTime, run: Recorded) -> "figures.Interval | None":
+    """That of a fit over the lower history of a run: of its table and of those that join what was counted, the one that takes least. None where
+    nothing bounds one."""
     fitted = tuple(timed.fit.classes)
-    above = {table: taken for table, taken in run.counted.items() if taken is not None and table in made}
-    if fitted not in above and (high := figures.footprint(timed.fit.classes, run.upper)) is not None:
-        above[fitted] = high
+    taken = run.counted[fitted] if fitted in run.counted else figures.footprint(timed.fit.classes, run.upper)
+    above = {} if taken is None else {fitted: taken}
     if not is_within(timed.history, run.upper):
         raise texts.Refused(2, "the two histories are of different runs: a moment is in no window")
     cost, classes = joined(Spans(timed.history), run.counted, timed.fit)
@@ -156,6 +157,15 @@ class Spans:
 
     def cost(self, span: Span) -> int:
         return figures.GRANULE * span[1] * self.peak(span)[0]
+
+
+def spread_tables(step: int) -> list[figures.Classes]:
+    """Tables whose classes grow by the same share, each from another class on."""
+    found = []
+    for first in range(SPREAD):
+        blocks = (2 * 512 ** ((at + first / SPREAD) / (texts.MOST_CLASSES - 2)) for at in range(texts.MOST_CLASSES - 2))
+        found.append(tuple(sorted({*(math.ceil(block / step) * step for block in blocks), texts.LARGEST_CLASS})))
+    return list(dict.fromkeys(found))
 
 
 def joined(spans: Spans, counted: dict[figures.Classes, Optional[int]], fit: texts.Fit) -> "tuple[int, figures.Classes]":
@@ -204,10 +214,10 @@ class Narrowing:
     def narrowed(self, first: Recorded, lower: bytes) -> tuple[figures.OverTime, Recorded]:
         """The fit with its interval, and the run that both are of: the last one."""
         run = first
-        made: list[figures.Classes] = []
+        made = [table for table in first.counted if table not in self.others]
         while True:
             timed = self.fit(lower, 0)
-            interval = interval_of(timed, run, made)
+            interval = interval_of(timed, run)
             timed = timed._replace(interval=interval)
             if (interval and interval.is_narrow()) or tuple(timed.fit.classes) in run.counted:
                 return timed, run
@@ -274,7 +284,7 @@ def count(options: Any, folder: Any, runs: Runs, others: list) -> Recorded:
     name = "program.profile" if options.all else "program.timeline"
     printed, shown = folder.at(name), folder.file(name)
     kind = [] if options.all else ["--timeline"] if options.read is None else ["--windows"]
-    tables = [] if options.all else [tuple(classes) for _, classes in others][:MOST_OTHERS]
+    tables = [] if options.all else list(dict.fromkeys([*[tuple(classes) for _, classes in others][:MOST_OTHERS], *spread_tables(options.step)]))
     try:
         found = runs.record(kind, tables, printed)
         if not options.all and texts.is_history(texts.read(printed, 100)):
@@ -309,6 +319,6 @@ def narrowed(options: Any, folder: Any, runs: "Runs | None", found: Recorded,
         timed, found = narrowing.narrowed(found, lower)
     else:
         timed = fit(lower, 0)
-        timed = timed._replace(interval=interval_of(timed, found, []))
+        timed = timed._replace(interval=interval_of(timed, found))
     folder.write("upper.history", found.upper)
     return timed, found
