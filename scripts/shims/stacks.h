@@ -224,47 +224,106 @@ static inline uintptr_t end_of(uintptr_t at) {
   return at | (PAGE - 1);
 }
 
-static __attribute__((noinline, cold)) void keep_stack(struct kept_stack *place, const uintptr_t *addresses, int number) {
+// A call: its address, where the stack ended before it, the caller's rbp; and where that and the end come from, if from memory.
+struct call { uintptr_t address, sp, bp; const uintptr_t *saved, *base; uint64_t hash; };
+
+// Goes on to what a call was made from. Whether that is known.
+static inline int go_up(struct call *call, uintptr_t end) {
+  struct rule rule = rule_of(call->address);
+  uintptr_t caller = (rule.base == BY_SP ? call->sp : call->bp) + rule.offset, saved = call->bp;
+  const uintptr_t *base = NULL, *from = NULL;
+  if (rule.base == AT_BP) {
+    if (caller < call->sp || caller > end || caller & 7) return 0;
+    base = (const uintptr_t *)caller, caller = *base;
+  } else {
+    saved = caller + rule.saved;
+  }
+  if (rule.base == NOWHERE || caller < call->sp + 8 || caller > end || caller & 7) return 0;
+  if (!rule.keeps) {
+    if (saved < call->sp || saved >= caller || saved & 7) return 0;
+    from = (const uintptr_t *)saved, call->bp = *from;
+  }
+  call->address = ((uintptr_t *)caller)[-1] - 1, call->sp = caller, call->saved = from, call->base = base;
+  return call->address >= PAGE;
+}
+
+static inline uint64_t mixed(uint64_t hash, uintptr_t address) {
+  hash = (hash ^ address) * 0x9E3779B97F4A7C15ULL;
+  return hash ^ hash >> 29;
+}
+
+// Keeps a stack of these addresses, or of these calls, which are the other way round.
+static __attribute__((noinline, cold)) void keep_stack(struct kept_stack *place, const uintptr_t *addresses, const struct call *calls, int number) {
   uint64_t at = __atomic_fetch_add(&stacks->used, number + 1, __ATOMIC_RELAXED);
   if (at + number + 1 > STACK_WORDS) return;
   stacks->words[at] = image << 32 | number;
-  for (int i = 0; i < number; i++) stacks->words[at + 1 + i] = addresses[i];
+  for (int i = 0; i < number; i++) stacks->words[at + 1 + i] = addresses ? addresses[i] : calls[number - 1 - i].address;
   __atomic_store_n(&place->at, at + 1, __ATOMIC_RELEASE);
 }
 
-// The number of the stack above a function whose frame pointer this is; 0 where there is none, or no room for it.
-static __attribute__((noinline)) uint64_t stack_of(const uintptr_t *frame) {
-  if (!stacks) return 0;
-  uintptr_t addresses[DEEP], bp = frame[0], address = frame[1], sp = (uintptr_t)(frame + 2), end = end_of(sp) - 8;
-  uint64_t hash = image;
-  int number = 0;
-  while (number < DEEP && address > PAGE) {
-    addresses[number++] = --address;
-    hash = (hash ^ address) * 0x9E3779B97F4A7C15ULL, hash ^= hash >> 29;
-    struct rule rule = rule_of(address);
-    uintptr_t caller = rule.base == BY_SP ? sp + rule.offset : bp + rule.offset;
-    uintptr_t saved = caller + rule.saved;
-    if (rule.base == AT_BP) {
-      if (caller < sp || caller > end || caller & 7) break;
-      caller = *(uintptr_t *)caller, saved = bp;
-    }
-    if (rule.base == NOWHERE || caller < sp + 8 || caller > end || caller & 7) break;
-    if (!rule.keeps) {
-      if (saved < sp || saved >= caller || saved & 7) break;
-      bp = *(uintptr_t *)saved;
-    }
-    address = ((uintptr_t *)caller)[-1], sp = caller;
-  }
+static uint64_t number_of(uint64_t hash, const uintptr_t *addresses, const struct call *calls, int number) {
   hash |= 1;
   for (uint64_t at = hash >> 44, tries = 0; tries < 64; tries++, at = (at + 1) & (STACKS_MOST - 1)) {
     struct kept_stack *place = &stacks->place[at];
     uint64_t there = __atomic_load_n(&place->hash, __ATOMIC_RELAXED);
-    if (there == hash) return at + 1;
-    if (there) continue;
-    if (__atomic_compare_exchange_n(&place->hash, &there, hash, 0, __ATOMIC_RELAXED, __ATOMIC_RELAXED)) return keep_stack(place, addresses, number), at + 1;
+    if (!there && __atomic_compare_exchange_n(&place->hash, &there, hash, 0, __ATOMIC_RELAXED, __ATOMIC_RELAXED))
+      return keep_stack(place, addresses, calls, number), at + 1;
     if (there == hash) return at + 1;
   }
   return 0;
+}
+
+// A stack as it is, its outermost calls left out where it is too deep.
+static __attribute__((noinline)) uint64_t walk(struct call call, uintptr_t end) {
+  uintptr_t addresses[DEEP];
+  uint64_t hash = image;
+  int number = 0;
+  do addresses[number++] = call.address; while (number < DEEP && go_up(&call, end));
+  for (int i = number; i--;) hash = mixed(hash, addresses[i]);
+  return number_of(hash, addresses, NULL, number);
+}
+
+// The calls of a thread's last stack, the outermost first. Most of them are those of its next stack: from a call that is the same, with the
+// same end of the stack and the same rbp, all others are, if each word that they came from is. One that is held, by another thread or by what
+// a signal interrupted, is not taken.
+enum { LASTS = 64 };
+static struct last { uintptr_t owner; int is_held, number; struct call calls[DEEP], fresh[DEEP]; } lasts[LASTS];
+
+static inline int are_same(const struct call *calls, int number) {
+  for (const struct call *call = calls + number - 1; call >= calls; call--) {
+    if (((const uintptr_t *)call->sp)[-1] != call->address + 1) return 0;
+    if ((call->saved && *call->saved != call->bp) || (call->base && *call->base != call->sp)) return 0;
+  }
+  return 1;
+}
+
+// The number of the stack above a function whose frame pointer this is; 0 where there is none, or no room for it.
+static __attribute__((noinline)) uint64_t stack_of(const uintptr_t *frame) {
+  if (!stacks || frame[1] <= PAGE) return 0;
+  uintptr_t own = (uintptr_t)pthread_self(), end = end_of((uintptr_t)(frame + 2)) - 8;
+  struct call first = {.address = frame[1] - 1, .sp = (uintptr_t)(frame + 2), .bp = frame[0]}, call = first;
+  struct last *last = &lasts[own * 0x9E3779B97F4A7C15ULL >> 58];
+  if (__atomic_exchange_n(&last->is_held, 1, __ATOMIC_ACQUIRE)) return walk(first, end);
+  if (last->owner != own) last->owner = own, last->number = 0;
+  int same = last->number - 1, number = 0, is_found = 0;
+  do {
+    struct call *other = &last->calls[same];
+    while (same >= 0 && other->sp < call.sp) same--, other--;
+    is_found = same >= 0 && other->sp == call.sp && other->address == call.address && other->bp == call.bp && are_same(last->calls, same);
+    if (is_found) other->saved = call.saved, other->base = call.base;
+    else last->fresh[number++] = call;
+  } while (!is_found && number < DEEP && go_up(&call, end));
+  if (!is_found) same = -1;
+  uint64_t found;
+  if (same + 1 + number > DEEP || number == DEEP) {
+    found = walk(first, end), last->number = 0;
+  } else {
+    uint64_t hash = same < 0 ? image : last->calls[same].hash;
+    while (number) call = last->fresh[--number], call.hash = hash = mixed(hash, call.address), last->calls[++same] = call;
+    last->number = same + 1, found = number_of(hash, NULL, last->calls, last->number);
+  }
+  __atomic_store_n(&last->is_held, 0, __ATOMIC_RELEASE);
+  return found;
 }
 
 static void begin_stacks(int opened, uint64_t offset) {
