@@ -102,14 +102,8 @@ static void reduce_pieces(void) {
   kept.is_reduced = 1, kept.piece = 0;
 }
 
-static int line_of(int counter) {  // the bytes of its line
-  int line = counter == LARGE ? 6 : 2;
-  for (int power = 10; power <= counter && counter < LARGE; power *= 10) line++;
-  return line;
-}
-
-static void record_event(int counter, int place, int is_free) {
-  int line = line_of(counter) + is_free;
+static void record_event(int place, int is_free) {
+  int line = sizes.lines[place] + is_free;
   if (kept.is_reduced ? kept.piece == PIECE : kept.text + line > MOST_TEXT || kept.piece == PIECES * PIECE) reduce_pieces();
   uint16_t **piece = &pieces[kept.piece / PIECE];
   if (!*piece) *piece = some(PIECE * sizeof **piece);
@@ -127,7 +121,7 @@ static void event(uint64_t size, int by) {
   if (after > kept.most) kept.most = after, kept.is_open = 1, kept.peak.at = record_of ? kept.events : kept.requests;
   if (counter == LARGE && (kept.large += by * (int64_t)size) > kept.most_large) kept.most_large = kept.large;
   if (number_of_snapshots && by > 0 && !(kept.requests & (kept.spacing - 1))) take_snapshot();
-  if (record_of) record_event(counter, place, by < 0);
+  if (record_of) record_event(place, by < 0);
 }
 
 static void begin_kept(void) {
@@ -172,7 +166,7 @@ static void write_timeline(FILE *to) {
   for (int i = 0; i < kept.piece; i++) {
     int code = pieces[i / PIECE][i % PIECE], counter = sizes.counters[place_in(code)];
     if (code & FREED) putc_unlocked('-', to);
-    fwrite_unlocked(lines[counter], 1, line_of(counter), to);
+    fwrite_unlocked(lines[counter], 1, sizes.lines[place_in(code)], to);
   }
 }
 #endif

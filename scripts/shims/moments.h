@@ -24,10 +24,14 @@ enum { CLASSES = LARGEST_SIZE / 16 + 2, TABLES = 32 };
 enum { FREED = 1 << 15, AT_PEAK = 1 << 14 };  // of an event; the other bits are the place of its size
 struct moment { uint64_t at; int live[COUNTERS]; };  // by places; the events, or requests, before it; 0 where there is none
 
-static struct { int number, counters[COUNTERS], places[COUNTERS]; } sizes;  // a place is one more here, and 0 where a size has none yet
+static struct {
+  int number, places[COUNTERS];  // a place is one more here, and 0 where a size has none yet
+  int counters[COUNTERS], blocks[COUNTERS], lines[COUNTERS];  // of a place: its block in bytes, 0 of large ones; the bytes of its line
+} sizes;
 
 static int counter_of(uint64_t size) { return size < LARGE ? size : LARGE; }
 static int class_of(int counter) { return counter ? (counter + 31) / 16 : 2; }
+static int line_of(int counter) { return counter == LARGE ? 6 : counter < 10 ? 2 : 1 + line_of(counter / 10); }
 static int by_of(int event) { return event & FREED ? -1 : 1; }
 static int place_in(int event) { return event & (AT_PEAK - 1); }
 
@@ -61,7 +65,8 @@ static int new_place(int counter) {
     while (counter != LARGE && table->classes[group] < class_of(counter)) group++;
     table->of[sizes.number] = group;
   }
-  sizes.counters[sizes.number++] = counter, sizes.places[counter] = sizes.number;
+  sizes.counters[sizes.number] = counter, sizes.blocks[sizes.number] = counter == LARGE ? 0 : 16 * class_of(counter);
+  sizes.lines[sizes.number] = line_of(counter), sizes.places[counter] = ++sizes.number;
   return sizes.number - 1;
 }
 static inline int place_of(int counter) { return sizes.places[counter] ? sizes.places[counter] - 1 : new_place(counter); }
@@ -85,28 +90,62 @@ static void begin_moments(void) {
   }
 }
 
-// Marks the events of the piece after which a group has the most blocks, where these are more than before.
-static void mark_peaks(struct table *table, int *at, uint16_t *piece, int number) {
+// ---- a part of the run
+
+enum { PART = 1 << 12 };  // events, at most
+static struct { int number, places[PART], first[COUNTERS], most[COUNTERS]; char has[COUNTERS]; } part;  // its places, with their blocks
+
+// Whether a group may have more blocks in the part than ever before: as many more as its sizes have at most, each by itself. Else adds what the
+// part adds.
+static int may_peak(struct table *table) {
+  static int rise[CLASSES + 1];
+  int may = 0;
+  for (int k = 0; k < part.number; k++) {
+    int place = part.places[k], group = table->of[place];
+    rise[group] += part.most[place] - part.first[place];
+    may |= table->now[group] + rise[group] > table->most[group];
+  }
+  for (int k = 0; k < part.number; k++) {
+    int place = part.places[k], group = table->of[place];
+    rise[group] = 0;
+    if (!may) table->now[group] += before.live[place] - part.first[place];
+  }
+  return may;
+}
+
+// Marks the events of the part after which a group has the most blocks, where these are more than before.
+static void mark_peaks(struct table *table, int *at, uint16_t *events, int number) {
   if (!table->moments) table->moments = some(table->groups * sizeof *table->moments);
   memset(at, -1, table->groups * sizeof *at);
   for (int i = 0; i < number; i++) {
-    int group = table->of[place_in(piece[i])];
-    table->now[group] += by_of(piece[i]);
+    int group = table->of[place_in(events[i])];
+    table->now[group] += by_of(events[i]);
     if (table->now[group] > table->most[group]) table->most[group] = table->now[group], at[group] = i;
   }
   for (int group = 0; group < table->groups; group++)
-    if (at[group] >= 0) piece[at[group]] |= AT_PEAK;
+    if (at[group] >= 0) events[at[group]] |= AT_PEAK;
 }
 
-static void mark_held(uint16_t *piece, int number) {
-  for (int k = held.next; k < held.number && held.at[k] - before.at <= (uint64_t)number; k++) piece[held.at[k] - before.at - 1] |= AT_PEAK;
-}
-
-// keeps the moment after event i of the piece for whatever it is marked for
-static void keep_moment(int at[TABLES][CLASSES + 1], int place, int i) {
+// Adds events to the run. The moment after event TOP of them goes into TO, if there is such an event; others are kept as they are wanted.
+static void add_events(uint16_t *events, int number, int top, struct moment *to) {
+  static int at[TABLES][CLASSES + 1];
+  int marked[TABLES], number_marked = 0, last = top;
   for (int t = 0; t < number_of_tables; t++)
-    if (at[t][tables[t].of[place]] == i) copy_moment(&tables[t].moments[tables[t].of[place]], &before);
-  if (held.next < held.number && held.at[held.next] == before.at) copy_moment(&held.moments[held.next++], &before);
+    if (may_peak(&tables[t])) mark_peaks(&tables[t], at[t], events, number), marked[number_marked++] = t, last = number - 1;
+  if (held.next < held.number && held.at[held.next] - before.at <= (uint64_t)number) last = number - 1;
+  if (last < 0) before.at += number;
+  for (int k = 0; k < part.number && last >= 0; k++) before.live[part.places[k]] = part.first[part.places[k]];
+  for (int i = 0; i < number && last >= 0; i++) {
+    int place = place_in(events[i]);
+    before.live[place] += by_of(events[i]), before.at++;
+    if (i == top) copy_moment(to, &before);
+    if (held.next < held.number && held.at[held.next] == before.at) copy_moment(&held.moments[held.next++], &before);
+    if (!(events[i] & AT_PEAK)) continue;
+    for (int k = 0; k < number_marked; k++) {
+      int t = marked[k], group = tables[t].of[place];
+      if (at[t][group] == i) copy_moment(&tables[t].moments[group], &before);
+    }
+  }
 }
 
 // ---- the text of a history

@@ -107,35 +107,33 @@ static struct window *next_window(void) {
   return next;
 }
 
-// The event of these after which the most bytes are live in the window, where these are more than before; -1 where there is none.
-static int top_of(struct window *window, const uint16_t *events, int number) {
+// Adds events to a window, and to the run.
+static void add_part(struct window *window, uint16_t *events, int number) {
   int top = -1;
   for (int i = 0; i < number; i++) {
-    int counter = sizes.counters[place_in(events[i])];
-    windows.bytes += counter == LARGE ? 0 : 16 * class_of(counter) * by_of(events[i]);
+    int place = place_in(events[i]), *live = &before.live[place];
+    if (!part.has[place]) part.has[place] = 1, part.places[part.number++] = place, part.first[place] = part.most[place] = *live;
+    *live += by_of(events[i]), windows.bytes += sizes.blocks[place] * by_of(events[i]);
+    if (*live > part.most[place]) part.most[place] = *live;
     if (windows.bytes > window->bytes) window->bytes = windows.bytes, top = i;
   }
-  return top;
+  add_events(events, number, top, window->live);
+  for (; part.number; part.number--) {
+    int place = part.places[part.number - 1];
+    if (part.most[place] > window->most->live[place]) window->most->live[place] = part.most[place];
+    part.has[place] = 0;
+  }
 }
 
 // Keeps of a piece of the run what is wanted.
 static void keep_piece(uint16_t *piece, int number) {
-  static int at[TABLES][CLASSES + 1];
   static struct moment none;
-  struct window unwanted = {0, &none, &none}, *window = &unwanted;
-  for (int t = 0; t < number_of_tables; t++) mark_peaks(&tables[t], at[t], piece, number);
-  mark_held(piece, number);
-  for (int i = 0, end = 0, top = -1; i < number; i++) {
-    if (i == end && windows.wanted) {
-      window = windows.left ? &windows.all[windows.number - 1] : next_window();
-      int part = number - i < windows.left ? number - i : windows.left;
-      windows.left -= part, end = i + part, top = i + top_of(window, piece + i, part);
-    }
-    int place = place_in(piece[i]), now = before.live[place] += by_of(piece[i]);
-    before.at++;
-    if (now > window->most->live[place]) window->most->live[place] = now;
-    if (i == top) copy_moment(window->live, &before);
-    if (piece[i] & AT_PEAK) keep_moment(at, place, i);
+  struct window unwanted = {INT64_MAX, &none, &none};
+  for (int i = 0, many; i < number; i += many) {
+    struct window *window = !windows.wanted ? &unwanted : windows.left ? &windows.all[windows.number - 1] : next_window();
+    many = number - i < PART ? number - i : PART;
+    if (windows.wanted && many > windows.left) many = windows.left;
+    windows.left -= many, add_part(window, piece + i, many);
   }
 }
 #endif

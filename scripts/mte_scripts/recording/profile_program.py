@@ -40,7 +40,7 @@ Usage: profile_program [--live] [--only NAME] [--said FILE] PROGRAM ARGS..
   --upper FILE   with --windows, or a timeline that is too long: write into FILE a history over which each table takes at least what
                  it takes over the run
   --again FILE   with --windows: the moments in FILE, which --measured of an earlier run wrote, are among the others. So over an
-                 equal run no table takes less over this history than over the earlier one
+                 equal run each table takes at least as much over this history as over the earlier one
   --classes TABLE
                  print a history of the moments at which each class of a table has the most blocks. TABLE is a file whose first line
                  is a class line, such as a sheet or a fit. With --windows these moments are among the others; up to {TABLES} times
@@ -198,8 +198,8 @@ def moments_in(path: str) -> "list[int]":
     """The moments that a file of --measured names."""
     lines = texts.read(path).decode(errors="replace").splitlines()
     found_ = [line.removeprefix("moment ") for line in lines if line.startswith("moment ")]
-    if not found_ or not all(re.fullmatch("[1-9][0-9]{0,17}", each) for each in found_):
-        raise Refused(2, f"{texts.named(path)} names no moments: --measured of --windows writes them")
+    if not 0 < len(found_) <= MOST_SNAPSHOTS or not all(re.fullmatch("[1-9][0-9]{0,17}", each) for each in found_):
+        raise Refused(2, f"{texts.named(path)} does not name 1 to {MOST_SNAPSHOTS:,} moments: --measured of --windows does")
     return sorted({int(each) for each in found_})
 
 

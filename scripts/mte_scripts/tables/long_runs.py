@@ -117,7 +117,7 @@ def interval_of(timed: figures.OverTime, run: Recorded) -> "figures.Interval | N
     above = {} if taken is None else {fitted: taken}
     if not is_within(timed.history, run.upper):
         raise texts.Refused(2, "the two histories are of different runs: a moment is in no window")
-    cost, classes = joined(Spans(timed.history), run.counted, timed.fit)
+    cost, classes = joined(Spans(by_need(timed.history)), run.counted, timed.fit)
     counted = {**run.counted, **({classes: cost} if classes else {})}
     above |= {classes: cost} if classes else {}
     if not above:
@@ -128,12 +128,23 @@ def interval_of(timed: figures.OverTime, run: Recorded) -> "figures.Interval | N
     return figures.Interval(list(chosen), timed.fit.footprint, above[chosen], run.measured.get("events", 0), counted)
 
 
+def by_need(history: texts.History) -> texts.History:
+    """The same to every table, with one size for each need, and no large blocks."""
+    rows: dict[int, list] = {}
+    for size, counts in history.counts.items():
+        if size != "large":
+            largest = figures.GRANULE * (timelines.need_of(size) - 1)
+            rows[largest] = list(map(operator.add, rows[largest], counts)) if largest in rows else counts
+    return texts.History(history.snapshots, rows)
+
+
 class Spans:
-    """Of a history, the most blocks that spans of needs have at one snapshot. A span is the needs above the first of two up to the second."""
+    """Of a history by needs, the most blocks that spans of these have at one snapshot. A span is the needs above the first of two up to the
+    second."""
 
     def __init__(self, history: texts.History) -> None:
         self.snapshots = history.snapshots
-        self.rows = sorted((timelines.need_of(size), counts) for size, counts in history.counts.items() if size != "large")
+        self.rows = sorted((timelines.need_of(size), counts) for size, counts in history.counts.items())
         self.needs = [need for need, _ in self.rows]
         self.known: dict[Span, tuple[int, int]] = {}
 
@@ -193,8 +204,7 @@ def with_guesses(history: texts.History, classes: figures.Classes) -> texts.Hist
         peak, at = spans.peak(span)
         share, whole = 1 + 1 / math.sqrt(peak or 1), 0.0
         for size, each in counts.items():
-            is_inside = size != "large" and span[0] < timelines.need_of(size) <= span[1]
-            before, whole = whole, whole + each[at] * share * is_inside
+            before, whole = whole, whole + each[at] * share * (span[0] < timelines.need_of(size) <= span[1])
             each.append(round(whole) - round(before))
     return texts.History(history.snapshots + len(classes), counts)
 
@@ -235,7 +245,8 @@ class Narrowing:
     def with_tables(self, made: list[figures.Classes], timed: figures.OverTime, run: Recorded) -> list[figures.Classes]:
         """The tables to count next: that of the fit; what would be fitted next if each class of those before had some more blocks than are seen;
         and those of fewer classes and of the upper history. The peaks of their classes are in the next lower history."""
-        history, spans, found = timed.history, Spans(timed.history), [tuple(timed.fit.classes)]
+        history, found = by_need(timed.history), [tuple(timed.fit.classes)]
+        spans = Spans(history)
         while len(found) < GUESSES and history.snapshots + len(found[-1]) <= texts.MOST_SNAPSHOTS:
             history = with_guesses(history, found[-1])
             found.append(tuple(self.fit(texts.history_text(history).encode(), 0).fit.classes))
