@@ -12,7 +12,7 @@ from mte_scripts.recording import recording, sites, timelines
 from mte_scripts.recording.imports import heaptrack_stacks
 from mte_scripts.reports import measured_section, report_page, who_section
 from mte_scripts.reports.pictures import escape
-from mte_scripts.tables import draw_waste, figures, long_runs, processes, scudo_map, verdict, verification, who
+from mte_scripts.tables import draw_waste, figures, long_runs, processes, scudo_map, settings, verdict, verification, who
 from mte_scripts.tables.figures import kibibytes, number, percent
 from mte_scripts.texts import printable, wrapped
 from mte_scripts.words import TABLES, ProgramWords, between, named, some
@@ -36,6 +36,8 @@ Usage: tune_program [OPTION..] PROGRAM ARGS..
                    back. For a program that ends by itself and does the same each time. Its standard input is kept for that; what
                    these runs print is not shown. The tuned Scudo stays in the folder, as a library for LD_PRELOAD, with its header.
                    It wants LLVM 19 or a later one, and clang++ or what CXX names
+  --settings       with --verify: run it also with other settings of Scudo, of both tables: how soon memory is given back, a quarantine,
+                   zero fill. That is 60 runs more
   --who            say which places in the source request the blocks that cost, and what is saved where one requests some bytes fewer: by
                    the calls that made each request, which are recorded too, or stand in FILE of --read where heaptrack wrote it.
                    Recording takes more time then, by the depth of the calls. Names want binutils, lines debug symbols
@@ -119,6 +121,8 @@ class Options(argparse.Namespace):
             raise texts.Refused(2, "--upper goes with --read")
         if self.verify is not None and (self.read is not None or self.all or self.only is not None):
             raise texts.Refused(2, "--verify runs the program itself, so there is no place for --read, --all or --only")
+        if self.settings and self.verify is None:
+            raise texts.Refused(2, "--settings goes with --verify")
         if self.who and (self.all or self.upper is not None):
             raise texts.Refused(2, f"--who takes each moment of a run, so there is no place for {'--all' if self.all else '--upper'}")
         if self.limit == 1 and self.largest:
@@ -576,7 +580,11 @@ def verify(options: Options, folder: Folder, found: figures.Figures, report: Cal
     rows = verdict.measured(runner, options.words, path, libraries, kept)
     said = f"{options.name()}: {verdict.verdict(rows, tuned)}"
     report(measured_section.section(said, rows, tuned, found.saved_in_scudo))
-    text = "".join(f"{printable(line)}\n" for line in measured_lines(options, folder, found, rows, made, said))
+    further = []
+    if options.settings:
+        both = [each for each in (libraries[verdict.DEFAULT], libraries[tuned]) if each]
+        further = ["", *settings.lines(settings.measured(runner, options.words, path, both, kept), both)]
+    text = "".join(f"{printable(line)}\n" for line in measured_lines(options, folder, found, rows, made, said) + further)
     folder.write("summary.txt", texts.read(folder.at("summary.txt")) + text.encode())
     texts.write(text)
 
