@@ -36,11 +36,11 @@ Usage: tune_program [OPTION..] PROGRAM ARGS..
                    back. For a program that ends by itself and does the same each time. Its standard input is kept for that; what
                    these runs print is not shown. The tuned Scudo stays in the folder, as a library for LD_PRELOAD, with its header.
                    It wants LLVM 19 or a later one, and clang++ or what CXX names
-  --settings       with --verify: run it also with other settings of Scudo, of both tables: how soon memory is given back, a quarantine,
-                   zero fill. That is 60 runs more
-  --who            say which places in the source request the blocks that cost, and what is saved where one requests some bytes fewer: by
-                   the calls that made each request, which are recorded too, or stand in FILE of --read where heaptrack wrote it.
-                   Recording takes more time then, by the depth of the calls. Names want binutils, lines debug symbols
+  --settings       with --verify: run it also with other settings of Scudo, of both tables: how soon memory is given back, a
+                   quarantine, zero fill. That is 60 runs more
+  --who            say which places in the source request the blocks that cost, and what is saved where one requests some bytes
+                   fewer: by the calls that made each request, which are recorded too, or stand in FILE of --read where heaptrack
+                   wrote it. Recording takes more time then, by the depth of the calls. Names want binutils, lines debug symbols
   --only NAME      count only processes whose program has this name, as NAME of /usr/bin/NAME
   --against TABLE  a file with a class line: another table to compare with, besides Scudo's default and its table for Android
   --output FOLDER  the folder to make; without it, the name of the program or of FILE with `.tuned`, in the current folder
@@ -67,7 +67,11 @@ claims.txt (what is shown of each table, and the command that checks it) and sum
 has program.timeline, fitted.fit (the other table and its certificate) and moments.history (the moments that the fit names, for
 merge_profiles); or program.history, fitted.fit and, of a long run, upper.history. Where the engines of scripts/page are at hand,
 page.html is its page of the same counts, to which report.html has a link. With --who there are who.txt (the places), who.svg and
-who_lost.svg (flame graphs of what is taken, and of what is lost by rounding) and who.speedscope.json. If a step fails, what was made before it stays.
+who_lost.svg (flame graphs of what is taken, and of what is lost by rounding) and who.speedscope.json. If a step fails, what was
+made before it stays.
+
+Where the process that is started first makes less than nine tenths of all requests, and another program makes those, the program is
+run again for that, as with --only; where none does, the programs are named with their requests, and nothing is tuned.
 
 MTE_TOOL=PATH in the environment takes the program at PATH in place of the built one; the summary and the page say so.
 
