@@ -387,10 +387,8 @@ def larger_blocks(found: figures.Figures) -> str:
     default = found.others[0]
     sizes, all_sizes, cost = found.larger(default)
     if not sizes:
-        return f"None of the {all_sizes} sizes has a larger block than with {default.name}."
-    size, ours, theirs = max(sizes, key=lambda each: each[1] / each[2])
-    of = f"{len(sizes)} of the {all_sizes} sizes {'has' if len(sizes) == 1 else 'have'} a larger block than with {default.name}"
-    return f"{of}, which takes at most {figures.byte_text(cost)} at a moment; the most at {numbered(size, 'byte')}, {number(ours)} for {number(theirs)}."
+        return f"No requested size has a larger block than with {default.name}."
+    return f"Of {all_sizes} requested sizes {len(sizes)} have a larger block than with {default.name}: together at most {figures.byte_text(cost)} more at a moment."
 
 
 def predicted(found: figures.Figures) -> str:
