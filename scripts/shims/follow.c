@@ -262,12 +262,12 @@ static int is_over(int k, int last) {
 static void end_ring(int k) {
   struct ring *ring = &stream->rings[k];
   struct reading *reading = &readings[k];
-  if (strcmp(wanted, "all")) named_as(ring->name)->requests += reading->requests;
   if (reading->is_main || reading->is_counted) notes->gaps |= ring->overrun;
   else if (reading->is_named && reading->requests) notes->others++, notes->other_requests += reading->requests;
   int has_next = 0;
   for (uint64_t j = 0; j < number_of_rings && !has_next; j++)
     has_next = stream->rings[j].process == ring->process && stream->rings[j].start > ring->start;
+  if (strcmp(wanted, "all") && !(reading->is_main && has_next)) named_as(ring->name)->requests += reading->requests;  // not what ran before in its place
   if ((reading->is_main || reading->is_counted) && ring->executed && !has_next) notes->executed++;
   if (reading->is_main && !has_next) main_process = -1;  // another one may get its number
   if (ring->overrun || ring->next != ring->read) memset(reading->records, 0, RING * 8);

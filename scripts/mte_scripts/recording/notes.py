@@ -60,8 +60,8 @@ class Notes(ctypes.Structure):
         return os.fsdecode(self.words)
 
     def programs(self) -> "list[str]":
-        """A line for each program that had processes, that of the followed one first."""
-        found = sorted((each for each in self.named if each.name), key=lambda each: each.name != self.followed)
+        """A line for each program whose processes requested something, that of the followed one first."""
+        found = sorted((each for each in self.named if each.requests), key=lambda each: each.name != self.followed)
         return [each.line(self.resident if each.name == self.followed else 0) for each in found]
 
     def remaining(self) -> list:

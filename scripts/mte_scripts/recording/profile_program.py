@@ -53,8 +53,8 @@ Usage: profile_program [--live] [--only NAME] [--said FILE] PROGRAM ARGS..
   --stacks FILE  with --timeline of a run: write into FILE, for tune_program --who, which calls made each request. The run takes
                  more time, by the depth of the calls. FILE is empty where the run is too long for a timeline
   --processes FILE
-                 with these and --live: write into FILE a line for each program that had processes, the counted one first: how
-                 many, their requests, the most resident memory of one in bytes, 0 where none was seen, and the name
+                 with these and --live: write into FILE a line for each program that requested, that of the counted one first:
+                 how many, their requests, the most resident memory of one in bytes, 0 where none was seen, and the name
   --as-scudo     with these and --live: a realloc leaves a block as it was where LLVM's Scudo does, which makes it smaller by up to
                  4,095 bytes in its place, and as large again as it had been
   --only NAME    count only processes whose program has this name, as NAME of /usr/bin/NAME

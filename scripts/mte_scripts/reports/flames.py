@@ -6,7 +6,7 @@ from collections.abc import Iterable
 
 from mte_scripts.reports.pictures import escape, shown
 
-ROW, NARROWEST, LETTER = 17, 0.5, 6.6
+ROW, NARROWEST, LETTER = 17, 0.5, 7.2
 MOST_ROWS = 40  # the frames that are outermost
 SCHEMA = "https://www.speedscope.app/file-format-schema.json"
 Weighed = list[tuple[tuple[str, ...], int]]  # a stack, the outermost call first, and its bytes

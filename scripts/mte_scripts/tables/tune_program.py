@@ -12,7 +12,7 @@ from mte_scripts.recording import recording, sites, timelines
 from mte_scripts.recording.imports import heaptrack_stacks
 from mte_scripts.reports import measured_section, report_page, who_section
 from mte_scripts.reports.pictures import escape
-from mte_scripts.tables import draw_waste, figures, long_runs, processes, scudo_map, verdict, verification, who
+from mte_scripts.tables import draw_waste, figures, long_runs, processes, scudo_map, settings, verdict, verification, who
 from mte_scripts.tables.figures import kibibytes, number, percent
 from mte_scripts.texts import printable, wrapped
 from mte_scripts.words import TABLES, ProgramWords, between, named, some
@@ -36,9 +36,11 @@ Usage: tune_program [OPTION..] PROGRAM ARGS..
                    back. For a program that ends by itself and does the same each time. Its standard input is kept for that; what
                    these runs print is not shown. The tuned Scudo stays in the folder, as a library for LD_PRELOAD, with its header.
                    It wants LLVM 19 or a later one, and clang++ or what CXX names
-  --who            say which places in the source request the blocks that cost, and what is saved where one requests some bytes fewer: by
-                   the calls that made each request, which are recorded too, or stand in FILE of --read where heaptrack wrote it.
-                   Recording takes more time then, by the depth of the calls. Names want binutils, lines debug symbols
+  --settings       with --verify: run it also with other settings of Scudo, of both tables: how soon memory is given back, a
+                   quarantine, zero fill. That is 60 runs more
+  --who            say which places in the source request the blocks that cost, and what is saved where one requests some bytes
+                   fewer: by the calls that made each request, which are recorded too, or stand in FILE of --read where heaptrack
+                   wrote it. Recording takes more time then, by the depth of the calls. Names want binutils, lines debug symbols
   --only NAME      count only processes whose program has this name, as NAME of /usr/bin/NAME
   --against TABLE  a file with a class line: another table to compare with, besides Scudo's default and its table for Android
   --output FOLDER  the folder to make; without it, the name of the program or of FILE with `.tuned`, in the current folder
@@ -65,7 +67,11 @@ claims.txt (what is shown of each table, and the command that checks it) and sum
 has program.timeline, fitted.fit (the other table and its certificate) and moments.history (the moments that the fit names, for
 merge_profiles); or program.history, fitted.fit and, of a long run, upper.history. Where the engines of scripts/page are at hand,
 page.html is its page of the same counts, to which report.html has a link. With --who there are who.txt (the places), who.svg and
-who_lost.svg (flame graphs of what is taken, and of what is lost by rounding) and who.speedscope.json. If a step fails, what was made before it stays.
+who_lost.svg (flame graphs of what is taken, and of what is lost by rounding) and who.speedscope.json. If a step fails, what was
+made before it stays.
+
+Where the process that is started first makes less than nine tenths of all requests, and another program makes those, the program is
+run again for that, as with --only; where none does, the programs are named with their requests, and nothing is tuned.
 
 MTE_TOOL=PATH in the environment takes the program at PATH in place of the built one; the summary and the page say so.
 
@@ -119,6 +125,8 @@ class Options(argparse.Namespace):
             raise texts.Refused(2, "--upper goes with --read")
         if self.verify is not None and (self.read is not None or self.all or self.only is not None):
             raise texts.Refused(2, "--verify runs the program itself, so there is no place for --read, --all or --only")
+        if self.settings and self.verify is None:
+            raise texts.Refused(2, "--settings goes with --verify")
         if self.who and (self.all or self.upper is not None):
             raise texts.Refused(2, f"--who takes each moment of a run, so there is no place for {'--all' if self.all else '--upper'}")
         if self.limit == 1 and self.largest:
@@ -379,10 +387,8 @@ def larger_blocks(found: figures.Figures) -> str:
     default = found.others[0]
     sizes, all_sizes, cost = found.larger(default)
     if not sizes:
-        return f"None of the {all_sizes} sizes has a larger block than with {default.name}."
-    size, ours, theirs = max(sizes, key=lambda each: each[1] / each[2])
-    of = f"{len(sizes)} of the {all_sizes} sizes {'has' if len(sizes) == 1 else 'have'} a larger block than with {default.name}"
-    return f"{of}, which takes at most {figures.byte_text(cost)} at a moment; the most at {numbered(size, 'byte')}, {number(ours)} for {number(theirs)}."
+        return f"No requested size has a larger block than with {default.name}."
+    return f"Of {all_sizes} requested sizes {len(sizes)} have a larger block than with {default.name}: together at most {figures.byte_text(cost)} more at a moment."
 
 
 def predicted(found: figures.Figures) -> str:
@@ -576,7 +582,11 @@ def verify(options: Options, folder: Folder, found: figures.Figures, report: Cal
     rows = verdict.measured(runner, options.words, path, libraries, kept)
     said = f"{options.name()}: {verdict.verdict(rows, tuned)}"
     report(measured_section.section(said, rows, tuned, found.saved_in_scudo))
-    text = "".join(f"{printable(line)}\n" for line in measured_lines(options, folder, found, rows, made, said))
+    further = []
+    if options.settings:
+        both = [each for each in (libraries[verdict.DEFAULT], libraries[tuned]) if each]
+        further = ["", *settings.lines(settings.measured(runner, options.words, path, both, kept), both)]
+    text = "".join(f"{printable(line)}\n" for line in measured_lines(options, folder, found, rows, made, said) + further)
     folder.write("summary.txt", texts.read(folder.at("summary.txt")) + text.encode())
     texts.write(text)
 

@@ -95,10 +95,12 @@ class Run(NamedTuple):
     spent: float
 
 
-def once(runner: str, words: list, path: str, library: Optional[str], given: Optional[str]) -> Run:
-    """One run with a library before all others, or none. What the program prints is not kept."""
+def once(runner: str, words: list, path: str, library: Optional[str], given: Optional[str], scudo_options: str = "") -> Run:
+    """One run with a library before all others, or none, and with these options of Scudo after the user's. What the program prints is not kept."""
     found, variables = os.memfd_create("mte_found", 0), programs.environment()
     libraries = b":".join(filter(None, (os.fsencode(library or ""), variables.pop(b"LD_PRELOAD", None))))
+    if scudo_options:
+        variables[b"SCUDO_OPTIONS"] = b":".join(filter(None, (variables.get(b"SCUDO_OPTIONS"), scudo_options.encode())))
     with open(given or os.devnull, "rb") as file, open(found, "rb") as noted:
         streams: dict = {"stdin": file if given else None, "stdout": subprocess.DEVNULL, "stderr": subprocess.DEVNULL}
         before = resource.getrusage(resource.RUSAGE_CHILDREN)
