@@ -16,7 +16,7 @@ pub use fault::{HistoryError, HistoryFault};
 pub use footprint::{blocks_between, line_from};
 pub use history::{History, Lines};
 pub use timelines::{
-    Footprint, TIMELINE, Timeline, TimelineError, TimelineFault, TimelineIndex, TimelineReader,
-    footprint_over, unserved_over,
+    Footprint, Measured, TIMELINE, Timeline, TimelineError, TimelineFault, TimelineIndex,
+    TimelineReader, measure_over,
 };
 pub use tuner_theory::MOST_SNAPSHOTS;

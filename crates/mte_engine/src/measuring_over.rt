@@ -7,7 +7,7 @@ use crate::engine::Status;
 use crate::scoring::numbered_line;
 use byte_streams::Text;
 use class_table::ClassTable;
-use history_count::{Timeline, footprint_over, unserved_over};
+use history_count::{Timeline, measure_over};
 use std::alloc::{AllocError, Global};
 
 /// The answer to a table and a timeline.
@@ -19,18 +19,15 @@ pub(crate) fn footprint_of_timeline(
     ensures { IfOk result (λ answered.
         IsMeasuredOver table.now timeline.now (record { text = text_left answered.0; status = answered.1 })) }
 {
-    let events = timeline.events();
-    match unserved_over(events, table) {
+    let measured = measure_over(alloc, timeline.events(), table)?;
+    match measured.unserved {
         Some(size) => Ok((
             numbered_line(alloc, b"not serving ", u64::from(size))?,
             Status::No,
         )),
-        None => {
-            let taken = footprint_over(alloc, events, table)?;
-            Ok((
-                numbered_line(alloc, b"footprint ", taken.bytes)?,
-                Status::Done,
-            ))
-        }
+        None => Ok((
+            numbered_line(alloc, b"footprint ", measured.footprint.bytes)?,
+            Status::Done,
+        )),
     }
 }

@@ -1,8 +1,6 @@
 -- A line that is read in one pass.
-use Rattle.std.proofs.Common.{◌≡◌, ℕ, ◌≤◌, Bool, true, false, List, [], ◌∷◌, drop, take, length, Option, Some, None, option_and_then, option_map, refl, sym, ap, ◌∙◌, arith, slice_get}
-use Rattle.std.specs.Str.{bytes_eq}
+use Rattle.std.proofs.Common.{◌≡◌, ℕ, ◌≤◌, Bool, true, false, List, [], ◌∷◌, drop, length, Option, Some, None, option_and_then, option_map, refl, sym, ap, ◌∙◌, arith, slice_get}
 use Rattle.std.proofs.lemmas.Bool.{le-leb}
-use Rattle.std.proofs.lemmas.Slice.Eq.{bytes_eq-Decides}
 use Rattle.class_table.specs.Sizes.{largest_counted}
 use Rattle.line_text.specs.Lines.{line_of, lines, words}
 use Rattle.line_text.specs.Numbers.{number_of}
@@ -11,7 +9,6 @@ use Rattle.line_text.proofs.LawLemmas.{text_laws as laws}
 use Rattle.tuner_theory.specs.declared.size_event.SizeEvent.{SizeEvent}
 use Rattle.tuner_theory.specs.declared.size_event.SizeEvent.TheVariants.{Request, Free}
 use Rattle.history_count.specs.Timelines.TimelineText.{IsSigned, counted_size, event_in, event_of}
-use Rattle.history_count.specs.Timelines.Runs.{size_of}
 use Rattle.history_count.proofs.TimelineLemmas.EventLines.{free_in, request_in, size_in-counted}
 
 -- the counted size that the first line spells
@@ -67,17 +64,6 @@ pub signed-rest : (text word : List ℕ) (is_free : Bool) (n : ℕ) → IsSigned
     → drop 1 (lines word) ≡ drop 1 (lines text)
 signed-rest text word true n is size = rw is (sym (drop-free word n size))
 signed-rest text word false n is size = ap (λ (t : List ℕ). drop 1 (lines t)) is
-
-pub signed-size : (is_free : Bool) (n : ℕ) → size_of (event_of is_free n) ≡ n
-signed-size true n = refl
-signed-size false n = refl
-
--- what comes after `-`
-pub after-minus : (text word : List ℕ) → bytes_eq (take 1 text) (45 ∷ []) ≡ true → word ≡ drop 1 text → text ≡ 45 ∷ word
-after-minus [] word is rest = absurd cc
-after-minus (b ∷ text) word is rest =
-    let first : b ∷ [] ≡ 45 ∷ [] = grind (arith, bytes_eq-Decides) in
-    grind (arith, rest, first)
 
 -- the line of which an event was read, or that spells none
 pub record IsNextLine (ls new : List (List ℕ)) (spelled : Option SizeEvent) : Type 0 where

@@ -1,9 +1,10 @@
 -- The requested sizes, one event more.
-use Rattle.std.proofs.Common.{◌≡◌, ◌≢◌, ◌↔◌, ℕ, suc, ◌+◌, ◌-◌, ◌<◌, ◌≤◌, ◌⊎◌, List, [], ◌∷◌, length, take, slice_index, get_or, arith, refl, ap, ◌∙◌, inl, inr, add-one, None, IsSome}
-use Rattle.std.proofs.lemmas.Bool.{cases_lt}
+use Rattle.std.proofs.Common.{◌≡◌, ◌≢◌, ◌↔◌, ℕ, suc, ◌+◌, ◌-◌, ◌<◌, ◌≤◌, ◌⊎◌, List, [], ◌∷◌, length, min, take, slice_index, get_or, arith, refl, ap, ◌∙◌, inl, inr, add-one, None, Some, Option, IsSome, IfNone, IfSome}
+use Rattle.std.proofs.lemmas.Bool.{cases_lt, false≢true}
 use Rattle.std.proofs.lemmas.Bool.Decides.{eqb_tells, nat_tests}
 use Rattle.std.proofs.lemmas.List.{take_all, take-take}
 use Rattle.std.proofs.lemmas.List.Sums.{sum_by-take-le}
+use Rattle.std.proofs.Math.Nat.{min-eq_left, min-eq_right}
 use Rattle.class_table.specs.Sizes.{largest_counted}
 use Rattle.class_table.specs.Tables.{class_for}
 use Rattle.tuner_theory.specs.Histories.{peaks}
@@ -239,7 +240,7 @@ least_none events classes = record {
   no_class = λ le. absurd (omega arith);
 }
 
-pub least_request : (events : List SizeEvent) (classes : List ℕ) (k least n : ℕ) → k < length events → IsLeastSoFar events classes k least
+least_request : (events : List SizeEvent) (classes : List ℕ) (k least n : ℕ) → k < length events → IsLeastSoFar events classes k least
     → get_or events k (Request 0) ≡ Request n → n < least → class_for classes n ≡ None → IsLeastSoFar events classes (k + 1) n
 least_request events classes k least n lt found is lower none = record {
   within = omega (arith, found.within);
@@ -248,7 +249,7 @@ least_request events classes k least n lt found is lower none = record {
   no_class = λ le. none;
 }
 
-pub least_other : (events : List SizeEvent) (classes : List ℕ) (k least n : ℕ) → k < length events → IsLeastSoFar events classes k least
+least_other : (events : List SizeEvent) (classes : List ℕ) (k least n : ℕ) → k < length events → IsLeastSoFar events classes k least
     → get_or events k (Request 0) ≡ Request n → (least ≤ n) ⊎ IsSome (class_for classes n) → IsLeastSoFar events classes (k + 1) least
 least_other events classes k least n lt found is which = record {
   within = found.within;
@@ -263,7 +264,7 @@ least_other events classes k least n lt found is which = record {
   no_class = found.no_class;
 }
 
-pub least_free : (events : List SizeEvent) (classes : List ℕ) (k least n : ℕ) → k < length events → IsLeastSoFar events classes k least
+least_free : (events : List SizeEvent) (classes : List ℕ) (k least n : ℕ) → k < length events → IsLeastSoFar events classes k least
     → get_or events k (Request 0) ≡ Free n → IsLeastSoFar events classes (k + 1) least
 least_free events classes k least n lt found is = record {
   within = found.within;
@@ -272,7 +273,40 @@ least_free events classes k least n lt found is = record {
   no_class = found.no_class;
 }
 
-pub least_unserved_all : (events : List SizeEvent) (classes : List ℕ) (k least : ℕ) → k ≡ length events → IsLeastSoFar events classes k least
+-- an event of a size that has a class,
+pub least_kept : (events : List SizeEvent) (classes : List ℕ) (k least : ℕ) (event : SizeEvent) → k < length events
+    → IsLeastSoFar events classes k least → get_or events k (Request 0) ≡ event → IsSome (class_for classes (size_of event))
+    → IsLeastSoFar events classes (k + 1) least
+least_kept events classes k least (Request n) lt found is served = least_other events classes k least n lt found is (inr served)
+least_kept events classes k least (Free n) lt found is served = least_free events classes k least n lt found is
+
+-- and of one that has none.
+pub least_unserved : (events : List SizeEvent) (classes : List ℕ) (k least : ℕ) (event : SizeEvent) → IsTimeline events → k < length events
+    → IsLeastSoFar events classes k least → get_or events k (Request 0) ≡ event
+    → (largest_counted < size_of event) ⊎ (class_for classes (size_of event) ≡ None)
+    → IsLeastSoFar events classes (k + 1) (min least (size_of event))
+least_unserved events classes k least (Request n) timeline lt found is none =
+    elim (cases_lt n least) [
+      | inl lower ↦ elim none [
+        | inl large ↦ absurd (omega (arith, found.within))
+        | inr no_class ↦
+            let below : n ≤ least = omega arith in
+            rw (min-eq_right below) (least_request events classes k least n lt found is lower no_class)
+      ]
+      | inr above ↦ rw (min-eq_left above) (least_other events classes k least n lt found is (inl above))
+    ]
+least_unserved events classes k least (Free n) timeline lt found is none =
+    elim (cases_lt n least) [
+      | inl lower ↦ elim none [
+        | inl large ↦ absurd (omega (arith, found.within))
+        | inr no_class ↦
+            let some = found.below n lower (freed-before events k n timeline lt (omega (arith, found.within)) is) in
+            absurd (false≢true (rw no_class at some))
+      ]
+      | inr above ↦ rw (min-eq_left above) (least_free events classes k least n lt found is)
+    ]
+
+least_unserved_all : (events : List SizeEvent) (classes : List ℕ) (k least : ℕ) → k ≡ length events → IsLeastSoFar events classes k least
     → least ≤ largest_counted → IsLeastUnserved events classes least
 least_unserved_all events classes k least all found le =
     let whole = take_all k events (omega arith) in
@@ -283,7 +317,21 @@ least_unserved_all events classes k least all found le =
       least = λ n less some. found.below n less (rw whole some);
     }
 
-pub none_unserved_all : (events : List SizeEvent) (classes : List ℕ) (k least : ℕ) → k ≡ length events → IsLeastSoFar events classes k least
+none_unserved_all : (events : List SizeEvent) (classes : List ℕ) (k least : ℕ) → k ≡ length events → IsLeastSoFar events classes k least
     → largest_counted < least → (n : ℕ) → n ≤ largest_counted → 0 < requested events n → IsSome (class_for classes n)
 none_unserved_all events classes k least all found large n le some =
     found.below n (omega arith) (rw (take_all k events (omega arith)) some)
+
+-- after all events: the least size that has none, if there is one
+module _ (events : List SizeEvent) (classes : List ℕ) (least : ℕ) (found : IsLeastSoFar events classes (length events) least) where
+  pub unserved_is_least : (o : Option ℕ) → IfSome o (λ n. (n ≡ least) × (n ≤ largest_counted))
+      → IfSome o (λ n. IsLeastUnserved events classes n)
+  unserved_is_least None is = tt
+  unserved_is_least (Some n) is =
+      rw is.0 (least_unserved_all events classes (length events) least refl found (rw is.0 at is.1))
+
+  pub none_is_unserved : (o : Option ℕ) → IsTimeline events → IfNone o (largest_counted < least)
+      → IfNone o (Serves (peaks (moments events)) classes)
+  none_is_unserved None timeline large =
+      (requested_sizes events classes timeline).1 (none_unserved_all events classes (length events) least refl found large)
+  none_is_unserved (Some n) timeline large = tt

@@ -4,8 +4,9 @@ use Rattle.std.specs.Option.{option_and_then, option_map_or}
 use Rattle.std.proofs.lemmas.Bool.{cases_lt, cases_order, eq-eqb, le-ltb, lt-ltb}
 use Rattle.std.proofs.lemmas.Option.{get_or_from_slice_get, slice_get-get_or, slice_get_within}
 use Rattle.std.proofs.lemmas.Bool.Decides.{eqb_tells}
-use Rattle.std.proofs.lemmas.List.{ext_get_or, get_or-map, get_or-replicate, get_or-set_same, get_or-set_other, get_or_default, length-map, length-replicate, length-set}
+use Rattle.std.proofs.lemmas.List.{ext_get_or, get_or-map, get_or-replicate, get_or-set_same, get_or-set_other, get_or_default, length-map, length-replicate, length-set, set-get_or}
 use Rattle.std.proofs.lemmas.List.Sums.{sum_by_more}
+use Rattle.std.proofs.Math.Nat.{max-eq_left}
 use Rattle.std.proofs.lemmas.List.Kept.{AllPairs-from_increasing}
 use Rattle.class_table.specs.Sizes.{largest_counted}
 use Rattle.class_table.specs.Tables.{IsLegalTable, class_for, class_number_for}
@@ -16,6 +17,7 @@ use Rattle.tuner_theory.specs.Timelines.{IsTimeline, moments, most_to, snapshot_
 use Rattle.tuner_theory.specs.declared.size_event.SizeEvent.{SizeEvent}
 use Rattle.tuner_theory.specs.declared.size_event.SizeEvent.TheVariants.{Request, Free}
 use Rattle.tuner_theory.proofs.TimelineBlocks.{blocks-none, blocks-step, comes_at, free-goes, goes_at, large-does-nothing, most_to-above, most_to-all, most_to-more, most_to-none, request-comes}
+use Rattle.history_count.specs.Timelines.Runs.{after_event, may_come, size_of}
 use Rattle.history_count.specs.Timelines.LiveBlocks.{AreFirsts, AreLive, IsFirst, class_bytes, first_moved, most_blocks}
 
 first-step : (f : List ℕ → ℕ) (events : List SizeEvent) (k much newer greater first newest : ℕ) → IsFirst f events k much first
@@ -134,7 +136,7 @@ moved-other false number j moment firsts other = refl
 
 -- ---- one event more
 
-pub request_step : (events : List SizeEvent) (classes : List ℕ) (k n number : ℕ) (d : SizeEvent) (live most firsts : List ℕ) → IsTimeline events
+request_step : (events : List SizeEvent) (classes : List ℕ) (k n number : ℕ) (d : SizeEvent) (live most firsts : List ℕ) → IsTimeline events
     → k < length events → IsLegalTable 1 classes → AreLive events classes k live most firsts → get_or events k d ≡ Request n
     → n ≤ largest_counted → class_number_for classes n ≡ Some number → number < length classes
     → AreLive events classes (k + 1) (slice_set live number (slice_index live number + 1))
@@ -230,7 +232,7 @@ request_step events classes k n number d live most firsts timeline lt legal are 
         ]
 
 -- a block that is freed was live
-pub free_live : (events : List SizeEvent) (classes : List ℕ) (k n number : ℕ) (d : SizeEvent) (live most firsts : List ℕ) → IsTimeline events
+free_live : (events : List SizeEvent) (classes : List ℕ) (k n number : ℕ) (d : SizeEvent) (live most firsts : List ℕ) → IsTimeline events
     → k < length events → AreLive events classes k live most firsts → get_or events k d ≡ Free n
     → n ≤ largest_counted → class_number_for classes n ≡ Some number → number < length classes → 1 ≤ slice_index live number
 free_live events classes k n number d live most firsts timeline lt are event counted is inside =
@@ -247,7 +249,7 @@ free_live events classes k n number d live most firsts timeline lt are event cou
       one-of _ (own-class classes n number is inside),
     )
 
-pub free_step : (events : List SizeEvent) (classes : List ℕ) (k n number : ℕ) (d : SizeEvent) (live most firsts : List ℕ) → IsTimeline events
+free_step : (events : List SizeEvent) (classes : List ℕ) (k n number : ℕ) (d : SizeEvent) (live most firsts : List ℕ) → IsTimeline events
     → k < length events → IsLegalTable 1 classes → AreLive events classes k live most firsts → get_or events k d ≡ Free n
     → n ≤ largest_counted → class_number_for classes n ≡ Some number → number < length classes
     → AreLive events classes (k + 1) (slice_set live number (slice_index live number - 1)) most firsts
@@ -296,7 +298,7 @@ still-step events classes k d live most firsts timeline lt are still =
     (λ j within up. absurd (omega (arith, are.below j within))) (λ j within same. refl)
 
 -- what has no class, or is large, changes nothing
-pub unserved_request_step : (events : List SizeEvent) (classes : List ℕ) (k n : ℕ) (d : SizeEvent) (live most firsts : List ℕ)
+unserved_request_step : (events : List SizeEvent) (classes : List ℕ) (k n : ℕ) (d : SizeEvent) (live most firsts : List ℕ)
     → IsTimeline events → k < length events → AreLive events classes k live most firsts → get_or events k d ≡ Request n
     → (largest_counted < n) ⊎ (class_number_for classes n ≡ None) → AreLive events classes (k + 1) live most firsts
 unserved_request_step events classes k n d live most firsts timeline lt are event unserved =
@@ -310,7 +312,7 @@ unserved_request_step events classes k n d live most firsts timeline lt are even
       ]
     ]))
 
-pub unserved_free_step : (events : List SizeEvent) (classes : List ℕ) (k n : ℕ) (d : SizeEvent) (live most firsts : List ℕ)
+unserved_free_step : (events : List SizeEvent) (classes : List ℕ) (k n : ℕ) (d : SizeEvent) (live most firsts : List ℕ)
     → IsTimeline events → k < length events → AreLive events classes k live most firsts → get_or events k d ≡ Free n
     → (largest_counted < n) ⊎ (class_number_for classes n ≡ None) → AreLive events classes (k + 1) live most firsts
 unserved_free_step events classes k n d live most firsts timeline lt are event unserved =
@@ -325,6 +327,35 @@ unserved_free_step events classes k n d live most firsts timeline lt are event u
     ]))
 
 -- ---- before any event, and after all
+
+-- an event of either kind, of a size that has a class,
+module _ (events : List SizeEvent) (classes : List ℕ) (k number : ℕ) (live most firsts : List ℕ) (timeline : IsTimeline events)
+    (lt : k < length events) (are : AreLive events classes k live most firsts) (inside : number < length classes) where
+  pub event_live : (event : SizeEvent) → get_or events k (Request 0) ≡ event → size_of event ≤ largest_counted
+      → class_number_for classes (size_of event) ≡ Some number → may_come event (slice_index live number)
+  event_live (Request n) is counted its = tt
+  event_live (Free n) is counted its = free_live events classes k n number (Request 0) live most firsts timeline lt are is counted its inside
+
+  pub event_step : (event : SizeEvent) → IsLegalTable 1 classes → get_or events k (Request 0) ≡ event → size_of event ≤ largest_counted
+      → class_number_for classes (size_of event) ≡ Some number
+      → let newer = after_event event (slice_index live number) in
+      AreLive events classes (k + 1) (slice_set live number newer) (slice_set most number (max (slice_index most number) newer))
+      (first_moved (slice_index most number) newer number (k + 1) firsts)
+  event_step (Request n) legal is counted its =
+      request_step events classes k n number (Request 0) live most firsts timeline lt legal are is counted its inside
+  event_step (Free n) legal is counted its =
+      let below : slice_index live number - 1 ≤ slice_index most number = omega (arith, are.below number inside) in
+      rw (max-eq_left below, set-get_or most number 0, le-ltb (slice_index most number) (slice_index live number - 1) below)
+      (free_step events classes k n number (Request 0) live most firsts timeline lt legal are is counted its inside)
+
+-- and of one that has none.
+pub unserved_step : (events : List SizeEvent) (classes : List ℕ) (k : ℕ) (event : SizeEvent) (live most firsts : List ℕ)
+    → IsTimeline events → k < length events → AreLive events classes k live most firsts → get_or events k (Request 0) ≡ event
+    → (largest_counted < size_of event) ⊎ (class_number_for classes (size_of event) ≡ None) → AreLive events classes (k + 1) live most firsts
+unserved_step events classes k (Request n) live most firsts timeline lt are is none =
+    unserved_request_step events classes k n (Request 0) live most firsts timeline lt are is none
+unserved_step events classes k (Free n) live most firsts timeline lt are is none =
+    unserved_free_step events classes k n (Request 0) live most firsts timeline lt are is none
 
 pub nothing_live : (events : List SizeEvent) (classes : List ℕ) → AreLive events classes 0 (replicate (length classes) 0)
     (replicate (length classes) 0) (replicate (length classes) 0)

@@ -1,10 +1,13 @@
-//! One pass over a timeline: for each class of a table the most of its blocks that are live at a moment.
+//! One pass over a timeline: for each class of a table the most of its blocks that are live at a moment, and which size has no class.
 ghost use Rattle.std.specs.Prelude.{◌≡◌, ◌<◌, ◌≤◌, ◌+◌, ◌-◌, ◌*◌, ◌^◌, ◌⊎◌, ℕ, max, All, IfOk, IfSome, IfNone, Some, None, length, replicate, slice_index, slice_set};
 ghost use Rattle.class_table.specs.Sizes.{largest_counted};
 ghost use Rattle.class_table.specs.Tables.{IsLegalTable, class_number_for};
 ghost use Rattle.history_count.specs.Timelines.LiveBlocks.{AreFirsts, AreLive, first_moved, most_blocks};
+ghost use Rattle.history_count.specs.Timelines.Requests.{IsLeastSoFar};
 ghost use Rattle.tuner_theory.specs.Timelines.{IsTimeline};
 
+use crate::timelines::line::LARGE_SIZE;
+use crate::timelines::live::{counted, event_size};
 use class_table::{ClassTable, FEWEST_GRANULES, LARGEST_COUNTED, Layout};
 use std::alloc::{AllocError, Global};
 use tuner_theory::SizeEvent;
@@ -16,6 +19,8 @@ pub(crate) struct ClassPeaks {
     pub(crate) most: Vec<u32>,
     /// The number of the first moment at which so many are live: of how many events it comes after.
     pub(crate) firsts: Vec<usize>,
+    /// The least counted size that is requested and has no class, or `LARGE_SIZE` if there is none.
+    pub(crate) least: u16,
 }
 
 /// Counts the blocks of each class of a table over a timeline. It goes over the events once. The only error is that the allocator refuses
@@ -29,46 +34,53 @@ pub(crate) fn class_peaks(
     ensures most { IfOk result (λ peaks. peaks.most.items ≡ most_blocks events.now table.now) }
     ensures small { IfOk result (λ peaks. All (λ count. count ≤ length events.now) peaks.most.items) }
     ensures firsts { IfOk result (λ peaks. AreFirsts events.now table.now peaks.firsts.items) }
+    ensures least { IfOk result (λ peaks. IsLeastSoFar events.now table.now (length events.now) peaks.least) }
 {
     let mut live = zeros(alloc, table.len())?;
     let mut most = zeros(alloc, table.len())?;
     let mut firsts = no_moments(alloc, table.len())?;
     // any region's layout finds a class at once
     let layout = Layout::new(table, FEWEST_GRANULES);
+    // no size below this one lacks a class
+    let mut least = LARGE_SIZE;
     for k in 0..events.len() {
-        count_event(&mut live, &mut most, &mut firsts, events, k, &layout);
+        least = count_event(&mut live, &mut most, &mut firsts, least, events, k, &layout);
     }
-    Ok(ClassPeaks { most, firsts })
+    Ok(ClassPeaks {
+        most,
+        firsts,
+        least,
+    })
 }
 
-// counts one event more
+// counts one event more; gives the least size without a class
 #[inline(always)]
 fn count_event(
     live: &mut [u32],
     most: &mut [u32],
     firsts: &mut [usize],
+    least: u16,
     events: &[SizeEvent],
     k: usize,
     layout: &Layout,
-)
+) -> u16
     requires timeline { IsTimeline events.now }
     requires event { k < length events.now }
     requires legal { IsLegalTable 1 layout.now.classes }
     requires live { AreLive events.now layout.now.classes k live.old most.old firsts.old }
-    ensures { AreLive events.now layout.now.classes (k + 1) live.new most.new firsts.new }
+    requires least { IsLeastSoFar events.now layout.now.classes k least }
+    ensures live { AreLive events.now layout.now.classes (k + 1) live.new most.new firsts.new }
+    ensures least { IsLeastSoFar events.now layout.now.classes (k + 1) result }
 {
-    match events[k] {
-        SizeEvent::Request { n } => {
-            if let Some(number) = counted_class(layout, n) {
-                add_block(live, most, firsts, number, k + 1);
-            }
-        }
-        SizeEvent::Free { n } => {
-            if let Some(number) = counted_class(layout, n) {
-                live[number] -= 1;
-            }
-        }
-    }
+    let event = events[k];
+    let n = event_size(event);
+    let Some(number) = counted_class(layout, n) else {
+        return least.min(n);
+    };
+    let count = counted(live[number], event);
+    live[number] = count;
+    note(most, firsts, number, count, k + 1);
+    least
 }
 
 // the number of the class of a size that is counted
@@ -84,21 +96,16 @@ fn counted_class(layout: &Layout, n: u16) -> Option<usize>
     layout.find(n as u32)
 }
 
-// a block of a class becomes live
-fn add_block(live: &mut [u32], most: &mut [u32], firsts: &mut [usize], number: usize, moment: usize)
-    requires live { number < length live.old }
+// notes how many blocks of a class are live at a moment
+#[inline(always)]
+fn note(most: &mut [u32], firsts: &mut [usize], number: usize, live: u32, moment: usize)
     requires most { number < length most.old }
     requires firsts { number < length firsts.old }
-    requires small { slice_index live.old number < 2 ^ 31 }
-    ensures live { live.new ≡ slice_set live.old number (slice_index live.old number + 1) }
-    ensures most { most.new
-        ≡ slice_set most.old number (max (slice_index most.old number) (slice_index live.old number + 1)) }
-    ensures firsts { firsts.new
-        ≡ first_moved (slice_index most.old number) (slice_index live.old number + 1) number moment firsts.old }
+    ensures most { most.new ≡ slice_set most.old number (max (slice_index most.old number) live) }
+    ensures firsts { firsts.new ≡ first_moved (slice_index most.old number) live number moment firsts.old }
 {
-    live[number] += 1;
-    if most[number] < live[number] {
-        most[number] = live[number];
+    if most[number] < live {
+        most[number] = live;
         firsts[number] = moment;
     }
 }

@@ -5,9 +5,9 @@ ghost use Rattle.history_count.specs.Timelines.Stretches.{AreLinesBelow, AreRequ
 ghost use Rattle.tuner_theory.specs.Timelines.{IsTimeline};
 
 use crate::timelines::counting::zeros;
+use crate::timelines::largest::{Largest, NO_LARGEST, with_event};
 use crate::timelines::line::LARGE_SIZE;
 use crate::timelines::live::event_size;
-use crate::timelines::serving::{Largest, NO_LARGEST, with_event};
 use std::alloc::{AllocError, Global};
 use tuner_theory::SizeEvent;
 

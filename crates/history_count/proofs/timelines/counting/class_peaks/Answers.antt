@@ -1,6 +1,8 @@
 use Rattle.std.proofs.Common.{◌≡◌, ◌∙◌, arith, length, subst, ℕ}
 use Rattle.std.proofs.lemmas.List.{with_items_is}
 use Rattle.history_count.specs.Timelines.LiveBlocks.{AreLive}
+use Rattle.history_count.specs.Timelines.Requests.{IsLeastSoFar}
+use Rattle.history_count.proofs.TimelineLemmas.Requests.{least_none}
 use Rattle.history_count.proofs.TimelineLemmas.Steps.{all_counted, all_first, all_small, nothing_live}
 use Rattle.history_count.proofs.timelines.counting.class_peaks.Goals as goal
 
@@ -8,14 +10,18 @@ pub loop-k-init : goal.loop-k-init
 loop-k-init c = record {
   live = rw (c.in_ok-live.ensures, c.in_ok-most.ensures, c.in_ok-firsts.ensures, c.len.ensures.len, c.len-2.ensures.len, c.len-3.ensures.len)
       (nothing_live c.args.events.now c.args.table.now);
+  least = least_none c.args.events.now c.args.table.now;
 }
 
 pub loop-k-preserved : goal.loop-k-preserved
 loop-k-preserved c =
-    let live = with_items_is c.loop-k.live c.count_event.new.live (c.count_event.auto.live ∙ c.deref_mut.ensures.len) in
-    let most = with_items_is c.loop-k.most c.count_event.new.most (c.count_event.auto.most ∙ c.deref_mut-in-loop-k.ensures.len) in
-    let firsts = with_items_is c.loop-k.firsts c.count_event.new.firsts (c.count_event.auto.firsts ∙ c.deref_mut-in-loop-k-2.ensures.len) in
-    record { live = rw (live, most, firsts) (rw c.new-layout.ensures at c.count_event.ensures) }
+    let live = with_items_is c.loop-k.live c.count_event-least.new.live (c.count_event-least.auto.live ∙ c.deref_mut.ensures.len) in
+    let most = with_items_is c.loop-k.most c.count_event-least.new.most (c.count_event-least.auto.most ∙ c.deref_mut-in-loop-k.ensures.len) in
+    let firsts = with_items_is c.loop-k.firsts c.count_event-least.new.firsts (c.count_event-least.auto.firsts ∙ c.deref_mut-in-loop-k-2.ensures.len) in
+    record {
+      live = rw (live, most, firsts) (rw c.new-layout.ensures at c.count_event-least.ensures.live);
+      least = rw c.new-layout.ensures at c.count_event-least.ensures.least;
+    }
 
 pub returns-clause-most : goal.returns-clause-most
 returns-clause-most c =
@@ -34,3 +40,8 @@ returns-clause-firsts c =
     let all : c.loop-k.k ≡ length c.args.events.now = omega arith in
     all_first c.args.events.now c.args.table.now c.loop-k.live.items c.loop-k.most.items c.loop-k.firsts.items
     (subst (λ (k : ℕ). AreLive c.args.events.now c.args.table.now k c.loop-k.live.items c.loop-k.most.items c.loop-k.firsts.items) all c.loop-k.invariant.live)
+
+pub returns-clause-least : goal.returns-clause-least
+returns-clause-least c =
+    let all : c.loop-k.k ≡ length c.args.events.now = omega arith in
+    subst (λ (k : ℕ). IsLeastSoFar c.args.events.now c.args.table.now k c.loop-k.least) all c.loop-k.invariant.least

@@ -1,32 +1,42 @@
+use Rattle.std.proofs.Common.{get_or, refl, inl, inr}
 use Rattle.tuner_theory.specs.declared.size_event.SizeEvent.TheVariants.{Request}
-use Rattle.history_count.proofs.TimelineLemmas.Steps.{free_live, free_step, request_step, unserved_free_step, unserved_request_step}
+use Rattle.history_count.specs.Timelines.Runs.{size_of}
+use Rattle.history_count.proofs.TimelineLemmas.Requests.{least_kept, least_unserved}
+use Rattle.history_count.proofs.TimelineLemmas.Steps.{event_live, event_step, number_gives_none, number_serves, unserved_step}
 use Rattle.history_count.proofs.timelines.counting.count_event.Goals as goal
 
-pub overflow_sub-live : goal.overflow_sub-live
-overflow_sub-live c =
-    let found = c.in-Some-counted_class.ensures.some in
-    free_live c.args.events.now c.args.layout.now.classes c.args.k c.in-Free.n c.in-Some-counted_class.number (Request 0) c.args.live.now
-    c.args.most.now c.args.firsts.now c.requires.timeline c.requires.event c.requires.live c.in-Free.is found.0 found.1 found.2
+pub counted-count-requires-clause-live : goal.counted-count-requires-clause-live
+counted-count-requires-clause-live c =
+    let found = rw c.event_size-n.ensures at c.in-Some.ensures.some in
+    event_live c.args.events.now c.args.layout.now.classes c.args.k c.in-Some.number c.args.live.now c.args.most.now c.args.firsts.now
+    c.requires.timeline c.requires.event c.requires.live found.2 (get_or c.args.events.now c.args.k (Request 0)) refl found.0 found.1
 
-pub returns-in-Some : goal.returns-in-Some
-returns-in-Some c =
-    let found = c.in-Some.ensures.some in
-    rw (c.add_block.ensures.live, c.add_block.ensures.most, c.add_block.ensures.firsts)
-    (request_step c.args.events.now c.args.layout.now.classes c.args.k c.in-Request.n c.in-Some.number (Request 0) c.args.live.now c.args.most.now c.args.firsts.now
-    c.requires.timeline c.requires.event c.requires.legal c.requires.live c.in-Request.is found.0 found.1 found.2)
+pub returns-clause-live : goal.returns-clause-live
+returns-clause-live c =
+    let found = rw c.event_size-n.ensures at c.in-Some.ensures.some in
+    rw (c.note.ensures.most, c.note.ensures.firsts, c.counted-count.ensures)
+    (event_step c.args.events.now c.args.layout.now.classes c.args.k c.in-Some.number c.args.live.now c.args.most.now c.args.firsts.now
+    c.requires.timeline c.requires.event c.requires.live found.2 (get_or c.args.events.now c.args.k (Request 0)) c.requires.legal refl
+    found.0 found.1)
 
-pub returns-in_default : goal.returns-in_default
-returns-in_default c =
-    unserved_request_step c.args.events.now c.args.layout.now.classes c.args.k c.in-Request.n (Request 0) c.args.live.now c.args.most.now c.args.firsts.now
-    c.requires.timeline c.requires.event c.requires.live c.in-Request.is c.in_default.ensures.none
+pub returns-in_default-clause-live : goal.returns-in_default-clause-live
+returns-in_default-clause-live c =
+    unserved_step c.args.events.now c.args.layout.now.classes c.args.k (get_or c.args.events.now c.args.k (Request 0)) c.args.live.now
+    c.args.most.now c.args.firsts.now c.requires.timeline c.requires.event c.requires.live refl (rw c.event_size-n.ensures at c.in_default.ensures.none)
 
-pub returns-in-Some-counted_class : goal.returns-in-Some-counted_class
-returns-in-Some-counted_class c =
-    let found = c.in-Some-counted_class.ensures.some in
-    free_step c.args.events.now c.args.layout.now.classes c.args.k c.in-Free.n c.in-Some-counted_class.number (Request 0) c.args.live.now
-    c.args.most.now c.args.firsts.now c.requires.timeline c.requires.event c.requires.legal c.requires.live c.in-Free.is found.0 found.1 found.2
+pub returns-clause-least : goal.returns-clause-least
+returns-clause-least c =
+    let found = rw c.event_size-n.ensures at c.in-Some.ensures.some in
+    least_kept c.args.events.now c.args.layout.now.classes c.args.k c.args.least (get_or c.args.events.now c.args.k (Request 0)) c.requires.event
+    c.requires.least refl
+    (number_serves c.args.layout.now.classes (size_of (get_or c.args.events.now c.args.k (Request 0))) c.in-Some.number found.1 found.2)
 
-pub returns-in_default-counted_class : goal.returns-in_default-counted_class
-returns-in_default-counted_class c =
-    unserved_free_step c.args.events.now c.args.layout.now.classes c.args.k c.in-Free.n (Request 0) c.args.live.now c.args.most.now c.args.firsts.now
-    c.requires.timeline c.requires.event c.requires.live c.in-Free.is c.in_default-counted_class.ensures.none
+pub returns-in_default-clause-least : goal.returns-in_default-clause-least
+returns-in_default-clause-least c =
+    rw (c.min.ensures, c.event_size-n.ensures)
+    (least_unserved c.args.events.now c.args.layout.now.classes c.args.k c.args.least (get_or c.args.events.now c.args.k (Request 0))
+    c.requires.timeline c.requires.event c.requires.least refl
+    (elim (rw c.event_size-n.ensures at c.in_default.ensures.none) [
+      | inl large ↦ inl large
+      | inr none ↦ inr (number_gives_none c.args.layout.now.classes (size_of (get_or c.args.events.now c.args.k (Request 0))) none)
+    ]))

@@ -1,7 +1,7 @@
 use Rattle.std.proofs.Common.{get_or, arith, refl, inl, inr}
 use Rattle.tuner_theory.specs.declared.size_event.SizeEvent.TheVariants.{Request}
 use Rattle.history_count.proofs.TimelineLemmas.Requests.{largest_kept, largest_moved}
-use Rattle.history_count.proofs.timelines.serving.with_event.Goals as goal
+use Rattle.history_count.proofs.timelines.largest.with_event.Goals as goal
 
 pub returns-then-n-found : goal.returns-then-n-found
 returns-then-n-found c =

@@ -5,8 +5,9 @@ use Rattle.std.proofs.Math.Nat.{mul-le-mul}
 use Rattle.tuner_theory.specs.Footprint.{blocks}
 use Rattle.tuner_theory.specs.Histories.{most}
 use Rattle.tuner_theory.specs.Timelines.{moments}
+use Rattle.history_count.proofs.TimelineLemmas.Requests.{none_is_unserved, unserved_is_least}
 use Rattle.history_count.proofs.TimelineLemmas.Steps.{bytes_more}
-use Rattle.history_count.proofs.timelines.footprint.footprint_over.Goals as goal
+use Rattle.history_count.proofs.timelines.footprint.measure_over.Goals as goal
 
 pub loop-number-preserved : goal.loop-number-preserved
 loop-number-preserved c =
@@ -27,3 +28,13 @@ loop-number-preserved c =
           c.loop-number.invariant.sum;
       small = omega (arith, c.loop-number.invariant.small, mul-le-mul bytes count);
     }
+
+pub returns-clause-some : goal.returns-clause-some
+returns-clause-some c =
+    unserved_is_least c.args.events.now c.args.table.now c.in_ok-peaks.peaks.least c.in_ok-peaks.ensures.least c.unserved_in.result
+    c.unserved_in.ensures.some
+
+pub returns-clause-none : goal.returns-clause-none
+returns-clause-none c =
+    none_is_unserved c.args.events.now c.args.table.now c.in_ok-peaks.peaks.least c.in_ok-peaks.ensures.least c.unserved_in.result
+    c.requires c.unserved_in.ensures.none

@@ -1,6 +1,6 @@
 use Rattle.std.proofs.Common.{◌≡◌, ◌*◌, ◌≤◌, ◌^◌, take, sum_by}
 use Rattle.history_count.specs.Timelines.LiveBlocks.{class_bytes}
-use Rattle.history_count.proofs.timelines.footprint.footprint_over.Given as goal
+use Rattle.history_count.proofs.timelines.footprint.measure_over.Given as goal
 
 abbrev pub invariant-loop-number : goal.invariant-loop-number
 invariant-loop-number l = record {
