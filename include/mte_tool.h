@@ -212,10 +212,13 @@ typedef struct mte_tool_heap {
 
 #define MTE_TOOL_HEAP {NULL, 0}
 
+/* The address of the first byte of each heap's region, without a tag. */
+#define MTE_TOOL_REGION_START ((uint64_t)1 << 36)
+
 /* What a call on a heap gave, beside how it ended. A caller sets `size`, as MTE_TOOL_OUTCOME does. What the call does not give is 0. */
 typedef struct mte_tool_outcome {
     size_t size;           /* sizeof (mte_tool_outcome) */
-    uint64_t value;        /* of malloc, calloc, realloc and addg: the address, with its tag in bits 56 to 59 */
+    uint64_t value;        /* of malloc, calloc, realloc and addg: the address, with its tag in bits 56 to 59; of granule a slot's number */
     uint32_t code;         /* MTE_TOOL_UNMAPPED and so on; of mte_tool_heap_new 20, 21 or 22, as of classes above */
     uint32_t granule;      /* of a tag fault: the lowest granule whose tag differs, from the region's start */
     uint32_t memory_tag;   /* its tag */
@@ -245,6 +248,11 @@ int mte_tool_heap_free(mte_tool_heap *heap, uint64_t address, mte_tool_outcome *
    After any end but MTE_TOOL_DONE the room and the region are as they were. */
 int mte_tool_heap_load(mte_tool_heap *heap, uint64_t address, void *room, size_t length, mte_tool_outcome *outcome);
 int mte_tool_heap_store(mte_tool_heap *heap, uint64_t address, const void *bytes, size_t length, mte_tool_outcome *outcome);
+
+/* What a granule is, by its number from the region's start on: outcome->granule_kind and outcome->memory_tag. If it is of a slot,
+   outcome->value is the slot's number, from 0 on in the order of addresses, and outcome->granule the slot's first granule; else both are 0.
+   The granule at the address MTE_TOOL_REGION_START has the number 0. A number past the region is MTE_TOOL_BAD_OPTION. */
+int mte_tool_heap_granule(mte_tool_heap *heap, uint64_t granule, mte_tool_outcome *outcome);
 
 /* ADDG: the address `granules` granules (0 to 63) further up, with the tag that `step` (0 to 15) counts up from its own. A number out of
    its range is MTE_TOOL_BAD_OPTION. */

@@ -402,6 +402,11 @@ class Heap {
     Outcome store(std::uint64_t address, const void *bytes, std::size_t length) {
         return made([&](Outcome &to) { return mte_tool_heap_store(&held_, address, bytes, length, &to); });
     }
+    /* What a granule is, by its number from the region's start on: granule_kind and memory_tag; of a slot its number is in `value`, and its
+       first granule in `granule`. */
+    Outcome granule(std::uint64_t number) {
+        return made([&](Outcome &to) { return mte_tool_heap_granule(&held_, number, &to); });
+    }
     /* The address so many granules (0 to 63) further up, its tag counted up by `step` (0 to 15). */
     Outcome addg(std::uint64_t address, std::uint64_t granules, std::uint64_t step) {
         return made([&](Outcome &to) { return mte_tool_heap_addg(&held_, address, granules, step, &to); });

@@ -60,6 +60,7 @@ heap_outcome mte_heap_realloc(mte_tool_heap *, uint64_t, uint32_t);
 heap_outcome mte_heap_free(mte_tool_heap *, uint64_t);
 heap_outcome mte_heap_load(mte_tool_heap *, uint64_t, uint8_t *, size_t);
 heap_outcome mte_heap_store(mte_tool_heap *, uint64_t, const uint8_t *, size_t);
+heap_outcome mte_heap_granule(mte_tool_heap *, uint32_t);
 heap_outcome mte_heap_addg(mte_tool_heap *, uint64_t, uint8_t, uint8_t);
 void mte_heap_close(mte_tool_heap *);
 

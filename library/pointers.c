@@ -295,6 +295,10 @@ int mte_tool_heap_store(mte_tool_heap *heap, uint64_t address, const void *bytes
     return ON_HEAP(mte_heap_store(heap, address, bytes ? bytes : (const void *)&layer_no_numbers, length));
 }
 
+int mte_tool_heap_granule(mte_tool_heap *heap, uint64_t granule, mte_tool_outcome *outcome) {
+    return ON_HEAP(mte_heap_granule(heap, granule > UINT32_MAX ? UINT32_MAX : (uint32_t)granule));
+}
+
 int mte_tool_heap_addg(mte_tool_heap *heap, uint64_t address, uint64_t granules, uint64_t step, mte_tool_outcome *outcome) {
     return ON_HEAP(mte_heap_addg(heap, address, one_byte(granules), one_byte(step)));
 }

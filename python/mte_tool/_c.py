@@ -94,6 +94,7 @@ def loaded(path: str) -> ctypes.CDLL:
         "heap_free": [heap, c_uint64, outcome],
         "heap_load": [heap, c_uint64, c_char_p, c_size_t, outcome],
         "heap_store": [heap, c_uint64, c_char_p, c_size_t, outcome],
+        "heap_granule": [heap, c_uint64, outcome],
         "heap_addg": [heap, c_uint64, c_uint64, c_uint64, outcome],
     }
     for name, arguments in types.items():

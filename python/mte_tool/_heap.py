@@ -18,7 +18,7 @@ class Outcome(NamedTuple):
     is_done: bool
     #: 50 and 52 of an access, 60 to 62 of a request, 63 to 65 of a free; 0 without one
     code: int
-    #: of malloc, calloc, realloc and addg the address, with its tag in bits 56 to 59
+    #: of malloc, calloc, realloc and addg the address, with its tag in bits 56 to 59; of granule a slot's number
     value: int
     #: of a tag fault the lowest granule whose tag differs, from the region's start, its tag, the address's, and what it is
     granule: int
@@ -95,6 +95,11 @@ class Heap:
     def store(self, address: int, data: bytes) -> Outcome:
         """Writes 1 to 64 bytes from an address on."""
         return self._made("store", _address(address), data, len(data))
+
+    def granule(self, number: int) -> Outcome:
+        """What a granule is, by its number from the region's start on: `granule_kind` and `memory_tag`; of a slot its number is `value`, and
+        its first granule `granule`."""
+        return self._made("granule", number if 0 <= number <= _calls.MOST else _calls.MOST)
 
     def addg(self, address: int, granules: int, step: int) -> Outcome:
         """The address so many granules (0 to 63) further up, with its tag counted up by so many steps (0 to 15)."""

@@ -180,6 +180,12 @@ static void heaps(void) {
     WANT(mte_tool_heap_load(&heap, p.value + 48, bytes, 1, &sized) == MTE_TOOL_NO && sized.code == 0);
     sized.size = 12;
     WANT(mte_tool_heap_free(&heap, p.value, &sized) == MTE_TOOL_MISUSE && heap_end(&heap, p.value, bytes, 1) == MTE_TOOL_DONE);
+    WANT(mte_tool_heap_granule(&heap, (p.value & no_tag) / 16 - MTE_TOOL_REGION_START / 16, &q) == MTE_TOOL_DONE && q.granule_kind == 4);
+    WANT(q.memory_tag == p.value >> 56 && (q.value & 1) != (q.memory_tag & 1));
+    WANT(mte_tool_heap_granule(&heap, q.granule, &q) == MTE_TOOL_DONE && q.granule_kind == 1 && q.memory_tag == 0);
+    WANT(mte_tool_heap_granule(&heap, 65535, &q) == MTE_TOOL_DONE && q.granule_kind == 2 && q.value > 0);
+    WANT(mte_tool_heap_granule(&heap, 65536, &q) == MTE_TOOL_BAD_OPTION && q.value == 0);
+    WANT(mte_tool_heap_granule(&heap, (uint64_t)1 << 32, NULL) == MTE_TOOL_BAD_OPTION && mte_tool_heap_granule(NULL, 0, NULL) == MTE_TOOL_MISUSE);
     WANT(mte_tool_heap_addg(&heap, p.value, 64, 0, NULL) == MTE_TOOL_BAD_OPTION);
     WANT(mte_tool_heap_addg(&heap, p.value, 0, 16, NULL) == MTE_TOOL_BAD_OPTION);
     WANT(mte_tool_heap_addg(&heap, p.value, 1, 0, &q) == MTE_TOOL_DONE && q.value == p.value + 16);

@@ -101,6 +101,7 @@ static void heaps() {
     char bytes[8];
     const Outcome p = heap.malloc(40);
     WANT(p && heap.store(p.value + 32, "the last", 8) && heap.load(p.value + 32, bytes, 8) && !std::memcmp(bytes, "the last", 8));
+    WANT(heap.granule((p.value & 0xffffffffffffff) / 16 - MTE_TOOL_REGION_START / 16).granule_kind == 4 && heap.granule(0).granule_kind == 1);
     WANT(heap.addg(p.value, 1, 0).value == p.value + 16 && heap.realloc(p.value, 20).value == p.value);
     WANT(heap.calloc(20000).code == MTE_TOOL_LARGE && heap.free(p.value) && heap.free(p.value).code == MTE_TOOL_NOT_LIVE);
     const Outcome read = heap.load(p.value, bytes, 8);

@@ -144,8 +144,7 @@ class Slots:
 
 
 def meets(pointer: tuple[Slot, int], slot: Slot) -> Meeting:
-    own, other = (2 * each.start + each.number % 2 for each in (pointer[0], slot))
-    return Meeting(own, pointer[1], other, slot.generation, not slot.is_live)
+    return Meeting(pointer[0].number, pointer[1], slot.number, slot.generation, not slot.is_live)
 
 
 def chunk_granules(size: int) -> int:

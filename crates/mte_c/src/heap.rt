@@ -3,13 +3,14 @@
 mod access;
 mod calls;
 mod freeing;
+mod granules;
 mod handed_heap;
 mod handle;
 mod held;
 mod outcome;
 mod settings;
 
-pub use calls::{addg, calloc, close, free, load, malloc, new, realloc, store};
+pub use calls::{addg, calloc, close, free, granule, load, malloc, new, realloc, store};
 pub use handed_heap::HandedHeap;
 pub use outcome::Outcome;
 pub use settings::Settings;

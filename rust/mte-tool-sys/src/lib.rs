@@ -325,6 +325,7 @@ extern "C" {
         length: usize,
         outcome: *mut mte_tool_outcome,
     ) -> c_int;
+    pub fn mte_tool_heap_granule(heap: *mut mte_tool_heap, granule: u64, outcome: *mut mte_tool_outcome) -> c_int;
     pub fn mte_tool_heap_addg(heap: *mut mte_tool_heap, address: u64, granules: u64, step: u64, outcome: *mut mte_tool_outcome) -> c_int;
     pub fn mte_tool_heap_close(heap: *mut mte_tool_heap);
 }

@@ -20,6 +20,29 @@ pub enum Granule {
     Live,
 }
 
+impl Granule {
+    fn of(number: u32) -> Granule {
+        match number {
+            0 => Granule::Slack,
+            1 => Granule::Header,
+            2 => Granule::Tail,
+            3 => Granule::Dead,
+            _ => Granule::Live,
+        }
+    }
+}
+
+/// A granule as it is.
+#[derive(Debug, Clone, Copy, PartialEq, Eq)]
+pub struct GranuleState {
+    /// What it is.
+    pub kind: Granule,
+    /// Its tag, 0 to 15.
+    pub tag: u8,
+    /// The number of its slot, from 0 on in the order of addresses, and the slot's first granule; `None` of slack.
+    pub slot: Option<(u32, u32)>,
+}
+
 /// Why the heap or the machine refused a call. Nothing changed.
 #[derive(Debug, Clone, Copy, PartialEq, Eq)]
 pub struct Refusal {
@@ -48,6 +71,7 @@ impl fmt::Display for Refusal {
 /// let mut heap = mte_tool::Heap::new(&[4, 8], &mte_tool::Options::new(0))?;
 /// let p = heap.malloc(40)?.unwrap();
 /// heap.store(p + 32, b"the last")?.unwrap();
+/// assert_eq!(heap.granule(1)?.slot, Some((0, 0)));
 /// heap.free(p)?.unwrap();
 /// let mut room = [0; 8];
 /// assert_eq!(heap.load(p, &mut room)?.unwrap_err().kind, mte_tool::Granule::Dead);
@@ -82,6 +106,17 @@ impl Heap {
         Ok(heap)
     }
 
+    /// What a granule is, by its number from the region's start on.
+    pub fn granule(&mut self, number: u64) -> Result<GranuleState, Error> {
+        let mut outcome = no_outcome();
+        // SAFETY: the structures begin with their sizes
+        let end = unsafe { c::mte_tool_heap_granule(&mut self.0, number, &mut outcome) };
+        is_yes(end, &no_result(), &[])?;
+        let kind = Granule::of(outcome.granule_kind);
+        let slot = (kind != Granule::Slack).then_some((outcome.value as u32, outcome.granule));
+        Ok(GranuleState { kind, tag: outcome.memory_tag as u8, slot })
+    }
+
     fn made(&mut self, call: impl FnOnce(&mut c::mte_tool_heap, &mut c::mte_tool_outcome) -> i32) -> Result<Result<u64, Refusal>, Error> {
         let mut outcome = no_outcome();
         let end = call(&mut self.0, &mut outcome);
@@ -93,13 +128,7 @@ impl Heap {
             granule: outcome.granule,
             memory_tag: outcome.memory_tag as u8,
             pointer_tag: outcome.pointer_tag as u8,
-            kind: match outcome.granule_kind {
-                0 => Granule::Slack,
-                1 => Granule::Header,
-                2 => Granule::Tail,
-                3 => Granule::Dead,
-                _ => Granule::Live,
-            },
+            kind: Granule::of(outcome.granule_kind),
         }))
     }
 

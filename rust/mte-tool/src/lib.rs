@@ -53,6 +53,6 @@ pub use arrays::{
 };
 pub use calls::{sentence, version, Cost, End, Error, Verdict};
 pub use commands::{check, check_fit, fit, footprint, profile, replay, run, score, tune};
-pub use heap::{Granule, Heap, Refusal};
+pub use heap::{Granule, GranuleState, Heap, Refusal};
 pub use options::Options;
 pub use texts::{Fit, Text};

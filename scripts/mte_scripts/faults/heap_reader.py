@@ -1,12 +1,13 @@
 """The program that asks the proved heap about a log (scripts/shims/reader). A package has it built. In the repository it is compiled with
-libmte_tool.a, which is proved and built first where that was not done: it stands in the folder `out` of its crate, or MTE_LIBRARY names a
-folder of scripts/library."""
+libmte_tool.a, which scripts/library builds first where that was not done: it stands in the folder `out` of its crate, or MTE_LIBRARY names
+another folder of that script."""
 
 import fcntl
 import os
+import shutil
 import subprocess
 
-from mte_scripts import manifest
+from mte_scripts import manifest, private_folder
 from mte_scripts.faults import compiler_driver
 from mte_scripts.places import ROOT
 from mte_scripts.recording.shims import SHIMS, compile_alone, sum_of
@@ -30,7 +31,7 @@ def library() -> str:
         return named
     if not os.path.isdir(CRATE):
         raise Refused(3, "this package has no library: it was made without one, and nothing can ask the heap")
-    folder = os.path.join(CRATE, "out", "library")
+    folder = os.path.join(CRATE, "out", "heap")
     with open(os.path.join(CRATE, "src", "lib.rt"), "rb") as lock:  # one build at a time; the others wait for it
         fcntl.flock(lock, fcntl.LOCK_EX)
         if manifest.why_unproved(static(folder), ROOT):
@@ -40,11 +41,18 @@ def library() -> str:
 
 def build(folder: str) -> None:
     if os.environ.get("MTE_TOOL_BUILD") == "no":
-        raise Refused(3, f"the library is not built of these sources, and MTE_TOOL_BUILD=no forbids to build it now; `scripts/library {folder}` builds it")
+        raise Refused(3, "the library is not built of these sources, and MTE_TOOL_BUILD=no forbids to build it now")
     say(NAME, "the library with the heap is built first; this is done once, and takes some minutes")
-    done = subprocess.run([os.path.join(ROOT, "scripts", "library"), folder], stdin=subprocess.DEVNULL, stdout=2)
-    if done.returncode:
-        raise Refused(3, "without the heap's library no error can be told; it needs the Rattle kit, or MTE_LIBRARY names its folder")
+    with private_folder.temporary() as work:
+        made = os.path.join(work, "library")
+        if subprocess.run([os.path.join(ROOT, "scripts", "library"), made], stdin=subprocess.DEVNULL, stdout=2).returncode:
+            raise Refused(3, "without the heap's library no error can be told; it needs the Rattle kit, or MTE_LIBRARY names its folder")
+        shutil.copytree(made, folder, symlinks=True, dirs_exist_ok=True, ignore=links_in)
+
+
+def links_in(folder: str, names: "list[str]") -> "list[str]":
+    """Below a crate rt takes no link."""
+    return [name for name in names if os.path.islink(os.path.join(folder, name))]
 
 
 def path() -> str:

@@ -31,7 +31,7 @@
 enum { GRANULE = 16, WINDOW = 64, MOST_BLOCKS = 1 << 28, MOST_STACKS = 1 << 20, MOST_SEEDS = 1024, MOST_UNRECORDED = 1 << 20, PIECE = 1 << 18, SEEN = 64 << 20 };
 enum { FARTHEST_FREE = GRANULE * FARTHEST_MOVE * 2000, LONGEST_RIGHT = 16, LARGE_FILLER = 20000 };
 enum { SLACK, HEADER, TAIL, DEAD, OTHER, OUTSIDE };  // of granules, as the library has them
-static const uint64_t PLACE = (1ull << 56) - 1, TAG = 1ull << 56, REGION = 1ull << 36;  // docs/MACHINE.md
+static const uint64_t PLACE = (1ull << 56) - 1, TAG = 1ull << 56;  // docs/MACHINE.md
 static const long MOST_SIZE = 1l << 47;
 static const char *const KINDS[] = {"slack", "header", "tail", "dead", "other", "outside"};
 
@@ -265,7 +265,7 @@ static uint32_t scan(void) {
     }
     if (!(next = learn_plain(at))) next = learn_line(at);
   }
-  return sum;
+  return summed < text_end ? crc(sum, summed, text_end - summed) : sum;
 }
 
 // ---- the heaps, and the blocks whose pointers are still asked for
@@ -408,7 +408,7 @@ static void note_end(uint32_t block, int state) {
 static uint64_t moved(uint64_t pointer, long offset) { return (pointer & ~PLACE) | ((pointer + offset) & PLACE); }
 
 // the byte of the region that a pointer leads to
-static long byte_at(uint64_t pointer) { return (pointer & PLACE) - REGION; }
+static long byte_at(uint64_t pointer) { return (pointer & PLACE) - MTE_TOOL_REGION_START; }
 
 static uint32_t variable_of(uint32_t block) { return marks[block] & IN_USE ? held_as[block] : 0; }
 static uint32_t asked_size(uint32_t size) { return size <= LARGEST_REQUEST ? size : LARGEST_REQUEST; }
@@ -513,24 +513,18 @@ static void do_right(const struct record *record) {
 
 // ---- the program's errors
 
-// What the first heap says of a granule: its kind and its tag. A load by a tag that it does not have is a fault that says it.
-static int kind_of(long granule, uint32_t *tag) {
-  mte_tool_outcome outcome = MTE_TOOL_OUTCOME;
+// What the first heap says of a granule.
+static int granule_at(long granule, mte_tool_outcome *told) {
   if (granule < 0 || granule >= granules) return OUTSIDE;
-  for (uint64_t by = 1; by <= 2; by++)
-    if (access_heap(0, 'l', REGION + granule * GRANULE + by * TAG, 1, &outcome)) break;
-  *tag = outcome.memory_tag;
-  return outcome.granule_kind;
+  if (mte_tool_heap_granule(&heaps[0], granule, told) != MTE_TOOL_DONE) fail("the heap does not tell a granule");
+  return told->granule_kind;
 }
 
 static void print_granule(long granule) {
-  uint32_t tag = 0, other;
-  int kind = kind_of(granule, &tag);
-  long header = granule;
+  mte_tool_outcome told = MTE_TOOL_OUTCOME;
+  int kind = granule_at(granule, &told);
   printf(" %s", KINDS[kind]);
-  if (kind != DEAD && kind != OTHER) return;
-  while (kind_of(header, &other) != HEADER) header--;
-  printf(":%ld:%u", 2 * header + !(tag & 1), generations[header + 1]);
+  if (kind == DEAD || kind == OTHER) printf(":%lu:%u", (unsigned long)told.value, generations[told.granule + 1]);
 }
 
 static void print_outcome(const mte_tool_outcome *outcome) {
@@ -580,11 +574,11 @@ static void ask(const struct record *record, uint64_t pointer, long begin, long 
 
 static void print_error(const struct record *record, uint32_t block) {
   static const mte_tool_outcome none = MTE_TOOL_OUTCOME;
-  mte_tool_outcome outcome = none;
+  mte_tool_outcome outcome = none, its = none;
   struct held *own = held_of(block);
   int is_free = record->letter == 'x';
-  long begin = record->numbers[1], length = 1, asked = events, at = byte_at(*pointers_of(block)), header = at / GRANULE - 1;
-  uint32_t tag = *pointers_of(block) / TAG & 15;
+  long begin = record->numbers[1], length = 1, asked = events, at = byte_at(*pointers_of(block));
+  granule_at(at / GRANULE, &its);
   if (!is_free) window_of(record, own, &begin, &length);
   ask(record, *pointers_of(block), begin, length, 0, &outcome);
   if (is_free && begin % GRANULE == 0 && labs(begin) <= FARTHEST_FREE)
@@ -593,7 +587,7 @@ static void print_error(const struct record *record, uint32_t block) {
   at += begin;
   long first = (at + (at < 0 ? 1 - GRANULE : 0)) / GRANULE, last = first + (at - first * GRANULE + length - 1) / GRANULE;
   first -= is_free;  // there would be the header
-  printf("%ld %ld %ld %u", events > asked ? events : 0, first, 2 * header + !(tag & 1), own->generation);
+  printf("%ld %ld %lu %u", events > asked ? events : 0, first, (unsigned long)its.value, own->generation);
   for (long granule = first; granule <= last; granule++) print_granule(granule);
   putchar('\n');
   print_outcome(&outcome);

@@ -12,7 +12,7 @@ use Rattle.heap_theory.specs.Config.{IsConfig, layout_for}
 use Rattle.tagged_heap.specs.Frees.{frees_of_realloc}
 use Rattle.tagged_heap.specs.HeapAtRest.{HeapAndFrees}
 use Rattle.heap_theory.specs.declared.config.Config.{Config}
-use Rattle.mte_c.specs.Heap.Outcomes.{access_outcome, code_of_table, freed_outcome, is_done, plain, with_stored, with_value, pointer_outcome, resized_outcome}
+use Rattle.mte_c.specs.Heap.Outcomes.{access_outcome, code_of_table, freed_outcome, granule_outcome, is_done, plain, with_stored, with_value, pointer_outcome, resized_outcome}
 use Rattle.mte_c.specs.declared.heap.outcome.Outcome.{Outcome}
 use Rattle.mte_c.specs.declared.heap.settings.Settings.{Settings}
 
@@ -83,6 +83,9 @@ abbrev pub IsStore : ℕ → List ℕ → Outcome → HeapAndFrees → HeapAndFr
 IsStore address bytes outcome before after =
     (outcome ≡ access_outcome before.state address (length bytes))
     × (after ≡ (if is_done outcome then with_stored before address bytes else before))
+
+abbrev pub IsGranule : ℕ → Outcome → HeapAndFrees → HeapAndFrees → Type 0
+IsGranule g outcome before after = (outcome ≡ granule_outcome before.state g) × (after ≡ before)
 
 abbrev pub IsAddg : ℕ → ℕ → ℕ → Outcome → HeapAndFrees → HeapAndFrees → Type 0
 IsAddg address u6 u4 outcome before after =

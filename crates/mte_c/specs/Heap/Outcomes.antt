@@ -1,10 +1,11 @@
 -- What C is told of each answer of the heap.
 use Rattle.std.specs.Prelude.{ℕ, List, ◌&&◌, ◌||◌, Bool, ◌==◌, nat_lt, if◌then◌else◌, length, Option, Some, None, Result, Ok, Err}
+use Rattle.class_table.specs.Layout.{slot_over}
 use Rattle.class_table.specs.declared.fault.TableError.{TableError}
 use Rattle.class_table.specs.declared.fault.TableError.TheVariants.{BadLine, TooMany, OutOfRange, NotAscending}
 use Rattle.handed_text.specs.declared.ends.TheConstants.{DONE, NO, BAD_OPTION, MISUSE}
 use Rattle.heap_theory.specs.GranuleKinds.{kind_number, place_kind}
-use Rattle.heap_theory.specs.State.{Heap}
+use Rattle.heap_theory.specs.State.{Heap, slot_in}
 use Rattle.heap_theory.specs.declared.refusal.FreeError.{FreeError}
 use Rattle.heap_theory.specs.declared.refusal.FreeError.TheVariants.{Misplaced, NotLive, WrongTag}
 use Rattle.heap_theory.specs.declared.refusal.NullCause.{NullCause}
@@ -13,6 +14,7 @@ use Rattle.heap_theory.specs.declared.refusal.ReallocError.{ReallocError}
 use Rattle.heap_theory.specs.declared.refusal.ReallocError.TheVariants.{Null, Refused}
 use Rattle.machine_theory.specs.Access.{access_fault, is_mapped, stored}
 use Rattle.machine_theory.specs.Address.{logical_tag}
+use Rattle.machine_theory.specs.Memory.{tag_at}
 use Rattle.machine_theory.specs.declared.fault.Fault.{Fault}
 use Rattle.machine_theory.specs.declared.fault.Fault.TheVariants.{Unmapped, Alignment, TagCheck}
 use Rattle.machine_theory.specs.declared.sizes.TheConstants.{LONGEST_ACCESS}
@@ -68,6 +70,19 @@ fault_outcome heap (TagCheck granule memory_tag pointer_tag) = record (refusal 5
   pointer_tag = pointer_tag;
   granule_kind = kind_number (place_kind heap granule);
 }
+
+abbrev pub with_slot : Heap → Option ℕ → Outcome → Outcome
+with_slot heap None outcome = outcome
+with_slot heap (Some s) outcome = record outcome { value = s; granule = (slot_in heap s).start }
+
+-- What granule g is: its kind and its tag, and of the slot over it the number and the first granule.
+unfoldable pub granule_outcome : Heap → ℕ → Outcome
+granule_outcome heap g =
+    if nat_lt g (length heap.memory) then with_slot heap (slot_over heap.layout g) (record (plain DONE) {
+      memory_tag = tag_at heap.memory g;
+      granule_kind = kind_number (place_kind heap g);
+    })
+    else plain BAD_OPTION
 
 abbrev pub checked_outcome : Heap → Option Fault → Outcome
 checked_outcome heap None = plain DONE

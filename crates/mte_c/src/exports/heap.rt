@@ -1,6 +1,6 @@
 //! The heap.
 ghost use Rattle.std.specs.Prelude.{◌≡◌, None};
-ghost use Rattle.mte_c.specs.Heap.Calls.{IsAddg, IsCalloc, IsFree, IsLoad, IsMalloc, IsRealloc, IsStore, Makes, Performs, config_of};
+ghost use Rattle.mte_c.specs.Heap.Calls.{IsAddg, IsCalloc, IsFree, IsGranule, IsLoad, IsMalloc, IsRealloc, IsStore, Makes, Performs, config_of};
 ghost use Rattle.mte_c.specs.Heap.Held.{heap_of};
 
 use crate::heap::{HandedHeap, Outcome, Settings};
@@ -80,6 +80,14 @@ pub extern "C" fn mte_heap_store(
     ensures { Performs (heap_of heap.old) (heap_of heap.new) result (IsStore address bytes.now result) }
 {
     crate::heap::store(alloc, heap, address, bytes)
+}
+
+/// What a granule is, counted from the region's start.
+#[unsafe(no_mangle)]
+pub extern "C" fn mte_heap_granule(alloc: Global, heap: &mut HandedHeap, granule: u32) -> Outcome
+    ensures { Performs (heap_of heap.old) (heap_of heap.new) result (IsGranule granule result) }
+{
+    crate::heap::granule(alloc, heap, granule)
 }
 
 /// ADDG: the address `u6` granules (0 to 63) further up, under the tag that the offset `u4` (0 to 15) chooses.

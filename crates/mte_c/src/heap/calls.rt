@@ -1,13 +1,13 @@
 //! The calls on the heap of a handle.
 ghost use Rattle.std.specs.Prelude.{◌≡◌, None};
-ghost use Rattle.mte_c.specs.Heap.Calls.{IsAddg, IsCalloc, IsFree, IsLoad, IsMalloc, IsRealloc, IsStore, Makes, Performs, config_of};
+ghost use Rattle.mte_c.specs.Heap.Calls.{IsAddg, IsCalloc, IsFree, IsGranule, IsLoad, IsMalloc, IsRealloc, IsStore, Makes, Performs, config_of};
 ghost use Rattle.mte_c.specs.Heap.Held.{heap_of};
 
 use crate::heap::handed_heap::HandedHeap;
 use crate::heap::held::Held;
 use crate::heap::outcome::Outcome;
 use crate::heap::settings::{Settings, config};
-use crate::heap::{access, freeing};
+use crate::heap::{access, freeing, granules};
 use class_table::ClassTable;
 use handed_text::{BAD_OPTION, DONE, MISUSE, OUT_OF_MEMORY};
 use machine_theory::{FARTHEST_MOVE, LARGEST_TAG_STEP};
@@ -115,6 +115,19 @@ pub fn store(alloc: Global, heap: &mut HandedHeap, address: u64, bytes: &[u8]) -
     }
     let mut held = heap.open(alloc);
     let outcome = access::store(&mut held.heap, address, bytes);
+    heap.close(held);
+    outcome
+}
+
+/// What a granule is, counted from the region's start.
+pub fn granule(alloc: Global, heap: &mut HandedHeap, granule: u32) -> Outcome
+    ensures { Performs (heap_of heap.old) (heap_of heap.new) result (IsGranule granule result) }
+{
+    if !heap.is_live() {
+        return Outcome::plain(MISUSE);
+    }
+    let held = heap.open(alloc);
+    let outcome = granules::told(&held.heap, granule);
     heap.close(held);
     outcome
 }
