@@ -1,5 +1,5 @@
 // Requests whose places scripts/tests/who knows by the comments at their ends: a function that hands requests on, a deep recursion, a function
-// that aligns its stack, another thread, a realloc and a child.
+// that aligns its stack, another thread, a realloc, a child, and two calls of one function in turn.
 #include <pthread.h>
 #include <stdint.h>
 #include <stdio.h>
@@ -37,6 +37,13 @@ APART static void aligned(int many) {
   memset(more, 1, many);
   keep(malloc(3000 + more[0] * room[1]));  // aligned
 }
+APART static void leaf(size_t size) { keep(malloc(size)); }
+APART static void in_turn(int many) {
+  for (int i = 0; i < many; i++) {
+    leaf(304);  // odd
+    leaf(304);  // even
+  }
+}
 APART static void *other(void *of) {
   keep(malloc((uintptr_t)of));  // other
   return NULL;
@@ -50,7 +57,7 @@ APART static void grow(void) {
 int main(int words, char **word) {
   pthread_t thread;
   int many = words > 1 ? atoi(word[1]) : 100;
-  nodes(many), edges(4 * many), deep(90), aligned(100), grow();
+  nodes(many), edges(4 * many), deep(90), aligned(100), grow(), in_turn(10);
   if (pthread_create(&thread, NULL, other, (void *)9000) || pthread_join(thread, NULL)) return 1;
   if (!fork()) {
     nodes(1000);
