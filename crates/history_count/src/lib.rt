@@ -17,7 +17,7 @@ pub use fault::{HistoryError, HistoryFault};
 pub use footprint::{blocks_between, line_from};
 pub use history::{History, Lines};
 pub use timelines::{
-    Footprint, TIMELINE, Timeline, TimelineError, TimelineFault, TimelineIndex, TimelineReader,
-    footprint_over, snapshots_at, unserved_over,
+    Footprint, TIMELINE, TablePeaks, Timeline, TimelineError, TimelineFault, TimelineIndex,
+    TimelineReader, footprint_over, snapshots_at, table_peaks, unserved_over,
 };
 pub use tuner_theory::MOST_SNAPSHOTS;

@@ -13,6 +13,7 @@ mod requested;
 mod serving;
 mod snapshots;
 mod stretches;
+mod sums;
 mod taking;
 mod timeline;
 
@@ -23,4 +24,5 @@ pub use line::TIMELINE;
 pub use reader::TimelineReader;
 pub use serving::unserved_over;
 pub use snapshots::snapshots_at;
+pub use sums::{TablePeaks, table_peaks};
 pub use timeline::Timeline;

@@ -1,8 +1,9 @@
 //! One pass over a timeline: for each class of a table the most of its blocks that are live at a moment.
-ghost use Rattle.std.specs.Prelude.{◌≡◌, ◌<◌, ◌≤◌, ◌+◌, ◌-◌, ◌*◌, ◌^◌, ◌⊎◌, ℕ, max, All, IfOk, IfSome, IfNone, Some, None, length, replicate, slice_index, slice_set};
+ghost use Rattle.std.specs.Prelude.{◌≡◌, ◌<◌, ◌≤◌, ◌+◌, ◌-◌, ◌*◌, ◌^◌, ◌⊎◌, ℕ, max, All, IfOk, IfSome, IfNone, Some, None, length, nat_lt, replicate, slice_index, slice_set, if◌then◌else◌};
 ghost use Rattle.class_table.specs.Sizes.{largest_counted};
 ghost use Rattle.class_table.specs.Tables.{IsLegalTable, class_number_for};
-ghost use Rattle.history_count.specs.Timelines.LiveBlocks.{AreFirsts, AreLive, first_moved, most_blocks};
+ghost use Rattle.history_count.specs.Timelines.LiveBlocks.{AreFirsts, AreLive, IsMoved, first_moved, most_blocks};
+ghost use Rattle.history_count.specs.declared.timelines.counting.Moved.TheVariants.{Again, New};
 ghost use Rattle.tuner_theory.specs.Timelines.{IsTimeline};
 
 use class_table::{ClassTable, FEWEST_GRANULES, LARGEST_COUNTED, Layout};
@@ -36,39 +37,55 @@ pub(crate) fn class_peaks(
     // any region's layout finds a class at once
     let layout = Layout::new(table, FEWEST_GRANULES);
     for k in 0..events.len() {
-        count_event(&mut live, &mut most, &mut firsts, events, k, &layout);
+        let _moved = count_event(&mut live, &mut most, &mut firsts, events, k, &layout);
     }
     Ok(ClassPeaks { most, firsts })
 }
 
-// counts one event more
+/// What an event does to the blocks of the classes, each by its number.
+#[derive(Clone, Copy)]
+pub(crate) enum Moved {
+    /// Nothing: the size is large, or has no class.
+    Nothing,
+    /// One more block of the class is live than at any moment before.
+    New(usize),
+    /// One more block of the class is live, of those that were freed.
+    Again(usize),
+    /// One block of the class is freed.
+    Freed(usize),
+}
+
+/// Counts one event more.
 #[inline(always)]
-fn count_event(
+pub(crate) fn count_event(
     live: &mut [u32],
     most: &mut [u32],
     firsts: &mut [usize],
     events: &[SizeEvent],
     k: usize,
     layout: &Layout,
-)
+) -> Moved
     requires timeline { IsTimeline events.now }
     requires event { k < length events.now }
     requires legal { IsLegalTable 1 layout.now.classes }
     requires live { AreLive events.now layout.now.classes k live.old most.old firsts.old }
-    ensures { AreLive events.now layout.now.classes (k + 1) live.new most.new firsts.new }
+    ensures live { AreLive events.now layout.now.classes (k + 1) live.new most.new firsts.new }
+    ensures moved { IsMoved result live.old most.old live.new most.new }
 {
     match events[k] {
         SizeEvent::Request { n } => {
             if let Some(number) = counted_class(layout, n) {
-                add_block(live, most, firsts, number, k + 1);
+                return add_block(live, most, firsts, number, k + 1);
             }
         }
         SizeEvent::Free { n } => {
             if let Some(number) = counted_class(layout, n) {
                 live[number] -= 1;
+                return Moved::Freed(number);
             }
         }
     }
+    Moved::Nothing
 }
 
 // the number of the class of a size that is counted
@@ -85,7 +102,14 @@ fn counted_class(layout: &Layout, n: u16) -> Option<usize>
 }
 
 // a block of a class becomes live
-fn add_block(live: &mut [u32], most: &mut [u32], firsts: &mut [usize], number: usize, moment: usize)
+#[inline(always)]
+fn add_block(
+    live: &mut [u32],
+    most: &mut [u32],
+    firsts: &mut [usize],
+    number: usize,
+    moment: usize,
+) -> Moved
     requires live { number < length live.old }
     requires most { number < length most.old }
     requires firsts { number < length firsts.old }
@@ -95,12 +119,16 @@ fn add_block(live: &mut [u32], most: &mut [u32], firsts: &mut [usize], number: u
         ≡ slice_set most.old number (max (slice_index most.old number) (slice_index live.old number + 1)) }
     ensures firsts { firsts.new
         ≡ first_moved (slice_index most.old number) (slice_index live.old number + 1) number moment firsts.old }
+    ensures moved { result
+        ≡ if nat_lt (slice_index most.old number) (slice_index live.old number + 1) then New number else Again number }
 {
     live[number] += 1;
     if most[number] < live[number] {
         most[number] = live[number];
         firsts[number] = moment;
+        return Moved::New(number);
     }
+    Moved::Again(number)
 }
 
 /// This many zeros. The only error is that the allocator refuses memory.
@@ -110,8 +138,8 @@ pub(crate) fn zeros(alloc: Global, n: usize) -> Result<Vec<u32>, AllocError>
     vec![in alloc; 0u32; n]
 }
 
-// this many times the moment before any event
-fn no_moments(alloc: Global, n: usize) -> Result<Vec<usize>, AllocError>
+/// This many times the moment before any event. The only error is that the allocator refuses memory.
+pub(crate) fn no_moments(alloc: Global, n: usize) -> Result<Vec<usize>, AllocError>
     ensures { IfOk result (λ moments. moments.items ≡ replicate n 0) }
 {
     vec![in alloc; 0usize; n]

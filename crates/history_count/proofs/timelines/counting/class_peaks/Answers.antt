@@ -12,10 +12,10 @@ loop-k-init c = record {
 
 pub loop-k-preserved : goal.loop-k-preserved
 loop-k-preserved c =
-    let live = with_items_is c.loop-k.live c.count_event.new.live (c.count_event.auto.live ∙ c.deref_mut.ensures.len) in
-    let most = with_items_is c.loop-k.most c.count_event.new.most (c.count_event.auto.most ∙ c.deref_mut-in-loop-k.ensures.len) in
-    let firsts = with_items_is c.loop-k.firsts c.count_event.new.firsts (c.count_event.auto.firsts ∙ c.deref_mut-in-loop-k-2.ensures.len) in
-    record { live = rw (live, most, firsts) (rw c.new-layout.ensures at c.count_event.ensures) }
+    let live = with_items_is c.loop-k.live c.count_event-moved.new.live (c.count_event-moved.auto.live ∙ c.deref_mut.ensures.len) in
+    let most = with_items_is c.loop-k.most c.count_event-moved.new.most (c.count_event-moved.auto.most ∙ c.deref_mut-in-loop-k.ensures.len) in
+    let firsts = with_items_is c.loop-k.firsts c.count_event-moved.new.firsts (c.count_event-moved.auto.firsts ∙ c.deref_mut-in-loop-k-2.ensures.len) in
+    record { live = rw (live, most, firsts) (rw c.new-layout.ensures at c.count_event-moved.ensures.live) }
 
 pub returns-clause-most : goal.returns-clause-most
 returns-clause-most c =
