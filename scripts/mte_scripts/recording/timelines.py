@@ -115,8 +115,9 @@ def history_at(text: bytes, moments: list) -> texts.History:
     return history_of(live_at(parsed(text), moments))
 
 
+@functools.lru_cache(maxsize=1)
 def requests_of(text: bytes) -> dict:
-    """The profile of all requests."""
+    """The profile of all requests. That of the last timeline is kept, since more than one thing is asked of it."""
     return named(requested(parsed(text)))
 
 
