@@ -143,32 +143,6 @@ def most_of(text: bytes, amount: Callable[[int], int]) -> tuple[int, int]:
     return most, at
 
 
-def peaks_of(text: bytes, classes: list) -> list:
-    """The first moments at which each class of a table that serves the timeline has the most blocks, in the order of time."""
-    groups = tuple(bisect.bisect_left(classes, need) for need in range(CLASSES + 1))
-    return sorted(peaks(parsed(text), groups))
-
-
-def most_and_freed(text: bytes, classes: list) -> tuple[list[int], int]:
-    """The most live blocks of each class of a table that serves the timeline; and the most blocks, of all classes together, that were freed
-    and not yet given out again. A block is given out again before a class has a new one."""
-    now, most = [0] * (len(classes) + 1), [0] * (len(classes) + 1)
-    freed = longest = 0
-    for place in map(by_code(place_in(classes)).__getitem__, parsed(text)):
-        if place < 0:
-            now[-place] -= 1
-            freed += 1
-            if freed > longest:
-                longest = freed
-        elif place:
-            now[place] += 1
-            if now[place] > most[place]:
-                most[place] = now[place]
-            else:
-                freed -= 1
-    return most[1:], longest
-
-
 def heights(text: bytes, classes: list, parts: int) -> list[list[int]]:
     """The most live blocks of each class of a table in each of so many equal parts of a timeline, or of fewer where it has fewer events.
     What the table does not serve is left out."""
