@@ -171,7 +171,8 @@ def put_reader(tree: Tree, folder: str) -> "str | None":
         return f"the reader of find_faults: the C compiler {compiler} is missing"
     at = f"{PRIVATE}/recorders/{heap_reader.NAME}"
     place, name = os.path.split(heap_reader.SOURCE)
-    words = [*heap_reader.FLAGS, *HARDENED, f"-I{os.path.abspath(folder)}/include", name, os.path.abspath(heap_reader.static(folder))]
+    # without what a debugger reads, in which the paths of this machine would be
+    words = [*heap_reader.FLAGS, "-g0", *HARDENED, f"-I{os.path.abspath(folder)}/include", name, os.path.abspath(heap_reader.static(folder))]
     run([compiler, *words, "-o", tree.path(at)], cwd=place)
     tree.stripped(at)
     os.chmod(tree.path(at), 0o755)
