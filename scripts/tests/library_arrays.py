@@ -188,7 +188,7 @@ def rooms_for(shared, room, rows, moments):
     c = shared.c
     arrays = importlib.import_module("mte_tool._arrays")
     timeline, result = arrays.timeline_of(*TWO_CLASSES), c.Result()
-    filled = [arrays.array(kind, [7] * n) for kind, n in ((ctypes.c_uint16, room), (ctypes.c_uint64, rows), (ctypes.c_uint32, moments))]
+    filled = [arrays.numbers_of(kind, [7] * n) for kind, n in ((ctypes.c_uint16, room), (ctypes.c_uint64, rows), (ctypes.c_uint32, moments))]
     given = [each for one in filled for each in (one, len(one))]
     end = c.library.mte_tool_fit_timeline(ctypes.byref(shared.options(limit=2)), ctypes.byref(timeline), *given, ctypes.byref(result))
     return end, result, *map(list, filled)
