@@ -49,6 +49,8 @@ def parsed(data: bytes) -> Sites:
         parts.append(data[at : at + length])
         at += length
     stack_words, begins = words_of("Q", parts[0]), words_of("Q", parts[2])
+    if any(begin > words for begin in begins):
+        raise texts.Refused(3, "the record of the stacks is damaged")
     return Sites(
         words_of("I", parts[4]), words_of("I", parts[3]), [stack_at(stack_words, begin) for begin in begins],
         [module_of(parts[1][place : place + width]) for place in range(0, len(parts[1]), width)],

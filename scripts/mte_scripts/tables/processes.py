@@ -1,5 +1,6 @@
 """Which process counts, where a program starts others: the one that makes nearly all requests, or the one that is named."""
 
+import re
 from typing import NamedTuple, Optional
 
 from mte_scripts import texts
@@ -24,12 +25,9 @@ class Program(NamedTuple):
 
 
 def parsed(text: str) -> list[Program]:
-    """The lines that `profile_program --processes` wrote, that of the followed process first."""
-    found = []
-    for line in text.splitlines():
-        processes, requests, resident, name = line.split(" ", 3)
-        found.append(Program(int(processes), int(requests), int(resident), name))
-    return found
+    """The lines that `profile_program --processes` wrote, that of the followed process first. A process may have a line break in its name."""
+    found = re.findall(r"(?m)^(\d+) (\d+) (\d+) (.*)$", text)
+    return [Program(int(processes), int(requests), int(resident), name) for processes, requests, resident, name in found]
 
 
 def other(text: str, words: list[str]) -> Optional[str]:

@@ -42,6 +42,8 @@ class Lines(dict):
 
     def __missing__(self, line: bytes) -> int:
         mark, rest = line[:1], line[2:]
+        if mark in b"+-ati" and b"-" in rest:
+            raise ValueError("a number has a sign")
         if mark in (b"+", b"-"):
             self[line] = event = int(rest, 16) << 1 | (mark == b"-")
             return event
