@@ -6,7 +6,8 @@
        check(first, length, input, length), check_fit(first, length, input, length)
                                          how the call ends: 0 'optimal', 1 the verdict is no, 2 a text is refused, 3 out of memory
        answer(), answer_length()         where the last call's answer is, and its bytes: the verdict, or the first fault, as "30 BadLine
-                                         line 2"; it is there until the next call
+                                         line 2"; it is there until the next call,
+                                         of which it may be a text
 
    FIRST is a sheet or a fit, INPUT what was counted, as in docs/FORMATS.md. A place outside of the memory ends in a trap, after which the
    instance is of no more use. */
@@ -41,12 +42,12 @@ static const uint8_t *at(uint32_t place) { return (const uint8_t *)(uintptr_t)pl
 
 static uint32_t called(uint8_t command, uint32_t first, uint32_t first_length, uint32_t input, uint32_t input_length) {
   held_text text = {0, 0};
-  ending ended;
-  web_give(answered);
+  ending ended = {OUT_OF_MEMORY, 0, 0};
+  uint8_t *before = answered; /* given back only after the call, since it may be one of the texts */
   answered = 0;
   length = 0;
-  if (mte_c_append(at(first), first_length, &text) != DONE) return OUT_OF_MEMORY;
-  ended = mte_c_call(command, 0, 0, at(input), input_length, &text);
+  if (mte_c_append(at(first), first_length, &text) == DONE) ended = mte_c_call(command, 0, 0, at(input), input_length, &text);
+  web_give(before);
   if (text.length && !(answered = web_take(text.length))) ended.end = OUT_OF_MEMORY;
   else length = (uint32_t)mte_c_read(&text, 0, answered, text.length);
   mte_c_free(&text);

@@ -8,7 +8,7 @@ from typing import Any
 
 from mte_scripts import private_folder, texts
 from mte_scripts.builds import web_page
-from mte_scripts.faults import fault_answer, fault_report, findings, real_heaps, sarif, tombstone, unfreed
+from mte_scripts.faults import compiler_driver, fault_answer, fault_report, findings, real_heaps, sarif, tombstone, unfreed
 from mte_scripts.faults.fault_answer import Judged
 from mte_scripts.faults.fault_log import Log, NoLog
 from mte_scripts.faults.heap_answers import Answers
@@ -37,6 +37,7 @@ Usage: find_faults [OPTIONS] PROGRAM ARGS..
   --only NAME     record the first process whose program has this name, as NAME of /usr/bin/NAME
   --unfreed       tell what is left unfreed at the end too: lost blocks are errors, those that are still reachable are not
   --children      record each process, and tell the errors of all: find_faults --children make check
+  --preload       the same, for a program of which only libraries that it loads are traced, as Python's extensions are
   --json FILE     write the errors for other programs too; with - to standard output, in place of the text
   --sarif FILE    the same as SARIF 2.1.0, which code hosts and editors read
   --annotations   print a line ::error for each error too, which a runner of GitHub's shows beside its source line
@@ -80,8 +81,9 @@ def read_words(words: list[str]) -> argparse.Namespace:
         parser.error("there is no program" if not options.words else "--read takes no program")
     if options.read and options.keep:
         parser.error("--read and --keep can't be given both")
+    options.children = options.children or options.preload
     if options.children and (options.only or options.page):
-        parser.error(f"--children and --{'only' if options.only else 'page'} can't be given both")
+        parser.error(f"--{'preload' if options.preload else 'children'} and --{'only' if options.only else 'page'} can't be given both")
     return options
 
 
@@ -95,14 +97,24 @@ def record(options: argparse.Namespace, folder: str) -> None:
         environment["ACCESSES_UNFREED"] = "1"
     if options.only:
         environment["ACCESSES_ONLY"] = options.only
+    if options.preload:
+        environment["LD_PRELOAD"] = ":".join(filter(None, (preloaded(), environment.get("LD_PRELOAD"))))
     try:
         status = children.run(options.words, GRACE, env=environment, stdout=2)
     except OSError as error:
         raise Refused(3, f"{options.words[0]} can't be run: {error.strerror}") from None
     if not any(os.path.exists(os.path.join(folder, name)) for name in fault_answer.logs(folder, options.children) or [log]):
         whom = f"no process that has the name {options.only} and that" if options.only else f"{options.words[0]}: no process that"
-        raise Refused(3, f"{whom} traced_cc built made a log in {folder}: build the program with scripts/traced_cc")
+        raise Refused(3, f"{whom} traced_cc built made a log in {folder}: build the program with scripts/traced_cc, or a library that it loads, for --preload")
     texts.write_file(os.path.join(folder, ENDED), b"%d\n" % (status if status >= 0 else 128 - status))
+
+
+def preloaded() -> str:
+    """The runtime of traced_cc, as LD_PRELOAD has it."""
+    library = compiler_driver.runtime(compiler_driver.found("TRACED_CC", "gcc", "clang"))
+    if " " in library:
+        raise Refused(3, f"LD_PRELOAD takes no path with a space, as in {library}: {compiler_driver.PLACE}")
+    return library
 
 
 def status_of(folder: str, log: Log) -> int:

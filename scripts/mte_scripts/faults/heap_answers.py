@@ -8,7 +8,6 @@ import os
 import subprocess
 from collections import namedtuple
 from collections.abc import Iterator
-from concurrent.futures import ThreadPoolExecutor
 from pathlib import Path
 
 from mte_scripts.faults import heap_reader
@@ -75,6 +74,8 @@ class Answers:
         return answers.log, answers
 
     def _read(self, log: "Log | None", path: str, length: int, heap: "tuple[int, int, int]", seeds: "list[int]", wanted: "int | None" = None) -> None:
+        from concurrent.futures import ThreadPoolExecutor  # it takes longer to import than a refusal of words
+
         groups = [seeds[at : at + TOGETHER] for at in range(0, len(seeds), TOGETHER)]
         reader = heap_reader.path()
         with ThreadPoolExecutor(os.cpu_count()) as pool, contextlib.ExitStack() as files:

@@ -2,8 +2,6 @@
 and what is gained where it requests some bytes fewer."""
 
 import bisect
-import concurrent.futures
-import multiprocessing
 import os
 import re
 from array import array
@@ -191,7 +189,10 @@ class Who:
             sites[self.place(stack), self.run.sizes[site]].append(site)
         made = [(sites[key], key[1] - granule_of(key[1]), False) for key, _ in able]
         kept = [(sites[key], below, True) for key, _ in able if (below := self.below(key[1]))]
-        with concurrent.futures.ProcessPoolExecutor(WORKERS, multiprocessing.get_context("fork"), begin_worker, (self,)) as workers:
+        import multiprocessing  # the two take longer to import than a refusal of words
+        from concurrent.futures import ProcessPoolExecutor
+
+        with ProcessPoolExecutor(WORKERS, multiprocessing.get_context("fork"), begin_worker, (self,)) as workers:
             saved = list(workers.map(of_worker, made + kept))
         of_kept = iter(saved[len(made) :])
         found = []

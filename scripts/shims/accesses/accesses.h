@@ -82,6 +82,7 @@ static inline address round_up(address a, address to) { return (a + to - 1) & -t
 void begin(void);
 void *reserve(address at, size_t size, int mode, int how);
 uint32_t number_of_blocks(void);
+int is_asked(void);  // whether the program's requests come to this malloc
 struct block *owner(address);
 int was_given_out(address);
 void *request(char kind, size_t size, size_t alignment, struct caller);

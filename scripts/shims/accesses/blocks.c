@@ -5,6 +5,7 @@
 // their addresses are owned by nobody.
 #include "../formats.h"
 #include "accesses.h"
+#include <dlfcn.h>
 #include <errno.h>
 #include <stdlib.h>
 #include <sys/mman.h>
@@ -266,6 +267,16 @@ static void *resize(void *pointer, size_t size, struct caller from) {
 }
 
 SHOWN void *malloc(size_t size) { return request('m', size, 16, CALLER); }
+
+// They do not where a program that was linked without the runtime loads a library that has it, or has a malloc of its own.
+int is_asked(void) {
+  Dl_info own, first;
+  busy++;
+  void *asked = dlsym(RTLD_DEFAULT, "malloc");
+  int is_own = asked && dladdr(asked, &first) && dladdr(&accesses_lock, &own) && first.dli_fbase == own.dli_fbase;
+  busy--;
+  return is_own;
+}
 
 SHOWN void *calloc(size_t number, size_t each) {
   size_t size;

@@ -259,10 +259,16 @@ static void stop_with(int status, void *unused) { (void)unused, end_log(status);
 
 // Requests of constructors that ran before are logged now.
 static __attribute__((constructor(101))) void start(void) {
+  static const char unasked[] = "traced_cc: the program's requests go to another malloc, so no error is seen and nothing is logged; where "
+                                "only a library that it loads is traced, find_faults --preload sees them\n";
   begin();
   const char *only = getenv("ACCESSES_ONLY");
   pattern = getenv("ACCESSES");
   if (!pattern || (only && strcmp(only, program_invocation_short_name))) return;
+  if (!is_asked()) {
+    syscall(SYS_write, 2, unasked, sizeof unasked - 1);
+    return;
+  }
   enter();
   make_absolute();
   open_log();

@@ -66,24 +66,39 @@ static void find_bounds(const struct mapping *new, void *at) {
   if (new->low <= (address)at && (address)at < new->high) stack_low = new->low, stack_high = new->high;
 }
 
-// The stacks that a thread was on, as fibers have theirs: of the last ones it is known where they end. What unmaps or protects memory makes all
-// unknown.
-struct bounds { address low, high; };
-static __thread struct bounds stacks_known[KNOWN_STACKS] __attribute__((tls_model("initial-exec")));
-static __thread unsigned next_known __attribute__((tls_model("initial-exec"))), known_at __attribute__((tls_model("initial-exec")));
-static unsigned changes;                          // of the mappings,
-static address lowest = -(address)1, highest;     // among which all these stacks lie
+// Where the stacks end that threads were on last, as fibers have theirs: in one table, since a library that a program loads has little room
+// for what each thread has of its own. What unmaps or protects memory makes all unknown.
+struct known { address low, high; unsigned turn, change; };  // the turn is odd while it is written
+static struct known known_stacks[KNOWN_STACKS];
+static unsigned next_known, changes;           // of the mappings,
+static address lowest = -(address)1, highest;  // among which all these stacks lie
+
+static int is_on(const struct known *known, address to, unsigned change) {
+  unsigned turn = __atomic_load_n(&known->turn, __ATOMIC_ACQUIRE);
+  address low = __atomic_load_n(&known->low, __ATOMIC_RELAXED), high = __atomic_load_n(&known->high, __ATOMIC_RELAXED);
+  if (to < low || to >= high || turn % 2 || __atomic_load_n(&known->change, __ATOMIC_RELAXED) != change) return 0;
+  __atomic_thread_fence(__ATOMIC_ACQUIRE);
+  if (__atomic_load_n(&known->turn, __ATOMIC_RELAXED) != turn) return 0;
+  stack_low = low, stack_high = high;
+  return 1;
+}
+
+static void note_stack(unsigned change) {
+  struct known *known = &known_stacks[__atomic_fetch_add(&next_known, 1, __ATOMIC_RELAXED) % KNOWN_STACKS];
+  unsigned turn = __atomic_load_n(&known->turn, __ATOMIC_RELAXED);
+  if (turn % 2 || !__atomic_compare_exchange_n(&known->turn, &turn, turn + 1, 0, __ATOMIC_ACQ_REL, __ATOMIC_RELAXED)) return;
+  __atomic_store_n(&known->low, stack_low, __ATOMIC_RELAXED), __atomic_store_n(&known->high, stack_high, __ATOMIC_RELAXED);
+  __atomic_store_n(&known->change, change, __ATOMIC_RELAXED);
+  __atomic_store_n(&known->turn, turn + 2, __ATOMIC_RELEASE);
+}
 
 static void change_stack(address to) {
+  unsigned change = __atomic_load_n(&changes, __ATOMIC_RELAXED);
   stack_low = stack_high = 0;
-  if (known_at != changes) fill_bytes(stacks_known, 0, sizeof stacks_known), known_at = changes;
   for (int i = 0; i < KNOWN_STACKS; i++)
-    if (stacks_known[i].low <= to && to < stacks_known[i].high) {
-      stack_low = stacks_known[i].low, stack_high = stacks_known[i].high;
-      return;
-    }
+    if (is_on(&known_stacks[i], to, change)) return;
   see_mappings(find_bounds, (void *)to);
-  stacks_known[next_known++ % KNOWN_STACKS] = (struct bounds){stack_low, stack_high};
+  note_stack(change);
   if (stack_low < lowest) lowest = stack_low;
   if (stack_high > highest) highest = stack_high;
 }

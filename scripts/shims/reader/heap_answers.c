@@ -646,6 +646,13 @@ static void write_log(const char *path, const char *from, size_t length) {
   fwrite(&head, HEAD, 1, file), fwrite(from, 1, length, file), written(file);
 }
 
+// Whether the trace may have room: each request is an event of it.
+static int has_room(void) {
+  long requests = 0;
+  for (int size = 0; size <= LARGEST_SIZE + 1; size++) requests += counts[size];
+  return requests <= MOST_EVENTS;
+}
+
 // the text of a log, up to a length
 static void open_log(const char *path, long length) {
   struct stat status;
@@ -672,7 +679,7 @@ int main(int words, char **word) {
   options.granules = granules = atol(word[GRANULES]), options.quarantine = atol(word[QUARANTINE]);
   seed_count = words - SEEDS;
   make_heaps(options, word[PROFILE], word[SHEET], word + SEEDS);
-  trace = opened(word[TRACE]);
+  if (has_room()) trace = opened(word[TRACE]);
   if (!(small = open_memstream(&small_text, &small_length))) fail("there is no memory for it");
   perform();
   if (ferror(small) || fclose(small)) fail("there is no memory for it");
