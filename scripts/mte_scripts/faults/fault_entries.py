@@ -116,65 +116,78 @@ def cause_of(entry: "Entry", log: Log, places: Places) -> tuple:
     return entry.kind, line, tuple(lines(entry.made)), tuple(lines(entry.ended)) if entry.uses[0].error.state != "live" else ()
 
 
-def entries(log: Log, outcomes: "list[tuple]", places: Places) -> "list[Entry]":
-    """The entries of a log, in the order of their first use. An outcome of an error is (verdict, result, why). places has learned the
-    stacks of all errors."""
-    @functools.lru_cache(maxsize=None)
-    def line(stack: int) -> str:
-        return places.show(stack, callers=False)
+class Causes:
+    """What stands for the cause of each error of a log, told in their order. places has learned the stacks of all errors."""
 
-    def callers(stack: int) -> str:
-        return ",".join(log.stacks[max(stack, 0)].split(",")[:SAME_CALLERS])
+    def __init__(self, log: Log, places: Places) -> None:
+        self.log, self.places = log, places
+        self.line = functools.lru_cache(maxsize=None)(functools.partial(places.show, callers=False))
+        self.known: "set[tuple]" = set()
+        self.of_block: "dict[tuple, tuple]" = {}
+        self.of_object: "dict[tuple, tuple]" = {}
+        self.of_region: "dict[tuple, tuple]" = {}
 
-    def callers_within(error: Error, stack: int) -> str:
-        frames = places.frames(max(stack, 0))
-        own = frames[: within(places.frames(error.stack), frames)]
-        return " ".join(frame.show() for frame in own) or callers(stack)
+    def callers(self, stack: int) -> str:
+        return ",".join(self.log.stacks[max(stack, 0)].split(",")[:SAME_CALLERS])
 
-    of_block: "dict[tuple, tuple]" = {}
-    of_object: "dict[tuple, tuple]" = {}
-    of_region: "dict[tuple, tuple]" = {}
-    causes: "dict[tuple, list[int]]" = {}
-    for at, error in enumerate(log.errors):
-        kind, block = kind_of(error), error.block
+    def callers_within(self, error: Error, stack: int) -> str:
+        frames = self.places.frames(max(stack, 0))
+        own = frames[: within(self.places.frames(error.stack), frames)]
+        return " ".join(frame.show() for frame in own) or self.callers(stack)
+
+    def of(self, error: Error) -> tuple:
+        key = self.found(kind_of(error), error)
+        self.known.add(key)
+        return key
+
+    def found(self, kind: str, error: Error) -> tuple:
+        block = error.block
         if kind in (USE_AFTER_FREE, USE_AFTER_REALLOC) and block:
-            if (kind, block) not in of_block:
-                # what another block's first wrong use is one cause with
-                key: tuple = (kind, line(error.stack), callers_within(error, log.ended[block]))
-                ways = its_calls(log, error, places)
-                if key not in causes:
-                    key = next((of_object[kind, way] for way in ways if (kind, way) in of_object), key)
-                of_object.update(((kind, way), key) for way in ways if (kind, way) not in of_object)
-                of_block[kind, block] = key
-            key = of_block[kind, block]
-        elif kind == DOUBLE_FREE and block:
-            key = (kind, *of_both_frees(log, error.stack, block, places))
-        elif kind == TOO_LARGE:
-            key = kind, line(error.stack)
-        elif kind == POISON and error.poisoned:
-            # all uses of what one call poisoned
-            region = block, error.poisoned.number
-            of_region.setdefault(region, (kind, line(error.stack), callers(error.poisoned.stack)))
-            key = of_region[region]
-        else:
-            made = callers_within(error, log.made[block]) if block else ""
-            key = kind, line(error.stack), made, callers(log.ended[block]) if error.state != "live" else ""
-        causes.setdefault(key, []).append(at)
-    found = []
-    for (kind, *_), numbers in causes.items():
-        uses: "dict[tuple, Use]" = {}
+            if (kind, block) not in self.of_block:
+                self.of_block[kind, block] = self.of_use(kind, error)
+            return self.of_block[kind, block]
+        if kind == DOUBLE_FREE and block:
+            return (kind, *of_both_frees(self.log, error.stack, block, self.places))
+        if kind == TOO_LARGE:
+            return kind, self.line(error.stack)
+        if kind == POISON and error.poisoned:  # all uses of what one call poisoned
+            return self.of_region.setdefault((block, error.poisoned.number), (kind, self.line(error.stack), self.callers(error.poisoned.stack)))
+        made = self.callers_within(error, self.log.made[block]) if block else ""
+        return kind, self.line(error.stack), made, self.callers(self.log.ended[block]) if error.state != "live" else ""
+
+    def of_use(self, kind: str, error: Error) -> tuple:
+        """What a block's first wrong use is one cause with: another block's, or one of the object that it is of."""
+        key: tuple = (kind, self.line(error.stack), self.callers_within(error, self.log.ended[error.block]))
+        ways = its_calls(self.log, error, self.places)
+        if key not in self.known:
+            key = next((self.of_object[kind, way] for way in ways if (kind, way) in self.of_object), key)
+        self.of_object.update(((kind, way), key) for way in ways if (kind, way) not in self.of_object)
+        return key
+
+    def entry(self, kind: str, numbers: "list[int]", outcomes: "list[tuple]") -> Entry:
+        """The entry of one cause, of the errors of these numbers."""
+        log, uses = self.log, dict[tuple, Use]()
         for at in numbers:
             error, (verdict, result, why) = log.errors[at], outcomes[at]
-            key = error.letter, error.state, line(error.stack), result, block_of(error)
+            key = error.letter, error.state, self.line(error.stack), result, block_of(error)
             if key in uses:
                 uses[key] = uses[key]._replace(times=uses[key].times + error.times)
             else:
                 uses[key] = Use(at, error, verdict, result, why, error.times)
         first, results = log.errors[numbers[0]], [use.result for use in uses.values()]
-        same = [stack for stack in (log.errors[at].stack for at in numbers) if line(stack) == line(first.stack)]
-        ways = list({places.show(stack): stack for stack in reversed(same)}.values())[::-1]
+        same = [stack for stack in (log.errors[at].stack for at in numbers) if self.line(stack) == self.line(first.stack)]
+        ways = list({self.places.show(stack): stack for stack in reversed(same)}.values())[::-1]
         made, ended = log.made[first.block], max(log.ended[first.block], 0) if first.state != "live" else 0
-        found.append(Entry(kind, list(uses.values()), min(results, key=RESULTS.index), first.stack, made, ended, None, numbers, ways[1:]))
-    if log.crash and not (log.errors and log.errors[-1].is_too_large() and line(log.errors[-1].stack) == line(log.crash.stack)):
+        return Entry(kind, list(uses.values()), min(results, key=RESULTS.index), first.stack, made, ended, None, numbers, ways[1:])
+
+
+def entries(log: Log, outcomes: "list[tuple]", places: Places) -> "list[Entry]":
+    """The entries of a log, in the order of their first use. An outcome of an error is (verdict, result, why). places has learned the
+    stacks of all errors."""
+    causes, numbers = Causes(log, places), dict[tuple, "list[int]"]()
+    for at, error in enumerate(log.errors):
+        numbers.setdefault(causes.of(error), []).append(at)
+    found = [causes.entry(key[0], each, outcomes) for key, each in numbers.items()]
+    if log.crash and not (log.errors and log.errors[-1].is_too_large() and causes.line(log.errors[-1].stack) == causes.line(log.crash.stack)):
         found.append(Entry(CRASH, [], None, log.crash.stack, 0, 0, log.crash, []))
     return found

@@ -188,77 +188,100 @@ class Log:
 
     def _read(self, line: bytes) -> None:
         letter, *words = line.split(b" ")
-        if letter in (b"l", b"s"):
-            block, offset, length = map(int, words)
-            self._know(block)
-            if block not in self.unrecorded:
-                if not (self.ended[block] == -1 and 0 <= offset and 0 < length <= LONGEST_RIGHT and offset + length <= self.size[block]):
-                    raise NoLog
-                self._add(letter, block, offset, length)
-        elif letter in (b"m", b"c"):
-            (block, size), stack = self._parts(words)
-            self._block(block, size, stack, block)
-            self._add(letter, block, size)
-        elif letter == b"a":
-            block, alignment = map(int, words)
-            self._align(block, alignment)
-        elif letter == b"f":
-            (block,), stack = self._parts(words)
-            self._end(block, stack)
-            self._add(letter, block)
-        elif letter == b"r":
-            (old, new, size), stack = self._parts(words)
-            self._end(old, stack)
-            self._block(new, size, stack, self.chain[old])
-            self.next[old] = new
-            self._add(letter, old, new, size)
-        elif letter == b"M":
-            *places, path = b" ".join(words).decode(errors="surrogateescape").split(" ", 3)
-            low, high, place = (int(each, 16) for each in places if len(each) <= 16)
-            if "\0" in path:
+        self.READERS[letter](self, letter, words)
+
+    def _right(self, letter: bytes, words: "list[bytes]") -> None:
+        block, offset, length = map(int, words)
+        self._know(block)
+        if block not in self.unrecorded:
+            if not (self.ended[block] == -1 and 0 <= offset and 0 < length <= LONGEST_RIGHT and offset + length <= self.size[block]):
                 raise NoLog
-            self.modules.append(Module(low, high, place, path))
-        elif letter == b"-":
-            (number,) = map(int, words)
-            if not 0 < number <= len(self.errors):
-                raise NoLog
-            self._taken_back.add(number - 1)
-        elif letter == b"+":
-            number, times = map(int, words)
-            if not 0 < number <= len(self.errors) or not 0 < times < MOST_TIMES:
-                raise NoLog
-            self._times[number - 1] = times
-        elif letter == b"C":
-            signal, code, at, frames = words
-            if not ADDRESS.fullmatch(at):
-                raise NoLog
-            name = SIGNALS[int(signal)]
-            is_known = name in ("SIGSEGV", "SIGBUS") and 0 < int(code) < KERNEL
-            self.crash = self.crash or Crash(name, int(at, 16) if is_known else None, self._stack(frames))
-        elif letter == b"e":
-            (self.status,) = map(int, words)
-            if not 0 <= self.status < 256:
-                raise NoLog
-        elif letter in (b"L", b"S", b"P", b"Q", b"V", b"x", b"o", b"n"):
-            self._error(letter.decode(), *self._parts(words))
-        elif letter in (b"p", b"u"):
-            (block, offset, size), stack = self._parts(words)
-            if block:
-                self._know(block)
-            if not 0 <= offset < MOST_SIZE or not 0 < size <= MOST_SIZE:
-                raise NoLog
-            self._marks.setdefault(block, array("q")).extend((offset, size, stack, letter == b"p"))
-        elif letter == b"i":
-            (block,) = map(int, words)
-            self._know(block)
-            self.ignored.add(block)
-        elif letter == b"k":
-            (block,) = map(int, words)
-            if block:
-                self._know(block)
-            self.lost.add(block)
-        else:
+            self._add(letter, block, offset, length)
+
+    def _request(self, letter: bytes, words: "list[bytes]") -> None:
+        (block, size), stack = self._parts(words)
+        self._block(block, size, stack, block)
+        self._add(letter, block, size)
+
+    def _align(self, _: bytes, words: "list[bytes]") -> None:
+        block, alignment = map(int, words)
+        if not 0 < block < len(self.size) or not 0 < alignment < MOST_SIZE:
             raise NoLog
+        self.alignment[block] = alignment
+
+    def _free(self, letter: bytes, words: "list[bytes]") -> None:
+        (block,), stack = self._parts(words)
+        self._end(block, stack)
+        self._add(letter, block)
+
+    def _resize(self, letter: bytes, words: "list[bytes]") -> None:
+        (old, new, size), stack = self._parts(words)
+        self._end(old, stack)
+        self._block(new, size, stack, self.chain[old])
+        self.next[old] = new
+        self._add(letter, old, new, size)
+
+    def _module(self, _: bytes, words: "list[bytes]") -> None:
+        *places, path = b" ".join(words).decode(errors="surrogateescape").split(" ", 3)
+        low, high, place = (int(each, 16) for each in places if len(each) <= 16)
+        if "\0" in path:
+            raise NoLog
+        self.modules.append(Module(low, high, place, path))
+
+    def _take_back(self, _: bytes, words: "list[bytes]") -> None:
+        (number,) = map(int, words)
+        if not 0 < number <= len(self.errors):
+            raise NoLog
+        self._taken_back.add(number - 1)
+
+    def _again(self, _: bytes, words: "list[bytes]") -> None:
+        number, times = map(int, words)
+        if not 0 < number <= len(self.errors) or not 0 < times < MOST_TIMES:
+            raise NoLog
+        self._times[number - 1] = times
+
+    def _crash(self, _: bytes, words: "list[bytes]") -> None:
+        signal, code, at, frames = words
+        if not ADDRESS.fullmatch(at):
+            raise NoLog
+        name = SIGNALS[int(signal)]
+        is_known = name in ("SIGSEGV", "SIGBUS") and 0 < int(code) < KERNEL
+        self.crash = self.crash or Crash(name, int(at, 16) if is_known else None, self._stack(frames))
+
+    def _status(self, _: bytes, words: "list[bytes]") -> None:
+        (self.status,) = map(int, words)
+        if not 0 <= self.status < 256:
+            raise NoLog
+
+    def _wrong(self, letter: bytes, words: "list[bytes]") -> None:
+        self._error(letter.decode(), *self._parts(words))
+
+    def _mark(self, letter: bytes, words: "list[bytes]") -> None:
+        (block, offset, size), stack = self._parts(words)
+        if block:
+            self._know(block)
+        if not 0 <= offset < MOST_SIZE or not 0 < size <= MOST_SIZE:
+            raise NoLog
+        self._marks.setdefault(block, array("q")).extend((offset, size, stack, letter == b"p"))
+
+    def _ignore(self, _: bytes, words: "list[bytes]") -> None:
+        (block,) = map(int, words)
+        self._know(block)
+        self.ignored.add(block)
+
+    def _lose(self, _: bytes, words: "list[bytes]") -> None:
+        (block,) = map(int, words)
+        if block:
+            self._know(block)
+        self.lost.add(block)
+
+    READERS = {
+        **dict.fromkeys((b"l", b"s"), _right),
+        **dict.fromkeys((b"m", b"c"), _request),
+        **dict.fromkeys((b"L", b"S", b"P", b"Q", b"V", b"x", b"o", b"n"), _wrong),
+        **dict.fromkeys((b"p", b"u"), _mark),
+        b"a": _align, b"f": _free, b"r": _resize, b"M": _module, b"-": _take_back, b"+": _again, b"C": _crash, b"e": _status, b"i": _ignore, b"k": _lose,
+    }  # of a record, by its letter; one of another letter has no key
 
     def _parts(self, words: "list[bytes]") -> "tuple[list[int], int]":
         """The numbers of a record, and its stack."""
@@ -286,11 +309,6 @@ class Log:
         self._know(block)
         self.unrecorded.discard(block)
         self.size[block], self.made[block], self.chain[block] = size, stack, chain
-
-    def _align(self, block: int, alignment: int) -> None:
-        if not 0 < block < len(self.size) or not 0 < alignment < MOST_SIZE:
-            raise NoLog
-        self.alignment[block] = alignment
 
     def _end(self, block: int, stack: int) -> None:
         self._know(block)
