@@ -11,7 +11,7 @@ from pathlib import Path
 from typing import NamedTuple
 
 from mte_scripts import helps, manifest, texts
-from mte_scripts.builds import web_page
+from mte_scripts.builds import library, web_page
 from mte_scripts.faults import heap_reader
 from mte_scripts.packaging import completions, manual
 from mte_scripts.packaging.tree import Tree, run, source, tracked
@@ -34,29 +34,6 @@ SHARE, PRIVATE, LIBRARIES = f"usr/share/{NAME}", f"usr/lib/{NAME}", f"usr/lib/{M
 DOCUMENTS = f"usr/share/doc/{NAME}"
 # Debian's flags for what other programs load
 HARDENED = "-fstack-protector-strong -D_FORTIFY_SOURCE=2 -Wformat -Werror=format-security -Wl,-z,relro -Wl,-z,now".split()
-CMAKE = """\
-# find_package(mte_tool) gives the targets mte_tool::mte_tool and, static, mte_tool::static.
-if(NOT TARGET mte_tool::mte_tool)
-    get_filename_component(mte_tool_libraries "${{CMAKE_CURRENT_LIST_DIR}}/../.." ABSOLUTE)
-    get_filename_component(mte_tool_include "${{mte_tool_libraries}}/../../include" ABSOLUTE)
-    add_library(mte_tool::mte_tool SHARED IMPORTED)
-    set_target_properties(mte_tool::mte_tool PROPERTIES IMPORTED_LOCATION "${{mte_tool_libraries}}/{soname}" IMPORTED_SONAME "{soname}"
-        INTERFACE_INCLUDE_DIRECTORIES "${{mte_tool_include}}")
-    add_library(mte_tool::static STATIC IMPORTED)
-    set_target_properties(mte_tool::static PROPERTIES IMPORTED_LOCATION "${{mte_tool_libraries}}/libmte_tool.a"
-        INTERFACE_INCLUDE_DIRECTORIES "${{mte_tool_include}}")
-endif()
-"""
-CMAKE_VERSION = """\
-set(PACKAGE_VERSION "{version}")
-if(NOT PACKAGE_FIND_VERSION OR
-   NOT PACKAGE_FIND_VERSION VERSION_GREATER PACKAGE_VERSION AND "{major}" STREQUAL "${{PACKAGE_FIND_VERSION_MAJOR}}")
-    set(PACKAGE_VERSION_COMPATIBLE TRUE)
-    if(PACKAGE_FIND_VERSION VERSION_EQUAL PACKAGE_VERSION)
-        set(PACKAGE_VERSION_EXACT TRUE)
-    endif()
-endif()
-"""
 
 
 class Parts(NamedTuple):
@@ -194,8 +171,8 @@ def put_library(tree: Tree, folder: str, number: str) -> None:
             else:
                 tree.stripped(f"{LIBRARIES}/{name}")
     tree.write(f"{LIBRARIES}/pkgconfig/mte_tool.pc", pkg_config(f"{folder}/lib/pkgconfig/mte_tool.pc"))
-    tree.write(f"{LIBRARIES}/cmake/mte_tool/mte_toolConfig.cmake", CMAKE.format(soname=soname_of(tree)))
-    tree.write(f"{LIBRARIES}/cmake/mte_tool/mte_toolConfigVersion.cmake", CMAKE_VERSION.format(version=number, major=number.split(".")[0]))
+    for name, text in library.cmake_files("../..", soname_of(tree), number).items():
+        tree.write(f"{LIBRARIES}/cmake/mte_tool/{name}", text)
 
 
 def pkg_config(path: str) -> str:
