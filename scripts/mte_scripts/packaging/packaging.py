@@ -13,7 +13,7 @@ from typing import NamedTuple
 from mte_scripts import helps, manifest, texts
 from mte_scripts.builds import library, web_page
 from mte_scripts.faults import heap_reader
-from mte_scripts.packaging import completions, manual
+from mte_scripts.packaging import completions, library_page, manual
 from mte_scripts.packaging.tree import Tree, run, source, tracked
 from mte_scripts.recording.recording import ENDINGS, FLAGS
 from mte_scripts.texts import Refused
@@ -229,6 +229,9 @@ def put_words(tree: Tree, parts: Parts) -> None:
     commands = {term: help_of(tree, "mte_tool", term, "-h") for term, _ in own.terms("COMMANDS") if term != "help"}
     date = f"{parts.time:%Y-%m-%d}"
     version = f"mte_tool {parts.number}"
+    if parts.library:
+        header = texts.read(f"{parts.library}/include/mte_tool.h").decode()
+        tree.packed("usr/share/man/man3/mte_tool.3", library_page.page(header, date, version))
     files = [(f"/{DOCUMENTS}/docs", "the documents; FORMATS.md has all formats and codes"),
              (f"/{SHARE}/examples", "profiles, traces and programs to try")]
     pages = {"mte_tool": own, **{f"mte_tool {name}": each for name, each in commands.items()}, **scripts}
