@@ -177,7 +177,8 @@ typedef struct mte_tool_allocator {
 
 /* Has the whole process take the library's memory from these functions, or again from malloc, realloc and free where `allocator` is null.
    The structure is copied. It is called before all other calls, and in no second thread meanwhile: once the library has taken memory it
-   changes nothing and ends with MTE_TOOL_MISUSE, as it does where a function is null or the structure has another size. */
+   changes nothing and ends with MTE_TOOL_MISUSE, as it does where a function is null. A member that the library does not know yet has to
+   be 0, or the call ends with MTE_TOOL_BAD_OPTION. */
 MTE_TOOL_CHECKED mte_tool_end mte_tool_set_allocator(const mte_tool_allocator *allocator);
 
 /* ---- the commands over texts */

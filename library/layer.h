@@ -84,6 +84,9 @@ extern const uint64_t layer_no_numbers;
 /* Whether a structure that begins with its size has one that can't be. Null has none. */
 int layer_is_wrong(const void *sized);
 
+/* Whether a structure that is not wrong has a member set that comes after those of the `known` size. */
+int layer_is_later(const void *sized, size_t known);
+
 /* malloc, realloc and free by the functions that the caller chose. The proved code's calls of these three go here too. */
 void *layer_malloc(size_t bytes);
 void *layer_realloc(void *block, size_t bytes);

@@ -27,9 +27,11 @@ void layer_free(void *block) {
 
 mte_tool_end mte_tool_set_allocator(const mte_tool_allocator *allocator) {
     static const mte_tool_allocator none;
-    if (__atomic_load_n(&is_in_use, __ATOMIC_RELAXED)) return MTE_TOOL_MISUSE;
-    if (allocator && (allocator->size != sizeof *allocator || !allocator->take || !allocator->resize || !allocator->give))
-        return MTE_TOOL_MISUSE;
+    if (__atomic_load_n(&is_in_use, __ATOMIC_RELAXED) || layer_is_wrong(allocator)) return MTE_TOOL_MISUSE;
+    if (allocator) {
+        if (allocator->size < sizeof *allocator || !allocator->take || !allocator->resize || !allocator->give) return MTE_TOOL_MISUSE;
+        if (layer_is_later(allocator, sizeof *allocator)) return MTE_TOOL_BAD_OPTION;
+    }
     chosen = allocator ? *allocator : none;
     return MTE_TOOL_DONE;
 }

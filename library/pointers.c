@@ -23,6 +23,14 @@ int layer_is_wrong(const void *sized) {
     return size < sizeof size || size > MOST_SIZE || size % WORD != 0;
 }
 
+int layer_is_later(const void *sized, size_t known) {
+    size_t size, i;
+    memcpy(&size, sized, sizeof size);
+    for (i = known; i < size; i++)
+        if (((const char *)sized)[i]) return 1;
+    return 0;
+}
+
 /* Copies what the caller's structure has room for of one whose size is `known`. What this library does not know is set to 0. */
 static void give(void *to, const void *found, size_t known) {
     size_t size;
@@ -39,12 +47,10 @@ mte_tool_end layer_give(mte_tool_end end, const mte_tool_result *found, mte_tool
 
 mte_tool_end layer_options(const mte_tool_options *options, narrow_options *narrow) {
     mte_tool_options wide = MTE_TOOL_OPTIONS(0);
-    size_t i;
     if (layer_is_wrong(options)) return MTE_TOOL_MISUSE;
     if (options) {
         memcpy(&wide, options, options->size < sizeof wide ? options->size : sizeof wide);
-        for (i = sizeof wide; i < options->size; i++)
-            if (((const char *)options)[i]) return MTE_TOOL_BAD_OPTION;
+        if (layer_is_later(options, sizeof wide)) return MTE_TOOL_BAD_OPTION;
     }
     *narrow = narrowed(&wide);
     return MTE_TOOL_DONE;
@@ -239,7 +245,8 @@ mte_tool_end mte_tool_tune_profile(const mte_tool_options *options, const mte_to
     if (!classes || is_missing(rows, row_room) || !is_whole(profile) || layer_is_wrong(result)) return MTE_TOOL_MISUSE;
     if (end != MTE_TOOL_DONE) return refuse_options(end, result);
     if (!rows) rows = &no_row;
-    return give_numbers(mte_arrays_tune(narrow.limit, narrow.step, narrow.largest_class, SLICES(profile), classes, class_room, rows, row_room),
+    return give_numbers(mte_arrays_tune(narrow.limit, narrow.step, narrow.largest_class, SLICES(profile), classes, class_room, rows,
+                                        row_room),
                         result);
 }
 

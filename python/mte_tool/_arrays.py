@@ -61,9 +61,11 @@ def numbers_of(kind: Any, numbers: Iterable[int]) -> Any:
 
 
 def flags_of(flags: Sequence[bool]) -> Any:
-    """An array of C with 1 for what is true."""
+    """An array of C that is not 0 for what is true."""
     view = buffer_of(flags)
-    return numbers_of(c_uint8, view if view and view.format == FLAGS else map(bool, flags if view is None else view.tolist()))
+    if view and view.format in (FLAGS, LETTERS[c_uint8]):
+        return numbers_of(c_uint8, view)
+    return numbers_of(c_uint8, map(bool, flags if view is None else view.tolist()))
 
 
 def profile_of(profile: Mapping[int, int]) -> _c.Profile:

@@ -138,6 +138,10 @@ static void late(void) {
 static void early(void) {
     pool unused = {0, 0, -1}, of = {0, 0, -1};
     mte_tool_allocator first = {sizeof first, take, resize, give, &unused}, own = {sizeof own, take, resize, give, &of}, wrong[5];
+    struct {
+        mte_tool_allocator known;
+        uint64_t later;
+    } more;
     mte_tool_text text = MTE_TOOL_TEXT;
     mte_tool_heap *heap;
     size_t i;
@@ -145,8 +149,14 @@ static void early(void) {
     wrong[0].take = NULL;
     wrong[1].resize = NULL;
     wrong[2].give = NULL;
-    wrong[3].size--;
-    wrong[4].size += 8;
+    wrong[3].size = 0;
+    wrong[4].size -= 8;
+    more.known = own;
+    more.known.size = sizeof more;
+    more.later = 0;
+    WANT(mte_tool_set_allocator(&first) == MTE_TOOL_DONE && mte_tool_set_allocator(&more.known) == MTE_TOOL_DONE);
+    more.later = 1;
+    WANT(mte_tool_set_allocator(&more.known) == MTE_TOOL_BAD_OPTION);
     WANT(mte_tool_set_allocator(&first) == MTE_TOOL_DONE && mte_tool_set_allocator(&own) == MTE_TOOL_DONE);
     for (i = 0; i < 5; i++) WANT(mte_tool_set_allocator(&wrong[i]) == MTE_TOOL_MISUSE);
     own.take = NULL; /* it was copied */

@@ -226,7 +226,8 @@ pub struct mte_tool_outcome {
 }
 
 /// A command over a text.
-pub type Command = unsafe extern "C" fn(*const mte_tool_options, *const c_void, usize, *mut mte_tool_text, *mut mte_tool_result) -> mte_tool_end;
+pub type Command =
+    unsafe extern "C" fn(*const mte_tool_options, *const c_void, usize, *mut mte_tool_text, *mut mte_tool_result) -> mte_tool_end;
 
 /// A command over a first text and another.
 pub type CommandOn = unsafe extern "C" fn(
@@ -434,6 +435,12 @@ extern "C" {
         outcome: *mut mte_tool_outcome,
     ) -> mte_tool_end;
     pub fn mte_tool_heap_granule(heap: *mut mte_tool_heap, granule: u64, outcome: *mut mte_tool_outcome) -> mte_tool_end;
-    pub fn mte_tool_heap_addg(heap: *mut mte_tool_heap, address: u64, granules: u64, step: u64, outcome: *mut mte_tool_outcome) -> mte_tool_end;
+    pub fn mte_tool_heap_addg(
+        heap: *mut mte_tool_heap,
+        address: u64,
+        granules: u64,
+        step: u64,
+        outcome: *mut mte_tool_outcome,
+    ) -> mte_tool_end;
     pub fn mte_tool_heap_close(heap: *mut mte_tool_heap);
 }
