@@ -141,7 +141,7 @@ typedef struct mte_tool_result {
    byte 0 comes after them: the empty text is "", and so is an empty answer. A structure of zeros is the empty text too. A copy of the
    structure is the same text: free one of them. */
 typedef struct mte_tool_text {
-    char *bytes;   /* never null after a call */
+    char *bytes;   /* null only in a structure of zeros, until a call fills it */
     size_t length; /* of the bytes, without that 0 */
     size_t room;   /* the library's own: 0 if it has no memory to free */
 } mte_tool_text;
