@@ -1,10 +1,12 @@
 /* The engines of mte_tool for C99, C++ and whatever else calls C. docs/LIBRARY.md has examples, says what is proved, and what of this
    interface stays. include/mte_tool.hpp, python/mte_tool and rust/mte-tool are the same for C++, Python and Rust.
 
-   - A call returns how it ended, MTE_TOOL_DONE and so on; mte_tool_strerror has a sentence for that, and for each code.
+   - A call returns how it ended, an mte_tool_end. Why an input, a sheet or a request is refused is a code, an mte_tool_code. The two are
+     apart, and each has its own sentences.
    - What a call only reads is const. What it gives goes into an output of its own, of which a structure that begins with its `size` may be
      null.
-   - There is no state beside the arguments: calls in many threads are independent, as long as no two write to one text or one heap. */
+   - There is no state beside the arguments but the functions for memory, which are set before the first call. Calls in many threads are
+     independent, as long as no two write to one text or use one heap at a time. */
 #ifndef MTE_TOOL_H
 #define MTE_TOOL_H
 
@@ -13,6 +15,15 @@
 
 #ifdef __cplusplus
 extern "C" {
+#endif
+
+/* before a call whose end has to be looked at: a compiler warns where it is dropped */
+#if (defined __cplusplus && __cplusplus >= 201703L) || (defined __STDC_VERSION__ && __STDC_VERSION__ >= 202311L)
+#define MTE_TOOL_CHECKED [[nodiscard]]
+#elif defined __GNUC__
+#define MTE_TOOL_CHECKED __attribute__((warn_unused_result))
+#else
+#define MTE_TOOL_CHECKED
 #endif
 
 /* The version of this header; the first of its three numbers is that of the interface. The number is 10000, 100 and 1 times the three. */
@@ -26,8 +37,8 @@ extern "C" {
 #define MTE_TOOL_LARGEST_SIZE 16368    /* in bytes: the largest request that a class serves */
 #define MTE_TOOL_MOST_COUNT 1000000000 /* how often a profile may count a size */
 
-/* How a call ended. */
-enum {
+/* How a call ended. No later version has more of them. */
+typedef enum mte_tool_end {
     MTE_TOOL_DONE = 0,          /* done; the output is the answer */
     MTE_TOOL_NO = 1,            /* the verdict is no; the output is the answer */
     MTE_TOOL_REFUSED = 2,       /* the input is refused; the output is its first fault, as "30 BadLine line 2", without a newline */
@@ -35,7 +46,59 @@ enum {
     MTE_TOOL_BAD_OPTION = 4,    /* an option is out of its range, or not known to this library; the output is empty */
     MTE_TOOL_MISUSE = 5         /* the call is not as it has to be; a pointer is null that must not be, a structure has no size, or as the
                                    call says */
-};
+} mte_tool_end;
+
+/* Why an input is refused, why the verdict is no, or why the heap or the machine refuses a call: the codes of docs/FORMATS.md. A structure
+   has such a code as a number of 32 bits, since a later library may give a code that this header does not name. */
+typedef enum mte_tool_code {
+    MTE_TOOL_CODE_NONE = 0,                   /* there is none */
+    MTE_TOOL_CODE_TOO_MANY_CLASSES = 20,      /* there are more than 32 classes */
+    MTE_TOOL_CODE_CLASS_OUT_OF_RANGE = 21,    /* a class is not from 2 to 1024 */
+    MTE_TOOL_CODE_CLASSES_NOT_ASCENDING = 22, /* a class is not above the one before it */
+    MTE_TOOL_CODE_BAD_CLASS_LINE = 23,        /* the class line is not `classes` and then numbers */
+    MTE_TOOL_CODE_BAD_COUNT_LINE = 30,        /* a line is not a size up to 16368, or `large`, and then counts */
+    MTE_TOOL_CODE_SIZES_NOT_ASCENDING = 31,   /* a size is not above the one before it */
+    MTE_TOOL_CODE_COUNT_OUT_OF_RANGE = 32,    /* a count is above 1000000000, or all of a line are 0 */
+    MTE_TOOL_CODE_COUNT_FULL = 33,            /* the count is 1000000000, and no request more is counted */
+    MTE_TOOL_CODE_BAD_SNAPSHOTS = 34,         /* the history's first line is not `snapshots T`, T from 1 to 1024 */
+    MTE_TOOL_CODE_WRONG_LENGTH = 35,          /* a line does not have T numbers, one for each snapshot */
+    MTE_TOOL_CODE_BAD_FIT = 36,               /* a line is not of a fit's form, or is missing */
+    MTE_TOOL_CODE_BAD_TIMELINE = 37,          /* a line of the timeline is none of its four forms */
+    MTE_TOOL_CODE_SIZE_NOT_LIVE = 38,         /* a free of a size of which no block is live */
+    MTE_TOOL_CODE_OFF_STEP = 39,              /* this is not so: each class is a multiple of the step */
+    MTE_TOOL_CODE_OVER_LIMIT = 40,            /* this is not so: the table has at most K classes */
+    MTE_TOOL_CODE_NOT_SERVING = 41,           /* this is not so: each counted size has a class */
+    MTE_TOOL_CODE_WASTE_WRONG = 42,           /* this is not so: the waste is the table's on the profile */
+    MTE_TOOL_CODE_SHAPE = 43,                 /* this is not so: there are K rows, with a number for each distinct need */
+    MTE_TOOL_CODE_LAST_CLASS = 44,            /* a number of the first row is above the cost of one class on all that comes after its
+                                                 place */
+    MTE_TOOL_CODE_STAGE_DROP = 45,            /* a number is above the one at its place in the row before */
+    MTE_TOOL_CODE_EDGE = 46,                  /* a number is above the cost of one class up to a later place, and the number there in the
+                                                 row before */
+    MTE_TOOL_CODE_NOT_TIGHT = 47,             /* the first number of the last row is not the cost of the table */
+    MTE_TOOL_CODE_BAD_SHEET = 48,             /* a line is not of a sheet's form, or is missing */
+    MTE_TOOL_CODE_FOOTPRINT_WRONG = 49,       /* this is not so: the footprint is the table's over the history */
+    MTE_TOOL_CODE_UNMAPPED = 50,              /* of a load or a store: a byte is not in the region, or one of the bits 60 to 63 of the
+                                                 address is 1 */
+    MTE_TOOL_CODE_ALIGNMENT = 51,             /* an address is not aligned */
+    MTE_TOOL_CODE_TAG_CHECK = 52,             /* of a load or a store: a granule's tag differs from the address's */
+    MTE_TOOL_CODE_NOT_MOMENTS = 53,           /* this is not so: no number of `moments` is above the number of events */
+    MTE_TOOL_CODE_LARGE = 60,                 /* of malloc, calloc and realloc: more than 16368 bytes are requested */
+    MTE_TOOL_CODE_NO_CLASS = 61,              /* of malloc, calloc and realloc: no class of the table serves the request */
+    MTE_TOOL_CODE_EXHAUSTED = 62,             /* of malloc, calloc and realloc: no slot of the request's class is left */
+    MTE_TOOL_CODE_MISPLACED = 63,             /* of free and realloc: no chunk of a slot begins at the address */
+    MTE_TOOL_CODE_CHUNK_NOT_LIVE = 64,        /* of free and realloc: the chunk there is not live */
+    MTE_TOOL_CODE_WRONG_TAG = 65,             /* of free and realloc: the address has another tag than the chunk */
+    MTE_TOOL_CODE_BAD_WORD = 70,              /* a line is no event, or has a word too many or too few */
+    MTE_TOOL_CODE_BAD_NUMBER = 71,            /* a word is no number of its kind, or not in its one spelling */
+    MTE_TOOL_CODE_NUMBER_OUT_OF_RANGE = 72,   /* a number is not in its range */
+    MTE_TOOL_CODE_LINE_TOO_LONG = 73,         /* a line has more than 80 bytes */
+    MTE_TOOL_CODE_TOO_MANY_EVENTS = 74,       /* there is a line after 1000000 events */
+    MTE_TOOL_CODE_INPUT_TOO_LONG = 80,        /* there are more than 67108864 bytes */
+    MTE_TOOL_CODE_READ_FAULT = 81,            /* a read failed */
+    MTE_TOOL_CODE_WRITE_FAULT = 82,           /* a write failed, or took no byte */
+    MTE_TOOL_CODE_BAD_OPTION = 83             /* the step is 3, 5, 6 or 7; nothing is read then */
+} mte_tool_code;
 
 /* The options. A caller sets `size` to the size of the structure that it knows, as MTE_TOOL_OPTIONS does, so that later versions can add
    members at the end. A member that the caller's structure lacks has its default. One that the library does not know yet has to be 0, which
@@ -62,7 +125,7 @@ typedef struct mte_tool_options {
    0, as is each that the call does not give. */
 typedef struct mte_tool_result {
     size_t size;      /* sizeof (mte_tool_result) */
-    uint32_t code;    /* why the input is refused, or the verdict is no: a code of docs/FORMATS.md; 0 without one */
+    uint32_t code;    /* why the input is refused, or the verdict is no: an mte_tool_code; 0 without one */
     uint32_t classes; /* of a call over arrays: how many classes the table has that it gave */
     uint64_t line;    /* the line of a text's fault, from 1 on */
     uint64_t at;      /* of arrays the index of the first faulty entry, from 0 on; or the least size without a class, in bytes */
@@ -74,21 +137,49 @@ typedef struct mte_tool_result {
 
 #define MTE_TOOL_RESULT {sizeof(mte_tool_result), 0, 0, 0, 0, 0, 0, 0, 0}
 
-/* A text of the library's memory. It begins as MTE_TOOL_TEXT, the empty text, and mte_tool_free makes it that again. The bytes may be read
-   and changed, and a byte 0 comes after them. A copy of the structure is the same text: free one of them. */
+/* A text. It begins as MTE_TOOL_TEXT, the empty text, and mte_tool_text_free makes it that again. The bytes may be read and changed, and a
+   byte 0 comes after them: the empty text is "", and so is an empty answer. A structure of zeros is the empty text too. A copy of the
+   structure is the same text: free one of them. */
 typedef struct mte_tool_text {
-    char *bytes;   /* null if there are none */
+    char *bytes;   /* null only in a structure of zeros, until a call fills it */
     size_t length; /* of the bytes, without that 0 */
-    size_t room;   /* the library's own */
+    size_t room;   /* the library's own: 0 if it has no memory to free */
 } mte_tool_text;
 
-#define MTE_TOOL_TEXT {NULL, 0, 0}
+#ifdef __cplusplus
+#define MTE_TOOL_TEXT {const_cast<char *>(""), 0, 0}
+#else
+#define MTE_TOOL_TEXT {(char *)"", 0, 0}
+#endif
 
-/* MTE_TOOL_VERSION of the library that runs, which `mte_tool --version` prints too. */
+/* MTE_TOOL_VERSION and MTE_TOOL_VERSION_NUMBER of the library that runs, which may be a later one than the header's. */
 const char *mte_tool_version(void);
+uint32_t mte_tool_version_number(void);
 
-/* A sentence without an end for what a call returned, or for the code of a result or an outcome. It is never null, and is not freed. */
-const char *mte_tool_strerror(int code);
+/* A sentence without an end for how a call ended, and one for the code of a result or an outcome. The name of a code is the word after its
+   number in the text of a refusal, as BadLine, and "" of a number that is no code. They are never null, and are not freed. */
+const char *mte_tool_end_sentence(mte_tool_end end);
+const char *mte_tool_code_sentence(uint32_t code);
+const char *mte_tool_code_name(uint32_t code);
+
+/* ---- memory */
+
+/* Where the library takes its memory: functions that do what malloc, realloc and free do, with blocks for any type, and that may be called
+   in many threads at once. `take` and `resize` return null if there is none, and then the call ends with MTE_TOOL_OUT_OF_MEMORY. All of the
+   library's memory comes from them: that of texts and heaps, and what a call takes for itself. */
+typedef struct mte_tool_allocator {
+    size_t size; /* sizeof (mte_tool_allocator) */
+    void *(*take)(void *context, size_t bytes);
+    void *(*resize)(void *context, void *block, size_t bytes);
+    void (*give)(void *context, void *block);
+    void *context; /* what the functions get first */
+} mte_tool_allocator;
+
+/* Has the whole process take the library's memory from these functions, or again from malloc, realloc and free where `allocator` is null.
+   The structure is copied. It is called before all other calls, and in no second thread meanwhile: once the library has taken memory it
+   changes nothing and ends with MTE_TOOL_MISUSE, as it does where a function is null. A member that the library does not know yet has to
+   be 0, or the call ends with MTE_TOOL_BAD_OPTION. */
+MTE_TOOL_CHECKED mte_tool_end mte_tool_set_allocator(const mte_tool_allocator *allocator);
 
 /* ---- the commands over texts */
 
@@ -101,27 +192,31 @@ const char *mte_tool_strerror(int code);
    What `output` held before is freed, and the answer takes its place, for the caller to free. For MTE_TOOL_REFUSED that is the first fault
    of the input, as "30 BadLine line 2", without a newline; result->code and result->line have its numbers. For MTE_TOOL_OUT_OF_MEMORY and
    MTE_TOOL_BAD_OPTION the output is empty. MTE_TOOL_MISUSE leaves it as it was. A text may be the output's own bytes. */
-int mte_tool_score(const mte_tool_options *options, const void *first, size_t first_length, const void *input, size_t length,
-                   mte_tool_text *output, mte_tool_result *result);
-int mte_tool_tune(const mte_tool_options *options, const void *input, size_t length, mte_tool_text *output, mte_tool_result *result);
-int mte_tool_check(const mte_tool_options *options, const void *first, size_t first_length, const void *input, size_t length,
-                   mte_tool_text *output, mte_tool_result *result);
-int mte_tool_footprint(const mte_tool_options *options, const void *first, size_t first_length, const void *input, size_t length,
-                       mte_tool_text *output, mte_tool_result *result);
-int mte_tool_fit(const mte_tool_options *options, const void *input, size_t length, mte_tool_text *output, mte_tool_result *result);
-int mte_tool_check_fit(const mte_tool_options *options, const void *first, size_t first_length, const void *input, size_t length,
-                       mte_tool_text *output, mte_tool_result *result);
-int mte_tool_profile(const mte_tool_options *options, const void *input, size_t length, mte_tool_text *output, mte_tool_result *result);
-int mte_tool_replay(const mte_tool_options *options, const void *first, size_t first_length, const void *input, size_t length,
-                    mte_tool_text *output, mte_tool_result *result);
-int mte_tool_run(const mte_tool_options *options, const void *input, size_t length, mte_tool_text *output, mte_tool_result *result);
+MTE_TOOL_CHECKED mte_tool_end mte_tool_score(const mte_tool_options *options, const void *first, size_t first_length, const void *input,
+                                             size_t length, mte_tool_text *output, mte_tool_result *result);
+MTE_TOOL_CHECKED mte_tool_end mte_tool_tune(const mte_tool_options *options, const void *input, size_t length, mte_tool_text *output,
+                                            mte_tool_result *result);
+MTE_TOOL_CHECKED mte_tool_end mte_tool_check(const mte_tool_options *options, const void *first, size_t first_length, const void *input,
+                                             size_t length, mte_tool_text *output, mte_tool_result *result);
+MTE_TOOL_CHECKED mte_tool_end mte_tool_footprint(const mte_tool_options *options, const void *first, size_t first_length, const void *input,
+                                                 size_t length, mte_tool_text *output, mte_tool_result *result);
+MTE_TOOL_CHECKED mte_tool_end mte_tool_fit(const mte_tool_options *options, const void *input, size_t length, mte_tool_text *output,
+                                           mte_tool_result *result);
+MTE_TOOL_CHECKED mte_tool_end mte_tool_check_fit(const mte_tool_options *options, const void *first, size_t first_length, const void *input,
+                                                 size_t length, mte_tool_text *output, mte_tool_result *result);
+MTE_TOOL_CHECKED mte_tool_end mte_tool_profile(const mte_tool_options *options, const void *input, size_t length, mte_tool_text *output,
+                                               mte_tool_result *result);
+MTE_TOOL_CHECKED mte_tool_end mte_tool_replay(const mte_tool_options *options, const void *first, size_t first_length, const void *input,
+                                              size_t length, mte_tool_text *output, mte_tool_result *result);
+MTE_TOOL_CHECKED mte_tool_end mte_tool_run(const mte_tool_options *options, const void *input, size_t length, mte_tool_text *output,
+                                           mte_tool_result *result);
 
 /* Appends a piece to a text, such as an input that comes in pieces. Returns MTE_TOOL_DONE; or MTE_TOOL_OUT_OF_MEMORY or MTE_TOOL_MISUSE,
    which leave the text as it was. `piece` may be null if `length` is 0, and is no part of the text. */
-int mte_tool_append(mte_tool_text *text, const void *piece, size_t length);
+MTE_TOOL_CHECKED mte_tool_end mte_tool_text_append(mte_tool_text *text, const void *piece, size_t length);
 
 /* Frees the memory of a text, and leaves the empty text. Null is let pass. */
-void mte_tool_free(mte_tool_text *text);
+void mte_tool_text_free(mte_tool_text *text);
 
 /* ---- the same over arrays, for a caller that counts itself */
 
@@ -157,12 +252,12 @@ typedef struct mte_tool_timeline_arrays {
    overlap. */
 
 /* What a table costs: result->bytes. MTE_TOOL_NO: a size has no class, and result->at is the least one. */
-int mte_tool_score_profile(const mte_tool_options *options, const uint16_t *classes, size_t class_count,
-                           const mte_tool_profile_arrays *profile, mte_tool_result *result);
-int mte_tool_footprint_history(const mte_tool_options *options, const uint16_t *classes, size_t class_count,
-                               const mte_tool_history_arrays *history, mte_tool_result *result);
-int mte_tool_footprint_timeline(const mte_tool_options *options, const uint16_t *classes, size_t class_count,
-                                const mte_tool_timeline_arrays *timeline, mte_tool_result *result);
+MTE_TOOL_CHECKED mte_tool_end mte_tool_score_profile(const mte_tool_options *options, const uint16_t *classes, size_t class_count,
+                                                     const mte_tool_profile_arrays *profile, mte_tool_result *result);
+MTE_TOOL_CHECKED mte_tool_end mte_tool_footprint_history(const mte_tool_options *options, const uint16_t *classes, size_t class_count,
+                                                         const mte_tool_history_arrays *history, mte_tool_result *result);
+MTE_TOOL_CHECKED mte_tool_end mte_tool_footprint_timeline(const mte_tool_options *options, const uint16_t *classes, size_t class_count,
+                                                          const mte_tool_timeline_arrays *timeline, mte_tool_result *result);
 
 /* The table of least cost, of at most `limit` classes that are multiples of `step`. `classes` has room for `class_room` of them, `limit` or
    more, or that is MTE_TOOL_MISUSE; result->classes says how many there are. Its certificate is `limit` rows of result->places numbers
@@ -170,95 +265,98 @@ int mte_tool_footprint_timeline(const mte_tool_options *options, const uint16_t 
    enough, and 0 and null let the certificate go. That of a timeline also names moments, at most 1024, which are put into `moments`
    likewise. After any end but MTE_TOOL_DONE the arrays are as they were, but for one: MTE_TOOL_NO of a timeline gives the best classes that
    were found, no certificate, and result->bound. */
-int mte_tool_tune_profile(const mte_tool_options *options, const mte_tool_profile_arrays *profile, uint16_t *classes, size_t class_room,
-                          uint64_t *rows, size_t row_room, mte_tool_result *result);
-int mte_tool_fit_history(const mte_tool_options *options, const mte_tool_history_arrays *history, uint16_t *classes, size_t class_room,
-                         uint64_t *rows, size_t row_room, mte_tool_result *result);
-int mte_tool_fit_timeline(const mte_tool_options *options, const mte_tool_timeline_arrays *timeline, uint16_t *classes, size_t class_room,
-                          uint64_t *rows, size_t row_room, uint32_t *moments, size_t moment_room, mte_tool_result *result);
+MTE_TOOL_CHECKED mte_tool_end mte_tool_tune_profile(const mte_tool_options *options, const mte_tool_profile_arrays *profile,
+                                                    uint16_t *classes, size_t class_room, uint64_t *rows, size_t row_room,
+                                                    mte_tool_result *result);
+MTE_TOOL_CHECKED mte_tool_end mte_tool_fit_history(const mte_tool_options *options, const mte_tool_history_arrays *history,
+                                                   uint16_t *classes, size_t class_room, uint64_t *rows, size_t row_room,
+                                                   mte_tool_result *result);
+MTE_TOOL_CHECKED mte_tool_end mte_tool_fit_timeline(const mte_tool_options *options, const mte_tool_timeline_arrays *timeline,
+                                                    uint16_t *classes, size_t class_room, uint64_t *rows, size_t row_room,
+                                                    uint32_t *moments, size_t moment_room, mte_tool_result *result);
 
 /* The verdict on a table with its certificate, whoever made it: `class_count` classes, made for these options, with the cost in bytes that
    it claims and the `row_count` numbers of its rows. MTE_TOOL_DONE: no table within these options costs less. MTE_TOOL_NO: it is refused,
    and result->code says by which condition. MTE_TOOL_MISUSE: the numbers can't be cut in `limit` rows of one length. */
-int mte_tool_check_profile(const mte_tool_options *options, const uint16_t *classes, size_t class_count, uint64_t waste,
-                           const uint64_t *rows, size_t row_count, const mte_tool_profile_arrays *profile, mte_tool_result *result);
-int mte_tool_check_fit_history(const mte_tool_options *options, const uint16_t *classes, size_t class_count, uint64_t footprint,
-                               const uint64_t *rows, size_t row_count, const mte_tool_history_arrays *history, mte_tool_result *result);
-int mte_tool_check_fit_timeline(const mte_tool_options *options, const uint16_t *classes, size_t class_count, uint64_t footprint,
-                                const uint64_t *rows, size_t row_count, const uint32_t *moments, size_t moment_count,
-                                const mte_tool_timeline_arrays *timeline, mte_tool_result *result);
+MTE_TOOL_CHECKED mte_tool_end mte_tool_check_profile(const mte_tool_options *options, const uint16_t *classes, size_t class_count,
+                                                     uint64_t waste, const uint64_t *rows, size_t row_count,
+                                                     const mte_tool_profile_arrays *profile, mte_tool_result *result);
+MTE_TOOL_CHECKED mte_tool_end mte_tool_check_fit_history(const mte_tool_options *options, const uint16_t *classes, size_t class_count,
+                                                         uint64_t footprint, const uint64_t *rows, size_t row_count,
+                                                         const mte_tool_history_arrays *history, mte_tool_result *result);
+MTE_TOOL_CHECKED mte_tool_end mte_tool_check_fit_timeline(const mte_tool_options *options, const uint16_t *classes, size_t class_count,
+                                                          uint64_t footprint, const uint64_t *rows, size_t row_count,
+                                                          const uint32_t *moments, size_t moment_count,
+                                                          const mte_tool_timeline_arrays *timeline, mte_tool_result *result);
+
+/* The number of the class that serves a request of `size` bytes: its place in the table, from 0 on; -1 if none serves it. The table is
+   ascending, and so this is the least class that is large enough: a class of c granules has 16 * (c - 1) bytes for a request. */
+int mte_tool_class_of(const uint16_t *classes, size_t class_count, size_t size);
 
 /* ---- the heap itself, for whoever tests an allocator against the model (docs/HEAP.md) */
 
-/* Why the heap or the machine refused a call: the codes of an outcome. */
-enum {
-    MTE_TOOL_UNMAPPED = 50,  /* of a load or a store: a byte is not in the region, or one of the bits 60 to 63 of the address is 1 */
-    MTE_TOOL_TAG_FAULT = 52, /* of a load or a store: a granule's tag differs from the address's */
-    MTE_TOOL_LARGE = 60,     /* of malloc, calloc and realloc: more than 16368 bytes are requested */
-    MTE_TOOL_NO_CLASS = 61,  /* of malloc, calloc and realloc: no class of the table serves the request */
-    MTE_TOOL_EXHAUSTED = 62, /* of malloc, calloc and realloc: no slot of the request's class is left */
-    MTE_TOOL_MISPLACED = 63, /* of free and realloc: no chunk of a slot begins at the address */
-    MTE_TOOL_NOT_LIVE = 64,  /* of free and realloc: the chunk there is not live */
-    MTE_TOOL_WRONG_TAG = 65  /* of free and realloc: the address has another tag than the chunk */
-};
-
-/* A heap that the library holds for its caller. It begins as MTE_TOOL_HEAP, which holds none, and mte_tool_heap_close makes it that again.
-   `live` is 1 if there is a heap, and may be read; both members are the library's own. A copy of the structure is the same heap: close one
-   of them. */
-typedef struct mte_tool_heap {
-    void *handle;
-    uint32_t live;
-} mte_tool_heap;
-
-#define MTE_TOOL_HEAP {NULL, 0}
+/* A heap that the library holds for its caller, who has nothing but the pointer. No call may have the pointer of a heap that is closed. */
+typedef struct mte_tool_heap mte_tool_heap;
 
 /* The address of the first byte of each heap's region, without a tag. */
-#define MTE_TOOL_REGION_START ((uint64_t)1 << 36)
+#define MTE_TOOL_REGION_START (UINT64_C(1) << 36)
+
+/* What a granule is (docs/HEAP.md). A later library may know more kinds. */
+typedef enum mte_tool_granule_kind {
+    MTE_TOOL_GRANULE_SLACK = 0,  /* of no slot */
+    MTE_TOOL_GRANULE_HEADER = 1, /* the header of a slot */
+    MTE_TOOL_GRANULE_TAIL = 2,   /* after the bytes of a chunk */
+    MTE_TOOL_GRANULE_DEAD = 3,   /* of a freed chunk */
+    MTE_TOOL_GRANULE_LIVE = 4    /* of a live chunk */
+} mte_tool_granule_kind;
 
 /* What a call on a heap gave, beside how it ended. A caller sets `size`, as MTE_TOOL_OUTCOME does. What the call does not give is 0. */
 typedef struct mte_tool_outcome {
     size_t size;           /* sizeof (mte_tool_outcome) */
     uint64_t value;        /* of malloc, calloc, realloc and addg: the address, with its tag in bits 56 to 59; of granule a slot's number */
-    uint32_t code;         /* MTE_TOOL_UNMAPPED and so on; of mte_tool_heap_new 20, 21 or 22, as of classes above */
+    uint32_t code;         /* an mte_tool_code: 50 and 52 of an access, 60 to 65 of a request or a free; of mte_tool_heap_new 20 to 22 */
     uint32_t granule;      /* of a tag fault: the lowest granule whose tag differs, from the region's start */
     uint32_t memory_tag;   /* its tag */
     uint32_t pointer_tag;  /* the address's tag */
-    uint32_t granule_kind; /* what that granule is: 0 slack, 1 a header, 2 a tail, 3 of a freed chunk, 4 of a live chunk */
+    uint32_t granule_kind; /* what that granule is: an mte_tool_granule_kind */
     uint32_t reserved;     /* 0 */
 } mte_tool_outcome;
 
 #define MTE_TOOL_OUTCOME {sizeof(mte_tool_outcome), 0, 0, 0, 0, 0, 0, 0}
 
-/* Makes a heap over the table of `class_count` classes, in granules, ascending, from 2 to 1024. The ends: MTE_TOOL_BAD_OPTION,
-   MTE_TOOL_REFUSED (the classes), MTE_TOOL_OUT_OF_MEMORY; MTE_TOOL_MISUSE if `heap` holds a heap, which it keeps. It takes 17 bytes for
-   each granule. No other call takes memory. */
-int mte_tool_heap_new(mte_tool_heap *heap, const mte_tool_options *options, const uint16_t *classes, size_t class_count,
-                      mte_tool_outcome *outcome);
+/* Makes a heap over the table of `class_count` classes, in granules, ascending, from 2 to 1024, and puts the pointer to it into `heap`.
+   Whatever that held is not looked at. The ends: MTE_TOOL_BAD_OPTION, MTE_TOOL_REFUSED (the classes), MTE_TOOL_OUT_OF_MEMORY and
+   MTE_TOOL_MISUSE, after which it is null. It takes 17 bytes for each granule. No other call takes memory. */
+MTE_TOOL_CHECKED mte_tool_end mte_tool_heap_new(mte_tool_heap **heap, const mte_tool_options *options, const uint16_t *classes,
+                                                size_t class_count, mte_tool_outcome *outcome);
 
 /* The calls of the heap, and the loads and stores of its machine. MTE_TOOL_NO: the heap or the machine refused it, outcome->code says why,
-   and nothing changed. On a heap that is not there they end with MTE_TOOL_MISUSE. The address of null is 0: `realloc` of it is `malloc`,
-   and `free` of it does nothing. */
-int mte_tool_heap_malloc(mte_tool_heap *heap, size_t size, mte_tool_outcome *outcome);
-int mte_tool_heap_calloc(mte_tool_heap *heap, size_t size, mte_tool_outcome *outcome);
-int mte_tool_heap_realloc(mte_tool_heap *heap, uint64_t address, size_t size, mte_tool_outcome *outcome);
-int mte_tool_heap_free(mte_tool_heap *heap, uint64_t address, mte_tool_outcome *outcome);
+   and nothing changed. Where `heap` is null they end with MTE_TOOL_MISUSE. The address of null is 0: `realloc` of it is
+   `malloc`, and `free` of it does nothing. */
+MTE_TOOL_CHECKED mte_tool_end mte_tool_heap_malloc(mte_tool_heap *heap, size_t size, mte_tool_outcome *outcome);
+MTE_TOOL_CHECKED mte_tool_end mte_tool_heap_calloc(mte_tool_heap *heap, size_t size, mte_tool_outcome *outcome);
+MTE_TOOL_CHECKED mte_tool_end mte_tool_heap_realloc(mte_tool_heap *heap, uint64_t address, size_t size, mte_tool_outcome *outcome);
+MTE_TOOL_CHECKED mte_tool_end mte_tool_heap_free(mte_tool_heap *heap, uint64_t address, mte_tool_outcome *outcome);
 
 /* Read and write 1 to 64 bytes from an address on; another length is MTE_TOOL_BAD_OPTION. The address of a further byte of a chunk is the
    chunk's and a number of bytes, with the same tag. No chunk has tag 0, so an address with it that lies in the region is MTE_TOOL_MISUSE.
    After any end but MTE_TOOL_DONE the room and the region are as they were. */
-int mte_tool_heap_load(mte_tool_heap *heap, uint64_t address, void *room, size_t length, mte_tool_outcome *outcome);
-int mte_tool_heap_store(mte_tool_heap *heap, uint64_t address, const void *bytes, size_t length, mte_tool_outcome *outcome);
+MTE_TOOL_CHECKED mte_tool_end mte_tool_heap_load(mte_tool_heap *heap, uint64_t address, void *room, size_t length,
+                                                 mte_tool_outcome *outcome);
+MTE_TOOL_CHECKED mte_tool_end mte_tool_heap_store(mte_tool_heap *heap, uint64_t address, const void *bytes, size_t length,
+                                                  mte_tool_outcome *outcome);
 
 /* What a granule is, by its number from the region's start on: outcome->granule_kind and outcome->memory_tag. If it is of a slot,
    outcome->value is the slot's number, from 0 on in the order of addresses, and outcome->granule the slot's first granule; else both are 0.
    The granule at the address MTE_TOOL_REGION_START has the number 0. A number past the region is MTE_TOOL_BAD_OPTION. */
-int mte_tool_heap_granule(mte_tool_heap *heap, uint64_t granule, mte_tool_outcome *outcome);
+MTE_TOOL_CHECKED mte_tool_end mte_tool_heap_granule(mte_tool_heap *heap, uint64_t granule, mte_tool_outcome *outcome);
 
 /* ADDG: the address `granules` granules (0 to 63) further up, with the tag that `step` (0 to 15) counts up from its own. A number out of
    its range is MTE_TOOL_BAD_OPTION. */
-int mte_tool_heap_addg(mte_tool_heap *heap, uint64_t address, uint64_t granules, uint64_t step, mte_tool_outcome *outcome);
+MTE_TOOL_CHECKED mte_tool_end mte_tool_heap_addg(mte_tool_heap *heap, uint64_t address, uint64_t granules, uint64_t step,
+                                                 mte_tool_outcome *outcome);
 
-/* Frees the heap, and leaves MTE_TOOL_HEAP. Null is let pass. */
+/* Frees the heap. Null is let pass. */
 void mte_tool_heap_close(mte_tool_heap *heap);
 
 #ifdef __cplusplus

@@ -21,6 +21,7 @@
 #include <cstddef>
 #include <cstdint>
 #include <new>
+#include <optional>
 #include <stdexcept>
 #include <string>
 #include <string_view>
@@ -44,16 +45,73 @@ struct Options : mte_tool_options {
     }
 };
 
+/* Why an input is refused, why a verdict is no, or why the heap or the machine refuses a call. A later library may give a code that has no
+   name here. */
+enum class Code : std::uint32_t {
+    NoCode = 0,
+    TooManyClasses = 20,
+    ClassOutOfRange = 21,
+    ClassesNotAscending = 22,
+    BadClassLine = 23,
+    BadCountLine = 30,
+    SizesNotAscending = 31,
+    CountOutOfRange = 32,
+    CountFull = 33,
+    BadSnapshots = 34,
+    WrongLength = 35,
+    BadFit = 36,
+    BadTimeline = 37,
+    SizeNotLive = 38,
+    OffStep = 39,
+    OverLimit = 40,
+    NotServing = 41,
+    WasteWrong = 42,
+    Shape = 43,
+    LastClass = 44,
+    StageDrop = 45,
+    Edge = 46,
+    NotTight = 47,
+    BadSheet = 48,
+    FootprintWrong = 49,
+    Unmapped = 50,
+    Alignment = 51,
+    TagCheck = 52,
+    NotMoments = 53,
+    Large = 60,
+    NoClass = 61,
+    Exhausted = 62,
+    Misplaced = 63,
+    ChunkNotLive = 64,
+    WrongTag = 65,
+    BadWord = 70,
+    BadNumber = 71,
+    NumberOutOfRange = 72,
+    LineTooLong = 73,
+    TooManyEvents = 74,
+    InputTooLong = 80,
+    ReadFault = 81,
+    WriteFault = 82,
+    BadOption = 83
+};
+
+/* The word after the code's number in the text of a refusal, as BadLine; "" of a number that is no code. */
+inline const char *name(Code code) noexcept { return mte_tool_code_name(static_cast<std::uint32_t>(code)); }
+
+inline const char *sentence(Code code) noexcept { return mte_tool_code_sentence(static_cast<std::uint32_t>(code)); }
+
+inline const char *sentence(mte_tool_end end) noexcept { return mte_tool_end_sentence(end); }
+
 /* Why a call gave no answer. what() is the first fault of the input, as "30 BadLine line 2", or a sentence. */
 class Error : public std::runtime_error {
   public:
-    Error(int end, const mte_tool_result &result, const std::string &what) : std::runtime_error(what), end_(end), result_(result) {}
+    Error(mte_tool_end end, const mte_tool_result &result, const std::string &what)
+        : std::runtime_error(what), end_(end), result_(result) {}
 
     /* MTE_TOOL_REFUSED, MTE_TOOL_BAD_OPTION or MTE_TOOL_MISUSE */
-    int end() const noexcept { return end_; }
+    mte_tool_end end() const noexcept { return end_; }
 
-    /* the code of the input's fault (docs/FORMATS.md); 0 without one */
-    std::uint32_t code() const noexcept { return result_.code; }
+    /* that of the input's fault */
+    Code code() const noexcept { return static_cast<Code>(result_.code); }
 
     /* the line of a text's fault, from 1 on; 0 without one */
     std::uint64_t line() const noexcept { return result_.line; }
@@ -62,7 +120,7 @@ class Error : public std::runtime_error {
     std::uint64_t at() const noexcept { return result_.at; }
 
   private:
-    int end_;
+    mte_tool_end end_;
     mte_tool_result result_;
 };
 
@@ -77,14 +135,14 @@ class Text {
     }
     Text(const Text &) = delete;
     Text &operator=(const Text &) = delete;
-    ~Text() { mte_tool_free(&held_); }
+    ~Text() { mte_tool_text_free(&held_); }
 
     /* its bytes, as long as the text is there and not appended to */
-    std::string_view view() const noexcept { return {held_.bytes ? held_.bytes : "", held_.length}; }
+    std::string_view view() const noexcept { return {held_.bytes, held_.length}; }
 
     /* Appends bytes that are no part of it. Throws std::bad_alloc, and then it is as it was. */
     Text &append(std::string_view piece) {
-        if (mte_tool_append(&held_, piece.data(), piece.size()) != MTE_TOOL_DONE) throw std::bad_alloc();
+        if (mte_tool_text_append(&held_, piece.data(), piece.size()) != MTE_TOOL_DONE) throw std::bad_alloc();
         return *this;
     }
 
@@ -97,10 +155,10 @@ class Text {
 
 /* the verdict of `check` and `check_fit` */
 struct Verdict {
-    bool is_optimal;    /* no table within the sheet's limit and step costs less */
-    std::uint32_t code; /* of the condition that the sheet breaks, 39 to 53; 0 without one */
+    bool is_optimal; /* no table within the sheet's limit and step costs less */
+    Code code;       /* of the condition that the sheet breaks */
     explicit operator bool() const noexcept { return is_optimal; }
-    const char *sentence() const noexcept { return is_optimal ? "optimal" : mte_tool_strerror(static_cast<int>(code)); }
+    const char *sentence() const noexcept { return is_optimal ? "optimal" : mte_tool::sentence(code); }
 };
 
 /* what a table costs */
@@ -127,39 +185,44 @@ struct Table {
     std::uint64_t bound = 0;            /* if it is not shown to be least: no table takes less than these bytes */
 };
 
-/* The version of the library that runs; MTE_TOOL_VERSION is that of the header. */
+/* The version of the library that runs; MTE_TOOL_VERSION and MTE_TOOL_VERSION_NUMBER are those of the header. */
 inline std::string_view version() noexcept { return mte_tool_version(); }
+
+inline std::uint32_t version_number() noexcept { return mte_tool_version_number(); }
 
 namespace detail {
 
 /* Throws unless there is an answer; whether it is a yes. */
-inline bool answered(int end, const mte_tool_result &result, std::string_view said = {}) {
+inline bool answered(mte_tool_end end, const mte_tool_result &result, std::string_view said = {}) {
     if (end == MTE_TOOL_OUT_OF_MEMORY) throw std::bad_alloc();
-    if (end != MTE_TOOL_DONE && end != MTE_TOOL_NO)
-        throw Error(end, result, said.empty() ? mte_tool_strerror(result.code ? static_cast<int>(result.code) : end) : std::string(said));
-    return end == MTE_TOOL_DONE;
+    if (end == MTE_TOOL_DONE || end == MTE_TOOL_NO) return end == MTE_TOOL_DONE;
+    if (!said.empty()) throw Error(end, result, std::string(said));
+    throw Error(end, result, result.code ? mte_tool_code_sentence(result.code) : mte_tool_end_sentence(end));
 }
 
-using Command = int(const mte_tool_options *, const void *, std::size_t, mte_tool_text *, mte_tool_result *);
-using CommandOn = int(const mte_tool_options *, const void *, std::size_t, const void *, std::size_t, mte_tool_text *, mte_tool_result *);
+using Command = mte_tool_end(const mte_tool_options *, const void *, std::size_t, mte_tool_text *, mte_tool_result *);
+using CommandOn = mte_tool_end(const mte_tool_options *, const void *, std::size_t, const void *, std::size_t, mte_tool_text *,
+                               mte_tool_result *);
 
 inline Cost cost(bool serves, const mte_tool_result &result) { return {serves, result.bytes, result.at}; }
+
+inline Verdict verdict(bool is_optimal, const mte_tool_result &result) { return {is_optimal, static_cast<Code>(result.code)}; }
 
 /* a call over a text or two, and what it gave */
 class Called {
   public:
     Called(Command *command, std::string_view input, const mte_tool_options *options) {
-        const int end = command(options, input.data(), input.size(), text_.c(), &result_);
+        const mte_tool_end end = command(options, input.data(), input.size(), text_.c(), &result_);
         is_yes_ = answered(end, result_, text_.view());
     }
     Called(CommandOn *command, std::string_view first, std::string_view input, const mte_tool_options *options) {
-        const int end = command(options, first.data(), first.size(), input.data(), input.size(), text_.c(), &result_);
+        const mte_tool_end end = command(options, first.data(), first.size(), input.data(), input.size(), text_.c(), &result_);
         is_yes_ = answered(end, result_, text_.view());
     }
     Text text() { return std::move(text_); }
     Fit fit() { return {std::move(text_), is_yes_}; }
     Cost cost() const { return detail::cost(is_yes_, result_); }
-    Verdict verdict() const { return {is_yes_, result_.code}; }
+    Verdict verdict() const { return detail::verdict(is_yes_, result_); }
 
   private:
     Text text_;
@@ -250,21 +313,21 @@ inline Text run(std::string_view trace, const Options &options) {
 /* What a table wastes on a profile: each size with its count, 1 to MTE_TOOL_MOST_COUNT. */
 inline Cost score_profile(const std::uint16_t *classes, std::size_t class_count, const mte_tool_profile_arrays &profile) {
     mte_tool_result result = MTE_TOOL_RESULT;
-    const int end = mte_tool_score_profile(nullptr, classes, class_count, &profile, &result);
+    const mte_tool_end end = mte_tool_score_profile(nullptr, classes, class_count, &profile, &result);
     return detail::cost(detail::answered(end, result), result);
 }
 
 /* What a table takes over a history: for each size its live blocks at each of 1 to 1024 snapshots. */
 inline Cost footprint_history(const std::uint16_t *classes, std::size_t class_count, const mte_tool_history_arrays &history) {
     mte_tool_result result = MTE_TOOL_RESULT;
-    const int end = mte_tool_footprint_history(nullptr, classes, class_count, &history, &result);
+    const mte_tool_end end = mte_tool_footprint_history(nullptr, classes, class_count, &history, &result);
     return detail::cost(detail::answered(end, result), result);
 }
 
 /* What a table takes over a timeline: requests, and frees where `frees` is not 0. */
 inline Cost footprint_timeline(const std::uint16_t *classes, std::size_t class_count, const mte_tool_timeline_arrays &timeline) {
     mte_tool_result result = MTE_TOOL_RESULT;
-    const int end = mte_tool_footprint_timeline(nullptr, classes, class_count, &timeline, &result);
+    const mte_tool_end end = mte_tool_footprint_timeline(nullptr, classes, class_count, &timeline, &result);
     return detail::cost(detail::answered(end, result), result);
 }
 
@@ -293,25 +356,26 @@ inline Table fit_timeline(const mte_tool_timeline_arrays &timeline, const Option
 /* Whether a table's rows show that no table within the options wastes less. The rows have options.limit times as many numbers as one. */
 inline Verdict check_profile(const Table &table, const mte_tool_profile_arrays &profile, const Options &options) {
     mte_tool_result result = MTE_TOOL_RESULT;
-    const int end = mte_tool_check_profile(&options, table.classes.data(), table.classes.size(), table.bytes, table.rows.data(),
-                                           table.rows.size(), &profile, &result);
-    return {detail::answered(end, result), result.code};
+    const mte_tool_end end = mte_tool_check_profile(&options, table.classes.data(), table.classes.size(), table.bytes, table.rows.data(),
+                                                    table.rows.size(), &profile, &result);
+    return detail::verdict(detail::answered(end, result), result);
 }
 
 /* The same of a footprint over a history. */
 inline Verdict check_fit_history(const Table &table, const mte_tool_history_arrays &history, const Options &options) {
     mte_tool_result result = MTE_TOOL_RESULT;
-    const int end = mte_tool_check_fit_history(&options, table.classes.data(), table.classes.size(), table.bytes, table.rows.data(),
-                                               table.rows.size(), &history, &result);
-    return {detail::answered(end, result), result.code};
+    const mte_tool_end end = mte_tool_check_fit_history(&options, table.classes.data(), table.classes.size(), table.bytes,
+                                                        table.rows.data(), table.rows.size(), &history, &result);
+    return detail::verdict(detail::answered(end, result), result);
 }
 
 /* The same over a timeline, by the moments that the table names. */
 inline Verdict check_fit_timeline(const Table &table, const mte_tool_timeline_arrays &timeline, const Options &options) {
     mte_tool_result result = MTE_TOOL_RESULT;
-    const int end = mte_tool_check_fit_timeline(&options, table.classes.data(), table.classes.size(), table.bytes, table.rows.data(),
-                                                table.rows.size(), table.moments.data(), table.moments.size(), &timeline, &result);
-    return {detail::answered(end, result), result.code};
+    const mte_tool_end end = mte_tool_check_fit_timeline(&options, table.classes.data(), table.classes.size(), table.bytes,
+                                                         table.rows.data(), table.rows.size(), table.moments.data(), table.moments.size(),
+                                                         &timeline, &result);
+    return detail::verdict(detail::answered(end, result), result);
 }
 
 #ifdef __cpp_lib_span
@@ -345,14 +409,42 @@ inline Cost footprint_timeline(std::span<const std::uint16_t> classes, const mte
 }
 #endif
 
+/* The number of the class that serves a request of so many bytes: its place in the table, from 0 on. */
+inline std::optional<std::size_t> class_of(const std::uint16_t *classes, std::size_t class_count, std::size_t size) noexcept {
+    const int number = mte_tool_class_of(classes, class_count, size);
+    if (number < 0) return std::nullopt;
+    return static_cast<std::size_t>(number);
+}
+
+#ifdef __cpp_lib_span
+inline std::optional<std::size_t> class_of(std::span<const std::uint16_t> classes, std::size_t size) noexcept {
+    return class_of(classes.data(), classes.size(), size);
+}
+#endif
+
 /* ---- the heap */
 
-/* What a call on a heap gave: the members of mte_tool_outcome. */
-struct Outcome : mte_tool_outcome {
-    Outcome() : mte_tool_outcome MTE_TOOL_OUTCOME {}
-    bool is_done = false; /* else the heap or the machine refused it: `code` says why, and nothing changed */
+/* What a granule is (docs/HEAP.md). A later library may know more kinds. */
+enum class Granule : std::uint32_t {
+    Slack = MTE_TOOL_GRANULE_SLACK,
+    Header = MTE_TOOL_GRANULE_HEADER,
+    Tail = MTE_TOOL_GRANULE_TAIL,
+    Dead = MTE_TOOL_GRANULE_DEAD,
+    Live = MTE_TOOL_GRANULE_LIVE
+};
+
+/* What a call on a heap gave. What it did not give is 0. */
+struct Outcome {
+    bool is_done;              /* else the heap or the machine refused it, and nothing changed */
+    Code code;                 /* why it was refused */
+    std::uint64_t value;       /* of malloc, calloc, realloc and addg the address; of granule a slot's number */
+    std::uint32_t granule;     /* of a tag fault the lowest granule whose tag differs, from the region's start on; of granule the first of
+                                  its slot */
+    std::uint32_t memory_tag;  /* its tag */
+    std::uint32_t pointer_tag; /* the address's tag */
+    Granule granule_kind;      /* what that granule is */
     explicit operator bool() const noexcept { return is_done; }
-    const char *sentence() const noexcept { return mte_tool_strerror(static_cast<int>(code)); }
+    const char *sentence() const noexcept { return is_done ? "done" : mte_tool::sentence(code); }
 };
 
 /* One modelled heap with its tagged memory (docs/HEAP.md), closed with it. An address is a number of 64 bits with its tag in bits 56 to 59,
@@ -362,69 +454,67 @@ class Heap {
     /* A heap over a table of classes in granules, with options.granules, .quarantine and .seed. Throws Error for these and the classes, and
        std::bad_alloc. */
     Heap(const std::uint16_t *classes, std::size_t class_count, const Options &options = Options()) {
-        Outcome made;
-        done(mte_tool_heap_new(&held_, &options, classes, class_count, &made), made);
+        made([&](mte_tool_outcome &to) { return mte_tool_heap_new(&held_, &options, classes, class_count, &to); });
     }
 #ifdef __cpp_lib_span
     explicit Heap(std::span<const std::uint16_t> classes, const Options &options = Options())
         : Heap(classes.data(), classes.size(), options) {}
 #endif
-    Heap(Heap &&other) noexcept : held_(std::exchange(other.held_, mte_tool_heap MTE_TOOL_HEAP)) {}
+    Heap(Heap &&other) noexcept : held_(std::exchange(other.held_, nullptr)) {}
     Heap &operator=(Heap &&other) noexcept {
         std::swap(held_, other.held_);
         return *this;
     }
     Heap(const Heap &) = delete;
     Heap &operator=(const Heap &) = delete;
-    ~Heap() { mte_tool_heap_close(&held_); }
+    ~Heap() { mte_tool_heap_close(held_); }
 
     /* A chunk of so many bytes: its address is in `value`. */
     Outcome malloc(std::size_t size) {
-        return made([&](Outcome &to) { return mte_tool_heap_malloc(&held_, size, &to); });
+        return made([&](mte_tool_outcome &to) { return mte_tool_heap_malloc(held_, size, &to); });
     }
     /* The same, of zeros. */
     Outcome calloc(std::size_t size) {
-        return made([&](Outcome &to) { return mte_tool_heap_calloc(&held_, size, &to); });
+        return made([&](mte_tool_outcome &to) { return mte_tool_heap_calloc(held_, size, &to); });
     }
     /* Another size for the chunk at an address; of 0 it is malloc. */
     Outcome realloc(std::uint64_t address, std::size_t size) {
-        return made([&](Outcome &to) { return mte_tool_heap_realloc(&held_, address, size, &to); });
+        return made([&](mte_tool_outcome &to) { return mte_tool_heap_realloc(held_, address, size, &to); });
     }
     /* Frees the chunk at an address; 0 is let pass. */
     Outcome free(std::uint64_t address) {
-        return made([&](Outcome &to) { return mte_tool_heap_free(&held_, address, &to); });
+        return made([&](mte_tool_outcome &to) { return mte_tool_heap_free(held_, address, &to); });
     }
     /* Reads 1 to 64 bytes from an address on. */
     Outcome load(std::uint64_t address, void *room, std::size_t length) {
-        return made([&](Outcome &to) { return mte_tool_heap_load(&held_, address, room, length, &to); });
+        return made([&](mte_tool_outcome &to) { return mte_tool_heap_load(held_, address, room, length, &to); });
     }
     /* Writes 1 to 64 bytes from an address on. */
     Outcome store(std::uint64_t address, const void *bytes, std::size_t length) {
-        return made([&](Outcome &to) { return mte_tool_heap_store(&held_, address, bytes, length, &to); });
+        return made([&](mte_tool_outcome &to) { return mte_tool_heap_store(held_, address, bytes, length, &to); });
     }
     /* What a granule is, by its number from the region's start on: granule_kind and memory_tag; of a slot its number is in `value`, and its
        first granule in `granule`. */
     Outcome granule(std::uint64_t number) {
-        return made([&](Outcome &to) { return mte_tool_heap_granule(&held_, number, &to); });
+        return made([&](mte_tool_outcome &to) { return mte_tool_heap_granule(held_, number, &to); });
     }
     /* The address so many granules (0 to 63) further up, its tag counted up by `step` (0 to 15). */
     Outcome addg(std::uint64_t address, std::uint64_t granules, std::uint64_t step) {
-        return made([&](Outcome &to) { return mte_tool_heap_addg(&held_, address, granules, step, &to); });
+        return made([&](mte_tool_outcome &to) { return mte_tool_heap_addg(held_, address, granules, step, &to); });
     }
 
   private:
-    static bool done(int end, const Outcome &outcome) {
-        mte_tool_result result = MTE_TOOL_RESULT;
-        result.code = outcome.code;
-        return detail::answered(end, result);
-    }
     template <class Call> static Outcome made(Call call) {
-        Outcome outcome;
-        outcome.is_done = done(call(outcome), outcome);
-        return outcome;
+        mte_tool_outcome outcome = MTE_TOOL_OUTCOME;
+        mte_tool_result result = MTE_TOOL_RESULT;
+        const mte_tool_end end = call(outcome);
+        result.code = outcome.code;
+        const bool is_done = detail::answered(end, result);
+        return {is_done, static_cast<Code>(outcome.code), outcome.value, outcome.granule, outcome.memory_tag, outcome.pointer_tag,
+                static_cast<Granule>(outcome.granule_kind)};
     }
 
-    mte_tool_heap held_ = MTE_TOOL_HEAP;
+    mte_tool_heap *held_ = nullptr;
 };
 
 } // namespace mte_tool

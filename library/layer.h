@@ -43,6 +43,12 @@ typedef struct heap_outcome {
     uint8_t granule_kind;
 } heap_outcome;
 
+/* what the proved functions make a heap in, which stays where it is: `live` is 1 while there is one */
+struct mte_tool_heap {
+    void *handle;
+    uint32_t live;
+};
+
 /* the proved functions; a slice is a pointer, never null, and a length */
 ending mte_c_call(uint8_t, narrow_options, const uint8_t *, size_t, held_text *);
 uint32_t mte_c_append(const uint8_t *, size_t, held_text *);
@@ -78,12 +84,20 @@ extern const uint64_t layer_no_numbers;
 /* Whether a structure that begins with its size has one that can't be. Null has none. */
 int layer_is_wrong(const void *sized);
 
+/* Whether a structure that is not wrong has a member set that comes after those of the `known` size. */
+int layer_is_later(const void *sized, size_t known);
+
+/* malloc, realloc and free by the functions that the caller chose. The proved code's calls of these three go here too. */
+void *layer_malloc(size_t bytes);
+void *layer_realloc(void *block, size_t bytes);
+void layer_free(void *block);
+
 /* The options for the proved functions; MTE_TOOL_DONE, MTE_TOOL_MISUSE, or MTE_TOOL_BAD_OPTION where a member that nobody here knows is
    set. */
-int layer_options(const mte_tool_options *options, narrow_options *narrow);
+mte_tool_end layer_options(const mte_tool_options *options, narrow_options *narrow);
 
 /* Puts what a call found into the caller's structure, or nowhere if that is null, and returns the end. */
-int layer_give(int end, const mte_tool_result *found, mte_tool_result *result);
+mte_tool_end layer_give(mte_tool_end end, const mte_tool_result *found, mte_tool_result *result);
 
 /* A slice of bytes, whose place is not null. */
 typedef struct slice {
@@ -93,6 +107,6 @@ typedef struct slice {
 
 /* Makes a call over a text, or over a first text and another, and puts the answer into an empty text. What it found is set. The first text
    of a call over one is empty. */
-int layer_call(uint8_t command, narrow_options options, slice first, slice input, mte_tool_text *answer, mte_tool_result *found);
+mte_tool_end layer_call(uint8_t command, narrow_options options, slice first, slice input, mte_tool_text *answer, mte_tool_result *found);
 
 #endif

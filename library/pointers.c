@@ -6,6 +6,9 @@
 #include <stdlib.h>
 #include <string.h>
 
+/* the bytes of an empty text, which is nobody's memory */
+static const char no_bytes[1] = "";
+
 const uint64_t layer_no_numbers;
 
 /* ---- structures that begin with their size */
@@ -20,6 +23,14 @@ int layer_is_wrong(const void *sized) {
     return size < sizeof size || size > MOST_SIZE || size % WORD != 0;
 }
 
+int layer_is_later(const void *sized, size_t known) {
+    size_t size, i;
+    memcpy(&size, sized, sizeof size);
+    for (i = known; i < size; i++)
+        if (((const char *)sized)[i]) return 1;
+    return 0;
+}
+
 /* Copies what the caller's structure has room for of one whose size is `known`. What this library does not know is set to 0. */
 static void give(void *to, const void *found, size_t known) {
     size_t size;
@@ -29,19 +40,17 @@ static void give(void *to, const void *found, size_t known) {
     if (size > known) memset((char *)to + known, 0, size - known);
 }
 
-int layer_give(int end, const mte_tool_result *found, mte_tool_result *result) {
+mte_tool_end layer_give(mte_tool_end end, const mte_tool_result *found, mte_tool_result *result) {
     give(result, found, sizeof *found);
     return end;
 }
 
-int layer_options(const mte_tool_options *options, narrow_options *narrow) {
+mte_tool_end layer_options(const mte_tool_options *options, narrow_options *narrow) {
     mte_tool_options wide = MTE_TOOL_OPTIONS(0);
-    size_t i;
     if (layer_is_wrong(options)) return MTE_TOOL_MISUSE;
     if (options) {
         memcpy(&wide, options, options->size < sizeof wide ? options->size : sizeof wide);
-        for (i = sizeof wide; i < options->size; i++)
-            if (((const char *)options)[i]) return MTE_TOOL_BAD_OPTION;
+        if (layer_is_later(options, sizeof wide)) return MTE_TOOL_BAD_OPTION;
     }
     *narrow = narrowed(&wide);
     return MTE_TOOL_DONE;
@@ -49,16 +58,18 @@ int layer_options(const mte_tool_options *options, narrow_options *narrow) {
 
 /* ---- texts */
 
-/* Moves the bytes of a text of the proved functions into one for the caller. */
-static int hand_over(held_text *held, mte_tool_text *answer) {
+/* Moves the bytes of a text of the proved functions into an empty one for the caller. */
+static mte_tool_end hand_over(held_text *held, mte_tool_text *answer) {
     size_t length = held->length;
-    if (length > 0 && (answer->bytes = malloc(length + 1))) {
-        answer->length = mte_c_read(held, 0, (uint8_t *)answer->bytes, length);
+    char *bytes = length > 0 ? layer_malloc(length + 1) : NULL;
+    if (bytes) {
+        answer->bytes = bytes;
+        answer->length = mte_c_read(held, 0, (uint8_t *)bytes, length);
         answer->bytes[answer->length] = 0;
         answer->room = length + 1;
     }
     mte_c_free(held);
-    return length == 0 || answer->bytes ? MTE_TOOL_DONE : MTE_TOOL_OUT_OF_MEMORY;
+    return length == 0 || bytes ? MTE_TOOL_DONE : MTE_TOOL_OUT_OF_MEMORY;
 }
 
 /* The number after a word that a text begins with; 0 without that word. */
@@ -67,7 +78,7 @@ static uint64_t number_after(const mte_tool_text *text, const char *word) {
     return text->length > n && !memcmp(text->bytes, word, n) ? strtoull(text->bytes + n, NULL, 10) : 0;
 }
 
-int layer_call(uint8_t command, narrow_options options, slice first, slice input, mte_tool_text *answer, mte_tool_result *found) {
+mte_tool_end layer_call(uint8_t command, narrow_options options, slice first, slice input, mte_tool_text *answer, mte_tool_result *found) {
     held_text held = {NULL, 0}; /* the first text, and then the answer */
     ending ended;
     if (first.length > 0 && mte_c_append(first.at, first.length, &held) != MTE_TOOL_DONE) return MTE_TOOL_OUT_OF_MEMORY;
@@ -81,7 +92,7 @@ int layer_call(uint8_t command, narrow_options options, slice first, slice input
     } else if (ended.end == MTE_TOOL_DONE && (command == SCORE || command == FOOTPRINT)) {
         found->bytes = number_after(answer, command == SCORE ? "waste " : "footprint ");
     }
-    return (int)ended.end;
+    return (mte_tool_end)ended.end;
 }
 
 static slice slice_of(const void *at, size_t length) {
@@ -89,30 +100,30 @@ static slice slice_of(const void *at, size_t length) {
     return made;
 }
 
-static int call(uint8_t command, const mte_tool_options *options, slice first, const void *input, size_t length, mte_tool_text *output,
-                mte_tool_result *result) {
+static mte_tool_end call(uint8_t command, const mte_tool_options *options, slice first, const void *input, size_t length,
+                         mte_tool_text *output, mte_tool_result *result) {
     mte_tool_result found = MTE_TOOL_RESULT;
     mte_tool_text answer = MTE_TOOL_TEXT;
     narrow_options narrow;
-    int end = layer_options(options, &narrow);
+    mte_tool_end end = layer_options(options, &narrow);
     if (!output || is_missing(input, length) || end == MTE_TOOL_MISUSE || layer_is_wrong(result)) return MTE_TOOL_MISUSE;
     if (end == MTE_TOOL_DONE) end = layer_call(command, narrow, first, slice_of(input, length), &answer, &found);
-    mte_tool_free(output); /* only now, since the input may be in it */
+    mte_tool_text_free(output); /* only now, since the input may be in it */
     *output = answer;
     return layer_give(end, &found, result);
 }
 
-#define CALL(command, name)                                                                                        \
-    int mte_tool_##name(const mte_tool_options *options, const void *input, size_t length, mte_tool_text *output, \
-                        mte_tool_result *result) {                                                                \
-        return call(command, options, slice_of(NULL, 0), input, length, output, result);                           \
+#define CALL(command, name)                                                                                                \
+    mte_tool_end mte_tool_##name(const mte_tool_options *options, const void *input, size_t length, mte_tool_text *output, \
+                                 mte_tool_result *result) {                                                                \
+        return call(command, options, slice_of(NULL, 0), input, length, output, result);                                   \
     }
 
-#define CALL_ON(command, name)                                                                                         \
-    int mte_tool_##name(const mte_tool_options *options, const void *first, size_t first_length, const void *input,    \
-                        size_t length, mte_tool_text *output, mte_tool_result *result) {                               \
-        if (is_missing(first, first_length)) return MTE_TOOL_MISUSE;                                                   \
-        return call(command, options, slice_of(first, first_length), input, length, output, result);                   \
+#define CALL_ON(command, name)                                                                                               \
+    mte_tool_end mte_tool_##name(const mte_tool_options *options, const void *first, size_t first_length, const void *input, \
+                                 size_t length, mte_tool_text *output, mte_tool_result *result) {                            \
+        if (is_missing(first, first_length)) return MTE_TOOL_MISUSE;                                                         \
+        return call(command, options, slice_of(first, first_length), input, length, output, result);                         \
     }
 
 CALL_ON(SCORE, score)
@@ -125,39 +136,62 @@ CALL(PROFILE, profile)
 CALL_ON(REPLAY, replay)
 CALL(RUN, run)
 
-int mte_tool_append(mte_tool_text *text, const void *piece, size_t length) {
+mte_tool_end mte_tool_text_append(mte_tool_text *text, const void *piece, size_t length) {
     if (!text || is_missing(piece, length)) return MTE_TOOL_MISUSE;
-    if (length == 0) return MTE_TOOL_DONE;
     if (length >= SIZE_MAX / 2 - text->length) return MTE_TOOL_OUT_OF_MEMORY;
-    if (text->length + length >= text->room) {
+    if (text->length + length >= text->room && length > 0) {
         size_t room = 2 * text->length > text->length + length ? 2 * text->length : text->length + length + 1;
-        char *bytes = realloc(text->bytes, room);
+        char *bytes = text->room > 0 ? layer_realloc(text->bytes, room) : layer_malloc(room);
         if (!bytes) return MTE_TOOL_OUT_OF_MEMORY;
         text->bytes = bytes;
         text->room = room;
     }
-    memcpy(text->bytes + text->length, piece, length);
-    text->length += length;
-    text->bytes[text->length] = 0;
+    if (text->room == 0) {
+        mte_tool_text_free(text); /* a structure of zeros gets its bytes */
+    } else if (length > 0) {
+        memcpy(text->bytes + text->length, piece, length);
+        text->length += length;
+        text->bytes[text->length] = 0;
+    }
     return MTE_TOOL_DONE;
 }
 
-void mte_tool_free(mte_tool_text *text) {
-    static const mte_tool_text none = MTE_TOOL_TEXT;
+void mte_tool_text_free(mte_tool_text *text) {
     if (!text) return;
-    free(text->bytes);
-    *text = none;
+    if (text->room > 0) layer_free(text->bytes);
+    text->bytes = (char *)no_bytes;
+    text->length = text->room = 0;
 }
 
 const char *mte_tool_version(void) {
     return MTE_TOOL_VERSION;
 }
 
-const char *mte_tool_strerror(int code) {
-    size_t i;
-    for (i = 0; i < sizeof sentences / sizeof *sentences; i++)
-        if (sentences[i].code == code) return sentences[i].words;
-    return "there is no such code";
+uint32_t mte_tool_version_number(void) {
+    return MTE_TOOL_VERSION_NUMBER;
+}
+
+const char *mte_tool_end_sentence(mte_tool_end end) {
+    return (size_t)end < sizeof ends / sizeof *ends ? ends[end] : "there is no such end";
+}
+
+/* the place of a code among all; their number for one that is none */
+enum { CODE_COUNT = sizeof codes / sizeof *codes };
+
+static size_t place_of(uint32_t code) {
+    size_t i = 0;
+    while (i < CODE_COUNT && codes[i].code != code) i++;
+    return i;
+}
+
+const char *mte_tool_code_sentence(uint32_t code) {
+    size_t i = place_of(code);
+    return i < CODE_COUNT ? codes[i].words : "there is no such code";
+}
+
+const char *mte_tool_code_name(uint32_t code) {
+    size_t i = place_of(code);
+    return i < CODE_COUNT ? codes[i].name : "";
 }
 
 /* ---- profiles */
@@ -177,7 +211,7 @@ static int is_whole(const mte_tool_profile_arrays *profile) {
 /* the two slices of a profile */
 #define SLICES(profile) numbers_or_none((profile)->sizes), (profile)->length, numbers_or_none((profile)->counts), (profile)->length
 
-static int give_numbers(numbers got, mte_tool_result *result) {
+static mte_tool_end give_numbers(numbers got, mte_tool_result *result) {
     mte_tool_result found = MTE_TOOL_RESULT;
     if (got.end == MTE_TOOL_MISUSE) return MTE_TOOL_MISUSE;
     found.code = got.fault;
@@ -185,40 +219,42 @@ static int give_numbers(numbers got, mte_tool_result *result) {
     found.at = got.at;
     found.bytes = got.waste;
     found.places = got.places;
-    return layer_give((int)got.end, &found, result);
+    return layer_give((mte_tool_end)got.end, &found, result);
 }
 
 /* the end of a call whose options can't be taken */
-static int refuse_options(int end, mte_tool_result *result) {
+static mte_tool_end refuse_options(mte_tool_end end, mte_tool_result *result) {
     mte_tool_result found = MTE_TOOL_RESULT;
     return end == MTE_TOOL_MISUSE ? end : layer_give(end, &found, result);
 }
 
-int mte_tool_score_profile(const mte_tool_options *options, const uint16_t *classes, size_t class_count,
-                           const mte_tool_profile_arrays *profile, mte_tool_result *result) {
+mte_tool_end mte_tool_score_profile(const mte_tool_options *options, const uint16_t *classes, size_t class_count,
+                                    const mte_tool_profile_arrays *profile, mte_tool_result *result) {
     narrow_options narrow;
-    int end = layer_options(options, &narrow);
+    mte_tool_end end = layer_options(options, &narrow);
     if (is_missing(classes, class_count) || !is_whole(profile) || layer_is_wrong(result)) return MTE_TOOL_MISUSE;
     if (end != MTE_TOOL_DONE) return refuse_options(end, result);
     return give_numbers(mte_arrays_score(classes_or_none(classes), class_count, SLICES(profile)), result);
 }
 
-int mte_tool_tune_profile(const mte_tool_options *options, const mte_tool_profile_arrays *profile, uint16_t *classes, size_t class_room,
-                          uint64_t *rows, size_t row_room, mte_tool_result *result) {
+mte_tool_end mte_tool_tune_profile(const mte_tool_options *options, const mte_tool_profile_arrays *profile, uint16_t *classes,
+                                   size_t class_room, uint64_t *rows, size_t row_room, mte_tool_result *result) {
     uint64_t no_row;
     narrow_options narrow;
-    int end = layer_options(options, &narrow);
+    mte_tool_end end = layer_options(options, &narrow);
     if (!classes || is_missing(rows, row_room) || !is_whole(profile) || layer_is_wrong(result)) return MTE_TOOL_MISUSE;
     if (end != MTE_TOOL_DONE) return refuse_options(end, result);
-    return give_numbers(
-        mte_arrays_tune(narrow.limit, narrow.step, narrow.largest_class, SLICES(profile), classes, class_room, rows ? rows : &no_row, row_room),
-        result);
+    if (!rows) rows = &no_row;
+    return give_numbers(mte_arrays_tune(narrow.limit, narrow.step, narrow.largest_class, SLICES(profile), classes, class_room, rows,
+                                        row_room),
+                        result);
 }
 
-int mte_tool_check_profile(const mte_tool_options *options, const uint16_t *classes, size_t class_count, uint64_t waste,
-                           const uint64_t *rows, size_t row_count, const mte_tool_profile_arrays *profile, mte_tool_result *result) {
+mte_tool_end mte_tool_check_profile(const mte_tool_options *options, const uint16_t *classes, size_t class_count, uint64_t waste,
+                                    const uint64_t *rows, size_t row_count, const mte_tool_profile_arrays *profile,
+                                    mte_tool_result *result) {
     narrow_options narrow;
-    int end = layer_options(options, &narrow);
+    mte_tool_end end = layer_options(options, &narrow);
     if (is_missing(classes, class_count) || is_missing(rows, row_count) || !is_whole(profile) || layer_is_wrong(result))
         return MTE_TOOL_MISUSE;
     if (end != MTE_TOOL_DONE) return refuse_options(end, result);
@@ -227,9 +263,22 @@ int mte_tool_check_profile(const mte_tool_options *options, const uint16_t *clas
                         result);
 }
 
+/* ---- classes */
+
+enum { GRANULE_BYTES = 16, SMALLEST_CLASS = 2 };
+
+int mte_tool_class_of(const uint16_t *classes, size_t class_count, size_t size) {
+    size_t i;
+    if (is_missing(classes, class_count) || class_count > MTE_TOOL_MOST_CLASSES) return -1;
+    for (i = 0; i < class_count; i++)
+        if (classes[i] >= SMALLEST_CLASS && classes[i] <= MTE_TOOL_LARGEST_CLASS && size <= GRANULE_BYTES * (size_t)(classes[i] - 1))
+            return (int)i;
+    return -1;
+}
+
 /* ---- the heap */
 
-static int give_outcome(heap_outcome got, mte_tool_outcome *outcome) {
+static mte_tool_end give_outcome(heap_outcome got, mte_tool_outcome *outcome) {
     mte_tool_outcome found = MTE_TOOL_OUTCOME;
     if (got.end == MTE_TOOL_MISUSE) return MTE_TOOL_MISUSE;
     found.value = got.value;
@@ -239,7 +288,7 @@ static int give_outcome(heap_outcome got, mte_tool_outcome *outcome) {
     found.pointer_tag = got.pointer_tag;
     found.granule_kind = got.granule_kind;
     give(outcome, &found, sizeof found);
-    return (int)got.end;
+    return (mte_tool_end)got.end;
 }
 
 /* a size for the heap, to which all that is above MTE_TOOL_LARGEST_SIZE is one */
@@ -251,58 +300,76 @@ static uint8_t one_byte(uint64_t number) {
     return number > UINT8_MAX ? UINT8_MAX : (uint8_t)number; /* out of its range too */
 }
 
-int mte_tool_heap_new(mte_tool_heap *heap, const mte_tool_options *options, const uint16_t *classes, size_t class_count,
-                      mte_tool_outcome *outcome) {
+/* A heap in memory of its own; null where it is not made. */
+static mte_tool_heap *made_heap(heap_settings settings, const uint16_t *classes, size_t class_count, heap_outcome *got) {
+    mte_tool_heap *heap = layer_malloc(sizeof *heap);
+    if (!heap) {
+        got->end = MTE_TOOL_OUT_OF_MEMORY;
+        return NULL;
+    }
+    heap->handle = NULL;
+    heap->live = 0;
+    *got = mte_heap_new(settings, classes, class_count, heap);
+    if (heap->live) return heap;
+    layer_free(heap);
+    return NULL;
+}
+
+mte_tool_end mte_tool_heap_new(mte_tool_heap **heap, const mte_tool_options *options, const uint16_t *classes, size_t class_count,
+                               mte_tool_outcome *outcome) {
     narrow_options narrow;
-    heap_outcome bad = {MTE_TOOL_BAD_OPTION, 0, 0, 0, 0, 0, 0};
-    int end = layer_options(options, &narrow);
-    if (!heap || heap->live || is_missing(classes, class_count)) return MTE_TOOL_MISUSE;
-    if (end == MTE_TOOL_MISUSE || layer_is_wrong(outcome)) return MTE_TOOL_MISUSE;
+    heap_outcome got = {MTE_TOOL_BAD_OPTION, 0, 0, 0, 0, 0, 0};
+    mte_tool_end end = layer_options(options, &narrow);
+    if (!heap) return MTE_TOOL_MISUSE;
+    *heap = NULL;
+    if (is_missing(classes, class_count) || end == MTE_TOOL_MISUSE || layer_is_wrong(outcome)) return MTE_TOOL_MISUSE;
     if (end == MTE_TOOL_DONE) {
         heap_settings settings = {narrow.granules, narrow.quarantine, narrow.seed};
-        bad = mte_heap_new(settings, classes_or_none(classes), class_count, heap);
+        *heap = made_heap(settings, classes_or_none(classes), class_count, &got);
     }
-    return give_outcome(bad, outcome);
+    return give_outcome(got, outcome);
 }
 
 /* the call on a heap and for an outcome that are as they have to be */
 #define ON_HEAP(made) heap && !layer_is_wrong(outcome) ? give_outcome(made, outcome) : MTE_TOOL_MISUSE
 
-int mte_tool_heap_malloc(mte_tool_heap *heap, size_t size, mte_tool_outcome *outcome) {
+mte_tool_end mte_tool_heap_malloc(mte_tool_heap *heap, size_t size, mte_tool_outcome *outcome) {
     return ON_HEAP(mte_heap_malloc(heap, request(size)));
 }
 
-int mte_tool_heap_calloc(mte_tool_heap *heap, size_t size, mte_tool_outcome *outcome) {
+mte_tool_end mte_tool_heap_calloc(mte_tool_heap *heap, size_t size, mte_tool_outcome *outcome) {
     return ON_HEAP(mte_heap_calloc(heap, request(size)));
 }
 
-int mte_tool_heap_realloc(mte_tool_heap *heap, uint64_t address, size_t size, mte_tool_outcome *outcome) {
+mte_tool_end mte_tool_heap_realloc(mte_tool_heap *heap, uint64_t address, size_t size, mte_tool_outcome *outcome) {
     return ON_HEAP(mte_heap_realloc(heap, address, request(size)));
 }
 
-int mte_tool_heap_free(mte_tool_heap *heap, uint64_t address, mte_tool_outcome *outcome) {
+mte_tool_end mte_tool_heap_free(mte_tool_heap *heap, uint64_t address, mte_tool_outcome *outcome) {
     return ON_HEAP(mte_heap_free(heap, address));
 }
 
-int mte_tool_heap_load(mte_tool_heap *heap, uint64_t address, void *room, size_t length, mte_tool_outcome *outcome) {
+mte_tool_end mte_tool_heap_load(mte_tool_heap *heap, uint64_t address, void *room, size_t length, mte_tool_outcome *outcome) {
     uint8_t none;
     if (is_missing(room, length)) return MTE_TOOL_MISUSE;
     return ON_HEAP(mte_heap_load(heap, address, room ? room : &none, length));
 }
 
-int mte_tool_heap_store(mte_tool_heap *heap, uint64_t address, const void *bytes, size_t length, mte_tool_outcome *outcome) {
+mte_tool_end mte_tool_heap_store(mte_tool_heap *heap, uint64_t address, const void *bytes, size_t length, mte_tool_outcome *outcome) {
     if (is_missing(bytes, length)) return MTE_TOOL_MISUSE;
     return ON_HEAP(mte_heap_store(heap, address, bytes ? bytes : (const void *)&layer_no_numbers, length));
 }
 
-int mte_tool_heap_granule(mte_tool_heap *heap, uint64_t granule, mte_tool_outcome *outcome) {
+mte_tool_end mte_tool_heap_granule(mte_tool_heap *heap, uint64_t granule, mte_tool_outcome *outcome) {
     return ON_HEAP(mte_heap_granule(heap, granule > UINT32_MAX ? UINT32_MAX : (uint32_t)granule));
 }
 
-int mte_tool_heap_addg(mte_tool_heap *heap, uint64_t address, uint64_t granules, uint64_t step, mte_tool_outcome *outcome) {
+mte_tool_end mte_tool_heap_addg(mte_tool_heap *heap, uint64_t address, uint64_t granules, uint64_t step, mte_tool_outcome *outcome) {
     return ON_HEAP(mte_heap_addg(heap, address, one_byte(granules), one_byte(step)));
 }
 
 void mte_tool_heap_close(mte_tool_heap *heap) {
-    if (heap) mte_heap_close(heap);
+    if (!heap) return;
+    mte_heap_close(heap);
+    layer_free(heap);
 }

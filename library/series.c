@@ -19,7 +19,7 @@ static const input no_input = {MTE_TOOL_TEXT, 0};
 /* Nothing comes after more bytes than an input may have: the reader refuses that anyway. */
 static void put(input *to, const char *bytes, size_t length) {
     if (to->is_out_of_memory || to->text.length > MTE_TOOL_MOST_INPUT) return;
-    to->is_out_of_memory = mte_tool_append(&to->text, bytes, length) != MTE_TOOL_DONE;
+    to->is_out_of_memory = mte_tool_text_append(&to->text, bytes, length) != MTE_TOOL_DONE;
 }
 
 static void put_word(input *to, const char *word) {
@@ -102,23 +102,24 @@ static slice slice_of(const input *it) {
 
 /* Makes a call over a first text, which is empty where the call is over one, and the entries, whose text begins with a line of its own; and
    frees both. The answer is put into an empty text. */
-static int call(uint8_t command, narrow_options options, input *first, input *given, mte_tool_text *answer, mte_tool_result *found) {
-    int end = MTE_TOOL_OUT_OF_MEMORY;
+static mte_tool_end call(uint8_t command, narrow_options options, input *first, input *given, mte_tool_text *answer,
+                         mte_tool_result *found) {
+    mte_tool_end end = MTE_TOOL_OUT_OF_MEMORY;
     if (!first->is_out_of_memory && !given->is_out_of_memory)
         end = layer_call(command, options, slice_of(first), slice_of(given), answer, found);
     if (is_of_entry(found->code)) found->at = found->line - 2;
     found->line = 0;
-    mte_tool_free(&first->text);
-    mte_tool_free(&given->text);
+    mte_tool_text_free(&first->text);
+    mte_tool_text_free(&given->text);
     return end;
 }
 
 /* The verdict of a call: its answer has no numbers but those that `found` has. */
-static int judge(uint8_t command, narrow_options options, input *first, input *given, mte_tool_result *result) {
+static mte_tool_end judge(uint8_t command, narrow_options options, input *first, input *given, mte_tool_result *result) {
     mte_tool_result found = MTE_TOOL_RESULT;
     mte_tool_text answer = MTE_TOOL_TEXT;
-    int end = call(command, options, first, given, &answer, &found);
-    mte_tool_free(&answer);
+    mte_tool_end end = call(command, options, first, given, &answer, &found);
+    mte_tool_text_free(&answer);
     return layer_give(end, &found, result);
 }
 
@@ -165,17 +166,17 @@ static int is_room(const rooms *to) {
     return to->classes && !is_missing(to->rows, to->row_room) && !is_missing(to->moments, to->moment_room);
 }
 
-static int fit(narrow_options options, input *given, const rooms *to, mte_tool_result *result) {
+static mte_tool_end fit(narrow_options options, input *given, const rooms *to, mte_tool_result *result) {
     mte_tool_result found = MTE_TOOL_RESULT;
     mte_tool_text answer = MTE_TOOL_TEXT;
     input none = no_input;
-    int end = call(FIT, options, &none, given, &answer, &found);
+    mte_tool_end end = call(FIT, options, &none, given, &answer, &found);
     if (end == MTE_TOOL_DONE || end == MTE_TOOL_NO) {
         uint64_t numbers = read_fit(answer.bytes, &found, NULL, NULL, NULL);
         int has_room = to->moment_room >= found.moments;
         read_fit(answer.bytes, &found, to->classes, to->row_room >= numbers ? to->rows : NULL, has_room ? to->moments : NULL);
     }
-    mte_tool_free(&answer);
+    mte_tool_text_free(&answer);
     return layer_give(end, &found, result);
 }
 
@@ -228,27 +229,28 @@ static void put_claim(input *to, narrow_options options, const claim *it) {
 }
 
 /* How a call over the classes and nothing else ends: the checker only says that they are no line of a fit. */
-static int end_of_classes(narrow_options options, const claim *it, mte_tool_result *found) {
+static mte_tool_end end_of_classes(narrow_options options, const claim *it, mte_tool_result *found) {
     input first = no_input, none = no_input;
     mte_tool_text answer = MTE_TOOL_TEXT;
-    int end;
+    mte_tool_end end;
     put_classes(&first, it->classes, it->class_count);
     end = call(SCORE, options, &first, &none, &answer, found);
-    mte_tool_free(&answer);
+    mte_tool_text_free(&answer);
     return end;
 }
 
 /* MTE_TOOL_DONE if a call can be made with what it is given; else how it ends. */
-static int begin(const mte_tool_options *options, narrow_options *narrow, int is_good, mte_tool_result *result) {
+static mte_tool_end begin(const mte_tool_options *options, narrow_options *narrow, int is_good, mte_tool_result *result) {
     mte_tool_result found = MTE_TOOL_RESULT;
-    int end = layer_options(options, narrow);
+    mte_tool_end end = layer_options(options, narrow);
     if (!is_good || end == MTE_TOOL_MISUSE || layer_is_wrong(result)) return MTE_TOOL_MISUSE;
     return end == MTE_TOOL_DONE ? end : layer_give(end, &found, result);
 }
 
-static int begin_check(const mte_tool_options *options, narrow_options *narrow, const claim *it, int is_good, mte_tool_result *result) {
+static mte_tool_end begin_check(const mte_tool_options *options, narrow_options *narrow, const claim *it, int is_good,
+                                mte_tool_result *result) {
     mte_tool_result found = MTE_TOOL_RESULT;
-    int end = begin(options, narrow, is_good && is_claim(it), result);
+    mte_tool_end end = begin(options, narrow, is_good && is_claim(it), result);
     if (end != MTE_TOOL_DONE) return end;
     if (!are_limits(*narrow)) return layer_give(MTE_TOOL_BAD_OPTION, &found, result);
     if (it->row_count % narrow->limit) return MTE_TOOL_MISUSE;
@@ -256,71 +258,73 @@ static int begin_check(const mte_tool_options *options, narrow_options *narrow, 
     return end == MTE_TOOL_DONE ? end : layer_give(end, &found, result);
 }
 
-int mte_tool_footprint_history(const mte_tool_options *options, const uint16_t *classes, size_t class_count,
-                               const mte_tool_history_arrays *history, mte_tool_result *result) {
+mte_tool_end mte_tool_footprint_history(const mte_tool_options *options, const uint16_t *classes, size_t class_count,
+                                        const mte_tool_history_arrays *history, mte_tool_result *result) {
     narrow_options narrow;
     input first = no_input, given = no_input;
-    int end = begin(options, &narrow, !is_missing(classes, class_count) && is_history(history), result);
+    mte_tool_end end = begin(options, &narrow, !is_missing(classes, class_count) && is_history(history), result);
     if (end != MTE_TOOL_DONE) return end;
     put_classes(&first, classes, class_count);
     put_history(&given, history);
     return judge(FOOTPRINT, narrow, &first, &given, result);
 }
 
-int mte_tool_footprint_timeline(const mte_tool_options *options, const uint16_t *classes, size_t class_count,
-                                const mte_tool_timeline_arrays *timeline, mte_tool_result *result) {
+mte_tool_end mte_tool_footprint_timeline(const mte_tool_options *options, const uint16_t *classes, size_t class_count,
+                                         const mte_tool_timeline_arrays *timeline, mte_tool_result *result) {
     narrow_options narrow;
     input first = no_input, given = no_input;
-    int end = begin(options, &narrow, !is_missing(classes, class_count) && is_timeline(timeline), result);
+    mte_tool_end end = begin(options, &narrow, !is_missing(classes, class_count) && is_timeline(timeline), result);
     if (end != MTE_TOOL_DONE) return end;
     put_classes(&first, classes, class_count);
     put_timeline(&given, timeline);
     return judge(FOOTPRINT, narrow, &first, &given, result);
 }
 
-int mte_tool_fit_history(const mte_tool_options *options, const mte_tool_history_arrays *history, uint16_t *classes, size_t class_room,
-                         uint64_t *rows, size_t row_room, mte_tool_result *result) {
+mte_tool_end mte_tool_fit_history(const mte_tool_options *options, const mte_tool_history_arrays *history, uint16_t *classes,
+                                  size_t class_room, uint64_t *rows, size_t row_room, mte_tool_result *result) {
     narrow_options narrow;
     input given = no_input;
     rooms to = {classes, class_room, rows, row_room, NULL, 0};
-    int end = begin(options, &narrow, is_room(&to) && is_history(history), result);
+    mte_tool_end end = begin(options, &narrow, is_room(&to) && is_history(history), result);
     if (end != MTE_TOOL_DONE) return end;
     if (has_no_class_room(narrow, &to)) return MTE_TOOL_MISUSE;
     put_history(&given, history);
     return fit(narrow, &given, &to, result);
 }
 
-int mte_tool_fit_timeline(const mte_tool_options *options, const mte_tool_timeline_arrays *timeline, uint16_t *classes, size_t class_room,
-                          uint64_t *rows, size_t row_room, uint32_t *moments, size_t moment_room, mte_tool_result *result) {
+mte_tool_end mte_tool_fit_timeline(const mte_tool_options *options, const mte_tool_timeline_arrays *timeline, uint16_t *classes,
+                                   size_t class_room, uint64_t *rows, size_t row_room, uint32_t *moments, size_t moment_room,
+                                   mte_tool_result *result) {
     narrow_options narrow;
     input given = no_input;
     rooms to = {classes, class_room, rows, row_room, moments, moment_room};
-    int end = begin(options, &narrow, is_room(&to) && is_timeline(timeline), result);
+    mte_tool_end end = begin(options, &narrow, is_room(&to) && is_timeline(timeline), result);
     if (end != MTE_TOOL_DONE) return end;
     if (has_no_class_room(narrow, &to)) return MTE_TOOL_MISUSE;
     put_timeline(&given, timeline);
     return fit(narrow, &given, &to, result);
 }
 
-int mte_tool_check_fit_history(const mte_tool_options *options, const uint16_t *classes, size_t class_count, uint64_t footprint,
-                               const uint64_t *rows, size_t row_count, const mte_tool_history_arrays *history, mte_tool_result *result) {
+mte_tool_end mte_tool_check_fit_history(const mte_tool_options *options, const uint16_t *classes, size_t class_count, uint64_t footprint,
+                                        const uint64_t *rows, size_t row_count, const mte_tool_history_arrays *history,
+                                        mte_tool_result *result) {
     narrow_options narrow;
     input first = no_input, given = no_input;
     claim it = {classes, class_count, footprint, rows, row_count, NULL, 0};
-    int end = begin_check(options, &narrow, &it, is_history(history), result);
+    mte_tool_end end = begin_check(options, &narrow, &it, is_history(history), result);
     if (end != MTE_TOOL_DONE) return end;
     put_claim(&first, narrow, &it);
     put_history(&given, history);
     return judge(CHECK_FIT, narrow, &first, &given, result);
 }
 
-int mte_tool_check_fit_timeline(const mte_tool_options *options, const uint16_t *classes, size_t class_count, uint64_t footprint,
-                                const uint64_t *rows, size_t row_count, const uint32_t *moments, size_t moment_count,
-                                const mte_tool_timeline_arrays *timeline, mte_tool_result *result) {
+mte_tool_end mte_tool_check_fit_timeline(const mte_tool_options *options, const uint16_t *classes, size_t class_count, uint64_t footprint,
+                                         const uint64_t *rows, size_t row_count, const uint32_t *moments, size_t moment_count,
+                                         const mte_tool_timeline_arrays *timeline, mte_tool_result *result) {
     narrow_options narrow;
     input first = no_input, given = no_input;
     claim it = {classes, class_count, footprint, rows, row_count, moments, moment_count};
-    int end = begin_check(options, &narrow, &it, is_timeline(timeline), result);
+    mte_tool_end end = begin_check(options, &narrow, &it, is_timeline(timeline), result);
     if (end != MTE_TOOL_DONE) return end;
     put_claim(&first, narrow, &it);
     put_timeline(&given, timeline);

@@ -11,7 +11,7 @@ static int append_file(mte_tool_text *text, const char *path) {
     int good;
     FILE *file = fopen(path, "rb");
     if (!file) return 0;
-    while ((n = fread(piece, 1, sizeof piece, file)) > 0 && mte_tool_append(text, piece, n) == MTE_TOOL_DONE) {}
+    while ((n = fread(piece, 1, sizeof piece, file)) > 0 && mte_tool_text_append(text, piece, n) == MTE_TOOL_DONE) {}
     good = n == 0 && !ferror(file);
     fclose(file);
     return good;
@@ -20,7 +20,7 @@ static int append_file(mte_tool_text *text, const char *path) {
 int main(int argc, char **argv) {
     mte_tool_text sheet = MTE_TOOL_TEXT, profile = MTE_TOOL_TEXT, verdict = MTE_TOOL_TEXT;
     mte_tool_result result = MTE_TOOL_RESULT;
-    int end = MTE_TOOL_REFUSED;
+    mte_tool_end end = MTE_TOOL_REFUSED;
     if (argc != 3) {
         fprintf(stderr, "usage: check_sheet SHEET PROFILE\n");
         return 2;
@@ -28,13 +28,13 @@ int main(int argc, char **argv) {
     if (append_file(&sheet, argv[1]) && append_file(&profile, argv[2])) {
         end = mte_tool_check(NULL, sheet.bytes, sheet.length, profile.bytes, profile.length, &verdict, &result);
         if (end == MTE_TOOL_DONE) fputs(verdict.bytes, stdout);
-        else fprintf(stderr, "%s: %s\n", mte_tool_strerror(end), mte_tool_strerror(result.code ? (int)result.code : end));
-        if (result.line) fprintf(stderr, "line %llu of %s\n", (unsigned long long)result.line, argv[result.code == 48 ? 1 : 2]);
+        else fprintf(stderr, "%s: %s\n", mte_tool_end_sentence(end), mte_tool_code_sentence(result.code));
+        if (result.line) fprintf(stderr, "line %llu of %s\n", (unsigned long long)result.line, argv[result.code == MTE_TOOL_CODE_BAD_SHEET ? 1 : 2]);
     } else {
         perror(argv[0]);
     }
-    mte_tool_free(&sheet);
-    mte_tool_free(&profile);
-    mte_tool_free(&verdict);
-    return end;
+    mte_tool_text_free(&sheet);
+    mte_tool_text_free(&profile);
+    mte_tool_text_free(&verdict);
+    return (int)end;
 }

@@ -14,7 +14,7 @@ int main(int count, char **words) {
     uint64_t *rows;
     size_t room;
     uint32_t size, i;
-    int end;
+    mte_tool_end end;
     while (scanf("%u", &size) == 1)
         if (size <= MTE_TOOL_LARGEST_SIZE) counted[size]++; /* larger ones are not for the classes */
     for (size = 0; size <= MTE_TOOL_LARGEST_SIZE; size++)
@@ -30,7 +30,7 @@ int main(int count, char **words) {
                                      NULL);
     free(rows);
     if (end != MTE_TOOL_DONE) {
-        fprintf(stderr, "own_counts: %s\n", mte_tool_strerror(end));
+        fprintf(stderr, "own_counts: %s\n", mte_tool_end_sentence(end));
         return end == MTE_TOOL_NO ? 1 : 2;
     }
     for (i = 0; i < tuned.classes; i++) printf("%u ", classes[i] * 16u);

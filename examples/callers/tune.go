@@ -19,7 +19,7 @@ func tune(limit uint64, profile []byte) ([]byte, error) {
 	options := C.mte_tool_options{granules: 65536, quarantine: 65536, seed: 1, limit: C.uint64_t(limit), step: 1}
 	options.size = C.size_t(unsafe.Sizeof(options))
 	var text C.mte_tool_text
-	defer C.mte_tool_free(&text)
+	defer C.mte_tool_text_free(&text)
 	var input unsafe.Pointer // null for an empty profile
 	if len(profile) > 0 {
 		input = unsafe.Pointer(&profile[0])
@@ -27,7 +27,7 @@ func tune(limit uint64, profile []byte) ([]byte, error) {
 	end := C.mte_tool_tune(&options, input, C.size_t(len(profile)), &text, nil)
 	answer := C.GoBytes(unsafe.Pointer(text.bytes), C.int(text.length))
 	if end != C.MTE_TOOL_DONE {
-		return nil, fmt.Errorf("%s %s", C.GoString(C.mte_tool_strerror(end)), answer)
+		return nil, fmt.Errorf("%s %s", C.GoString(C.mte_tool_end_sentence(end)), answer)
 	}
 	return answer, nil
 }

@@ -22,22 +22,28 @@ What can't be answered raises Error, with the code and where it is:
 Traceback (most recent call last):
     ..
 mte_tool.Error: 31 NotAscending line 2
+>>> try:
+...     mte_tool.tune("16 500\\n16 1\\n", limit=2)
+... except mte_tool.Error as error:
+...     print(error.code == mte_tool.Code.SIZES_NOT_ASCENDING, error.line, error.code.sentence)
+True 2 a size is not above the one before it
 
 The shared library is the one that MTE_TOOL_LIBRARY names, the one beside this package, or the one that the loader finds. Without one the
 import raises ImportError. Calls may be made from many threads, but not on one Heap at a time.
 """
 
 from mte_tool._arrays import (
-    Table, check_fit_history, check_fit_timeline, check_profile, fit_history, fit_timeline, footprint_history, footprint_timeline,
-    score_profile, tune_profile,
+    Table, check_fit_history, check_fit_timeline, check_profile, class_of, fit_history, fit_timeline, footprint_history,
+    footprint_timeline, score_profile, tune_profile,
 )  # fmt: skip
-from mte_tool._calls import Cost, Error, Fit, Verdict, strerror, version
+from mte_tool._calls import Cost, Error, Fit, Verdict, version, version_number
+from mte_tool._codes import Code, End
 from mte_tool._commands import check, check_fit, fit, footprint, profile, replay, run, score, tune
 from mte_tool._heap import Heap, Outcome
 
 __version__ = "1.0.0"
 __all__ = [
-    "Cost", "Error", "Fit", "Heap", "Outcome", "Table", "Verdict", "check", "check_fit", "check_fit_history", "check_fit_timeline",
-    "check_profile", "fit", "fit_history", "fit_timeline", "footprint", "footprint_history", "footprint_timeline", "profile", "replay",
-    "run", "score", "score_profile", "strerror", "tune", "tune_profile", "version",
+    "Code", "Cost", "End", "Error", "Fit", "Heap", "Outcome", "Table", "Verdict", "check", "check_fit", "check_fit_history",
+    "check_fit_timeline", "check_profile", "class_of", "fit", "fit_history", "fit_timeline", "footprint", "footprint_history",
+    "footprint_timeline", "profile", "replay", "run", "score", "score_profile", "tune", "tune_profile", "version", "version_number",
 ]  # fmt: skip

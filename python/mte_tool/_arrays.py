@@ -5,10 +5,11 @@ taken without a Python object that stays for each."""
 import array
 import ctypes
 from ctypes import c_uint8, c_uint16, c_uint32, c_uint64
-from typing import Any, Iterable, List, Mapping, NamedTuple, Sequence
+from typing import Any, Iterable, List, Mapping, NamedTuple, Optional, Sequence
 
 from mte_tool import _c, _calls
 from mte_tool._calls import Cost, Verdict
+from mte_tool._codes import Code, End
 
 MOST_CLASSES, MOST_NEEDS, MOST_MOMENTS = 32, 1023, 1024
 STEPS = (1, 2, 4, 8)
@@ -60,9 +61,11 @@ def numbers_of(kind: Any, numbers: Iterable[int]) -> Any:
 
 
 def flags_of(flags: Sequence[bool]) -> Any:
-    """An array of C with 1 for what is true."""
+    """An array of C that is not 0 for what is true."""
     view = buffer_of(flags)
-    return numbers_of(c_uint8, view if view and view.format == FLAGS else map(bool, flags if view is None else view.tolist()))
+    if view and view.format in (FLAGS, LETTERS[c_uint8]):
+        return numbers_of(c_uint8, view)
+    return numbers_of(c_uint8, map(bool, flags if view is None else view.tolist()))
 
 
 def profile_of(profile: Mapping[int, int]) -> _c.Profile:
@@ -109,13 +112,24 @@ def verdict_of(name: str, table: Table, data: ctypes.Structure, limit: int, step
     options = _calls.options(limit=limit, step=step)
     are_options = 1 <= limit <= MOST_CLASSES and step in STEPS
     if table.rows and are_options and (len(table.rows) != limit or len(set(map(len, table.rows))) > 1):
-        raise _calls.Error(f"the certificate has to have {limit} rows of one length", _c.MISUSE)
+        raise _calls.Error(f"the certificate has to have {limit} rows of one length", End.MISUSE)
     numbers = [_calls.whole(number, "a number of a row") for row in table.rows for number in row]
     classes, rows, moments = numbers_of(c_uint16, table.classes), numbers_of(c_uint64, numbers), numbers_of(c_uint32, table.moments)
     claim = [classes, len(classes), _calls.whole(table.bytes, "a cost"), rows, len(rows), *([moments, len(moments)] if has_moments else [])]
     function = getattr(_c.library, f"mte_tool_{name}")
     yes, result = _calls.made(lambda to: function(ctypes.byref(options), *claim, ctypes.byref(data), to))
-    return Verdict(yes, result.code)
+    return Verdict(yes, Code(result.code))
+
+
+def class_of(classes: Sequence[int], size: int) -> Optional[int]:
+    """The number of the class that serves a request of so many bytes: its place in the table, from 0 on. None if no class serves it.
+
+    >>> class_of([2, 4, 9], 40)
+    1
+    """
+    table = numbers_of(c_uint16, classes)
+    number = _c.library.mte_tool_class_of(table, len(table), size if 0 <= size <= _calls.MOST else _calls.MOST)
+    return None if number < 0 else int(number)
 
 
 def score_profile(classes: Sequence[int], profile: Mapping[int, int]) -> Cost:

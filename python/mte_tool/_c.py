@@ -3,12 +3,11 @@
 import ctypes
 import ctypes.util
 import os
-from ctypes import c_char, c_char_p, c_int, c_size_t, c_uint8, c_uint16, c_uint32, c_uint64, c_void_p
+from ctypes import c_char, c_char_p, c_int, c_size_t, c_uint8, c_uint16, c_uint32, c_uint64
 from typing import Any
 
 from mte_tool._formats import COMMANDS, OPTIONS
 
-DONE, NO, REFUSED, OUT_OF_MEMORY, BAD_OPTION, MISUSE = range(6)
 NAMES = ("libmte_tool.so.1", "libmte_tool.so")
 
 
@@ -38,7 +37,10 @@ class Text(ctypes.Structure):
 
 
 class Heap(ctypes.Structure):
-    _fields_ = [("handle", c_void_p), ("live", c_uint32)]
+    """What the library alone knows."""
+
+
+HeapPointer = ctypes.POINTER(Heap)
 
 
 class Profile(ctypes.Structure):
@@ -70,7 +72,7 @@ def loaded(path: str) -> ctypes.CDLL:
     except OSError as error:
         raise ImportError(f"the library of mte_tool can't be loaded: {error}; MTE_TOOL_LIBRARY=FILE says where it is") from None
     to: Any = ctypes.POINTER
-    options, result, text, heap, outcome = to(Options), to(Result), to(Text), to(Heap), to(Outcome)
+    options, result, text, heap, outcome = to(Options), to(Result), to(Text), HeapPointer, to(Outcome)
     profile, history, timeline = to(Profile), to(History), to(Timeline)
     classes, rows, moments = to(c_uint16), to(c_uint64), to(c_uint32)
     table, room = [classes, c_size_t], [classes, c_size_t, rows, c_size_t]
@@ -86,8 +88,9 @@ def loaded(path: str) -> ctypes.CDLL:
         "check_profile": [options, *claim, profile, result],
         "check_fit_history": [options, *claim, history, result],
         "check_fit_timeline": [options, *claim, moments, c_size_t, timeline, result],
-        "append": [text, c_char_p, c_size_t],
-        "heap_new": [heap, options, *table, outcome],
+        "text_append": [text, c_char_p, c_size_t],
+        "class_of": [*table, c_size_t],
+        "heap_new": [to(heap), options, *table, outcome],
         "heap_malloc": [heap, c_size_t, outcome],
         "heap_calloc": [heap, c_size_t, outcome],
         "heap_realloc": [heap, c_uint64, c_size_t, outcome],
@@ -100,7 +103,15 @@ def loaded(path: str) -> ctypes.CDLL:
     for name, arguments in types.items():
         function = getattr(library, f"mte_tool_{name}")
         function.argtypes, function.restype = arguments, c_int
-    others: "dict[str, tuple[list[Any], Any]]" = {"free": ([text], None), "heap_close": ([heap], None), "version": ([], c_char_p), "strerror": ([c_int], c_char_p)}
+    others: "dict[str, tuple[list[Any], Any]]" = {
+        "text_free": ([text], None),
+        "heap_close": ([heap], None),
+        "version": ([], c_char_p),
+        "version_number": ([], c_uint32),
+        "end_sentence": ([c_int], c_char_p),
+        "code_sentence": ([c_uint32], c_char_p),
+        "code_name": ([c_uint32], c_char_p),
+    }
     for name, (takes, gives) in others.items():
         function = getattr(library, f"mte_tool_{name}")
         function.argtypes, function.restype = takes, gives

@@ -4,6 +4,7 @@ import ctypes
 from typing import Any, Callable, NamedTuple, Optional
 
 from mte_tool import _c
+from mte_tool._codes import Code, End
 from mte_tool._formats import OPTIONS
 
 MOST = 2**64 - 1
@@ -14,10 +15,10 @@ class Error(Exception):
 
     def __init__(self, text: str, end: int, code: int = 0, line: int = 0, at: int = 0):
         super().__init__(text)
-        #: 2 the input is refused, 4 an option is out of its range, 5 the call is not as it has to be
-        self.end = end
-        #: the code of the input's fault, as docs/FORMATS.md lists them; 0 without one
-        self.code = code
+        #: the input is refused, an option is out of its range, or the call is not as it has to be
+        self.end = End(end)
+        #: the code of the input's fault, as docs/FORMATS.md lists them; Code.NONE, which is 0, without one
+        self.code = Code(code)
         #: the line of a text's fault, from 1 on; 0 without one
         self.line = line
         #: the index of the first faulty entry of numbers, from 0 on
@@ -36,12 +37,13 @@ class Verdict(NamedTuple):
 
     #: whether it shows that no table within the limit and step costs less
     is_optimal: bool
-    #: the code of the condition that is not met, 39 to 53; 0 without one
-    code: int
+    #: that of the condition that is not met; Code.NONE if it is optimal
+    code: Code
 
     @property
     def sentence(self) -> str:
-        return strerror(self.code) if self.code else "optimal"
+        """What it means."""
+        return self.code.sentence if self.code else "optimal"
 
 
 class Cost(NamedTuple):
@@ -68,9 +70,9 @@ def version() -> str:
     return str(_c.library.mte_tool_version().decode())
 
 
-def strerror(code: int) -> str:
-    """A sentence for how a call ended, or for a code."""
-    return str(_c.library.mte_tool_strerror(code if 0 <= code < 2**31 else -1).decode())
+def version_number() -> int:
+    """The same as a number: 10000, 100 and 1 times its three."""
+    return int(_c.library.mte_tool_version_number())
 
 
 def whole(number: int, what: str) -> int:
@@ -88,11 +90,12 @@ def options(**given: int) -> _c.Options:
 
 def is_yes(end: int, result: _c.Result, text: Optional[bytes] = None) -> bool:
     """Raises unless there is an answer; whether it is a yes."""
-    if end == _c.OUT_OF_MEMORY:
-        raise MemoryError(strerror(end))
-    if end not in (_c.DONE, _c.NO):
-        raise Error(text.decode() if text else strerror(result.code or end), end, result.code, result.line, result.at)
-    return end == _c.DONE
+    if end == End.OUT_OF_MEMORY:
+        raise MemoryError(End.OUT_OF_MEMORY.sentence)
+    if end not in (End.DONE, End.NO):
+        said = text.decode() if text else Code(result.code).sentence if result.code else End(end).sentence
+        raise Error(said, end, result.code, result.line, result.at)
+    return end == End.DONE
 
 
 def made(call: Callable[[object], Any]) -> "tuple[bool, _c.Result]":

@@ -6,6 +6,7 @@ from typing import NamedTuple, Union
 
 from mte_tool import _c, _calls
 from mte_tool._calls import Cost, Fit, Verdict
+from mte_tool._codes import Code
 
 Bytes = Union[bytes, bytearray, memoryview, str, "os.PathLike[str]"]
 
@@ -24,7 +25,7 @@ class Answer(NamedTuple):
         return Fit(self.text, self.is_yes)
 
     def verdict(self) -> Verdict:
-        return Verdict(self.is_yes, self.result.code)
+        return Verdict(self.is_yes, Code(self.result.code))
 
 
 def as_bytes(text: Bytes) -> bytes:
@@ -42,7 +43,7 @@ def called(name: str, *inputs: Bytes, **given: int) -> Answer:
     function = getattr(_c.library, f"mte_tool_{name}")
     end = function(ctypes.byref(options), *data, ctypes.byref(text), ctypes.byref(result))
     try:
-        answer = ctypes.string_at(text.bytes, text.length) if text.length else b""
+        answer = ctypes.string_at(text.bytes, text.length)
     finally:
-        _c.library.mte_tool_free(ctypes.byref(text))
+        _c.library.mte_tool_text_free(ctypes.byref(text))
     return Answer(_calls.is_yes(end, result, answer), answer, result)

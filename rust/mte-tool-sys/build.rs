@@ -1,5 +1,5 @@
-//! Says where the library is: MTE_TOOL_LIBRARY names its file, libmte_tool.a or libmte_tool.so, or the folder that has it; else a packed
-//! crate has it; else pkg-config knows it; else the linker finds it.
+//! Says where the library is: `MTE_TOOL_LIBRARY` names its file, `libmte_tool.a` or `libmte_tool.so`, or the folder that has it; else a
+//! packed crate has it; else pkg-config knows it; else the linker finds it.
 use std::path::{Path, PathBuf};
 use std::process::Command;
 

@@ -5,6 +5,7 @@ with what the program and the documents say. It writes the parts of include/, li
 that have numbers, sentences, options or a call for each command.
 """
 
+import re
 from typing import NamedTuple, Optional
 
 from mte_scripts import claims
@@ -198,10 +199,26 @@ SENTENCES = {
 }
 
 
-def sentence(number: int) -> str:
-    """What mte_tool_strerror says of an end or of a code: no call of the library gives the code 1, which is an end too."""
-    if number < len(ENDS):
-        return list(ENDS.values())[number].sentence
+# the names of codes that say in an enumeration what they are of: two codes have one name, but for 20
+OWN_NAMES = {20: "TooManyClasses", 21: "ClassOutOfRange", 22: "ClassesNotAscending", 23: "BadClassLine", 30: "BadCountLine",
+             31: "SizesNotAscending", 38: "SizeNotLive", 64: "ChunkNotLive", 72: "NumberOutOfRange"}
+
+# those of the library, in the order of their numbers: 1 is an end there
+LIBRARY_CODES = sorted(code for code in CODES if code >= 20)
+
+
+def own_name(code: int) -> str:
+    """The name of a code in an enumeration, as BadClassLine."""
+    return OWN_NAMES.get(code, CODES[code].name)
+
+
+def upper_name(code: int) -> str:
+    """The same in C and in Python, as BAD_CLASS_LINE."""
+    return re.sub("(?<=[a-z])(?=[A-Z])", "_", own_name(code)).upper()
+
+
+def code_sentence(number: int) -> str:
+    """What mte_tool_code_sentence says of a code of the library."""
     code = CODES[number]
     if code.words is None:
         return SENTENCES[number]

@@ -41,7 +41,8 @@ def listed(names):
 def comment(words, width, indent):
     """A comment of C in lines of at most so many columns, the first of which begins where it stands."""
     lines, line = [], "/*"
-    for word in [*words.split(), "*/"]:
+    *before, last = words.split()
+    for word in [*before, f"{last} */"]:
         if len(indent) + len(line) + 1 + len(word) > width:
             lines.append(line)
             line = f"  {word}"
@@ -59,24 +60,25 @@ def enumerators(values):
 
 def ends_of_c():
     values = [(f"MTE_TOOL_{name}", n, f"{it.sentence}; {it.leaves}") for n, (name, it) in enumerate(ENDS.items())]
-    return f"enum {{\n{enumerators(values)}}};"
+    return f"typedef enum mte_tool_end {{\n{enumerators(values)}}} mte_tool_end;"
 
 
-OUTCOMES = {  # the names in C, and the calls
-    "UNMAPPED": (50, "a load or a store"),
-    "TAG_FAULT": (52, "a load or a store"),
-    "LARGE": (60, "malloc, calloc and realloc"),
-    "NO_CLASS": (61, "malloc, calloc and realloc"),
-    "EXHAUSTED": (62, "malloc, calloc and realloc"),
-    "MISPLACED": (63, "free and realloc"),
-    "NOT_LIVE": (64, "free and realloc"),
-    "WRONG_TAG": (65, "free and realloc"),
+CALLS_OF = {  # the codes of an outcome, with the calls of the heap
+    (50, 52): "a load or a store",
+    (60, 61, 62): "malloc, calloc and realloc",
+    (63, 64, 65): "free and realloc",
 }
 
 
-def outcomes_of_c():
-    values = [(f"MTE_TOOL_{name}", code, f"of {calls}: {CODES[code].words}") for name, (code, calls) in OUTCOMES.items()]
-    return f"enum {{\n{enumerators(values)}}};"
+def words_of_code(code):
+    calls = [f"of {names}: " for codes, names in CALLS_OF.items() if code in codes]
+    return "".join(calls) + formats.code_sentence(code)
+
+
+def codes_of_c():
+    values = [("MTE_TOOL_CODE_NONE", 0, "there is none")]
+    values += [(f"MTE_TOOL_CODE_{formats.upper_name(code)}", code, words_of_code(code)) for code in formats.LIBRARY_CODES]
+    return f"typedef enum mte_tool_code {{\n{enumerators(values)}}} mte_tool_code;"
 
 
 LIMITS = {  # of those in C
@@ -121,14 +123,25 @@ def options_of_c():
     )
 
 
+def declaration(name, arguments):
+    """A function that returns an end, in lines of at most 140 columns."""
+    head = f"MTE_TOOL_CHECKED mte_tool_end mte_tool_{name}("
+    lines, line = [], head
+    for at, argument in enumerate(arguments, 1):
+        piece = f"{argument}{', ' if at < len(arguments) else ');'}"
+        if len(f"{line}{piece}".rstrip()) > 140:
+            lines.append(line.rstrip())
+            line = " " * len(head)
+        line += piece
+    return "\n".join([*lines, line]) + "\n"
+
+
 def commands_of_c():
     made = []
     for name, it in COMMANDS.items():
-        head = f"int mte_tool_{name}("
-        first = "const void *first, size_t first_length, " if len(it.inputs) > 1 else ""
-        line = f"{head}const mte_tool_options *options, {first}const void *input, size_t length,"
-        rest = "mte_tool_text *output, mte_tool_result *result);\n"
-        made.append(f"{line}\n{' ' * len(head)}{rest}" if first else f"{line} {rest}")
+        first = ["const void *first", "size_t first_length"] if len(it.inputs) > 1 else []
+        given = ["const mte_tool_options *options", *first, "const void *input", "size_t length", "mte_tool_text *output", "mte_tool_result *result"]
+        made.append(declaration(name, given))
     return "".join(made)
 
 
@@ -158,10 +171,19 @@ def version_of_c():
 
 
 def sentences_of_c():
-    numbers = [*range(len(ENDS)), *(code for code in CODES if code >= len(ENDS))]
-    lines = [f'    {{{number}, "{formats.sentence(number)}"}},\n' for number in sorted(numbers)]
-    return "\n".join([f"/* What mte_tool_strerror says. {WRITTEN} */",
-                      "static const struct {\n    int code;\n    const char *words;\n} sentences[] = {\n" + "".join(lines) + "};\n"])
+    ends = [f'    "{it.sentence}",\n' for it in ENDS.values()]
+    codes = [f'    {{{code}, "{CODES[code].name}", "{formats.code_sentence(code)}"}},\n' for code in formats.LIBRARY_CODES]
+    return (
+        f"/* What the library says of ends and codes. {WRITTEN} */\n"
+        f"static const char *const ends[] = {{\n{''.join(ends)}}};\n\n"
+        "static const struct {\n    uint32_t code;\n    const char *name, *words;\n} codes[] = {\n"
+        '    {0, "", "there is none"},\n' + "".join(codes) + "};\n"
+    )
+
+
+def codes_of_cpp():
+    lines = [f"    {formats.own_name(code)} = {code}" for code in formats.LIBRARY_CODES]
+    return "enum class Code : std::uint32_t {\n    NoCode = 0,\n" + ",\n".join(lines) + "\n};"
 
 
 def commands_of_cpp():
@@ -223,29 +245,52 @@ def commands_of_python():
     ])
 
 
+def codes_of_python():
+    ends = "".join(f"    {name} = {number}\n" for number, name in enumerate(ENDS))
+    codes = "".join(f"    {formats.upper_name(code)} = {code}\n" for code in formats.LIBRARY_CODES)
+    return (
+        f'"""The ends of calls, and the codes of docs/FORMATS.md.\n\n{WRITTEN}\n"""\n\nfrom mte_tool._numbers import Number, end_sentence, code_name, code_sentence\n\n\n'
+        f'class End(Number):\n    """How a call ended."""\n\n{ends}\n'
+        '    @property\n    def sentence(self) -> str:\n        """What it means."""\n        return end_sentence(self)\n\n\n'
+        'class Code(Number):\n    """Why an input is refused, why a verdict is no, or why the heap or the machine refuses a call. One that a later library has is a\n'
+        f'    member too, without a name."""\n\n    NONE = 0\n{codes}\n'
+        '    @property\n    def word(self) -> str:\n        """The word after its number in the text of a refusal, as BadLine; empty if it is no code."""\n        return code_name(self)\n\n'
+        '    @property\n    def sentence(self) -> str:\n        """What it means."""\n        return code_sentence(self)\n'
+    )
+
+
 # ---- Rust
+
+WRITTEN_MARKED = re.sub(r"scripts/[\w./]*\w", r"`\g<0>`", WRITTEN)  # as rustdoc wants paths
 
 def rust_number(number):
     return f"{number:_}" if number > 9999 else str(number)
 
 
-def options_of_proved_rust(wide=None):
-    """The members of the options, each of its own bits, or of this many."""
-    return "".join(f"    /// {grouped(capital(it.described()))}.\n    pub {name}: u{wide or it.bits},\n" for name, it in OPTIONS.items())
+def options_of_proved_rust():
+    """The members of the options, each of its own bits."""
+    return "".join(f"    /// {rust_words(it.described())}\n    pub {name}: u{it.bits},\n" for name, it in OPTIONS.items())
 
 
 def options_of_rust():
-    defaults = ", ".join(name if it.default is None else f"{name}: {rust_number(it.default)}" for name, it in OPTIONS.items())
-    given = "".join(f"            {name}: self.{name},\n" for name in OPTIONS)
+    value = lambda it: str(bool(it.default)).lower() if it.most == 1 else rust_number(it.default)
+    defaults = ", ".join(name if it.default is None else f"{name}: {value(it)}" for name, it in OPTIONS.items())
+    given = "".join(f"            {name}: {'u64::from(' * (it.most == 1)}self.{name}{')' * (it.most == 1)},\n" for name, it in OPTIONS.items())
+    members = "".join(f"    /// {rust_words(it.described())}\n    pub {name}: {rust_type(it)},\n" for name, it in OPTIONS.items())
     return (
-        f"//! The options of all calls. {WRITTEN}\n"
+        f"//! The options of all calls. {WRITTEN_MARKED}\n"
         "use mte_tool_sys as c;\n\n"
         "/// The options. Each call reads its own; a number out of its range is an error with the end\n"
-        "/// [`End::BadOption`](crate::End::BadOption).\n"
-        f"#[derive(Debug, Clone, PartialEq, Eq)]\npub struct Options {{\n{options_of_proved_rust(wide=64)}}}\n\n"
+        "/// [`End::BadOption`](crate::End::BadOption).\n///\n"
+        "/// ```\n/// let options = mte_tool::Options::new(8).step(2).largest_class(true);\n"
+        "/// assert!(mte_tool::tune(b\"16 5\\n\", &options)?.starts_with(b\"classes 2 1024\\n\"));\n"
+        "/// # Ok::<(), mte_tool::Error>(())\n/// ```\n"
+        f"#[derive(Debug, Clone, PartialEq, Eq, Hash)]\n#[non_exhaustive]\npub struct Options {{\n{members}}}\n\n"
+        "impl Default for Options {\n    /// The program's defaults, for a call that reads no limit.\n"
+        "    fn default() -> Options {\n        Options::new(0)\n    }\n}\n\n"
         "impl Options {\n"
-        "    /// The program's defaults, with this limit.\n"
-        f"    pub fn new(limit: u64) -> Options {{\n        Options {{ {defaults} }}\n    }}\n\n"
+        "    /// The program's defaults, with this limit.\n    #[must_use]\n"
+        f"    pub fn new(limit: u64) -> Options {{\n        Options {{ {defaults} }}\n    }}\n{options_as_builder()}\n"
         "    pub(crate) fn to_c(&self) -> c::mte_tool_options {\n"
         "        c::mte_tool_options {\n            size: std::mem::size_of::<c::mte_tool_options>(),\n"
         f"{given}        }}\n    }}\n}}\n"
@@ -262,24 +307,73 @@ def externs_of_rust():
         first = ("first: *const c_void", "first_length: usize") if len(it.inputs) > 1 else ()
         takes = ("options: *const mte_tool_options", *first, "input: *const c_void", "length: usize", "output: *mut mte_tool_text",
                  "result: *mut mte_tool_result")
-        made.append(f"    pub fn mte_tool_{name}(\n{''.join(f'        {argument},{chr(10)}' for argument in takes)}    ) -> c_int;\n")
+        made.append(f"    pub fn mte_tool_{name}(\n{''.join(f'        {argument},{chr(10)}' for argument in takes)}    ) -> mte_tool_end;\n")
     return "".join(made)
+
+
+def rust_words(words):
+    """Words as a comment of rustdoc has them."""
+    return f"{grouped(capital(words))}."
+
+
+def numbers_of_rust():
+    """The constants of ends and codes."""
+    made = [f"/// {rust_words(it.sentence)}\npub const MTE_TOOL_{name}: mte_tool_end = {number};\n" for number, (name, it) in enumerate(ENDS.items())]
+    made.append("/// There is none.\npub const MTE_TOOL_CODE_NONE: u32 = 0;\n")
+    made += [f"/// {rust_words(formats.code_sentence(code))}\npub const MTE_TOOL_CODE_{formats.upper_name(code)}: u32 = {code};\n"
+             for code in formats.LIBRARY_CODES]
+    return "".join(made)
+
+
+def codes_of_rust():
+    names = {code: formats.own_name(code) for code in formats.LIBRARY_CODES}
+    members = "".join(f"    /// {rust_words(formats.code_sentence(code))}\n    {name},\n" for code, name in names.items())
+    numbers = "".join(f"            {code} => Code::{name},\n" for code, name in names.items())
+    backwards = "".join(f"            Code::{name} => {code},\n" for code, name in names.items())
+    return (
+        f"//! The codes of docs/FORMATS.md. {WRITTEN_MARKED}\n\n"
+        "/// Why an input is refused, why a verdict is no, or why the heap or the machine refuses a call.\n"
+        "#[derive(Debug, Clone, Copy, PartialEq, Eq, Hash)]\n#[non_exhaustive]\npub enum Code {\n"
+        f"{members}    /// One of a later library, that has no name here.\n    Other(u32),\n}}\n\n"
+        "impl From<u32> for Code {\n    fn from(number: u32) -> Code {\n        match number {\n"
+        f"{numbers}            _ => Code::Other(number),\n        }}\n    }}\n}}\n\n"
+        "impl From<Code> for u32 {\n    fn from(code: Code) -> u32 {\n        match code {\n"
+        f"{backwards}            Code::Other(number) => number,\n        }}\n    }}\n}}\n"
+    )
+
+
+def options_as_builder():
+    """The methods that set an option."""
+    made = []
+    for name, it in OPTIONS.items():
+        kind = rust_type(it)
+        made.append(f"\n    /// {rust_words(it.described())}\n    #[must_use]\n    pub fn {name}(mut self, {name}: {kind}) -> Options {{\n"
+                    f"        self.{name} = {name};\n        self\n    }}\n")
+    return "".join(made)
+
+
+def rust_type(option):
+    return "bool" if option.most == 1 else "u64"
+
+
+RUST_FAULTS = "The input's first fault, or that memory ran out."
+RUST_ERRORS = "The input's first fault, an option out of its range, or that memory ran out."
 
 
 def commands_of_rust():
     made = []
     for name, command in COMMANDS.items():
         takes = [f"{text}: &[u8]" for text in command.inputs] + (["options: &Options"] if command.options else [])
-        given = f"c::mte_tool_{name}, {', '.join(command.inputs)}, {'options' if command.options else '&Options::new(0)'}"
+        given = f"c::mte_tool_{name}, {', '.join(command.inputs)}, {'options' if command.options else '&Options::default()'}"
         answer = ".text" if command.gives == "text" else f".{command.gives}()"
         made.append(
-            f"/// {command.words}{by_options(command, mark='`')}.\n"
+            f"/// {command.words}{by_options(command, mark='`')}.\n///\n/// # Errors\n/// {RUST_ERRORS if command.options else RUST_FAULTS}\n"
             f"pub fn {name}({', '.join(takes)}) -> Result<{capital(command.gives)}, Error> {{\n"
             f"    Ok({'call_on' if len(command.inputs) > 1 else 'call'}({given})?{answer})\n}}\n"
         )
     return "\n".join([
         f"//! The commands over texts, each of at most {formats.MOST_INPUT:,} bytes. An [`Error`] has the first fault's code and line.\n"
-        f"//! {WRITTEN}\n"
+        f"//! {WRITTEN_MARKED}\n"
         "use crate::calls::{Cost, Error, Verdict};\nuse crate::options::Options;\nuse crate::texts::{call, call_on, Fit, Text};\n"
         "use mte_tool_sys as c;\n",
         *made,
@@ -373,24 +467,30 @@ def kebab(name):
 # Each file with the parts that the table writes: a pattern that finds the part, and the part.
 PARTS = {
     "include/mte_tool.h": [
-        (r"(?s)enum \{\n    MTE_TOOL_DONE .*?\n\};", ends_of_c()),
-        (r"(?s)enum \{\n    MTE_TOOL_UNMAPPED .*?\n\};", outcomes_of_c()),
+        (r"(?s)typedef enum mte_tool_end \{.*?\n\} mte_tool_end;", ends_of_c()),
+        (r"(?s)typedef enum mte_tool_code \{.*?\n\} mte_tool_code;", codes_of_c()),
         (r"#define MTE_TOOL_VERSION .*\n#define MTE_TOOL_VERSION_NUMBER .*\n", version_of_c()),
         (r"(#define MTE_TOOL_(?!VERSION)\w+ \d+.*\n)+", limits_of_c()),
         (r"(?s)   Each call reads its own options.*?#define MTE_TOOL_OPTIONS\(limit\)[^\n]*", options_of_c()),
-        (r"(?s)int mte_tool_score\(.*?(?=\n/\* Appends)", commands_of_c()),
+        (r"(?s)MTE_TOOL_CHECKED mte_tool_end mte_tool_score\(.*?(?=\n/\* Appends)", commands_of_c()),
     ],
-    "include/mte_tool.hpp": [(r"(?s)(?<=   line\. \*/\n\n).*?(?=\n/\* ---- the same over arrays)", commands_of_cpp())],
+    "include/mte_tool.hpp": [
+        (r"(?s)enum class Code : std::uint32_t \{.*?\n\};", codes_of_cpp()),
+        (r"(?s)(?<=   line\. \*/\n\n).*?(?=\n/\* ---- the same over arrays)", commands_of_cpp()),
+    ],
     "library/options.h": [(r"(?s).*", options_of_proved())],
     "library/layer.h": [(r"enum \{ SCORE,.*\};", f"enum {{ {', '.join(name.upper() for name in COMMANDS)} }};")],
     "library/pointers.c": [(r"(CALL(_ON)?\(\w+, \w+\)\n)+", calls_of_pointers())],
     "crates/tool_call/src/options.rt": [(r"(?s)(?<=    // written by scripts/tests/formats\n).*?(?=\})", options_of_proved_rust())],
     "python/mte_tool/_formats.py": [(r"(?s).*", options_of_python())],
+    "python/mte_tool/_codes.py": [(r"(?s).*", codes_of_python())],
     "python/mte_tool/_commands.py": [(r"(?s).*", commands_of_python())],
     "rust/mte-tool-sys/src/lib.rs": [
+        (r"(?s)(?<=// ends and codes\n).*?(?=\n/// `mte_tool_options`)", numbers_of_rust()),
         (r"(?s)pub struct mte_tool_options \{.*?\n\}", members_of_rust()),
-        (r"(?s)    pub fn mte_tool_score\(.*?(?=    pub fn mte_tool_append\()", externs_of_rust()),
+        (r"(?s)    pub fn mte_tool_score\(.*?(?=    pub fn mte_tool_text_append\()", externs_of_rust()),
     ],
+    "rust/mte-tool/src/codes.rs": [(r"(?s).*", codes_of_rust())],
     "rust/mte-tool/src/options.rs": [(r"(?s).*", options_of_rust())],
     "rust/mte-tool/src/commands.rs": [(r"(?s).*", commands_of_rust())],
     "bench/plain/formats.rs": [(r"(?s).*", options_of_plain())],

@@ -15,7 +15,7 @@
 #include <string.h>
 
 typedef struct {
-    int end;
+    mte_tool_end end;
     unsigned code;
     unsigned long line;
 } ending;
@@ -78,13 +78,15 @@ static uint8_t *read_file(const char *folder, int number, const char *ending, si
 
 static call read_call(const char *folder, int number) {
     call c;
+    int end;
     size_t n, i;
     char *words = (char *)read_file(folder, number, "call", &n), *rest = words + strcspn(words, " ");
     uint64_t options[sizeof c.options / sizeof(uint64_t)] = {sizeof c.options};
     if (sscanf(words, "%15s", c.command) != 1) exit(2);
     for (i = 1; i < sizeof options / sizeof *options; i++) options[i] = strtoull(rest, &rest, 10);
     memcpy(&c.options, options, sizeof options);
-    if (sscanf(rest, "%d %u %lu", &c.want_ending.end, &c.want_ending.code, &c.want_ending.line) != 3) exit(2);
+    if (sscanf(rest, "%d %u %lu", &end, &c.want_ending.code, &c.want_ending.line) != 3) exit(2);
+    c.want_ending.end = (mte_tool_end)end;
     c.first = read_file(folder, number, "first", &c.first_length);
     c.input = read_file(folder, number, "input", &c.length);
     c.want = read_file(folder, number, "want", &c.want_length);
@@ -95,8 +97,8 @@ static call read_call(const char *folder, int number) {
 static ending make(const call *c, const void *input, size_t length, mte_tool_text *output) {
     static const struct {
         const char *name;
-        int (*call)(const mte_tool_options *, const void *, size_t, mte_tool_text *, mte_tool_result *);
-        int (*call_on)(const mte_tool_options *, const void *, size_t, const void *, size_t, mte_tool_text *, mte_tool_result *);
+        mte_tool_end (*call)(const mte_tool_options *, const void *, size_t, mte_tool_text *, mte_tool_result *);
+        mte_tool_end (*call_on)(const mte_tool_options *, const void *, size_t, const void *, size_t, mte_tool_text *, mte_tool_result *);
     } commands[] = {{"score", NULL, mte_tool_score}, {"tune", mte_tool_tune, NULL}, {"check", NULL, mte_tool_check},
                     {"footprint", NULL, mte_tool_footprint}, {"fit", mte_tool_fit, NULL}, {"check-fit", NULL, mte_tool_check_fit},
                     {"profile", mte_tool_profile, NULL}, {"replay", NULL, mte_tool_replay}, {"run", mte_tool_run, NULL}};
@@ -104,15 +106,15 @@ static ending make(const call *c, const void *input, size_t length, mte_tool_tex
     size_t i;
     for (i = 0; i < sizeof commands / sizeof *commands; i++)
         if (!strcmp(c->command, commands[i].name)) {
-            int end = commands[i].call ? commands[i].call(&c->options, input, length, output, &result)
-                                       : commands[i].call_on(&c->options, c->first, c->first_length, input, length, output, &result);
+            mte_tool_end end = commands[i].call ? commands[i].call(&c->options, input, length, output, &result)
+                                                : commands[i].call_on(&c->options, c->first, c->first_length, input, length, output, &result);
             return (ending){end, result.code, result.line};
         }
     exit(2);
 }
 
 static int has(const mte_tool_text *text, const uint8_t *want, size_t length) {
-    if (length == 0) return !text->bytes && text->length == 0;
+    if (length == 0) return !*text->bytes && text->length == 0 && text->room == 0;
     return text->length == length && !memcmp(text->bytes, want, length) && !text->bytes[length];
 }
 
@@ -126,7 +128,7 @@ static void test(const call *c, int number, size_t piece) {
     size_t from, n;
     for (from = 0; piece && from < c->length; from += n) {
         n = c->length - from < piece ? c->length - from : piece;
-        if (mte_tool_append(&input, c->input + from, n) != MTE_TOOL_DONE || input.length != from + n) wrong("append", number, c);
+        if (mte_tool_text_append(&input, c->input + from, n) != MTE_TOOL_DONE || input.length != from + n) wrong("append", number, c);
     }
     if (piece && !has(&input, c->input, c->length)) wrong("pieces", number, c);
     if (!is_ending(make(c, piece ? (void *)input.bytes : c->input, c->length, &output), c->want_ending)) wrong("ending", number, c);
@@ -136,10 +138,10 @@ static void test(const call *c, int number, size_t piece) {
     if (!has(&output, c->want, c->want_length)) wrong("text of the second call", number, c);
     if (piece && !is_ending(make(c, input.bytes, input.length, &input), c->want_ending)) wrong("in its place", number, c);
     if (piece && !has(&input, c->want, c->want_length)) wrong("text in its place", number, c);
-    mte_tool_free(&input);
-    mte_tool_free(&output);
-    mte_tool_free(&output);
-    if (output.bytes || output.length || output.room) wrong("free", number, c);
+    mte_tool_text_free(&input);
+    mte_tool_text_free(&output);
+    mte_tool_text_free(&output);
+    if (*output.bytes || output.length || output.room) wrong("free", number, c);
 }
 
 /* makes a call with each growth refused: it has to report that, or to give its whole answer without it */
@@ -153,17 +155,17 @@ static void refuse(const call *c, int number) {
         got = make(c, c->input, c->length, &output);
         if (growths < turn) break;
         if (is_ending(got, c->want_ending) && has(&output, c->want, c->want_length)) {
-            mte_tool_free(&output);
+            mte_tool_text_free(&output);
             if (live) wrong("memory is left after a growth less", number, c);
             continue;
         }
         calls_refused++;
         if (!is_ending(got, (ending){MTE_TOOL_OUT_OF_MEMORY, 0, 0})) wrong("out of memory", number, c);
-        if (output.length || output.bytes || live) wrong("left after out of memory", number, c);
+        if (*output.bytes || output.length || live) wrong("left after out of memory", number, c);
     }
     if (!is_ending(got, c->want_ending)) wrong("ending after all", number, c);
     if (!has(&output, c->want, c->want_length)) wrong("text after all", number, c);
-    mte_tool_free(&output);
+    mte_tool_text_free(&output);
     if (live) wrong("memory is left", number, c);
     refused_growth = 0;
     printf("%s %ld\n", c->command, calls_refused);
@@ -171,30 +173,30 @@ static void refuse(const call *c, int number) {
 
 /* Each of these gives its end, and leaves no memory. */
 
-static int tune_and_check(void) {
+static mte_tool_end tune_and_check(void) {
     static const uint32_t sizes[] = {16, 32, 48}, counts[] = {1, 1, 1};
     mte_tool_profile_arrays profile = {sizes, counts, 3};
     mte_tool_options options = MTE_TOOL_OPTIONS(2);
     mte_tool_result tuned = MTE_TOOL_RESULT;
     uint16_t classes[2];
     uint64_t rows[6];
-    int end = mte_tool_tune_profile(&options, &profile, classes, 2, rows, 6, &tuned);
+    mte_tool_end end = mte_tool_tune_profile(&options, &profile, classes, 2, rows, 6, &tuned);
     return end ? end : mte_tool_check_profile(&options, classes, tuned.classes, tuned.bytes, rows, 6, &profile, NULL);
 }
 
-static int fit_and_check(void) {
+static mte_tool_end fit_and_check(void) {
     static const uint32_t sizes[] = {16, 40}, counts[] = {4, 0, 1, 2, 3, 0};
     mte_tool_history_arrays history = {sizes, counts, 2, 3};
     mte_tool_options options = MTE_TOOL_OPTIONS(2);
     mte_tool_result found = MTE_TOOL_RESULT;
     uint16_t classes[2];
     uint64_t rows[4];
-    int end = mte_tool_fit_history(&options, &history, classes, 2, rows, 4, &found);
+    mte_tool_end end = mte_tool_fit_history(&options, &history, classes, 2, rows, 4, &found);
     if (!end) end = mte_tool_footprint_history(NULL, classes, found.classes, &history, NULL);
     return end ? end : mte_tool_check_fit_history(&options, classes, found.classes, found.bytes, rows, 4, &history, NULL);
 }
 
-static int fit_timeline_and_check(void) {
+static mte_tool_end fit_timeline_and_check(void) {
     static const uint32_t sizes[] = {16, 40, 16, 40};
     static const uint8_t frees[] = {0, 0, 1, 0};
     mte_tool_timeline_arrays timeline = {sizes, frees, 4};
@@ -203,37 +205,38 @@ static int fit_timeline_and_check(void) {
     uint16_t classes[2];
     uint64_t rows[4];
     uint32_t moments[4];
-    int end = mte_tool_fit_timeline(&options, &timeline, classes, 2, rows, 4, moments, 4, &found);
+    mte_tool_end end = mte_tool_fit_timeline(&options, &timeline, classes, 2, rows, 4, moments, 4, &found);
     if (!end) end = mte_tool_footprint_timeline(NULL, classes, found.classes, &timeline, NULL);
     if (end) return end;
     return mte_tool_check_fit_timeline(&options, classes, found.classes, found.bytes, rows, 2 * found.places, moments, found.moments,
                                        &timeline, NULL);
 }
 
-static int append(void) {
+static mte_tool_end append(void) {
     mte_tool_text text = MTE_TOOL_TEXT;
-    int i, end = MTE_TOOL_DONE;
-    for (i = 0; i < 100 && end == MTE_TOOL_DONE; i++) end = mte_tool_append(&text, "a text, ", 8);
-    if (text.length != (size_t)(end ? i - 1 : i) * 8 || (text.bytes && strlen(text.bytes) != text.length)) exit(1);
-    mte_tool_free(&text);
+    mte_tool_end end = MTE_TOOL_DONE;
+    int i;
+    for (i = 0; i < 100 && end == MTE_TOOL_DONE; i++) end = mte_tool_text_append(&text, "a text, ", 8);
+    if (text.length != (size_t)(end ? i - 1 : i) * 8 || strlen(text.bytes) != text.length) exit(1);
+    mte_tool_text_free(&text);
     return end;
 }
 
-static int new_heap(void) {
+static mte_tool_end new_heap(void) {
     static const uint16_t classes[] = {2, 4};
-    mte_tool_heap heap = MTE_TOOL_HEAP;
-    int end = mte_tool_heap_new(&heap, NULL, classes, 2, NULL);
-    if (heap.live != (end == MTE_TOOL_DONE)) exit(1);
-    mte_tool_heap_close(&heap);
+    mte_tool_heap *heap;
+    mte_tool_end end = mte_tool_heap_new(&heap, NULL, classes, 2, NULL);
+    if (!heap != (end != MTE_TOOL_DONE)) exit(1);
+    mte_tool_heap_close(heap);
     return end;
 }
 
 static void refuse_others(void) {
-    static int (*const others[])(void) = {tune_and_check, fit_and_check, fit_timeline_and_check, append, new_heap};
+    static mte_tool_end (*const others[])(void) = {tune_and_check, fit_and_check, fit_timeline_and_check, append, new_heap};
     size_t which;
     for (which = 0; which < sizeof others / sizeof *others; which++)
         for (refused_growth = 1;; refused_growth++) {
-            int end;
+            mte_tool_end end;
             growths = live = 0;
             end = others[which]();
             if (live || (end != MTE_TOOL_DONE && (end != MTE_TOOL_OUT_OF_MEMORY || growths < refused_growth))) {

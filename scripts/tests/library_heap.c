@@ -16,7 +16,7 @@ static mte_tool_options options;
 static uint16_t classes[32];
 static size_t class_count;
 
-static void write_line(FILE *out, long number, int end, const mte_tool_outcome *o, const uint8_t *bytes, size_t length) {
+static void write_line(FILE *out, long number, mte_tool_end end, const mte_tool_outcome *o, const uint8_t *bytes, size_t length) {
     static const char *const kinds[] = {"slack", "header", "tail", "dead", "other"};
     static const char *const words[] = {"null large", "null no-class", "null exhausted", "refused misplaced", "refused not-live",
                                         "refused wrong-tag"};
@@ -26,9 +26,9 @@ static void write_line(FILE *out, long number, int end, const mte_tool_outcome *
     if (end == MTE_TOOL_DONE) {
         fprintf(out, "data ");
         for (i = 0; i < length; i++) fprintf(out, "%02x", bytes[i]);
-    } else if (o->code == 50) {
+    } else if (o->code == MTE_TOOL_CODE_UNMAPPED) {
         fprintf(out, "fault unmapped");
-    } else if (o->code == 52) {
+    } else if (o->code == MTE_TOOL_CODE_TAG_CHECK) {
         fprintf(out, "fault tag granule %u memory %u pointer %u in %s", o->granule, o->memory_tag, o->pointer_tag, kinds[o->granule_kind]);
     } else if (end == MTE_TOOL_NO && o->code >= 60 && o->code <= 65) {
         fprintf(out, "%s", words[o->code - 60]);
@@ -39,7 +39,7 @@ static void write_line(FILE *out, long number, int end, const mte_tool_outcome *
 }
 
 /* sets a variable to the address of an outcome, and to null if there is none */
-static void set(uint64_t *variable, int end, const mte_tool_outcome *o, int keeps) {
+static void set(uint64_t *variable, mte_tool_end end, const mte_tool_outcome *o, int keeps) {
     if (end == MTE_TOOL_DONE) *variable = o->value;
     else if (!keeps) *variable = 0;
 }
@@ -50,7 +50,8 @@ static void perform(mte_tool_heap *heap, uint64_t *at, const char *line, long nu
     unsigned byte;
     uint8_t bytes[64];
     mte_tool_outcome o = MTE_TOOL_OUTCOME;
-    int end, is_load = 0;
+    mte_tool_end end;
+    int is_load = 0;
     sscanf(line, "%15s %ld %ld %ld", word, &v, &a, &b);
     if (!strcmp(word, "malloc")) set(at + v, end = mte_tool_heap_malloc(heap, (size_t)a, &o), &o, 0);
     else if (!strcmp(word, "calloc")) set(at + v, end = mte_tool_heap_calloc(heap, (size_t)a, &o), &o, 0);
@@ -68,7 +69,7 @@ static void perform(mte_tool_heap *heap, uint64_t *at, const char *line, long nu
 
 /* the report's lines, in a block of its own */
 static void *replay(void *unused) {
-    mte_tool_heap heap = MTE_TOOL_HEAP;
+    mte_tool_heap *heap;
     uint64_t *variables = calloc(1024, sizeof *variables);
     char *text = NULL;
     size_t length = 0;
@@ -76,10 +77,9 @@ static void *replay(void *unused) {
     const char *line;
     long number = 0;
     (void)unused;
-    if (mte_tool_heap_new(&heap, &options, classes, class_count, NULL) != MTE_TOOL_DONE || !heap.live) exit(3);
-    for (line = trace; *line; line = strchr(line, '\n') + 1) perform(&heap, variables, line, ++number, out);
-    mte_tool_heap_close(&heap);
-    if (heap.live || heap.handle) exit(3);
+    if (mte_tool_heap_new(&heap, &options, classes, class_count, NULL) != MTE_TOOL_DONE || !heap) exit(3);
+    for (line = trace; *line; line = strchr(line, '\n') + 1) perform(heap, variables, line, ++number, out);
+    mte_tool_heap_close(heap);
     fclose(out);
     free(variables);
     return text;

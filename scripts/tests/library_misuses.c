@@ -17,40 +17,51 @@
 static const char profile[] = "16 1\n";
 enum { LENGTH = sizeof profile - 1 };
 
-typedef int command(const mte_tool_options *, const void *, size_t, mte_tool_text *, mte_tool_result *);
-typedef int command_on(const mte_tool_options *, const void *, size_t, const void *, size_t, mte_tool_text *, mte_tool_result *);
+typedef mte_tool_end command(const mte_tool_options *, const void *, size_t, mte_tool_text *, mte_tool_result *);
+typedef mte_tool_end command_on(const mte_tool_options *, const void *, size_t, const void *, size_t, mte_tool_text *, mte_tool_result *);
 static command *const commands[] = {mte_tool_tune, mte_tool_fit, mte_tool_profile, mte_tool_run};
 static command_on *const commands_on[] = {mte_tool_score, mte_tool_check, mte_tool_footprint, mte_tool_check_fit, mte_tool_replay};
 
 static void nulls(void) {
     mte_tool_options options = MTE_TOOL_OPTIONS(2);
-    mte_tool_text text = MTE_TOOL_TEXT;
+    mte_tool_text text = MTE_TOOL_TEXT, zeros = {NULL, 0, 0};
     size_t i;
     for (i = 0; i < sizeof commands / sizeof *commands; i++) {
-        WANT(commands[i](&options, NULL, 1, &text, NULL) == MTE_TOOL_MISUSE && !text.bytes);
+        WANT(commands[i](&options, NULL, 1, &text, NULL) == MTE_TOOL_MISUSE && !*text.bytes);
         WANT(commands[i](&options, profile, LENGTH, NULL, NULL) == MTE_TOOL_MISUSE);
     }
     for (i = 0; i < sizeof commands_on / sizeof *commands_on; i++) {
-        WANT(commands_on[i](&options, NULL, 1, profile, LENGTH, &text, NULL) == MTE_TOOL_MISUSE && !text.bytes);
-        WANT(commands_on[i](&options, profile, LENGTH, NULL, 1, &text, NULL) == MTE_TOOL_MISUSE && !text.bytes);
+        WANT(commands_on[i](&options, NULL, 1, profile, LENGTH, &text, NULL) == MTE_TOOL_MISUSE && !*text.bytes);
+        WANT(commands_on[i](&options, profile, LENGTH, NULL, 1, &text, NULL) == MTE_TOOL_MISUSE && !*text.bytes);
         WANT(commands_on[i](&options, profile, LENGTH, profile, LENGTH, NULL, NULL) == MTE_TOOL_MISUSE);
         WANT(commands_on[i](&options, NULL, 0, NULL, 0, &text, NULL) == MTE_TOOL_REFUSED);
-        mte_tool_free(&text);
+        mte_tool_text_free(&text);
     }
     WANT(mte_tool_tune(&options, NULL, 0, &text, NULL) == MTE_TOOL_DONE && text.length > 0 && !memcmp(text.bytes, "classes", 7));
     WANT(mte_tool_tune(&options, NULL, 1, &text, NULL) == MTE_TOOL_MISUSE && text.length > 0); /* it stays */
-    mte_tool_free(&text);
-    mte_tool_free(&text);
-    mte_tool_free(NULL);
-    WANT(mte_tool_append(&text, NULL, 1) == MTE_TOOL_MISUSE && mte_tool_append(NULL, profile, LENGTH) == MTE_TOOL_MISUSE);
-    WANT(mte_tool_append(&text, NULL, 0) == MTE_TOOL_DONE && text.length == 0 && !text.bytes);
-    WANT(mte_tool_append(&text, profile, LENGTH) == MTE_TOOL_DONE);
-    WANT(mte_tool_append(&text, profile, (size_t)-1 - LENGTH) == MTE_TOOL_OUT_OF_MEMORY && text.length == LENGTH);
+    mte_tool_text_free(&text);
+    mte_tool_text_free(&text);
+    mte_tool_text_free(NULL);
+    WANT(mte_tool_text_append(&text, NULL, 1) == MTE_TOOL_MISUSE && mte_tool_text_append(NULL, profile, LENGTH) == MTE_TOOL_MISUSE);
+    WANT(mte_tool_text_append(&text, NULL, 0) == MTE_TOOL_DONE && text.length == 0 && !*text.bytes);
+    WANT(mte_tool_text_append(&zeros, NULL, 0) == MTE_TOOL_DONE && zeros.length == 0 && !*zeros.bytes && zeros.room == 0);
+    WANT(mte_tool_text_append(&text, profile, LENGTH) == MTE_TOOL_DONE);
+    WANT(mte_tool_text_append(&text, profile, (size_t)-1 - LENGTH) == MTE_TOOL_OUT_OF_MEMORY && text.length == LENGTH);
     WANT(!strcmp(text.bytes, profile));
-    mte_tool_free(&text);
+    mte_tool_text_free(&text);
+    /* a structure of zeros is the empty text */
+    memset(&zeros, 0, sizeof zeros);
+    WANT(mte_tool_text_append(&zeros, profile, LENGTH) == MTE_TOOL_DONE && !strcmp(zeros.bytes, profile));
+    mte_tool_text_free(&zeros);
+    memset(&zeros, 0, sizeof zeros);
+    mte_tool_text_free(&zeros);
+    WANT(zeros.bytes && !*zeros.bytes);
+    memset(&zeros, 0, sizeof zeros);
     /* an empty answer is the empty text */
-    WANT(mte_tool_profile(NULL, NULL, 0, &text, NULL) == MTE_TOOL_DONE && !text.bytes && text.length == 0);
-    WANT(!strcmp(mte_tool_version(), MTE_TOOL_VERSION) && mte_tool_strerror(-1) && mte_tool_strerror(19));
+    WANT(mte_tool_profile(NULL, NULL, 0, &zeros, NULL) == MTE_TOOL_DONE && zeros.bytes && !*zeros.bytes && zeros.length == 0);
+    WANT(mte_tool_profile(NULL, NULL, 0, &text, NULL) == MTE_TOOL_DONE && !*text.bytes && text.length == 0 && text.room == 0);
+    WANT(!strcmp(mte_tool_version(), MTE_TOOL_VERSION) && mte_tool_version_number() == MTE_TOOL_VERSION_NUMBER);
+    WANT(*mte_tool_end_sentence((mte_tool_end)9) && *mte_tool_code_sentence(9) && !*mte_tool_code_name(9));
 }
 
 /* what comes after is the beginning of no input, and an answer goes where the next one is put */
@@ -58,7 +69,7 @@ static void apart(void) {
     mte_tool_options options = MTE_TOOL_OPTIONS(2);
     mte_tool_text text = MTE_TOOL_TEXT;
     mte_tool_result result = MTE_TOOL_RESULT;
-    WANT(mte_tool_append(&text, "x\n", 2) == MTE_TOOL_DONE);
+    WANT(mte_tool_text_append(&text, "x\n", 2) == MTE_TOOL_DONE);
     WANT(mte_tool_tune(&options, profile, LENGTH, &text, NULL) == MTE_TOOL_DONE && !strncmp(text.bytes, "classes 2\n", 10));
     /* the verdict on a sheet takes its place */
     WANT(mte_tool_check(NULL, text.bytes, text.length, profile, LENGTH, &text, &result) == MTE_TOOL_DONE);
@@ -66,11 +77,11 @@ static void apart(void) {
     WANT(mte_tool_tune(&options, "x\n", 2, &text, &result) == MTE_TOOL_REFUSED && !strcmp(text.bytes, "30 BadLine line 1"));
     WANT(result.code == 30 && result.line == 1);
     options.limit = 0;
-    WANT(mte_tool_tune(&options, profile, LENGTH, &text, &result) == MTE_TOOL_BAD_OPTION && !text.bytes);
+    WANT(mte_tool_tune(&options, profile, LENGTH, &text, &result) == MTE_TOOL_BAD_OPTION && !*text.bytes && text.length == 0);
     WANT(result.code == 0 && result.line == 0);
     WANT(mte_tool_score(NULL, "classes 2", 9, "32 1\n", 5, &text, &result) == MTE_TOOL_NO && result.at == 32 && result.bytes == 0);
     WANT(mte_tool_score(NULL, "classes 4\n", 10, "32 1\n", 5, &text, &result) == MTE_TOOL_DONE && result.bytes == 16 && result.at == 0);
-    mte_tool_free(&text);
+    mte_tool_text_free(&text);
 }
 
 /* the options of an older and of a newer caller */
@@ -112,8 +123,8 @@ static void option_sizes(void) {
             options->size = size;
             WANT(mte_tool_tune(options, profile, LENGTH, &text, NULL) == MTE_TOOL_MISUSE && text.length > 0);
         }
-    mte_tool_free(&plain);
-    mte_tool_free(&text);
+    mte_tool_text_free(&plain);
+    mte_tool_text_free(&text);
 }
 
 /* the results of an older and of a newer caller */
@@ -125,7 +136,8 @@ static void result_sizes(void) {
     mte_tool_text text = MTE_TOOL_TEXT;
     size_t size, i;
     for (size = 0; size <= sizeof newer + 8; size++) {
-        int is_good = size >= 8 && size <= sizeof newer && size % 8 == 0, end;
+        int is_good = size >= 8 && size <= sizeof newer && size % 8 == 0;
+        mte_tool_end end;
         memset(&newer, 0xee, sizeof newer);
         newer.known.size = size == sizeof newer + 8 ? (size_t)-8 : size;
         end = mte_tool_tune(NULL, "x", 1, &text, &newer.known);
@@ -140,64 +152,66 @@ static void result_sizes(void) {
     WANT(newer.known.line == 0xeeeeeeeeeeeeeeee);
     newer.known.size = sizeof newer;
     WANT(mte_tool_profile(NULL, "x\n", 2, &text, &newer.known) == MTE_TOOL_REFUSED && newer.known.line == 1 && newer.new_one[3] == 0);
-    mte_tool_free(&text);
+    mte_tool_text_free(&text);
 }
 
-static int heap_end(mte_tool_heap *heap, uint64_t address, void *room, size_t length) {
+static mte_tool_end heap_end(mte_tool_heap *heap, uint64_t address, void *room, size_t length) {
     return mte_tool_heap_load(heap, address, room, length, NULL);
 }
 
 static void heaps(void) {
     static const uint16_t classes[] = {2, 4}, wrong[] = {4, 2};
     mte_tool_options options = MTE_TOOL_OPTIONS(0), bad = MTE_TOOL_OPTIONS(0);
-    mte_tool_heap heap = MTE_TOOL_HEAP;
+    mte_tool_heap *const other = (mte_tool_heap *)&options; /* what a pointer held before is not looked at */
+    mte_tool_heap *heap = other, *second;
     mte_tool_outcome p = MTE_TOOL_OUTCOME, q = MTE_TOOL_OUTCOME, sized = MTE_TOOL_OUTCOME;
     uint8_t bytes[65] = {1, 2, 3};
     const uint64_t no_tag = 0xffffffffffffff;
-    WANT(mte_tool_heap_malloc(&heap, 1, &p) == MTE_TOOL_MISUSE && mte_tool_heap_free(&heap, 0, &p) == MTE_TOOL_MISUSE);
-    WANT(mte_tool_heap_realloc(&heap, 0, 1, &p) == MTE_TOOL_MISUSE && mte_tool_heap_addg(&heap, 0, 0, 0, &p) == MTE_TOOL_MISUSE);
-    WANT(heap_end(&heap, 0, bytes, 1) == MTE_TOOL_MISUSE && mte_tool_heap_store(&heap, 0, bytes, 1, NULL) == MTE_TOOL_MISUSE);
+    WANT(mte_tool_heap_malloc(NULL, 1, &p) == MTE_TOOL_MISUSE && mte_tool_heap_free(NULL, 0, &p) == MTE_TOOL_MISUSE);
+    WANT(mte_tool_heap_realloc(NULL, 0, 1, &p) == MTE_TOOL_MISUSE && mte_tool_heap_addg(NULL, 0, 0, 0, &p) == MTE_TOOL_MISUSE);
+    WANT(heap_end(NULL, 0, bytes, 1) == MTE_TOOL_MISUSE && mte_tool_heap_store(NULL, 0, bytes, 1, NULL) == MTE_TOOL_MISUSE);
     WANT(mte_tool_heap_new(NULL, &options, classes, 2, NULL) == MTE_TOOL_MISUSE);
-    WANT(mte_tool_heap_new(&heap, &options, NULL, 2, NULL) == MTE_TOOL_MISUSE);
+    WANT(mte_tool_heap_new(&heap, &options, NULL, 2, NULL) == MTE_TOOL_MISUSE && !heap);
     WANT(mte_tool_heap_calloc(NULL, 1, NULL) == MTE_TOOL_MISUSE);
     bad.seed = 0;
-    WANT(mte_tool_heap_new(&heap, &bad, classes, 2, NULL) == MTE_TOOL_BAD_OPTION && !heap.live);
-    WANT(mte_tool_heap_new(&heap, NULL, wrong, 2, &p) == MTE_TOOL_REFUSED && p.code == 22 && !heap.live && !heap.handle);
-    WANT(mte_tool_heap_new(&heap, NULL, classes, 2, &p) == MTE_TOOL_DONE && heap.live == 1 && p.code == 0);
-    WANT(mte_tool_heap_new(&heap, NULL, classes, 2, NULL) == MTE_TOOL_MISUSE && heap.live == 1);
-    WANT(mte_tool_heap_malloc(&heap, 40, &p) == MTE_TOOL_DONE && p.value >> 56 != 0 && p.code == 0);
-    WANT(mte_tool_heap_malloc(&heap, 64, &q) == MTE_TOOL_NO && q.code == 61 && q.value == 0);
-    WANT(mte_tool_heap_malloc(&heap, (size_t)-1, &q) == MTE_TOOL_NO && q.code == 60);
-    WANT(heap_end(&heap, p.value, bytes, 0) == MTE_TOOL_BAD_OPTION && heap_end(&heap, p.value, bytes, 65) == MTE_TOOL_BAD_OPTION);
-    WANT(heap_end(&heap, p.value, NULL, 1) == MTE_TOOL_MISUSE && heap_end(&heap, p.value & no_tag, bytes, 1) == MTE_TOOL_MISUSE);
-    WANT(bytes[0] == 1 && mte_tool_heap_store(&heap, p.value & no_tag, bytes, 1, NULL) == MTE_TOOL_MISUSE);
-    WANT(mte_tool_heap_load(&heap, 0, bytes, 1, &q) == MTE_TOOL_NO && q.code == 50);
-    WANT(mte_tool_heap_load(&heap, p.value ^ ((uint64_t)1 << 60), bytes, 1, &q) == MTE_TOOL_NO && q.code == 50);
-    WANT(mte_tool_heap_load(&heap, p.value + 48, bytes, 1, &q) == MTE_TOOL_NO && q.code == 52 && q.pointer_tag == p.value >> 56);
+    WANT(mte_tool_heap_new(&heap, &bad, classes, 2, NULL) == MTE_TOOL_BAD_OPTION && !heap);
+    heap = other;
+    WANT(mte_tool_heap_new(&heap, NULL, wrong, 2, &p) == MTE_TOOL_REFUSED && p.code == MTE_TOOL_CODE_CLASSES_NOT_ASCENDING && !heap);
+    heap = other;
+    WANT(mte_tool_heap_new(&heap, NULL, classes, 2, &p) == MTE_TOOL_DONE && heap && heap != other && p.code == 0);
+    WANT(mte_tool_heap_new(&second, NULL, classes, 2, NULL) == MTE_TOOL_DONE && second && second != heap);
+    mte_tool_heap_close(second);
+    WANT(mte_tool_heap_malloc(heap, 40, &p) == MTE_TOOL_DONE && p.value >> 56 != 0 && p.code == 0);
+    WANT(mte_tool_heap_malloc(heap, 64, &q) == MTE_TOOL_NO && q.code == 61 && q.value == 0);
+    WANT(mte_tool_heap_malloc(heap, (size_t)-1, &q) == MTE_TOOL_NO && q.code == 60);
+    WANT(heap_end(heap, p.value, bytes, 0) == MTE_TOOL_BAD_OPTION && heap_end(heap, p.value, bytes, 65) == MTE_TOOL_BAD_OPTION);
+    WANT(heap_end(heap, p.value, NULL, 1) == MTE_TOOL_MISUSE && heap_end(heap, p.value & no_tag, bytes, 1) == MTE_TOOL_MISUSE);
+    WANT(bytes[0] == 1 && mte_tool_heap_store(heap, p.value & no_tag, bytes, 1, NULL) == MTE_TOOL_MISUSE);
+    WANT(mte_tool_heap_load(heap, 0, bytes, 1, &q) == MTE_TOOL_NO && q.code == 50);
+    WANT(mte_tool_heap_load(heap, p.value ^ ((uint64_t)1 << 60), bytes, 1, &q) == MTE_TOOL_NO && q.code == 50);
+    WANT(mte_tool_heap_load(heap, p.value + 48, bytes, 1, &q) == MTE_TOOL_NO && q.code == 52 && q.pointer_tag == p.value >> 56);
     WANT(q.memory_tag != q.pointer_tag);
     /* a smaller outcome gets what it has room for, and a wrong one does nothing */
     sized.size = offsetof(mte_tool_outcome, code);
-    WANT(mte_tool_heap_load(&heap, p.value + 48, bytes, 1, &sized) == MTE_TOOL_NO && sized.code == 0);
+    WANT(mte_tool_heap_load(heap, p.value + 48, bytes, 1, &sized) == MTE_TOOL_NO && sized.code == 0);
     sized.size = 12;
-    WANT(mte_tool_heap_free(&heap, p.value, &sized) == MTE_TOOL_MISUSE && heap_end(&heap, p.value, bytes, 1) == MTE_TOOL_DONE);
-    WANT(mte_tool_heap_granule(&heap, (p.value & no_tag) / 16 - MTE_TOOL_REGION_START / 16, &q) == MTE_TOOL_DONE && q.granule_kind == 4);
+    WANT(mte_tool_heap_free(heap, p.value, &sized) == MTE_TOOL_MISUSE && heap_end(heap, p.value, bytes, 1) == MTE_TOOL_DONE);
+    WANT(mte_tool_heap_granule(heap, (p.value & no_tag) / 16 - MTE_TOOL_REGION_START / 16, &q) == MTE_TOOL_DONE && q.granule_kind == 4);
     WANT(q.memory_tag == p.value >> 56 && (q.value & 1) != (q.memory_tag & 1));
-    WANT(mte_tool_heap_granule(&heap, q.granule, &q) == MTE_TOOL_DONE && q.granule_kind == 1 && q.memory_tag == 0);
-    WANT(mte_tool_heap_granule(&heap, 65535, &q) == MTE_TOOL_DONE && q.granule_kind == 2 && q.value > 0);
-    WANT(mte_tool_heap_granule(&heap, 65536, &q) == MTE_TOOL_BAD_OPTION && q.value == 0);
-    WANT(mte_tool_heap_granule(&heap, (uint64_t)1 << 32, NULL) == MTE_TOOL_BAD_OPTION && mte_tool_heap_granule(NULL, 0, NULL) == MTE_TOOL_MISUSE);
-    WANT(mte_tool_heap_addg(&heap, p.value, 64, 0, NULL) == MTE_TOOL_BAD_OPTION);
-    WANT(mte_tool_heap_addg(&heap, p.value, 0, 16, NULL) == MTE_TOOL_BAD_OPTION);
-    WANT(mte_tool_heap_addg(&heap, p.value, 1, 0, &q) == MTE_TOOL_DONE && q.value == p.value + 16);
-    WANT(mte_tool_heap_realloc(&heap, p.value, 20, &p) == MTE_TOOL_DONE);
-    WANT(mte_tool_heap_free(&heap, p.value + 16, &q) == MTE_TOOL_NO && q.code == 63);
-    WANT(mte_tool_heap_free(&heap, p.value, &q) == MTE_TOOL_DONE && q.code == 0);
-    WANT(mte_tool_heap_free(&heap, p.value, &q) == MTE_TOOL_NO && q.code == 64);
-    WANT(mte_tool_heap_free(&heap, 0, NULL) == MTE_TOOL_DONE && mte_tool_heap_realloc(&heap, 1, 1, &q) == MTE_TOOL_NO && q.code == 63);
-    mte_tool_heap_close(&heap);
-    mte_tool_heap_close(&heap);
+    WANT(mte_tool_heap_granule(heap, q.granule, &q) == MTE_TOOL_DONE && q.granule_kind == 1 && q.memory_tag == 0);
+    WANT(mte_tool_heap_granule(heap, 65535, &q) == MTE_TOOL_DONE && q.granule_kind == 2 && q.value > 0);
+    WANT(mte_tool_heap_granule(heap, 65536, &q) == MTE_TOOL_BAD_OPTION && q.value == 0);
+    WANT(mte_tool_heap_granule(heap, (uint64_t)1 << 32, NULL) == MTE_TOOL_BAD_OPTION && mte_tool_heap_granule(NULL, 0, NULL) == MTE_TOOL_MISUSE);
+    WANT(mte_tool_heap_addg(heap, p.value, 64, 0, NULL) == MTE_TOOL_BAD_OPTION);
+    WANT(mte_tool_heap_addg(heap, p.value, 0, 16, NULL) == MTE_TOOL_BAD_OPTION);
+    WANT(mte_tool_heap_addg(heap, p.value, 1, 0, &q) == MTE_TOOL_DONE && q.value == p.value + 16);
+    WANT(mte_tool_heap_realloc(heap, p.value, 20, &p) == MTE_TOOL_DONE);
+    WANT(mte_tool_heap_free(heap, p.value + 16, &q) == MTE_TOOL_NO && q.code == 63);
+    WANT(mte_tool_heap_free(heap, p.value, &q) == MTE_TOOL_DONE && q.code == 0);
+    WANT(mte_tool_heap_free(heap, p.value, &q) == MTE_TOOL_NO && q.code == 64);
+    WANT(mte_tool_heap_free(heap, 0, NULL) == MTE_TOOL_DONE && mte_tool_heap_realloc(heap, 1, 1, &q) == MTE_TOOL_NO && q.code == 63);
+    mte_tool_heap_close(heap);
     mte_tool_heap_close(NULL);
-    WANT(!heap.live && !heap.handle);
 }
 
 /* a number that is above the range of its option is refused, whatever its lowest bits are */
@@ -209,7 +223,7 @@ static void wide(void) {
     mte_tool_history_arrays history = {numbers, one, 1, 1};
     mte_tool_timeline_arrays timeline = {numbers, frees, 1};
     mte_tool_text text = MTE_TOOL_TEXT;
-    mte_tool_heap heap = MTE_TOOL_HEAP;
+    mte_tool_heap *heap;
     mte_tool_options chosen = MTE_TOOL_OPTIONS(264);
     uint16_t room[300];
     int field, bit;
@@ -223,7 +237,7 @@ static void wide(void) {
             WANT(mte_tool_run(&bad, NULL, 0, &text, NULL) == MTE_TOOL_BAD_OPTION && text.length == 0);
             if (field < 3) {
                 WANT(mte_tool_replay(&bad, "classes 2", 9, NULL, 0, &text, NULL) == MTE_TOOL_BAD_OPTION);
-                WANT(mte_tool_heap_new(&heap, &bad, classes, 2, NULL) == MTE_TOOL_BAD_OPTION && !heap.live);
+                WANT(mte_tool_heap_new(&heap, &bad, classes, 2, NULL) == MTE_TOOL_BAD_OPTION && !heap);
             } else {
                 WANT(mte_tool_tune(&bad, profile, LENGTH, &text, NULL) == MTE_TOOL_BAD_OPTION);
                 WANT(mte_tool_fit(&bad, "snapshots 1\n", 12, &text, NULL) == MTE_TOOL_BAD_OPTION);
@@ -237,11 +251,11 @@ static void wide(void) {
         }
     WANT(mte_tool_heap_new(&heap, NULL, classes, 2, NULL) == MTE_TOOL_DONE);
     for (bit = 6; bit < 64; bit++) {
-        WANT(mte_tool_heap_addg(&heap, 0, (uint64_t)1 << bit, 0, NULL) == MTE_TOOL_BAD_OPTION);
-        WANT(mte_tool_heap_addg(&heap, 0, 0, ((uint64_t)1 << bit) + 1, NULL) == MTE_TOOL_BAD_OPTION);
+        WANT(mte_tool_heap_addg(heap, 0, (uint64_t)1 << bit, 0, NULL) == MTE_TOOL_BAD_OPTION);
+        WANT(mte_tool_heap_addg(heap, 0, 0, ((uint64_t)1 << bit) + 1, NULL) == MTE_TOOL_BAD_OPTION);
     }
-    mte_tool_heap_close(&heap);
-    mte_tool_free(&text);
+    mte_tool_heap_close(heap);
+    mte_tool_text_free(&text);
 }
 
 /* null for arrays with numbers, too little room, and a wrong result */

@@ -18,11 +18,11 @@
 using namespace mte_tool;
 
 // what a call throws: the end, the code, and the line or the index
-template <class Call> bool throws(int end, std::uint32_t code, std::uint64_t place, Call call) {
+template <class Call> bool throws(mte_tool_end end, std::uint32_t code, std::uint64_t place, Call call) {
     try {
         call();
     } catch (const Error &error) {
-        return error.end() == end && error.code() == code && error.line() + error.at() == place && *error.what();
+        return error.end() == end && error.code() == Code(code) && error.line() + error.at() == place && *error.what();
     }
     return false;
 }
@@ -32,7 +32,7 @@ static void texts() {
     const std::string_view trace = "malloc 1 16\nload 1 0 1\n", timeline = "timeline\n16\n40\n-16\n";
     Text sheet = tune(profile_text, Options(2));
     WANT(check(sheet.view(), profile_text));
-    WANT(check(sheet.view(), "16 9\n").code == 42 && *check(sheet.view(), "16 9\n").sentence());
+    WANT(check(sheet.view(), "16 9\n").code == Code::WasteWrong && *check(sheet.view(), "16 9\n").sentence());
     WANT(score("classes 2 4\n", profile_text).bytes == 16 && score("classes 2\n", profile_text).least_size == 32);
     WANT(!score("classes 2\n", profile_text).serves && score("classes 2 8", "9 1000\n24 70\n").bytes == 13160);
     WANT(throws(MTE_TOOL_REFUSED, 23, 1, [] { score("classes 2 8\n9 1000\n", "24 70\n"); }));
@@ -55,7 +55,8 @@ static void texts() {
     sheet = std::move(moved);
     WANT(sheet.append("16 1\n").view().size() > 5 && Text().view().empty());
     static_assert(!std::is_copy_constructible<Text>::value && !std::is_copy_constructible<Heap>::value, "one owner");
-    WANT(version() == MTE_TOOL_VERSION);
+    WANT(version() == MTE_TOOL_VERSION && version_number() == MTE_TOOL_VERSION_NUMBER);
+    WANT(name(Code::BadClassLine) == std::string_view("BadLine") && !*name(Code(19)) && *sentence(Code(19)) && *sentence(MTE_TOOL_NO));
 }
 
 static void arrays() {
@@ -71,7 +72,7 @@ static void arrays() {
     WANT(tuned.classes.size() == 2 && tuned.bytes == 16 && tuned.places == 3 && tuned.rows.size() == 6 && tuned.is_least);
     WANT(check_profile(tuned, profile, Options(2)));
     tuned.bytes++;
-    WANT(check_profile(tuned, profile, Options(2)).code == 42);
+    WANT(check_profile(tuned, profile, Options(2)).code == Code::WasteWrong);
     tuned.rows.pop_back();
     WANT(throws(MTE_TOOL_MISUSE, 0, 0, [&] { check_profile(tuned, profile, Options(2)); }));
     const Table fitted = fit_history(history, Options(32)), over = fit_timeline(timeline, Options(2));
@@ -101,18 +102,20 @@ static void heaps() {
     char bytes[8];
     const Outcome p = heap.malloc(40);
     WANT(p && heap.store(p.value + 32, "the last", 8) && heap.load(p.value + 32, bytes, 8) && !std::memcmp(bytes, "the last", 8));
-    WANT(heap.granule((p.value & 0xffffffffffffff) / 16 - MTE_TOOL_REGION_START / 16).granule_kind == 4 && heap.granule(0).granule_kind == 1);
+    WANT(heap.granule((p.value & 0xffffffffffffff) / 16 - MTE_TOOL_REGION_START / 16).granule_kind == Granule::Live);
+    WANT(heap.granule(0).granule_kind == Granule::Header && heap.granule(0).sentence() == std::string_view("done"));
     WANT(heap.addg(p.value, 1, 0).value == p.value + 16 && heap.realloc(p.value, 20).value == p.value);
-    WANT(heap.calloc(20000).code == MTE_TOOL_LARGE && heap.free(p.value) && heap.free(p.value).code == MTE_TOOL_NOT_LIVE);
+    WANT(heap.calloc(20000).code == Code::Large && heap.free(p.value) && heap.free(p.value).code == Code::ChunkNotLive);
     const Outcome read = heap.load(p.value, bytes, 8);
-    WANT(!read && read.code == MTE_TOOL_TAG_FAULT && read.memory_tag != read.pointer_tag && *read.sentence());
+    WANT(!read && read.code == Code::TagCheck && read.memory_tag != read.pointer_tag && *read.sentence());
     WANT(throws(MTE_TOOL_BAD_OPTION, 0, 0, [&] { heap.load(p.value, bytes, 65); }));
     WANT(throws(MTE_TOOL_MISUSE, 0, 0, [&] { first.malloc(1); }));
     WANT(throws(MTE_TOOL_REFUSED, 22, 0, [&] { Heap(wrong, 2); }));
+    WANT(class_of(classes, 2, 49) == 1 && !class_of(classes, 2, 113));
     options.seed = 0;
     WANT(throws(MTE_TOOL_BAD_OPTION, 0, 0, [&] { Heap(classes, 2, options); }));
 #ifdef __cpp_lib_span
-    WANT(Heap(classes).malloc(100));
+    WANT(Heap(classes).malloc(100) && class_of(classes, 48) == 0);
 #endif
 }
 

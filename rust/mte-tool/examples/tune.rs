@@ -1,5 +1,5 @@
 //! tune LIMIT < PROFILE: the sheet of the best table.
-//! MTE_TOOL_LIBRARY=DIR/lib cargo run --example tune 8 < app.profile, where DIR is that of scripts/library
+//! `MTE_TOOL_LIBRARY=DIR/lib cargo run --example tune 8 < app.profile`, where DIR is that of `scripts/library`
 use std::io::{Read, Write};
 
 fn main() -> Result<(), Box<dyn std::error::Error>> {

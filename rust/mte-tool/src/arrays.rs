@@ -38,7 +38,8 @@ pub struct Timeline<'a> {
 }
 
 /// A table with its certificate.
-#[derive(Debug, Clone, PartialEq, Eq)]
+#[derive(Debug, Clone, Default, PartialEq, Eq, Hash)]
+#[non_exhaustive]
 pub struct Table {
     /// In granules of 16 bytes, ascending.
     pub classes: Vec<u16>,
@@ -52,6 +53,14 @@ pub struct Table {
     pub is_least: bool,
     /// If it is not shown to be least: no table takes less than these bytes.
     pub bound: u64,
+}
+
+impl Table {
+    /// A table as somebody claims it, for a check: its classes, what it costs and its rows. Of a timeline it also needs its `moments`.
+    #[must_use]
+    pub fn new(classes: Vec<u16>, bytes: u64, rows: Vec<u64>) -> Table {
+        Table { classes, bytes, rows, is_least: true, ..Table::default() }
+    }
 }
 
 impl Profile<'_> {
@@ -82,13 +91,13 @@ impl Timeline<'_> {
     }
 }
 
-fn cost(call: impl FnOnce(&mut c::mte_tool_result) -> i32) -> Result<Cost, Error> {
+fn cost(call: impl FnOnce(&mut c::mte_tool_result) -> c::mte_tool_end) -> Result<Cost, Error> {
     let mut result = no_result();
     let end = call(&mut result);
     Ok(Cost::of(is_yes(end, &result, &[])?, &result))
 }
 
-fn verdict(call: impl FnOnce(&mut c::mte_tool_result) -> i32) -> Result<Verdict, Error> {
+fn verdict(call: impl FnOnce(&mut c::mte_tool_result) -> c::mte_tool_end) -> Result<Verdict, Error> {
     let mut result = no_result();
     let end = call(&mut result);
     Ok(Verdict::of(is_yes(end, &result, &[])?, result.code))
@@ -99,17 +108,15 @@ fn tuned(
     options: &Options,
     length: usize,
     most_moments: usize,
-    call: impl FnOnce(&mut Table, &mut c::mte_tool_result) -> i32,
+    call: impl FnOnce(&mut Table, &mut c::mte_tool_result) -> c::mte_tool_end,
 ) -> Result<Table, Error> {
-    let limit = options.limit.min(MOST_CLASSES as u64) as usize;
+    let limit = usize::try_from(options.limit).map_or(MOST_CLASSES, |limit| limit.min(MOST_CLASSES));
     let mut result = no_result();
     let mut table = Table {
         classes: vec![0; MOST_CLASSES],
-        bytes: 0,
         rows: vec![0; limit * length.min(MOST_NEEDS)],
         moments: vec![0; most_moments],
-        is_least: false,
-        bound: 0,
+        ..Table::default()
     };
     let end = call(&mut table, &mut result);
     table.is_least = is_yes(end, &result, &[])?;
@@ -121,7 +128,21 @@ fn tuned(
     Ok(table)
 }
 
+/// The number of the class that serves a request of so many bytes: its place in the table, from 0 on.
+///
+/// ```
+/// assert_eq!((mte_tool::class_of(&[2, 4, 9], 40), mte_tool::class_of(&[2, 4, 9], 1000)), (Some(1), None));
+/// ```
+#[must_use]
+pub fn class_of(classes: &[u16], size: usize) -> Option<usize> {
+    // SAFETY: the slice is there during the call, with its length
+    usize::try_from(unsafe { c::mte_tool_class_of(classes.as_ptr(), classes.len(), size) }).ok()
+}
+
 /// What a table wastes on a profile.
+///
+/// # Errors
+/// The first fault of an array, or that memory ran out.
 pub fn score_profile(classes: &[u16], profile: Profile) -> Result<Cost, Error> {
     let profile = profile.to_c()?;
     // SAFETY: here and below, the slices are there during the call, with their lengths, and the structures begin with their sizes
@@ -129,18 +150,27 @@ pub fn score_profile(classes: &[u16], profile: Profile) -> Result<Cost, Error> {
 }
 
 /// What a table takes of memory over a history.
+///
+/// # Errors
+/// The first fault of an array, or that memory ran out.
 pub fn footprint_history(classes: &[u16], history: History) -> Result<Cost, Error> {
     let history = history.to_c()?;
     cost(|result| unsafe { c::mte_tool_footprint_history(std::ptr::null(), classes.as_ptr(), classes.len(), &history, result) })
 }
 
 /// What a table takes of memory over a timeline.
+///
+/// # Errors
+/// The first fault of an array, or that memory ran out.
 pub fn footprint_timeline(classes: &[u16], timeline: Timeline) -> Result<Cost, Error> {
     let timeline = timeline.to_c()?;
     cost(|result| unsafe { c::mte_tool_footprint_timeline(std::ptr::null(), classes.as_ptr(), classes.len(), &timeline, result) })
 }
 
 /// The table of least waste on a profile, by the options `limit` and `step`.
+///
+/// # Errors
+/// The first fault of an array, an option out of its range, or that memory ran out.
 pub fn tune_profile(profile: Profile, options: &Options) -> Result<Table, Error> {
     let (data, chosen) = (profile.to_c()?, options.to_c());
     tuned(options, data.length, 0, |to, result| unsafe {
@@ -150,6 +180,9 @@ pub fn tune_profile(profile: Profile, options: &Options) -> Result<Table, Error>
 }
 
 /// The table of least footprint over a history, by the options `limit` and `step`.
+///
+/// # Errors
+/// The first fault of an array, an option out of its range, or that memory ran out.
 pub fn fit_history(history: History, options: &Options) -> Result<Table, Error> {
     let (data, chosen) = (history.to_c()?, options.to_c());
     tuned(options, data.length, 0, |to, result| unsafe {
@@ -166,6 +199,9 @@ pub fn fit_history(history: History, options: &Options) -> Result<Table, Error> 
 /// assert!(table.is_least && mte_tool::check_fit_timeline(&table, timeline, &mte_tool::Options::new(2))?.is_optimal());
 /// # Ok::<(), mte_tool::Error>(())
 /// ```
+///
+/// # Errors
+/// The first fault of an array, an option out of its range, or that memory ran out.
 pub fn fit_timeline(timeline: Timeline, options: &Options) -> Result<Table, Error> {
     let (data, chosen) = (timeline.to_c()?, options.to_c());
     tuned(options, data.length, MOST_MOMENTS, |to, result| unsafe {
@@ -185,6 +221,9 @@ pub fn fit_timeline(timeline: Timeline, options: &Options) -> Result<Table, Erro
 }
 
 /// Whether a table's rows show that no table within the options wastes less on a profile.
+///
+/// # Errors
+/// The first fault of an array, arrays of lengths that don't fit together, an option out of its range, or that memory ran out.
 pub fn check_profile(table: &Table, profile: Profile, options: &Options) -> Result<Verdict, Error> {
     let (data, chosen) = (profile.to_c()?, options.to_c());
     let Table { classes, bytes, rows, .. } = table;
@@ -194,6 +233,9 @@ pub fn check_profile(table: &Table, profile: Profile, options: &Options) -> Resu
 }
 
 /// The same of a footprint over a history.
+///
+/// # Errors
+/// The first fault of an array, arrays of lengths that don't fit together, an option out of its range, or that memory ran out.
 pub fn check_fit_history(table: &Table, history: History, options: &Options) -> Result<Verdict, Error> {
     let (data, chosen) = (history.to_c()?, options.to_c());
     let Table { classes, bytes, rows, .. } = table;
@@ -203,6 +245,9 @@ pub fn check_fit_history(table: &Table, history: History, options: &Options) -> 
 }
 
 /// The same over a timeline, by the moments that the table names.
+///
+/// # Errors
+/// The first fault of an array, arrays of lengths that don't fit together, an option out of its range, or that memory ran out.
 pub fn check_fit_timeline(table: &Table, timeline: Timeline, options: &Options) -> Result<Verdict, Error> {
     let (data, chosen) = (timeline.to_c()?, options.to_c());
     let Table { classes, bytes, rows, moments, .. } = table;

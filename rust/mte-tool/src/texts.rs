@@ -2,11 +2,21 @@
 use crate::calls::{is_yes, no_result, Cost, Error, Verdict};
 use crate::options::Options;
 use mte_tool_sys as c;
+use std::alloc::{handle_alloc_error, Layout};
 use std::fmt;
+use std::hash::{Hash, Hasher};
 use std::ops::Deref;
-use std::os::raw::c_int;
 
 /// A text of the library's memory: its bytes.
+///
+/// ```
+/// let sheet = mte_tool::tune(b"16 5\n", &mte_tool::Options::new(1))?;
+/// let copy = sheet.clone();
+/// assert!(copy == sheet && copy.as_ref().starts_with(b"classes 2\n") && Vec::from(copy) == sheet.to_vec());
+/// fn is_for_threads<T: Send + Sync>(_: T) {}
+/// is_for_threads(sheet);
+/// # Ok::<(), mte_tool::Error>(())
+/// ```
 pub struct Text(c::mte_tool_text);
 
 // SAFETY: nothing but the text has its memory, which any thread may read and free
@@ -34,7 +44,58 @@ impl Deref for Text {
 impl Drop for Text {
     fn drop(&mut self) {
         // SAFETY: a text of the library's
-        unsafe { c::mte_tool_free(&mut self.0) }
+        unsafe { c::mte_tool_text_free(&mut self.0) }
+    }
+}
+
+impl Clone for Text {
+    /// Where there is no memory for it the program ends, as for a vector.
+    fn clone(&self) -> Text {
+        let mut copy = Text::new();
+        // SAFETY: the bytes are there during the call, and are no part of the new text
+        if unsafe { c::mte_tool_text_append(&mut copy.0, self.as_ptr().cast(), self.len()) } != c::MTE_TOOL_DONE {
+            handle_alloc_error(Layout::for_value::<[u8]>(self));
+        }
+        copy
+    }
+}
+
+impl Default for Text {
+    /// The empty text.
+    fn default() -> Text {
+        Text::new()
+    }
+}
+
+impl AsRef<[u8]> for Text {
+    fn as_ref(&self) -> &[u8] {
+        self
+    }
+}
+
+impl PartialEq for Text {
+    fn eq(&self, other: &Text) -> bool {
+        **self == **other
+    }
+}
+
+impl Eq for Text {}
+
+impl PartialEq<[u8]> for Text {
+    fn eq(&self, other: &[u8]) -> bool {
+        **self == *other
+    }
+}
+
+impl Hash for Text {
+    fn hash<H: Hasher>(&self, state: &mut H) {
+        (**self).hash(state);
+    }
+}
+
+impl From<Text> for Vec<u8> {
+    fn from(text: Text) -> Vec<u8> {
+        text.to_vec()
     }
 }
 
@@ -51,7 +112,8 @@ impl fmt::Display for Text {
 }
 
 /// A fit.
-#[derive(Debug)]
+#[derive(Debug, Clone, PartialEq, Eq, Hash)]
+#[non_exhaustive]
 pub struct Fit {
     /// The fit.
     pub text: Text,
@@ -94,7 +156,7 @@ pub(crate) fn call_on(command: c::CommandOn, first: &[u8], input: &[u8], options
     })
 }
 
-fn answer(call: impl FnOnce(&mut c::mte_tool_text, &mut c::mte_tool_result) -> c_int) -> Result<Answer, Error> {
+fn answer(call: impl FnOnce(&mut c::mte_tool_text, &mut c::mte_tool_result) -> c::mte_tool_end) -> Result<Answer, Error> {
     let (mut text, mut result) = (Text::new(), no_result());
     let end = call(&mut text.0, &mut result);
     Ok(Answer { is_yes: is_yes(end, &result, &text)?, text, result })

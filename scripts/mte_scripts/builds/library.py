@@ -7,6 +7,7 @@ Usage: library DIR
   DIR/lib/libmte_tool.a          the static library, without a need of any other but the C library
   DIR/lib/libmte_tool.so.1       the shared library, and a link libmte_tool.so to it for the linker
   DIR/lib/pkgconfig/mte_tool.pc  for pkg-config
+  DIR/lib/cmake/mte_tool         for find_package of CMake
 
 Beside each library is its manifest, as `manifest --help` has it: of which sources it was proved and built.
 
@@ -49,13 +50,49 @@ Libs: -L${{libdir}} -lmte_tool
 """
 
 
+CMAKE = """\
+# find_package(mte_tool) gives the targets mte_tool::mte_tool and, static, mte_tool::static.
+if(NOT TARGET mte_tool::mte_tool)
+    get_filename_component(mte_tool_libraries "${{CMAKE_CURRENT_LIST_DIR}}/../.." ABSOLUTE)
+    get_filename_component(mte_tool_include "${{mte_tool_libraries}}/{up}/include" ABSOLUTE)
+    add_library(mte_tool::mte_tool SHARED IMPORTED)
+    set_target_properties(mte_tool::mte_tool PROPERTIES IMPORTED_LOCATION "${{mte_tool_libraries}}/{soname}" IMPORTED_SONAME "{soname}"
+        INTERFACE_INCLUDE_DIRECTORIES "${{mte_tool_include}}")
+    add_library(mte_tool::static STATIC IMPORTED)
+    set_target_properties(mte_tool::static PROPERTIES IMPORTED_LOCATION "${{mte_tool_libraries}}/libmte_tool.a"
+        INTERFACE_INCLUDE_DIRECTORIES "${{mte_tool_include}}")
+endif()
+"""
+CMAKE_VERSION = """\
+set(PACKAGE_VERSION "{version}")
+if(NOT PACKAGE_FIND_VERSION OR
+   NOT PACKAGE_FIND_VERSION VERSION_GREATER PACKAGE_VERSION AND "{major}" STREQUAL "${{PACKAGE_FIND_VERSION_MAJOR}}")
+    set(PACKAGE_VERSION_COMPATIBLE TRUE)
+    if(PACKAGE_FIND_VERSION VERSION_EQUAL PACKAGE_VERSION)
+        set(PACKAGE_VERSION_EXACT TRUE)
+    endif()
+endif()
+"""
+
+
+def cmake_files(up: str, soname: str, version: str) -> "dict[str, str]":
+    """What CMake's find_package reads, by its name, in a folder cmake/mte_tool of the libraries, which `up` leads out of to `include`."""
+    return {"mte_toolConfig.cmake": CMAKE.format(up=up, soname=soname),
+            "mte_toolConfigVersion.cmake": CMAKE_VERSION.format(version=version, major=version.split(".")[0])}
+
+
 def compiler() -> str:
     return os.environ.get("CC") or "cc"
 
 
+def names_of_layer() -> "list[str]":
+    """The files between the header and the proved functions."""
+    return sorted(name[:-2] for name in os.listdir(SOURCES) if name.endswith(".c"))
+
+
 def compiled(folder: str, *flags: str) -> "list[str]":
-    """The objects of the files between the header and the proved functions."""
-    names = sorted(name[:-2] for name in os.listdir(SOURCES) if name.endswith(".c"))
+    """The objects of these files."""
+    names = names_of_layer()
     for name in names:
         # in the folder, so that no path of this machine can be in it
         words = [compiler(), "-std=c99", "-O2", "-Wall", "-Wextra", "-fPIC", *flags, "-c", f"{name}.c", "-o", f"{folder}/{name}.o"]
@@ -82,22 +119,26 @@ def link(folder: str, proved: "list[str]") -> None:
 
 
 def proved_objects(folder: str) -> "tuple[list[str], str]":
-    """The proved code, and the kit's calls of malloc, realloc and free; and the kit's verdict, where it said one."""
+    """The proved code, and the kit's calls of malloc, realloc and free, which are made of library/memory.c; and the kit's verdict, where it
+    said one."""
     texts.say("library", "proving and building mte_c")
     said = static_libraries.make(folder, "mte_c")
     static_libraries.run(["ar", "x", "libmte_c.a"], cwd=folder)
     static_libraries.run(["ar", "x", f"{static_libraries.kit()}/c/liblibc_c.a", "heap.pic.o"], cwd=folder)
+    static_libraries.run(["objcopy", *(f"--redefine-sym={name}=layer_{name}" for name in ("malloc", "realloc", "free")), f"{folder}/heap.pic.o"])
     return [f"{folder}/mte_c.o", f"{folder}/heap.pic.o"], manifest.verdict_in(said, "mte_c")
 
 
 def lay_out(work: str, folder: str) -> None:
-    for below in ("include", "lib/pkgconfig"):
+    for below in ("include", "lib/pkgconfig", "lib/cmake/mte_tool"):
         os.makedirs(f"{folder}/{below}", exist_ok=True)
     for name in HEADERS:
         shutil.copyfile(f"{ROOT}/include/{name}", f"{folder}/include/{name}")
     for name in ("libmte_tool.a", SHARED):
         shutil.copyfile(f"{work}/{name}", f"{folder}/lib/{name}")
     Path(folder, "lib/pkgconfig/mte_tool.pc").write_text(PKG_CONFIG)
+    for name, text in cmake_files("..", SHARED, VERSION).items():
+        Path(folder, "lib/cmake/mte_tool", name).write_text(text)
     Path(folder, "lib/libmte_tool.so").unlink(missing_ok=True)
     os.symlink(SHARED, f"{folder}/lib/libmte_tool.so")
 

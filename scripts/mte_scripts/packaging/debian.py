@@ -43,9 +43,9 @@ def packages(tree: Tree, parts: Parts) -> "list[Package]":
             Package(library, "libs", "size-class tables with certificates - shared library", "This package has the shared library.",
                     "Multi-Arch: same\nDepends: GLIBC\n", re.escape(f"{LIBRARIES}/{soname}")),
             Package(f"lib{NAME}-dev", "libdevel", "size-class tables with certificates - development files",
-                    "This package has the headers, the static library, and what pkg-config and CMake read.",
+                    "This package has the headers with their manual page, the static library, and what pkg-config and CMake read.",
                     f"Multi-Arch: same\nDepends: {library} (= {parts.version})\n{moved}",
-                    rf"usr/include/.*|{LIBRARIES}/(libmte_tool\.(a|so)|pkgconfig/.*|cmake/.*)")]
+                    rf"usr/include/.*|usr/share/man/man3/.*|{LIBRARIES}/(libmte_tool\.(a|so)|pkgconfig/.*|cmake/.*)")]
     return found
 
 

@@ -11,9 +11,9 @@ from pathlib import Path
 from typing import NamedTuple
 
 from mte_scripts import helps, manifest, texts
-from mte_scripts.builds import web_page
+from mte_scripts.builds import library, web_page
 from mte_scripts.faults import heap_reader
-from mte_scripts.packaging import completions, manual
+from mte_scripts.packaging import completions, library_page, manual
 from mte_scripts.packaging.tree import Tree, run, source, tracked
 from mte_scripts.recording.recording import ENDINGS, FLAGS
 from mte_scripts.texts import Refused
@@ -34,29 +34,6 @@ SHARE, PRIVATE, LIBRARIES = f"usr/share/{NAME}", f"usr/lib/{NAME}", f"usr/lib/{M
 DOCUMENTS = f"usr/share/doc/{NAME}"
 # Debian's flags for what other programs load
 HARDENED = "-fstack-protector-strong -D_FORTIFY_SOURCE=2 -Wformat -Werror=format-security -Wl,-z,relro -Wl,-z,now".split()
-CMAKE = """\
-# find_package(mte_tool) gives the targets mte_tool::mte_tool and, static, mte_tool::static.
-if(NOT TARGET mte_tool::mte_tool)
-    get_filename_component(mte_tool_libraries "${{CMAKE_CURRENT_LIST_DIR}}/../.." ABSOLUTE)
-    get_filename_component(mte_tool_include "${{mte_tool_libraries}}/../../include" ABSOLUTE)
-    add_library(mte_tool::mte_tool SHARED IMPORTED)
-    set_target_properties(mte_tool::mte_tool PROPERTIES IMPORTED_LOCATION "${{mte_tool_libraries}}/{soname}" IMPORTED_SONAME "{soname}"
-        INTERFACE_INCLUDE_DIRECTORIES "${{mte_tool_include}}")
-    add_library(mte_tool::static STATIC IMPORTED)
-    set_target_properties(mte_tool::static PROPERTIES IMPORTED_LOCATION "${{mte_tool_libraries}}/libmte_tool.a"
-        INTERFACE_INCLUDE_DIRECTORIES "${{mte_tool_include}}")
-endif()
-"""
-CMAKE_VERSION = """\
-set(PACKAGE_VERSION "{version}")
-if(NOT PACKAGE_FIND_VERSION OR
-   NOT PACKAGE_FIND_VERSION VERSION_GREATER PACKAGE_VERSION AND "{major}" STREQUAL "${{PACKAGE_FIND_VERSION_MAJOR}}")
-    set(PACKAGE_VERSION_COMPATIBLE TRUE)
-    if(PACKAGE_FIND_VERSION VERSION_EQUAL PACKAGE_VERSION)
-        set(PACKAGE_VERSION_EXACT TRUE)
-    endif()
-endif()
-"""
 
 
 class Parts(NamedTuple):
@@ -194,8 +171,8 @@ def put_library(tree: Tree, folder: str, number: str) -> None:
             else:
                 tree.stripped(f"{LIBRARIES}/{name}")
     tree.write(f"{LIBRARIES}/pkgconfig/mte_tool.pc", pkg_config(f"{folder}/lib/pkgconfig/mte_tool.pc"))
-    tree.write(f"{LIBRARIES}/cmake/mte_tool/mte_toolConfig.cmake", CMAKE.format(soname=soname_of(tree)))
-    tree.write(f"{LIBRARIES}/cmake/mte_tool/mte_toolConfigVersion.cmake", CMAKE_VERSION.format(version=number, major=number.split(".")[0]))
+    for name, text in library.cmake_files("../..", soname_of(tree), number).items():
+        tree.write(f"{LIBRARIES}/cmake/mte_tool/{name}", text)
 
 
 def pkg_config(path: str) -> str:
@@ -252,6 +229,9 @@ def put_words(tree: Tree, parts: Parts) -> None:
     commands = {term: help_of(tree, "mte_tool", term, "-h") for term, _ in own.terms("COMMANDS") if term != "help"}
     date = f"{parts.time:%Y-%m-%d}"
     version = f"mte_tool {parts.number}"
+    if parts.library:
+        header = texts.read(f"{parts.library}/include/mte_tool.h").decode()
+        tree.packed("usr/share/man/man3/mte_tool.3", library_page.page(header, date, version))
     files = [(f"/{DOCUMENTS}/docs", "the documents; FORMATS.md has all formats and codes"),
              (f"/{SHARE}/examples", "profiles, traces and programs to try")]
     pages = {"mte_tool": own, **{f"mte_tool {name}": each for name, each in commands.items()}, **scripts}

@@ -270,7 +270,7 @@ static uint32_t scan(void) {
 
 // ---- the heaps, and the blocks whose pointers are still asked for
 
-static mte_tool_heap heaps[MOST_SEEDS];
+static mte_tool_heap *heaps[MOST_SEEDS];
 static int seed_count;
 static uint32_t *held_as;  // of a block: its place among those that are held, which live or have an error to come
 static struct held {
@@ -318,7 +318,7 @@ static void write_profile(const char *path, mte_tool_text *profile) {
   for (int size = 0; size <= LARGEST_SIZE + 1; size++) {
     long count = counts[size] < 1000000000 ? counts[size] : 1000000000;
     int length = size <= LARGEST_SIZE ? sprintf(line, "%d %ld\n", size, count) : sprintf(line, "large %ld\n", count);
-    if (count && mte_tool_append(profile, line, length)) fail("there is no memory for it");
+    if (count && mte_tool_text_append(profile, line, length)) fail("there is no memory for it");
   }
   FILE *file = opened(path);
   fwrite(profile->bytes, 1, profile->length, file), written(file);
@@ -414,12 +414,12 @@ static uint32_t variable_of(uint32_t block) { return marks[block] & IN_USE ? hel
 static uint32_t asked_size(uint32_t size) { return size <= LARGEST_REQUEST ? size : LARGEST_REQUEST; }
 
 // Gives a block the pointer of a heap. The first heap's say where it is, which no seed changes.
-static void give_out(uint32_t block, int end, const mte_tool_outcome *outcome, int k, int is_in_place) {
+static void give_out(uint32_t block, mte_tool_end end, const mte_tool_outcome *outcome, int k, int is_in_place) {
   uint64_t value = end ? 0 : outcome->value;
   pointers_of(block)[k] = value;
   if (k) conflicts += (value & PLACE) != (*pointers_of(block) & PLACE);
   else if (value) held_of(block)->generation = generations[byte_at(value) / GRANULE] += !is_in_place;
-  else exhausted += outcome->code == MTE_TOOL_EXHAUSTED;
+  else exhausted += outcome->code == MTE_TOOL_CODE_EXHAUSTED;
 }
 
 static void request(int kind, uint32_t block) {
@@ -429,7 +429,7 @@ static void request(int kind, uint32_t block) {
   request_count++;
   EVENT("%s %u %u\n", kind == CALLOC ? "calloc" : "malloc", variable_of(block), asked_size(size));
   for (int k = 0; k < seed_count; k++) {
-    int end = kind == CALLOC ? mte_tool_heap_calloc(&heaps[k], size, &outcome) : mte_tool_heap_malloc(&heaps[k], size, &outcome);
+    mte_tool_end end = kind == CALLOC ? mte_tool_heap_calloc(heaps[k], size, &outcome) : mte_tool_heap_malloc(heaps[k], size, &outcome);
     give_out(block, end, &outcome, k, 0);
   }
   if (!(marks[block] & IN_USE) || !(*pointers_of(block) || held_of(block)->number)) let_go(block);
@@ -444,7 +444,7 @@ static void free_block(const struct step *step, uint32_t block) {
   }
   int has_slot = has_pointer(block);
   if (has_slot) EVENT("free %u\n", held_as[block]);
-  for (int k = 0; has_slot && k < seed_count; k++) conflicts += mte_tool_heap_free(&heaps[k], pointers_of(block)[k], NULL) != MTE_TOOL_DONE;
+  for (int k = 0; has_slot && k < seed_count; k++) conflicts += mte_tool_heap_free(heaps[k], pointers_of(block)[k], NULL) != MTE_TOOL_DONE;
   note_end(block, FREED);
   let_go(block);
 }
@@ -459,8 +459,8 @@ static void resize_on_heaps(uint32_t block, uint32_t size) {
   mte_tool_outcome outcome = MTE_TOOL_OUTCOME;
   for (int k = 0; k < seed_count; k++) {
     uint64_t old = pointers_of(block)[k];
-    int end = mte_tool_heap_realloc(&heaps[k], old, size, &outcome);
-    if (end) conflicts += outcome.code > MTE_TOOL_EXHAUSTED || mte_tool_heap_free(&heaps[k], old, NULL) != MTE_TOOL_DONE;
+    mte_tool_end end = mte_tool_heap_realloc(heaps[k], old, size, &outcome);
+    if (end) conflicts += outcome.code > MTE_TOOL_CODE_EXHAUSTED || mte_tool_heap_free(heaps[k], old, NULL) != MTE_TOOL_DONE;
     give_out(block, end, &outcome, k, outcome.value == old);
   }
 }
@@ -492,11 +492,11 @@ static void resize(const struct record *record) {
   if (!has_pointer(block) && !number) let_go(block);
 }
 
-static int access_heap(int k, char letter, uint64_t address, long length, mte_tool_outcome *outcome) {
+static mte_tool_end access_heap(int k, char letter, uint64_t address, long length, mte_tool_outcome *outcome) {
   static char room[WINDOW];
   memset(room, 0xa5, sizeof room);
-  return is_load(letter) ? mte_tool_heap_load(&heaps[k], address, room, length, outcome)
-                         : mte_tool_heap_store(&heaps[k], address, room, length, outcome);
+  return is_load(letter) ? mte_tool_heap_load(heaps[k], address, room, length, outcome)
+                         : mte_tool_heap_store(heaps[k], address, room, length, outcome);
 }
 
 static void event_of_access(char letter, uint32_t variable, long offset, long length) {
@@ -516,7 +516,7 @@ static void do_right(const struct record *record) {
 // What the first heap says of a granule.
 static int granule_at(long granule, mte_tool_outcome *told) {
   if (granule < 0 || granule >= granules) return OUTSIDE;
-  if (mte_tool_heap_granule(&heaps[0], granule, told) != MTE_TOOL_DONE) fail("the heap does not tell a granule");
+  if (mte_tool_heap_granule(heaps[0], granule, told) != MTE_TOOL_DONE) fail("the heap does not tell a granule");
   return told->granule_kind;
 }
 
@@ -529,12 +529,12 @@ static void print_granule(long granule) {
 
 static void print_outcome(const mte_tool_outcome *outcome) {
   switch (outcome->code) {
-    case MTE_TOOL_UNMAPPED: printf("fault unmapped"); break;
-    case MTE_TOOL_TAG_FAULT:
+    case MTE_TOOL_CODE_UNMAPPED: printf("fault unmapped"); break;
+    case MTE_TOOL_CODE_TAG_CHECK:
       printf("fault tag granule %u memory %u pointer %u in %s", outcome->granule, outcome->memory_tag, outcome->pointer_tag, KINDS[outcome->granule_kind]);
       break;
-    case MTE_TOOL_MISPLACED: printf("refused misplaced"); break;
-    case MTE_TOOL_NOT_LIVE: printf("refused not-live"); break;
+    case MTE_TOOL_CODE_MISPLACED: printf("refused misplaced"); break;
+    case MTE_TOOL_CODE_CHUNK_NOT_LIVE: printf("refused not-live"); break;
   }
   putchar('\n');
 }
@@ -544,8 +544,8 @@ static void print_outcome(const mte_tool_outcome *outcome) {
 static void ask_free(int k, uint64_t address, mte_tool_outcome *outcome) {
   mte_tool_outcome load = MTE_TOOL_OUTCOME;
   int is_right = access_heap(k, 'L', address, 1, &load) == MTE_TOOL_DONE;
-  if (mte_tool_heap_free(&heaps[k], is_right ? address ^ 2 * TAG : address, outcome) == MTE_TOOL_DONE) fail("the heap accepted a wrong free");
-  if (outcome->code == MTE_TOOL_WRONG_TAG) *outcome = load;
+  if (mte_tool_heap_free(heaps[k], is_right ? address ^ 2 * TAG : address, outcome) == MTE_TOOL_DONE) fail("the heap accepted a wrong free");
+  if (outcome->code == MTE_TOOL_CODE_WRONG_TAG) *outcome = load;
 }
 
 static void event_of_free(uint32_t variable, long moves, int is_refused) {
@@ -582,7 +582,7 @@ static void print_error(const struct record *record, uint32_t block) {
   if (!is_free) window_of(record, own, &begin, &length);
   ask(record, *pointers_of(block), begin, length, 0, &outcome);
   if (is_free && begin % GRANULE == 0 && labs(begin) <= FARTHEST_FREE)
-    event_of_free(held_as[block], begin / GRANULE, outcome.code == MTE_TOOL_MISPLACED || outcome.code == MTE_TOOL_NOT_LIVE);
+    event_of_free(held_as[block], begin / GRANULE, outcome.code == MTE_TOOL_CODE_MISPLACED || outcome.code == MTE_TOOL_CODE_CHUNK_NOT_LIVE);
   else if (!is_free && labs(begin) <= FARTHEST_ACCESS) event_of_access(record->letter, held_as[block], begin, length);
   at += begin;
   long first = (at + (at < 0 ? 1 - GRANULE : 0)) / GRANULE, last = first + (at - first * GRANULE + length - 1) / GRANULE;
