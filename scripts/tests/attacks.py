@@ -150,8 +150,12 @@ def attack_library(draw: random.Random, program: str, _: str, seed: str) -> None
     found = draw.choice((true, crafted(draw, true, counts)))
     given = sheet_text(found, "waste")
     tried["calls of the library"] += 2
-    status, out, _ = told(program, "check", given + text)
-    verdict = library.check(given, text)
+    status, out, said = told(program, "check", given + text)
+    try:
+        verdict = library.check(given, text)
+    except library.Error as error:
+        expect(f"{seed}: the library's refusal", status == 2 and said == f"error {error}\n", given, text, error, said)
+        return
     expect(f"{seed}: the library's verdict", (verdict.is_optimal, status) in ((True, 0), (False, 1)), given, text, verdict, out)
     if not found.is_forced and len({len(row) for row in found.rows}) == 1 and len(found.rows) == found.limit:
         numbers = dict(zip(counts.sizes, (each[0] for each in counts.numbers)))
