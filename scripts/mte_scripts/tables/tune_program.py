@@ -304,7 +304,7 @@ def summary(options: Options, found: figures.Figures, folder: Folder, noted: lis
         lines += ["", *wrapped(f"Counted: {what}, {counted(options, found.timed)}.")]
     if found.large or measured.get("large"):
         most = f"; at most {figures.byte_text(measured['large'])} live" if measured.get("large") else ""
-        lines += wrapped(f"In no figure: {numbered(found.large, 'large request')}, above {number(texts.LARGEST_SIZE)} bytes{most}.")
+        lines += wrapped(f"Not counted: {numbered(found.large, 'large request')}, above {number(texts.LARGEST_SIZE)} bytes{most}.")
     lines += over_time(found, measured) if found.timed else ["", *comparison(found), *wrapped(legend(options))]
     rest = [line for known in [*found.known()[:1], *found.interval()[1:]] for line in wrapped(known)]
     rest += [line for each in what_ifs for line in wrapped(each.said())]
