@@ -305,9 +305,9 @@ static __attribute__((noinline)) uint64_t stack_alone(struct call call, uintptr_
 //
 // And stacks that were seen, each by its first call: it is the same if each of these words is. After one there comes mostly the one that
 // came after it before; else it is searched among those with the same place.
-enum { LASTS = 64, PLACES = 32, WAYS = 8 };
+enum { LASTS = 64, PLACES = 32, WAYS = 8, WORDS = 56 };
 struct word { const uintptr_t *at; uintptr_t is; };
-struct seen { uintptr_t address, sp, bp, high; uint64_t found; int uses, number; struct seen *next; struct word words[DEEP]; };
+struct seen { uintptr_t address, sp, bp, high; uint64_t found; int uses, number; struct seen *next; struct word words[WORDS]; } __attribute__((aligned(64)));  // an odd number of lines of a cache
 static struct last {
   int is_held, turn, number;
   struct seen *seen, places[PLACES][WAYS];
@@ -370,9 +370,9 @@ static inline int is_seen(const struct seen *seen, const struct call *first, uin
 static inline void see(struct seen *seen, const struct call *calls, int number) {
   const struct call *first = &calls[number - 1];
   struct word *word = seen->words;
-  seen->address = 0;
+  seen->address = 0, seen->high = -1;
   for (const struct call *call = first; call >= calls; call--) {
-    if (word > seen->words + DEEP - 3) return;
+    if (word > seen->words + WORDS - 3) return;
     if (call < first) *word++ = (struct word){(const uintptr_t *)call->sp - 1, call->address + 1};
     if (call->uses && call->saved) *word++ = (struct word){call->saved, call->bp};
     if (call->base) *word++ = (struct word){call->base, call->sp};
@@ -386,6 +386,9 @@ static __attribute__((noinline)) struct seen *search(struct last *last, const st
   for (struct seen *seen = place; seen < place + WAYS; seen++)
     if (is_seen(seen, first, end)) return seen;
   struct seen *seen = &place[last->turn++ & (WAYS - 1)];
+  // the reader knows by this what the program takes itself
+  uint64_t more = (seen->high ? 0 : sizeof *seen) + (last->seen ? 0 : sizeof last->calls + sizeof last->fresh);
+  if (more) __atomic_fetch_add(&stacks->own, more, __ATOMIC_RELAXED);
   last->fresh[0] = *first;
   int number = walk(last, end);
   see(seen, last->calls, number);

@@ -53,7 +53,7 @@ struct kept_rule { uint64_t key, rule; };
 struct kept_stack { uint64_t hash, at; };  // the place of its first word, from 1, of which 0 means that there was no room
 struct module { uint64_t image, low, high, bias; char name[480]; };
 struct stacks {
-  uint64_t used, images, modules, unused;
+  uint64_t used, images, modules, own;  // how many words, layouts and objects; the bytes that processes have of their own for it
   struct module module[MODULES];
   struct kept_rule rule[1 << 16];  // of addresses: where the caller's frame is
   struct kept_stack place[STACKS_MOST];
