@@ -420,7 +420,7 @@ def parse_class_line(text: "str | bytes", name: str = "the class line") -> list[
     if is_history(text):
         raise Refused(2, f"{name}: line 1 is of a history, and no class line: `mte_tool fit` makes the fit of a history")
     if not re.fullmatch(rb"classes( (0|[1-9][0-9]*))*", text):
-        raise Refused(2, f"{name}: line 1 is no class line: {shown(text)}")
+        raise Refused(2, f"{name}: line 1 is no class line, `classes C1 C2 ..`: {shown(text)}")
     words = text.split()[1:]
     if len(words) > MOST_CLASSES:
         raise Refused(2, f"{name}: {len(words)} classes are more than {MOST_CLASSES}")
@@ -467,7 +467,8 @@ def parts_of(text: "str | bytes", name: str, kind: str, cost: bytes) -> tuple:
         elif has_numbers and word in (b"limit", b"step", b"forced", cost) and len(values) == 1 and not rows:
             numbers[word] = int(values[0])
         else:
-            raise Refused(2, f"{name}: {encoding(line, at) or f'line {at} is no line of a {kind}: {shown(line)}'}")
+            form = "`row N1 N2 ..`" if rows else f"`limit K`, `step S`, `forced 1024`, `{cost.decode()} N` or `row N1 N2 ..`"
+            raise Refused(2, f"{name}: {encoding(line, at) or f'line {at} is no line of a {kind}, {form}: {shown(line)}'}")
     if b"limit" not in numbers or cost not in numbers:
         raise Refused(2, f"{name}: it is no whole {kind}: a line `limit` or `{cost.decode()}` is missing")
     return classes, numbers[b"limit"], numbers[b"step"], b"forced" in numbers, numbers[cost], rows

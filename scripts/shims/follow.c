@@ -327,10 +327,11 @@ static void sample_others(void) {
   }
 }
 
-// the bytes that the table of the stacks takes, which are the program's too
+// the bytes that the stacks take, which are the program's too
 static uint64_t bytes_of_stacks(void) {
   uint64_t bytes = 0;
 #ifdef STACKS
+  if (stacks) bytes = stacks->own;
   for (off_t at = stream->stacks, end; (at = lseek(opened, at, SEEK_DATA)) >= 0 && (end = lseek(opened, at, SEEK_HOLE)) > at; at = end) bytes += end - at;
 #endif
   return bytes;

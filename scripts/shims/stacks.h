@@ -202,16 +202,28 @@ static __attribute__((noinline, cold)) struct rule find_rule(uintptr_t address) 
 
 // ---- a stack
 
+static inline int is_kept(const struct kept_rule *kept, uint64_t key, uint64_t *word) {
+  *word = __atomic_load_n(&kept->rule, __ATOMIC_RELAXED);
+  return (__atomic_load_n(&kept->key, __ATOMIC_RELAXED) ^ *word) == key;
+}
+
+// The rule of an address stands at one of two places.
+static __attribute__((noinline)) uint64_t other_rule(struct kept_rule *kept, uintptr_t address, uint64_t key) {
+  struct kept_rule *other = &stacks->rule[(kept - stacks->rule) ^ 1];
+  uint64_t word;
+  if (is_kept(other, key, &word)) return word;
+  struct rule rule = find_rule(address);
+  memcpy(&word, &rule, sizeof word);
+  if (__atomic_load_n(&kept->key, __ATOMIC_RELAXED)) kept = other;
+  __atomic_store_n(&kept->rule, word, __ATOMIC_RELAXED), __atomic_store_n(&kept->key, word ^ key, __ATOMIC_RELAXED);
+  return word;
+}
+
 static inline struct rule rule_of(uintptr_t address) {
   struct kept_rule *kept = &stacks->rule[(address ^ image << 40) * 0x9E3779B97F4A7C15ULL >> 48];
-  uint64_t word = __atomic_load_n(&kept->rule, __ATOMIC_RELAXED), key = address ^ image << 48;
+  uint64_t word, key = address ^ image << 48;
   struct rule rule;
-  if (__builtin_expect((__atomic_load_n(&kept->key, __ATOMIC_RELAXED) ^ word) != key, 0)) {
-    rule = find_rule(address);
-    memcpy(&word, &rule, sizeof word);
-    __atomic_store_n(&kept->rule, word, __ATOMIC_RELAXED), __atomic_store_n(&kept->key, word ^ key, __ATOMIC_RELAXED);
-    return rule;
-  }
+  if (__builtin_expect(!is_kept(kept, key, &word), 0)) word = other_rule(kept, address, key);
   memcpy(&rule, &word, sizeof rule);
   return rule;
 }
@@ -224,27 +236,30 @@ static inline uintptr_t end_of(uintptr_t at) {
   return at | (PAGE - 1);
 }
 
-// A call: its address, where the stack ended before it, the caller's rbp; and where that and the end come from, if from memory.
-struct call { uintptr_t address, sp, bp; const uintptr_t *saved, *base; uint64_t hash; };
+// A call: its address, where the stack ended before it, the caller's rbp; where that and the end come from, if from memory; whether a call
+// outwards of it is found by that rbp, and whether the caller's own caller has the same.
+struct call { uintptr_t address, sp, bp; const uintptr_t *saved, *base; uint64_t hash; int uses, keeps; };
 
 // Goes on to what a call was made from. Whether that is known.
-static inline int go_up(struct call *call, uintptr_t end) {
+static inline __attribute__((always_inline)) int go_up(struct call *call, struct call *outer, uintptr_t end) {
   struct rule rule = rule_of(call->address);
-  uintptr_t caller = (rule.base == BY_SP ? call->sp : call->bp) + rule.offset, saved = call->bp;
+  call->uses = rule.base >= BY_BP, call->keeps = rule.keeps;
+  uintptr_t sp = call->sp, bp = call->bp, caller = (rule.base == BY_SP ? sp : bp) + rule.offset, saved = bp;
   const uintptr_t *base = NULL, *from = NULL;
   if (rule.base == AT_BP) {
-    if (caller < call->sp || caller > end || caller & 7) return 0;
+    if (caller < sp || caller > end || caller & 7) return 0;
     base = (const uintptr_t *)caller, caller = *base;
   } else {
     saved = caller + rule.saved;
   }
-  if (rule.base == NOWHERE || caller < call->sp + 8 || caller > end || caller & 7) return 0;
+  if (rule.base == NOWHERE || caller < sp + 8 || caller > end || caller & 7) return 0;
   if (!rule.keeps) {
-    if (saved < call->sp || saved >= caller || saved & 7) return 0;
-    from = (const uintptr_t *)saved, call->bp = *from;
+    if (saved < sp || saved >= caller || saved & 7) return 0;
+    from = (const uintptr_t *)saved, bp = *from;
   }
-  call->address = ((uintptr_t *)caller)[-1] - 1, call->sp = caller, call->saved = from, call->base = base;
-  return call->address >= PAGE;
+  uintptr_t address = ((uintptr_t *)caller)[-1] - 1;
+  outer->address = address, outer->sp = caller, outer->bp = bp, outer->saved = from, outer->base = base;
+  return address >= PAGE;
 }
 
 static inline uint64_t mixed(uint64_t hash, uintptr_t address) {
@@ -274,54 +289,124 @@ static uint64_t number_of(uint64_t hash, const uintptr_t *addresses, const struc
 }
 
 // A stack as it is, its outermost calls left out where it is too deep.
-static __attribute__((noinline)) uint64_t walk(struct call call, uintptr_t end) {
+static __attribute__((noinline)) uint64_t stack_alone(struct call call, uintptr_t end) {
   uintptr_t addresses[DEEP];
   uint64_t hash = image;
   int number = 0;
-  do addresses[number++] = call.address; while (number < DEEP && go_up(&call, end));
+  do addresses[number++] = call.address; while (number < DEEP && go_up(&call, &call, end));
   for (int i = number; i--;) hash = mixed(hash, addresses[i]);
   return number_of(hash, addresses, NULL, number);
 }
 
-// The calls of a thread's last stack, the outermost first. Most of them are those of its next stack: from a call that is the same, with the
-// same end of the stack and the same rbp, all others are, if each word that they came from is. One that is held, by another thread or by what
-// a signal interrupted, is not taken.
-enum { LASTS = 64 };
-static struct last { uintptr_t owner; int is_held, number; struct call calls[DEEP], fresh[DEEP]; } lasts[LASTS];
+// What a thread had, and others that have its place; what is held, by one of them or by what a signal interrupted, is not taken.
+//
+// The calls of a stack, the outermost first. Most of them are those of the next stack: from a call that is the same, with the same end of the
+// stack, and the same rbp where one is found by that, all others are, if each word that they came from is.
+//
+// And stacks that were seen, each by its first call: it is the same if each of these words is. After one there comes mostly the one that
+// came after it before; else it is searched among those with the same place.
+enum { LASTS = 64, PLACES = 32, WAYS = 8, WORDS = 56 };
+struct word { const uintptr_t *at; uintptr_t is; };
+struct seen { uintptr_t address, sp, bp, high; uint64_t found; int uses, number; struct seen *next; struct word words[WORDS]; } __attribute__((aligned(64)));  // an odd number of lines of a cache
+static struct last {
+  int is_held, turn, number;
+  struct seen *seen, places[PLACES][WAYS];
+  struct call calls[DEEP], fresh[DEEP + 1];
+} lasts[LASTS];
 
-static inline int are_same(const struct call *calls, int number) {
-  for (const struct call *call = calls + number - 1; call >= calls; call--) {
-    if (((const uintptr_t *)call->sp)[-1] != call->address + 1) return 0;
-    if ((call->saved && *call->saved != call->bp) || (call->base && *call->base != call->sp)) return 0;
-  }
+static inline int was_held(struct last *last) {
+  volatile int *is_held = &last->is_held;
+  if (!__libc_single_threaded) return __atomic_exchange_n(is_held, 1, __ATOMIC_ACQUIRE);
+  return *is_held || !(*is_held = 1);
+}
+
+static inline int is_as_it_was(const struct call *call) {
+  if (((const uintptr_t *)call->sp)[-1] != call->address + 1) return 0;
+  return !((call->uses && call->saved && *call->saved != call->bp) || (call->base && *call->base != call->sp));
+}
+
+// Keeps a call as the next one inwards of others. (By words: what was just stored as such is not there yet for a larger load.)
+static inline void keep_call(volatile struct call *to, const volatile struct call *from, int has_outer) {
+  const volatile struct call *outer = to - has_outer;
+  to->address = from->address, to->sp = from->sp, to->bp = from->bp, to->saved = from->saved, to->base = from->base;
+  to->hash = mixed(has_outer ? outer->hash : image, from->address);
+  to->uses = from->uses || (from->keeps && has_outer && outer->uses);
+}
+
+// Whether a call is one of the last stack's, with all outwards of it; leaves none that are inwards of it.
+static inline int is_kept_call(struct last *last, const struct call *call) {
+  while (last->number && last->calls[last->number - 1].sp < call->sp) last->number--;
+  struct call *other = &last->calls[last->number - 1];
+  if (!last->number || other->sp != call->sp || other->address != call->address || (other->uses && other->bp != call->bp)) return 0;
+  while (other > last->calls)
+    if (!is_as_it_was(--other)) return 0;
+  other = &last->calls[last->number - 1];
+  other->bp = call->bp, other->saved = call->saved, other->base = call->base;
   return 1;
+}
+
+// Walks a stack from its first call on, up to what is known: how many calls it has then, its outermost left out where it is too deep.
+static __attribute__((noinline)) int walk(struct last *last, uintptr_t end) {
+  int number = 0, is_known;
+  struct call *fresh = last->fresh;
+  while (!(is_known = is_kept_call(last, &fresh[number])) && ++number < DEEP && go_up(&fresh[number - 1], &fresh[number], end)) ;
+  if (!is_known) last->number = 0;
+  else if (last->number + number > DEEP)
+    for (last->number = 0; number < DEEP && go_up(&fresh[number - 1], &fresh[number], end);) number++;
+  for (; number; last->number++) keep_call(&last->calls[last->number], &fresh[--number], last->number > 0);
+  number = last->number;
+  if (number == DEEP) last->number = 0;
+  return number;
+}
+
+static inline int is_seen(const struct seen *seen, const struct call *first, uintptr_t end) {
+  if (seen->address != first->address || seen->sp != first->sp || seen->high > end || (seen->uses && seen->bp != first->bp)) return 0;
+  for (const struct word *word = seen->words; word < seen->words + seen->number; word++)
+    if (*word->at != word->is) return 0;
+  return 1;
+}
+
+// Notes what a stack rests on.
+static inline void see(struct seen *seen, const struct call *calls, int number) {
+  const struct call *first = &calls[number - 1];
+  struct word *word = seen->words;
+  seen->address = 0, seen->high = -1;
+  for (const struct call *call = first; call >= calls; call--) {
+    if (word > seen->words + WORDS - 3) return;
+    if (call < first) *word++ = (struct word){(const uintptr_t *)call->sp - 1, call->address + 1};
+    if (call->uses && call->saved) *word++ = (struct word){call->saved, call->bp};
+    if (call->base) *word++ = (struct word){call->base, call->sp};
+  }
+  seen->sp = first->sp, seen->bp = first->bp, seen->high = calls->sp, seen->uses = first->uses, seen->number = word - seen->words;
+  if (number < DEEP) seen->address = first->address;
+}
+
+static __attribute__((noinline)) struct seen *search(struct last *last, const struct call *first, uintptr_t end) {
+  struct seen *place = last->places[(first->address ^ first->sp << 3) * 0x9E3779B97F4A7C15ULL >> 59];
+  for (struct seen *seen = place; seen < place + WAYS; seen++)
+    if (is_seen(seen, first, end)) return seen;
+  struct seen *seen = &place[last->turn++ & (WAYS - 1)];
+  // the reader knows by this what the program takes itself
+  uint64_t more = (seen->high ? 0 : sizeof *seen) + (last->seen ? 0 : sizeof last->calls + sizeof last->fresh);
+  if (more) __atomic_fetch_add(&stacks->own, more, __ATOMIC_RELAXED);
+  last->fresh[0] = *first;
+  int number = walk(last, end);
+  see(seen, last->calls, number);
+  seen->found = number_of(last->calls[number - 1].hash, NULL, last->calls, number);
+  return seen;
 }
 
 // The number of the stack above a function whose frame pointer this is; 0 where there is none, or no room for it.
 static __attribute__((noinline)) uint64_t stack_of(const uintptr_t *frame) {
   if (!stacks || frame[1] <= PAGE) return 0;
-  uintptr_t own = (uintptr_t)pthread_self(), end = end_of((uintptr_t)(frame + 2)) - 8;
-  struct call first = {.address = frame[1] - 1, .sp = (uintptr_t)(frame + 2), .bp = frame[0]}, call = first;
-  struct last *last = &lasts[own * 0x9E3779B97F4A7C15ULL >> 58];
-  if (__atomic_exchange_n(&last->is_held, 1, __ATOMIC_ACQUIRE)) return walk(first, end);
-  if (last->owner != own) last->owner = own, last->number = 0;
-  int same = last->number - 1, number = 0, is_found = 0;
-  do {
-    struct call *other = &last->calls[same];
-    while (same >= 0 && other->sp < call.sp) same--, other--;
-    is_found = same >= 0 && other->sp == call.sp && other->address == call.address && other->bp == call.bp && are_same(last->calls, same);
-    if (is_found) other->saved = call.saved, other->base = call.base;
-    else last->fresh[number++] = call;
-  } while (!is_found && number < DEEP && go_up(&call, end));
-  if (!is_found) same = -1;
-  uint64_t found;
-  if (same + 1 + number > DEEP || number == DEEP) {
-    found = walk(first, end), last->number = 0;
-  } else {
-    uint64_t hash = same < 0 ? image : last->calls[same].hash;
-    while (number) call = last->fresh[--number], call.hash = hash = mixed(hash, call.address), last->calls[++same] = call;
-    last->number = same + 1, found = number_of(hash, NULL, last->calls, last->number);
-  }
+  struct call first = {.address = frame[1] - 1, .sp = (uintptr_t)(frame + 2), .bp = frame[0]};
+  uintptr_t end = end_of(first.sp) - 8;
+  struct last *last = &lasts[(uintptr_t)pthread_self() * 0x9E3779B97F4A7C15ULL >> 58];
+  if (__builtin_expect(was_held(last), 0)) return stack_alone(first, end);
+  struct seen **next = last->seen ? &last->seen->next : &last->seen, *seen = *next;
+  if (!seen || !is_seen(seen, &first, end)) seen = *next = search(last, &first, end);
+  last->seen = seen;
+  uint64_t found = seen->found;
   __atomic_store_n(&last->is_held, 0, __ATOMIC_RELEASE);
   return found;
 }

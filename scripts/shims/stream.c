@@ -25,17 +25,17 @@
 #include <sys/syscall.h>
 #include <unistd.h>
 #include "stream.h"
+#if __has_include(<sys/single_threaded.h>)
+#include <sys/single_threaded.h>
+#else
+#define __libc_single_threaded 0
+#endif
 #ifdef STACKS
 #include "stacks.h"
 #define FRAME __builtin_frame_address(0)
 #else
 #define FRAME NULL
 #define stack_of(frame) 0
-#endif
-#if __has_include(<sys/single_threaded.h>)
-#include <sys/single_threaded.h>
-#else
-#define __libc_single_threaded 0
 #endif
 
 extern void *__libc_malloc(size_t), *__libc_calloc(size_t, size_t), *__libc_realloc(void *, size_t), *__libc_memalign(size_t, size_t);

@@ -9,17 +9,17 @@
 #include <unistd.h>
 #include "formats.h"
 
-enum { RINGS = 1024, RING = 1 << 17, LARGE = LARGEST_SIZE + 1, COUNTERS = LARGE + 1, SIZE_BITS = 14, ADDRESS = 18, NAME = 1024 };
+enum { RINGS = 1024, LARGE = LARGEST_SIZE + 1, COUNTERS = LARGE + 1, SIZE_BITS = 14, ADDRESS = 18, NAME = 1024 };
 // Of a record: 4 bits of kind, 14 of size (LARGE: a record SIZE follows), and the address by 8. A request without an address failed.
 // A realloc is MOVES with the old address before it, and after it REALLOC with the new one, and OLD.
 // With stacks, STACK with the number of the stack comes last of a request and of MOVES.
 enum { MALLOC = 1, CALLOC, ALIGNED, FREE, MOVES, REALLOC, OLD, SIZE, STACK };
 #ifdef STACKS
 #define WITH_STACKS(...) __VA_ARGS__
-enum { HAS_STACKS = 1 };
+enum { HAS_STACKS = 1, RING = 1 << 19 };
 #else
 #define WITH_STACKS(...)
-enum { HAS_STACKS = 0 };
+enum { HAS_STACKS = 0, RING = 1 << 17 };
 #endif
 // why a process has no ring
 enum { NO_RING, NO_MEMORY, NO_FILE, SEALED, REASONS };
@@ -53,7 +53,7 @@ struct kept_rule { uint64_t key, rule; };
 struct kept_stack { uint64_t hash, at; };  // the place of its first word, from 1, of which 0 means that there was no room
 struct module { uint64_t image, low, high, bias; char name[480]; };
 struct stacks {
-  uint64_t used, images, modules, unused;
+  uint64_t used, images, modules, own;  // how many words, layouts and objects; the bytes that processes have of their own for it
   struct module module[MODULES];
   struct kept_rule rule[1 << 16];  // of addresses: where the caller's frame is
   struct kept_stack place[STACKS_MOST];

@@ -17,6 +17,7 @@ from mte_scripts.tables import figures
 
 # the first line, the second one, and each further one
 LINES = [re.compile(form) for form in ("unit (0|[1-9][0-9]{0,4})", "overhead (0|[1-9][0-9]{0,4})", "pool ([1-9][0-9]{0,5}) ([1-9][0-9]{0,9})")]
+FORMS = ("unit BYTES", "overhead BYTES", "pool BYTES NUMBER")
 
 
 MOST_PERMUTED = 4  # runs of which all orders are tried
@@ -92,9 +93,11 @@ def read(path: str) -> PoolSet:
     at = next((at for at, line in enumerate(lines) if line.startswith("classes")), len(lines))
     values = []
     for number, line in enumerate(lines[:at], 1):
-        match = LINES[min(number, 3) - 1].fullmatch(line)
+        kind = min(number, 3) - 1
+        match = LINES[kind].fullmatch(line)
         if not match:
-            raise Refused(2, f"{name}: {texts.encoding(os.fsencode(line), number) or f'line {number} is no line of pools: {line[:60]}'}")
+            wrong = texts.encoding(os.fsencode(line), number) or f"line {number} is no line of pools, `{FORMS[kind]}`: {line[:60]}"
+            raise Refused(2, f"{name}: {wrong}")
         values.append(tuple(map(int, match.groups())))
     if at < 3 or at == len(lines):
         raise Refused(2, f"{name}: these are no whole pools: did the command that writes them fail?")

@@ -14,13 +14,13 @@ def section(verdict: str, rows: list[Row], tuned: str, falls: int) -> str:
     return f"""<h2>Measured</h2>
 <p id="verdict">{escape(verdict)}</p>
 <figure>{bars(rows, foreseen, "wide", 760)}{bars(rows, foreseen, "narrow", 340)}
-<figcaption>A bar is the peak of the resident set, the middle of {len(default.peaks)} runs; the line at its end goes from the lowest to the highest. The dashed
-line is what was predicted of the table, from Scudo's default where it gives nothing back.</figcaption></figure>
+<figcaption>A bar is the peak of the resident set, the middle of {len(default.peaks)} runs; the line at its end is where the peak of a further run lies with 95%,
+if peaks are normally distributed. The dashed line is what was predicted of the table, from Scudo's default where it gives nothing back.</figcaption></figure>
 """
 
 
 def bars(rows: list[Row], foreseen: dict[str, int], kind: str, width: int) -> str:
-    top = 1.02 * max([row.peaks[-1] for row in rows] + list(foreseen.values()))
+    top = 1.02 * max([row.interval()[1] for row in rows] + list(foreseen.values()))
     forms, parts = {next(reversed(foreseen)): 'fill="var(--c0)"', DEFAULT: 'fill="var(--c1)"'}, []
 
     def x(size: int) -> str:
@@ -28,10 +28,11 @@ def bars(rows: list[Row], foreseen: dict[str, int], kind: str, width: int) -> st
 
     for at, row in enumerate(rows):
         y = LINE * at
+        low, high = row.interval()
         name, form = row.name + ", now" * (at == 0), forms.get(row.name, 'class="bars"')
         parts.append(f'<text x="0" y="{y + 14}">{escape(name)}</text><text x="{width}" y="{y + 14}" text-anchor="end">{kibibytes(row.peak())}</text>')
         parts.append(f'<rect x="0" y="{y + 20}" width="{x(row.peak())}" height="{BAR}" {form}/>')
-        parts.append(f'<path class="axis" d="M{x(row.peaks[0])} {y + 20 + BAR // 2}H{x(row.peaks[-1])}"/>')
+        parts.append(f'<path class="axis" d="M{x(low)} {y + 20 + BAR // 2}H{x(high)}"/>')
         if row.name in foreseen:
             parts.append(f'<path class="level" d="M{x(foreseen[row.name])} {y + 17}v{BAR + 6}"/>')
     said = escape("Measured peaks: " + "; ".join(f"{row.name} {kibibytes(row.peak())}" for row in rows))

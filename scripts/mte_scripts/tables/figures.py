@@ -65,7 +65,8 @@ def refuse_timeline(data: bytes, name: str) -> None:
     if match := re.fullmatch(r"error (\d+) (\w+) line (\d+)", error):
         at = int(match[3]) - 1
         line = texts.lines_of(data)[at - 1]
-        why = texts.encoding(line, at) or CODES[int(match[1])].words
+        forms = ", `SIZE`, `-SIZE`, `large` and `-large`" if match[2] == "BadTimeline" else ""
+        why = texts.encoding(line, at) or CODES[int(match[1])].words + forms
         raise texts.Refused(2, f"{name}: {match[1]} {match[2]} line {at}: {why}: {texts.shown(line)}")
     if status not in (0, 1):
         raise texts.Refused(2 if status == 2 else 3, f"`mte_tool footprint` of {name} failed: {error or f'its status is {status}'}")

@@ -33,9 +33,10 @@ Usage: tune_program [OPTION..] PROGRAM ARGS..
   --verify SCUDO   build Scudo from LLVM's sources, of which SCUDO is the folder compiler-rt/lib/scudo/standalone, with its own map
                    and with this one; run the program five times each, in random order, as it is, with each other allocator that is
                    installed, with Scudo and with the map; and say what hardening costs it in memory and what of that the map pays
-                   back. For a program that ends by itself and does the same each time. Its standard input is kept for that; what
-                   these runs print is not shown. The tuned Scudo stays in the folder, as a library for LD_PRELOAD, with its header.
-                   It wants LLVM 19 or a later one, and clang++ or what CXX names
+                   back, with the interval in which a further run lies (95%, by Student's t, if peaks are normally distributed). For
+                   a program that ends by itself and does the same each time. Its standard input is kept for that; what these runs
+                   print is not shown. The tuned Scudo stays in the folder, as a library for LD_PRELOAD, with its header. It wants
+                   LLVM 19 or a later one, and clang++ or what CXX names
   --settings       with --verify: run it also with other settings of Scudo, of both tables: how soon memory is given back, a
                    quarantine, zero fill. That is 60 runs more
   --who            say which places in the source request the blocks that cost, and what is saved where one requests some bytes
@@ -303,7 +304,7 @@ def summary(options: Options, found: figures.Figures, folder: Folder, noted: lis
         lines += ["", *wrapped(f"Counted: {what}, {counted(options, found.timed)}.")]
     if found.large or measured.get("large"):
         most = f"; at most {figures.byte_text(measured['large'])} live" if measured.get("large") else ""
-        lines += wrapped(f"In no figure: {numbered(found.large, 'large request')}, above {number(texts.LARGEST_SIZE)} bytes{most}.")
+        lines += wrapped(f"Not counted: {numbered(found.large, 'large request')}, above {number(texts.LARGEST_SIZE)} bytes{most}.")
     lines += over_time(found, measured) if found.timed else ["", *comparison(found), *wrapped(legend(options))]
     rest = [line for known in [*found.known()[:1], *found.interval()[1:]] for line in wrapped(known)]
     rest += [line for each in what_ifs for line in wrapped(each.said())]
@@ -599,7 +600,8 @@ def plain(name: str) -> str:
 def measured_lines(options: Options, folder: Folder, found: figures.Figures, rows: "list[verdict.Row]", made: str, said: str) -> list[str]:
     """The verdict, and what it follows from."""
     lines = ["", *wrapped(f"Verdict on {said}", indent="  ")]
-    lines += ["", f"Measured: peak of the resident set and processor time, {verdict.RUNS} runs each:", *verdict.lines(rows)]
+    measured = f"Measured, {verdict.RUNS} runs each: the middle peak of the resident set, from where to where a further one lies (95%), and processor time:"
+    lines += ["", *wrapped(measured), *verdict.lines(rows)]
     lines += wrapped(predicted(found))
     for row in rows:
         if row.strange:

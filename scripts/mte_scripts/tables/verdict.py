@@ -1,5 +1,6 @@
 """What hardening costs a program, and how much of that a table takes back: runs of the program with its present allocator and with others."""
 
+import math
 import os
 import random
 import re
@@ -21,6 +22,8 @@ OTHERS = (  # an allocator and its file
 )
 LINKED = re.compile(r"lib(jemalloc|mimalloc|tcmalloc|tbbmalloc|hardened_malloc)[^ /]*\.so")
 RUNS, SEED = 5, 1
+STUDENT = 2.7764451  # Student's t with RUNS - 1 degrees of freedom, which 95% do not exceed to either side
+COUNTED = 32 * 4096  # bytes of a process that one processor may have counted apart from the others when Linux is asked for the peak
 LEAST, SHARE = 1 << 19, 0.005  # a difference that is worth a word: in bytes, and as a share of the process
 
 
@@ -37,6 +40,13 @@ class Row(NamedTuple):
 
     def time(self) -> float:
         return statistics.median(self.times)
+
+    def interval(self) -> tuple[int, int]:
+        """A prediction interval: where the peak of one further run lies with 95%, if peaks are normally distributed, and at least as wide as
+        Linux counts."""
+        middle, spread = statistics.fmean(self.peaks), statistics.stdev(self.peaks) * math.sqrt(1 + 1 / len(self.peaks))
+        half = max(STUDENT * spread, COUNTED)
+        return max(math.floor(middle - half), 0), math.ceil(middle + half)
 
     def is_below(self, other: "Row") -> bool:
         """Whether it takes clearly less: no run took as much as any of the other's, and the middle ones differ by what is worth a word."""
@@ -56,9 +66,11 @@ class Price(NamedTuple):
     def back(self) -> int:
         return self.default.peak() - self.tuned.peak()
 
-    def range(self) -> tuple[float, float]:
-        """The least and the most share that single runs allow."""
-        ends = [(row.peaks[0], row.peaks[-1]) for row in self]
+    def range(self) -> Optional[tuple[float, float]]:
+        """The least and the most share that is paid back, over all peaks in the three intervals; None where these allow that there is no price."""
+        ends = [row.interval() for row in self]
+        if ends[1][0] <= ends[0][1]:
+            return None
         corners = [(default - tuned) / (default - plain) for plain in ends[0] for default in ends[1] for tuned in ends[2]]
         return min(corners), max(corners)
 
@@ -123,18 +135,19 @@ def verdict(rows: list[Row], tuned: str) -> str:
     cost = f"Hardening costs {kibibytes(price.cost())}, {percent(price.cost(), now.peak())}"
     if not price.tuned.is_below(price.default):
         return f"{takes} {cost}, and this table is not worth it: take Scudo as it is."
-    low, high = price.range()
-    share = f"the table pays back {100 * price.back() / price.cost():.0f}% of that ({100 * low:.0f} to {100 * high:.0f}%)"
+    ends = price.range()
+    sure = f" ({math.floor(100 * ends[0])} to {math.ceil(100 * ends[1])}%)" if ends else ", as the middle of runs that differ much"
     left = "so that it costs no memory" if not now.is_below(price.tuned) else f"so that it costs {kibibytes(price.tuned.peak() - now.peak())}"
-    return f"{takes} {cost}; {share}, {left}."
+    return f"{takes} {cost}; the table pays back {100 * price.back() / price.cost():.0f}% of that{sure}, {left}."
 
 
 def lines(rows: list[Row]) -> list[str]:
-    """A line for each allocator: its peak with the least and the most, the change against the present one, and its processor time."""
+    """A line for each allocator: its peak with the interval of a further one, the change against the present one, and its processor time."""
     now = rows[0]
-    cells: list[tuple] = [("Allocator", "peak, KiB", "lowest", "highest", "change", "time, s")]
+    cells: list[tuple] = [("Allocator", "peak, KiB", "from", "to", "change", "time, s")]
     for row in rows:
-        sizes = (f"{each // 1024:,}" for each in (row.peak(), row.peaks[0], row.peaks[-1]))
+        low, high = row.interval()
+        sizes = (f"{each:,}" for each in (row.peak() // 1024, low // 1024, -(-high // 1024)))
         change = "" if row is now else f"{100 * (row.peak() / now.peak() - 1):+.1f}%"
         cells.append((f"{row.name}, now" if row is now else row.name, *sizes, change, f"{row.time():.2f}"))
     return texts.columns(cells, most=80)

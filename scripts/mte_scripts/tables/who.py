@@ -18,7 +18,7 @@ from mte_scripts.reports import flames
 from mte_scripts.tables import figures
 from mte_scripts.tables.figures import GRANULE, kibibytes, number, percent
 
-PLACES, WHAT_IFS, WORKERS = 10, 5, 4
+PLACES, WHAT_IFS, WORKERS, PIECE = 10, 5, 4, 1 << 12
 WORTH = 1000  # bytes of the footprint, of which one has to be taken by the blocks of a place and a size that is tried
 # functions that hand requests on, by their names; and a function with so many callers and sizes is one
 HANDS_ON = re.compile(
@@ -53,11 +53,14 @@ def of_heaptrack(record: heaptrack_stacks.Record) -> Run:
     return Run(record.events, record.sizes, lambda sites: {site: tuple(record.frames(site)) for site in sites})
 
 
-def timeline_of(run: Run, smaller: "dict[int, int]") -> bytes:
-    """The timeline of a run, where some sites request another size."""
-    lines = timelines.event_lines()
-    of_event = [lines[smaller.get(site, size) | freed] for site, size in enumerate(run.sizes) for freed in (0, timelines.FREED)]
-    return b"timeline\n" + b"".join(map(of_event.__getitem__, run.events))
+def timeline_of(run: Run, letters: "dict[int, bytes]") -> bytes:
+    """The timeline of a run, in which some sites have a letter in the place of their size."""
+    lines, of_event = timelines.event_lines(), list[bytes]()
+    for site, size in enumerate(run.sizes):
+        line = letters[site] + b"\n" if site in letters else lines[size]
+        of_event += [line, b"-" + line]
+    pieces = (run.events[at : at + PIECE] for at in range(0, len(run.events), PIECE))
+    return b"timeline\n" + b"".join([b"".join(map(of_event.__getitem__, piece)) for piece in pieces])
 
 
 class Part(NamedTuple):
@@ -184,11 +187,11 @@ class Who:
         able = [(key, blocks) for key, blocks in worth if key[1] > GRANULE][:WHAT_IFS]
         sizes = {size for (_, size), _ in able}
         others = self.run.frames([site for site, size in enumerate(self.run.sizes) if size in sizes])
-        sites = defaultdict[tuple, list](list)  # also those that were not live then
-        for site, stack in others.items():
-            sites[self.place(stack), self.run.sizes[site]].append(site)
-        made = [(sites[key], key[1] - granule_of(key[1]), False) for key, _ in able]
-        kept = [(sites[key], below, True) for key, _ in able if (below := self.below(key[1]))]
+        self.letters = {key: b"%c" % (65 + place) for place, (key, _) in enumerate(able)}
+        keys = {site: (self.place(stack), self.run.sizes[site]) for site, stack in others.items()}  # also of those that were not live then
+        self.lettered = timeline_of(self.run, {site: self.letters[key] for site, key in keys.items() if key in self.letters})
+        made = [(key, key[1] - granule_of(key[1]), False) for key, _ in able]
+        kept = [(key, below, True) for key, _ in able if (below := self.below(key[1]))]
         import multiprocessing  # the two take longer to import than a refusal of words
         from concurrent.futures import ProcessPoolExecutor
 
@@ -207,10 +210,12 @@ class Who:
         at = bisect.bisect_left(self.kept, timelines.need_of(size))
         return GRANULE * (self.kept[at - 1] - 1) if 0 < at < len(self.kept) and self.kept_takes is not None else 0
 
-    def saved_by(self, change: "tuple[list[int], int, bool]") -> Optional[int]:
-        """By how many bytes the table of another fit takes less, or the one that stays, over the run where these sites request this size."""
-        sites, size, is_kept = change
-        text = timeline_of(self.run, dict.fromkeys(sites, size))
+    def saved_by(self, change: "tuple[tuple[str, int], int, bool]") -> Optional[int]:
+        """By how many bytes the table of another fit takes less, or the one that stays, over the run where this place requests another size."""
+        changed, size, is_kept = change
+        text = self.lettered
+        for key, letter in self.letters.items():
+            text = text.replace(letter, b"%d" % (size if key == changed else key[1]))
         if is_kept:
             takes = figures.footprint(self.kept, text)
             return None if takes is None or self.kept_takes is None else self.kept_takes - takes
@@ -275,5 +280,5 @@ def begin_worker(who: Who) -> None:
     _OF_WORKER.append(who)
 
 
-def of_worker(change: "tuple[list[int], int, bool]") -> Optional[int]:
+def of_worker(change: "tuple[tuple[str, int], int, bool]") -> Optional[int]:
     return _OF_WORKER[0].saved_by(change)
