@@ -18,8 +18,10 @@ SECONDS = 900  # of one check, before its plants are tried in halves
 LINE = re.compile(r"^(?:fn|struct|enum) (\S+?): (.*)")
 GOAL = re.compile(r"^note: \S+:\d+:\d+: it is not proved that |^note: \S+: .*\(`\S+`\)")
 ERROR = re.compile(r"^(?:note: )?(?:\./)?proofs/(\S+)/\w+\.antt:\d+:\d+: error")
-# a proof that names what the wrong body took away, or what was not proved
-NAMES = re.compile(r"has no field|is not in scope|has no `|was not admitted|not admitted")
+# a proof that names what the wrong body took away: the goals that came in its place have no answer, whatever the contract says
+NAMES = re.compile(r"has no field|is not in scope|has no `")
+# a proof that rests on one that was refused
+REFUSED_BELOW = re.compile(r"not admitted")
 REJECTED = re.compile(r"(?m)^(?:\./)?(src/\S+\.rt):(\d+):\d+: error(.*)")
 UNKNOWN = re.compile(r"(?m)^rattle: error: .*`(\w[\w:]*)`.*")
 CALLS = re.compile(r"(?:it calls|it passes|a call of) `")
@@ -132,19 +134,18 @@ def verdict(symbol: "re.Pattern", lines: list, errors: dict) -> Verdict:
     here = [(words, goals) for name, words, goals in lines if symbol.fullmatch(name)]
     if not here:
         return Verdict(BAD, "the check has no line for its function")
-    open_goals = [goal for words, goals in here if not words.startswith("proved") for goal in goals]
-    wrong = [line for name, found in errors.items() if symbol.fullmatch(name) for line in found]
-    own = open_goals + [line for line in wrong if not NAMES.search(line)]
     words = next((it for it, _ in here if not it.startswith("proved")), None)
     if words is None:
         return Verdict(PASSES, "")
+    goals = [goal for it, found in here if not it.startswith("proved") for goal in found]
+    wrong = [line for name, found in errors.items() if symbol.fullmatch(name) for line in found]
+    names = [line for line in wrong if NAMES.search(line)]
+    own = goals + [line for line in wrong if not NAMES.search(line) and not REFUSED_BELOW.search(line)]
+    if names:
+        return Verdict(BAD, f"a proof names what it took away: {names[0]}")
     if own:
         return Verdict(REFUSED, own[0])
-    if CALLS.search(words):
-        return Verdict(BLOCKED, words)
-    if wrong:
-        return Verdict(BAD, f"it is refused only because a proof names what it took away: {wrong[0]}")
-    return Verdict(REFUSED, words)
+    return Verdict(BLOCKED if CALLS.search(words) else REFUSED, words)
 
 
 def tried(copy: Copy, plants: "list[Plant]") -> "dict[Plant, Verdict]":
