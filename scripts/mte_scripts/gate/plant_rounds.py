@@ -15,6 +15,7 @@ from mte_scripts.gate.planted import Plant
 from mte_scripts.places import ROOT
 
 SECONDS = 900  # of one check, before its plants are tried in halves
+MOST = 24  # in one check, so that a tenth of the checks is about a tenth of the time
 LINE = re.compile(r"^(?:fn|struct|enum) (\S+?): (.*)")
 GOAL = re.compile(r"^note: \S+:\d+:\d+: it is not proved that |^note: \S+: .*\(`\S+`\)")
 ERROR = re.compile(r"^(?:note: )?(?:\./)?proofs/(\S+)/\w+\.antt:\d+:\d+: error")
@@ -175,7 +176,7 @@ def rounds(plants: "list[Plant]") -> "list[list[Plant]]":
     """The wrong bodies in turns, in each of which a function has one at most."""
     turns: list[list[Plant]] = []
     for plant in plants:
-        free = [it for it in turns if (plant.path, plant.of) not in {(other.path, other.of) for other in it}]
+        free = [it for it in turns if len(it) < MOST and (plant.path, plant.of) not in {(other.path, other.of) for other in it}]
         if free:
             free[0].append(plant)
         else:
