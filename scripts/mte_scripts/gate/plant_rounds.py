@@ -6,6 +6,7 @@ import os
 import re
 import shutil
 import subprocess
+import threading
 from collections import namedtuple
 
 from mte_scripts import private_folder, running
@@ -16,6 +17,8 @@ from mte_scripts.places import ROOT
 
 SECONDS = 900  # of one check, before its plants are tried in halves
 MOST = 24  # in one check, so that a tenth of the checks is about a tenth of the time
+# set once the run is to end: no check is begun then
+ENDED = threading.Event()
 LINE = re.compile(r"^(?:fn|struct|enum) (\S+?): (.*)")
 GOAL = re.compile(r"^note: \S+:\d+:\d+: it is not proved that |^note: \S+: .*\(`\S+`\)")
 ERROR = re.compile(r"^(?:note: )?(?:\./)?proofs/(\S+)/\w+\.antt:\d+:\d+: error")
@@ -80,6 +83,8 @@ class Copy:
 
     def check(self, plants: "list[Plant]") -> "str | None":
         """What a check says of the functions with these wrong bodies, or None if it takes too long."""
+        if ENDED.is_set():
+            raise running.Refused(3, "the run was ended")
         self.write(plants)
         names = sorted({self.asked(it) for it in plants})
         command = ["rt", "check", *(word for name in names for word in ("--only", name)), "--jobs", "1"]

@@ -34,6 +34,7 @@ import re
 import subprocess
 import sys
 from collections import namedtuple
+from collections.abc import Iterator
 from concurrent.futures import ThreadPoolExecutor
 
 from mte_scripts import running
@@ -98,17 +99,30 @@ def by_tool(names: "list[str]", minutes: int) -> int:
 def by_hand(plants: "dict[str, list[Plant]]", jobs: int, log: "str | None") -> int:
     """Tries these wrong bodies of each crate, and prints those whose verdict is not what their lines say."""
     wrong = 0
-    with ThreadPoolExecutor(max_workers=jobs) as pool:
-        for crate, found in zip(plants, pool.map(lambda it: plant_rounds.judged(it, plants[it], log), plants)):
-            for plant in plants[crate]:
-                kind, why = found[plant]
-                if kind == plant_rounds.BAD or (kind == plant_rounds.PASSES) != bool(plant.kind):
-                    wrong += 1
-                    more = f" ({why[:300]})" if kind == plant_rounds.BAD else ""
-                    print(f"{WORDS[kind]:8} {crate}, {plant.name} of {plant.of}: {plant.what}{more}")
-            refused = sum(it.kind == plant_rounds.REFUSED for it in found.values())
-            print(f"{crate}: {len(found)} tried, {refused} refused", flush=True)
+    for crate, found in verdicts(plants, jobs, log):
+        for plant in plants[crate]:
+            kind, why = found[plant]
+            if kind == plant_rounds.BAD or (kind == plant_rounds.PASSES) != bool(plant.kind):
+                wrong += 1
+                more = f" ({why[:300]})" if kind == plant_rounds.BAD else ""
+                print(f"{WORDS[kind]:8} {crate}, {plant.name} of {plant.of}: {plant.what}{more}")
+        refused = sum(it.kind == plant_rounds.REFUSED for it in found.values())
+        print(f"{crate}: {len(found)} tried, {refused} refused", flush=True)
     return int(wrong > 0)
+
+
+def verdicts(plants: "dict[str, list[Plant]]", jobs: int, log: "str | None") -> "Iterator[tuple[str, dict]]":
+    """The verdicts on the wrong bodies of each crate. One job is done in this thread, which an interrupt ends at once."""
+    if jobs == 1:
+        yield from ((crate, plant_rounds.judged(crate, its, log)) for crate, its in plants.items())
+        return
+    with ThreadPoolExecutor(max_workers=jobs) as pool:
+        try:
+            yield from zip(plants, pool.map(lambda it: plant_rounds.judged(it, plants[it], log), plants))
+        except BaseException:
+            plant_rounds.ENDED.set()
+            pool.shutdown(wait=False, cancel_futures=True)
+            raise
 
 
 def part_of(plants: "dict[str, list[Plant]]", part: int) -> "dict[str, list[Plant]]":
