@@ -1,56 +1,77 @@
-"""Plants wrong bodies in the functions of crates by `rt plant`, and lists those that a contract lets through and nobody has looked at.
+"""Tries wrong bodies in the functions of crates: which of them do the contracts let through?
 
-Usage: plants [--minutes N] [CRATE..]
-       plants --table
+Usage: plants [--jobs N] [--log FILE] [--part N] [CRATE..]
+       plants --tool [--minutes N] [CRATE..]
+       plants --check | --table | --write
 
-Each CRATE takes some minutes; with no CRATE it is each public crate that has functions, for hours. Its wrong bodies that are
-proved are compared with those of scripts/mte_scripts/gate/plants.txt, where each has a reason. A line `NEW` has one that is not there, and a line
-`GONE` one that is there and is refused now. The last line of a crate has how many were tried, refused, and let through.
+The wrong bodies are crates/CRATE/plants/*.plant. Many are tried in one check of a copy of the crate, one in each function. With no CRATE it is
+each crate that has some. The last line of a crate has how many were tried, and how many were refused. Before it a line is printed for
 
-  --minutes N   the most minutes of a crate, 10 if left out; what is not tried by then is counted
-  --table       prints the crates' figures of scripts/mte_scripts/gate/plants.txt as a table
+  THROUGH  a wrong body that is proved, and has no line `passes:` with a reason
+  GONE     one that is refused, and has such a line
+  BAD      one that can't be tried: it does not compile, or a proof names what it took away
+
+  --part N      those of the Nth of ten parts alone, 0 to 9; each part has a tenth of the checks
+  --jobs N      so many crates are tried side by side, 1 if left out
+  --log FILE    what the checks said
+  --tool        tries the wrong bodies of `rt plant` instead. What it lets through is compared with scripts/mte_scripts/gate/plants.txt, where
+                each has a reason: a line `NEW` has one that is not there, and `GONE` one that is there and is refused
+  --minutes N   the most minutes of `rt plant` in a crate, 10 if left out; what is not tried by then is counted
+  --check       tries nothing, and says of each wrong body that could not be tried what is wrong
+  --table       prints the table of docs/MUST_FAIL.md and the list below it
+  --write       writes them
 
 Exit status:
-  0  nothing is new
-  1  a wrong body is let through that is not in scripts/mte_scripts/gate/plants.txt
+  0  each wrong body that is let through has a reason
+  1  a line was printed that has a wrong body
   2  the words are refused
   3  a crate can't be tried
 """
 
+import collections
 import os
 import re
 import subprocess
+import sys
 from collections import namedtuple
+from collections.abc import Iterator
+from concurrent.futures import ThreadPoolExecutor
 
 from mte_scripts import running
 from mte_scripts.builds.crate_list import CrateList
+from mte_scripts.gate import plant_rounds, planted
+from mte_scripts.gate.planted import Plant
 from mte_scripts.places import ROOT
 from mte_scripts.words import Words, between
 
 KNOWN = os.path.join(os.path.dirname(os.path.realpath(__file__)), "plants.txt")
 ROW = re.compile(r"^(proves|no-ensures) +(\S+?):\d+ (.*?)(?:  \(and in \d+ more impls\))?$")
 FIGURES = ("refused", "proves", "same", "not-judged", "not-run")
+PARTS = 10
+WORDS = {plant_rounds.PASSES: "THROUGH", plant_rounds.REFUSED: "GONE", plant_rounds.BAD: "BAD"}
+DOCUMENT = os.path.join(ROOT, "docs", "MUST_FAIL.md")
+HEAD = "| Crate | Planted | Refused | Equivalent | Open |\n|---|---:|---:|---:|---:|\n"
 
 Known = namedtuple("Known", "figures reasons")
 
 
 def known() -> Known:
-    """The figures of each crate, and the reason of each wrong body that is known, by crate and body."""
+    """The figures of each crate, and the reason of each wrong body of `rt plant` that is known, by crate and body."""
     figures, reasons = {}, {}
     with open(KNOWN, encoding="utf-8") as file:
         for line in file:
             crate, _, rest = line.rstrip("\n").partition("  ")
             if rest.startswith("figures "):
-                figures[crate] = dict(zip(FIGURES, rest.split()[1:]))
+                figures[crate] = dict(zip(FIGURES, map(int, rest.split()[1:])))
             elif rest:
                 body, _, reason = rest.partition("  -- ")
                 reasons[crate, body] = reason
     return Known(figures, reasons)
 
 
-def planted(crate: str, minutes: int) -> "tuple[list[str], list[str]]":
+def planted_by_tool(crate: str, minutes: int) -> "tuple[list[str], list[str]]":
     """What `rt plant` says of a crate: the wrong bodies that are proved, and its figures."""
-    command = ["rt", "plant", "--minutes", str(minutes), "--max", "2000"]
+    command = ["rt", "plant", "--minutes", str(minutes), "--max", "2000", "--jobs", "1"]
     done = subprocess.run(command, cwd=os.path.join(ROOT, "crates", crate), stdout=subprocess.PIPE, stderr=subprocess.STDOUT, text=True)
     last = re.search(r"(?m)^plants crate=.*$", done.stdout)
     if done.returncode or not last:
@@ -60,26 +81,10 @@ def planted(crate: str, minutes: int) -> "tuple[list[str], list[str]]":
     return bodies, [figures[it] for it in FIGURES]
 
 
-def table(figures: dict) -> None:
-    print("| Crate | Refused | Let through | The same answer | Not judged | Not tried |\n|---|---:|---:|---:|---:|---:|")
-    for crate, its in figures.items():
-        print(f"| `{crate}` | " + " | ".join(its[it] for it in FIGURES) + " |")
-
-
-def plants(words: "list[str]") -> int:
-    options = Words(__doc__, "crates", {"minutes": 10}, minutes=between(1, 10_000)).take(words)
-    its = known()
-    if options.table:
-        table(its.figures)
-        return 0
-    crates = CrateList(ROOT)
-    names = options.crates or [it for it in crates.stands_on if os.path.exists(os.path.join(crates.folder(it), "src", "lib.rt"))]
-    unknown = [it for it in names if it not in crates.stands_on]
-    if unknown:
-        raise running.Refused(2, f"there is no crate {unknown[0]} (--help says more)")
-    new = 0
+def by_tool(names: "list[str]", minutes: int) -> int:
+    its, new = known(), 0
     for crate in names:
-        bodies, figures = planted(crate, options.minutes)
+        bodies, figures = planted_by_tool(crate, minutes)
         for body in bodies:
             if (crate, body) not in its.reasons:
                 new += 1
@@ -88,4 +93,100 @@ def plants(words: "list[str]") -> int:
             if of == crate and body not in bodies:
                 print(f"GONE  {crate}  {body}")
         print(f"{crate}  figures {' '.join(figures)}", flush=True)
-    return bool(new)
+    return int(new > 0)
+
+
+def by_hand(plants: "dict[str, list[Plant]]", jobs: int, log: "str | None") -> int:
+    """Tries these wrong bodies of each crate, and prints those whose verdict is not what their lines say."""
+    wrong = 0
+    for crate, found in verdicts(plants, jobs, log):
+        for plant in plants[crate]:
+            kind, why = found[plant]
+            if kind == plant_rounds.BAD or (kind == plant_rounds.PASSES) != bool(plant.kind):
+                wrong += 1
+                more = f" ({why[:300]})" if kind == plant_rounds.BAD else ""
+                print(f"{WORDS[kind]:8} {crate}, {plant.name} of {plant.of}: {plant.what}{more}")
+        refused = sum(it.kind == plant_rounds.REFUSED for it in found.values())
+        print(f"{crate}: {len(found)} tried, {refused} refused", flush=True)
+    return int(wrong > 0)
+
+
+def verdicts(plants: "dict[str, list[Plant]]", jobs: int, log: "str | None") -> "Iterator[tuple[str, dict]]":
+    """The verdicts on the wrong bodies of each crate. One job is done in this thread, which an interrupt ends at once."""
+    if jobs == 1:
+        yield from ((crate, plant_rounds.judged(crate, its, log)) for crate, its in plants.items())
+        return
+    with ThreadPoolExecutor(max_workers=jobs) as pool:
+        try:
+            yield from zip(plants, pool.map(lambda it: plant_rounds.judged(it, plants[it], log), plants))
+        except BaseException:
+            plant_rounds.ENDED.set()
+            pool.shutdown(wait=False, cancel_futures=True)
+            raise
+
+
+def part_of(plants: "dict[str, list[Plant]]", part: int) -> "dict[str, list[Plant]]":
+    """The wrong bodies of every tenth check."""
+    turns = [(crate, turn) for crate, its in plants.items() for turn in plant_rounds.rounds(its)]
+    found: dict[str, list[Plant]] = {}
+    for crate, turn in turns[part::PARTS]:
+        found.setdefault(crate, []).extend(turn)
+    return found
+
+
+def text() -> str:
+    """The table of the crates that have wrong bodies, and a line for each that is let through."""
+    its, through = known(), []
+    rows: list[tuple[str, list[int]]] = []
+    for crate in sorted(CrateList(ROOT).stands_on):
+        plants = planted.plants_of(crate)
+        tool = collections.Counter(its.figures.get(crate, {}))
+        let = [(it.kind, f"{it.name}, {it.what}", it.why) for it in plants if it.kind]
+        let += [(reason.partition(": ")[0], body, reason.partition(": ")[2]) for (of, body), reason in its.reasons.items() if of == crate]
+        alike = sum(kind in ("equivalent", "speed") for kind, _, _ in let) + tool["same"]
+        count = len(plants) + tool["refused"] + tool["proves"] + tool["same"]
+        left = sum(kind in ("memory", "open") for kind, _, _ in let)
+        if count:
+            rows.append((f"`{crate}`", [count, count - alike - left, alike, left]))
+        through += [f"- `{crate}`, {body.replace('|', '&#124;')}: {kind}, {why}.\n" for kind, body, why in let]
+    rows.append(("all", [sum(column) for column in zip(*(counts for _, counts in rows))]))
+    table = "".join(f"| {name} | " + " | ".join(f"{it:,}" for it in counts) + " |\n" for name, counts in rows)
+    return f"{HEAD}{table}\nLet through:\n\n{''.join(through)}" if through else f"{HEAD}{table}"
+
+
+def write() -> int:
+    with open(DOCUMENT, encoding="utf-8") as file:
+        before = file.read().partition(HEAD)[0]
+    with open(DOCUMENT, "w", encoding="utf-8") as file:
+        file.write(before + text())
+    return 0
+
+
+def check(names: "list[str]") -> int:
+    found = [fault for crate in names for fault in planted.faults(crate)]
+    for fault in found:
+        print(f"plants: {fault}", file=sys.stderr)
+    return int(bool(found))
+
+
+def plants(words: "list[str]") -> int:
+    parser = Words(__doc__, "crates", {"minutes": 10, "jobs": 1}, minutes=between(1, 10_000), jobs=between(1, 64), part=between(0, PARTS - 1))
+    options = parser.take(words)
+    crates = CrateList(ROOT)
+    if unknown := [it for it in options.crates if it not in crates.stands_on]:
+        raise running.Refused(2, f"there is no crate {unknown[0]} (--help says more)")
+    if options.table:
+        print(text(), end="")
+        return 0
+    if options.write:
+        return write()
+    if options.check:
+        return check(options.crates or list(crates.stands_on))
+    if options.tool:
+        libraries = [it for it in crates.stands_on if os.path.exists(os.path.join(crates.folder(it), "src", "lib.rt"))]
+        return by_tool(options.crates or libraries, options.minutes)
+    try:
+        plants = {crate: its for crate in options.crates or crates.stands_on if (its := planted.plants_of(crate))}
+        return by_hand(plants if options.part is None else part_of(plants, options.part), options.jobs, options.log)
+    except planted.Unread as unread:
+        raise running.Refused(3, str(unread)) from None

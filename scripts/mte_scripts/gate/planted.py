@@ -1,0 +1,143 @@
+"""The wrong bodies of crates/CRATE/plants/*.plant. A file begins with the line `file:`; then each wrong body stands after an empty line:
+
+    file: src/slot_links.rt
+
+    name: unlink_leaves_the_link
+    of: unlink
+    what: the link stays
+    old:     set_link_at(memory, layout, slot, start, 0);
+    new:     set_link_at(memory, layout, slot, start, link);
+    passes: open: no clause speaks of the link
+
+`of:` is the function whose body it is, as TYPE::NAME where several of the file have the name. Each `old:` text stands just once in that body,
+and the pairs apply one after the other. `passes:` is there where the contract lets the body through, with its kind and the reason."""
+
+import os
+import re
+from collections import namedtuple
+from collections.abc import Iterator
+
+from mte_scripts.places import ROOT
+
+KINDS = ("equivalent", "speed", "memory", "open")
+KEYS = ("name", "of", "what", "old", "new", "passes")
+FN = re.compile(r'(?m)^(?P<indent> *)(?:pub(?:\([^)]*\))? )?(?:(?:const|unsafe|extern "C") )*fn (?P<name>\w+)')
+BLOCK = re.compile(r"(?m)^ *(?:pub )?(?:unsafe )?(?P<kind>impl|trait)\b(?P<head>[^{;]*)\{")
+
+# A wrong body: its crate, file, name, function, what it does, pairs of old and new text, and the kind and reason of one that passes.
+Plant = namedtuple("Plant", "crate path name of what pairs kind why")
+# A function in the text of a file: where it starts, where its body does, and its end; the type and the trait that it is of.
+Function = namedtuple("Function", "name owner trait start body end")
+
+
+class Unread(Exception):
+    """A wrong body that could not be tried."""
+
+
+def owner_of(text: str, start: int) -> "tuple[str, str]":
+    """The type and the trait of the block of the file that a function stands in, or empty texts."""
+    for block in reversed([it for it in BLOCK.finditer(text, 0, start)]):
+        indent = re.match(r" *", block[0])[0]
+        end = text.find(f"\n{indent}}}", block.end())
+        if end > start:
+            head = re.sub(r"^\s*<[^{]*?>(?= )", "", block["head"]).split(" where ")[0].strip()
+            trait, _, of = head.rpartition(" for ")
+            names = [re.sub(r"<.*", "", it.strip().lstrip("&").removeprefix("mut ")).rpartition("::")[2] for it in (of, trait)]
+            return (names[0], names[1]) if block["kind"] == "impl" else ("", names[0])
+    return "", ""
+
+
+def functions(text: str) -> "Iterator[Function]":
+    """The functions of a file that have a body, as `rt fmt` lays them out. A head without one is of a trait."""
+    heads = list(FN.finditer(text))
+    for found, after in zip(heads, [*(it.start() for it in heads[1:]), len(text)]):
+        indent = found["indent"]
+        opens = re.compile(rf"(?m)^{indent}\{{$|^{indent}\S.*\S \{{$|^{indent}\S.*\{{.*\}}$").search(text, found.start(), after)
+        if opens is None:
+            continue
+        if opens[0].endswith("}"):
+            body, end = opens.start(), opens.end()
+        else:
+            close = text.find(f"\n{indent}}}", opens.end())
+            body, end = opens.end(), close + len(indent) + 2 if close >= 0 else len(text)
+        yield Function(found["name"], *owner_of(text, found.start()), found.start(), body, end)
+
+
+def function_of(text: str, of: str) -> Function:
+    owner, _, name = of.rpartition("::")
+    found = [it for it in functions(text) if it.name == name and owner in ("", it.owner, it.trait)]
+    if len(found) != 1:
+        raise Unread(f"`{of}` is {len(found)} functions of its file")
+    return found[0]
+
+
+def planted(text: str, plant: Plant) -> str:
+    """The text of the file with the wrong body in it."""
+    for old, new in plant.pairs:
+        it = function_of(text, plant.of)
+        body = text[it.body : it.end]
+        if not old or body.count(old) != 1:
+            raise Unread(f"its text `{old}` stands {body.count(old) if old else 0} times in the body of {plant.of}")
+        text = text[: it.body] + body.replace(old, new) + text[it.end :]
+    return text
+
+
+def plant_of(crate: str, path: str, block: str) -> Plant:
+    """A wrong body of the lines of a block."""
+    said, pairs, old = {}, [], None
+    for line in block.split("\n"):
+        key, colon, text = line.partition(":")
+        text = text.removeprefix(" ")
+        if not colon or key not in KEYS or (key in said and key not in ("old", "new")):
+            raise Unread(f"its line `{line}` is none, or there twice")
+        said[key] = text
+        if key == "new":
+            pairs.append((old or "", text))
+        old = text if key == "old" else None
+    lacking = [key for key in ("name", "of", "what", "old", "new") if not (said.get(key) or key == "new" and pairs)]
+    if lacking:
+        raise Unread(f"it has no line `{lacking[0]}:` ({said.get('name', block[:40])})")
+    kind, _, why = said.get("passes", "").partition(": ")
+    if "passes" in said and (kind not in KINDS or not why.strip()):
+        raise Unread(f"{said['name']}: `passes:` has a kind ({', '.join(KINDS)}), a colon and a reason")
+    return Plant(crate, path, said["name"], said["of"], said["what"], tuple(pairs), kind, why)
+
+
+def plants_of(crate: str, root: str = ROOT) -> "list[Plant]":
+    """The wrong bodies of a crate, in the order of their files."""
+    folder, found = os.path.join(root, "crates", crate, "plants"), []
+    for name in sorted(os.listdir(folder) if os.path.isdir(folder) else []):
+        with open(os.path.join(folder, name), encoding="utf-8") as file:
+            first, *blocks = re.split(r"\n\n+", file.read().strip("\n"))
+        key, _, path = first.partition(": ")
+        if not name.endswith(".plant") or key != "file" or not re.fullmatch(r"src/[\w/]+\.rt", path):
+            raise Unread(f"{crate}/plants/{name}: it begins with no line `file: src/..`")
+        found += [plant_of(crate, path, block) for block in blocks]
+    return found
+
+
+def source(plant: Plant, root: str = ROOT) -> str:
+    try:
+        with open(os.path.join(root, "crates", plant.crate, plant.path), encoding="utf-8") as file:
+            return file.read()
+    except OSError as error:
+        raise Unread(f"{plant.path} can't be read: {error.strerror}") from None
+
+
+def faults(crate: str, root: str = ROOT) -> "Iterator[str]":
+    """Says of each wrong body of a crate that could not be tried what is wrong with it."""
+    try:
+        plants = plants_of(crate, root)
+    except Unread as unread:
+        yield f"{crate}: {unread}"
+        return
+    names = [it.name for it in plants]
+    for plant in plants:
+        try:
+            if names.count(plant.name) > 1:
+                raise Unread("its name is there twice")
+            text = source(plant, root)
+            if planted(text, plant) == text:
+                raise Unread("it changes nothing")
+        except Unread as unread:
+            yield f"{crate}, {plant.name}: {unread}"
