@@ -115,6 +115,8 @@ int mte_tool_profile(const mte_tool_options *options, const void *input, size_t 
 int mte_tool_replay(const mte_tool_options *options, const void *first, size_t first_length, const void *input, size_t length,
                     mte_tool_text *output, mte_tool_result *result);
 int mte_tool_run(const mte_tool_options *options, const void *input, size_t length, mte_tool_text *output, mte_tool_result *result);
+int mte_tool_peaks(const mte_tool_options *options, const void *first, size_t first_length, const void *input, size_t length,
+                   mte_tool_text *output, mte_tool_result *result);
 
 /* Appends a piece to a text, such as an input that comes in pieces. Returns MTE_TOOL_DONE; or MTE_TOOL_OUT_OF_MEMORY or MTE_TOOL_MISUSE,
    which leave the text as it was. `piece` may be null if `length` is 0, and is no part of the text. */

@@ -32,12 +32,12 @@ from mte_tool._arrays import (
     score_profile, tune_profile,
 )  # fmt: skip
 from mte_tool._calls import Cost, Error, Fit, Verdict, strerror, version
-from mte_tool._commands import check, check_fit, fit, footprint, profile, replay, run, score, tune
+from mte_tool._commands import check, check_fit, fit, footprint, peaks, profile, replay, run, score, tune
 from mte_tool._heap import Heap, Outcome
 
 __version__ = "1.0.0"
 __all__ = [
     "Cost", "Error", "Fit", "Heap", "Outcome", "Table", "Verdict", "check", "check_fit", "check_fit_history", "check_fit_timeline",
-    "check_profile", "fit", "fit_history", "fit_timeline", "footprint", "footprint_history", "footprint_timeline", "profile", "replay",
+    "check_profile", "fit", "fit_history", "fit_timeline", "footprint", "footprint_history", "footprint_timeline", "peaks", "profile", "replay",
     "run", "score", "score_profile", "strerror", "tune", "tune_profile", "version",
 ]  # fmt: skip

@@ -214,6 +214,15 @@ extern "C" {
         output: *mut mte_tool_text,
         result: *mut mte_tool_result,
     ) -> c_int;
+    pub fn mte_tool_peaks(
+        options: *const mte_tool_options,
+        first: *const c_void,
+        first_length: usize,
+        input: *const c_void,
+        length: usize,
+        output: *mut mte_tool_text,
+        result: *mut mte_tool_result,
+    ) -> c_int;
     pub fn mte_tool_append(text: *mut mte_tool_text, piece: *const c_void, length: usize) -> c_int;
     pub fn mte_tool_free(text: *mut mte_tool_text);
 

@@ -52,7 +52,7 @@ pub use arrays::{
     tune_profile, History, Profile, Table, Timeline,
 };
 pub use calls::{sentence, version, Cost, End, Error, Verdict};
-pub use commands::{check, check_fit, fit, footprint, profile, replay, run, score, tune};
+pub use commands::{check, check_fit, fit, footprint, peaks, profile, replay, run, score, tune};
 pub use heap::{Granule, GranuleState, Heap, Refusal};
 pub use options::Options;
 pub use texts::{Fit, Text};
