@@ -210,6 +210,8 @@ MTE_TOOL_CHECKED mte_tool_end mte_tool_replay(const mte_tool_options *options, c
                                               size_t length, mte_tool_text *output, mte_tool_result *result);
 MTE_TOOL_CHECKED mte_tool_end mte_tool_run(const mte_tool_options *options, const void *input, size_t length, mte_tool_text *output,
                                            mte_tool_result *result);
+MTE_TOOL_CHECKED mte_tool_end mte_tool_peaks(const mte_tool_options *options, const void *first, size_t first_length, const void *input,
+                                             size_t length, mte_tool_text *output, mte_tool_result *result);
 
 /* Appends a piece to a text, such as an input that comes in pieces. Returns MTE_TOOL_DONE; or MTE_TOOL_OUT_OF_MEMORY or MTE_TOOL_MISUSE,
    which leave the text as it was. `piece` may be null if `length` is 0, and is no part of the text. */

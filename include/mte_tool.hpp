@@ -307,6 +307,11 @@ inline Text run(std::string_view trace, const Options &options) {
     return detail::Called(mte_tool_run, trace, &options).text();
 }
 
+/* The most live blocks of each class of a class line over a timeline, and when. */
+inline Text peaks(std::string_view classes, std::string_view timeline) {
+    return detail::Called(mte_tool_peaks, classes, timeline, nullptr).text();
+}
+
 /* ---- the same over arrays: sizes in bytes, ascending, from 0 to MTE_TOOL_LARGEST_SIZE; classes in granules of 16 bytes, ascending, from 2
    to 1024. An Error has the code, and in at() the index of the first faulty entry. */
 

@@ -71,7 +71,7 @@ heap_outcome mte_heap_addg(mte_tool_heap *, uint64_t, uint8_t, uint8_t);
 void mte_heap_close(mte_tool_heap *);
 
 /* the numbers of the commands */
-enum { SCORE, TUNE, CHECK, FOOTPRINT, FIT, CHECK_FIT, PROFILE, REPLAY, RUN };
+enum { SCORE, TUNE, CHECK, FOOTPRINT, FIT, CHECK_FIT, PROFILE, REPLAY, RUN, PEAKS };
 
 /* Whether a slice has numbers and no place. */
 static inline int is_missing(const void *at, size_t length) {

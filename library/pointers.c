@@ -135,6 +135,7 @@ CALL_ON(CHECK_FIT, check_fit)
 CALL(PROFILE, profile)
 CALL_ON(REPLAY, replay)
 CALL(RUN, run)
+CALL_ON(PEAKS, peaks)
 
 mte_tool_end mte_tool_text_append(mte_tool_text *text, const void *piece, size_t length) {
     if (!text || is_missing(piece, length)) return MTE_TOOL_MISUSE;

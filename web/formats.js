@@ -11,8 +11,8 @@ const REGION = 1n << 36n;
 const DEFAULTS = { granules: 65536, quarantine: 65536, seed: 1, limit: 8, step: 1, largest_class: 0 };
 const OPTION_BITS = { granules: 32, quarantine: 32, seed: 16, limit: 8, step: 8, largest_class: 8 };
 const HEAP_OPTIONS = ["granules", "quarantine", "seed"];
-const COMMANDS = ["score", "tune", "check", "footprint", "fit", "check-fit", "profile", "replay", "run"];
-const OF_TWO_TEXTS = ["score", "check", "footprint", "check-fit", "replay"];
+const COMMANDS = ["score", "tune", "check", "footprint", "fit", "check-fit", "profile", "replay", "run", "peaks"];
+const OF_TWO_TEXTS = ["score", "check", "footprint", "check-fit", "replay", "peaks"];
 const ENDED = ["done", "no", "refused", "out of memory", "bad option", "misuse"];
 const INPUT_CODES = {
   20: "there are more than 32 classes",

@@ -54,6 +54,12 @@ pub fn in_footprint(text: &[u8]) -> Fault {
     in_class_line(lines.next()).unwrap_or_else(|| in_moments(lines))
 }
 
+/// The first fault of a class line and the timeline after it.
+pub fn in_peaks(text: &[u8]) -> Fault {
+    let mut lines = Lines::new(text);
+    in_class_line(lines.next()).unwrap_or_else(|| in_events(lines))
+}
+
 /// The first fault of a profile.
 pub fn in_profile(text: &[u8]) -> Fault {
     in_counts(Lines::new(text))

@@ -50,7 +50,7 @@ pub const NUMBERS: [Number; 6] = [
 /// The names of the options of a command.
 pub fn options_of(command: &str) -> &'static [&'static str] {
     match command {
-        "score" | "check" | "footprint" | "check-fit" | "profile" => &[],
+        "score" | "check" | "footprint" | "check-fit" | "profile" | "peaks" => &[],
         "tune" | "fit" => &["--limit", "--step", "--largest-class"],
         "replay" => &["--granules", "--quarantine", "--seed"],
         "run" => &["--limit", "--step", "--granules", "--quarantine", "--seed"],

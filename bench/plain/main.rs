@@ -52,7 +52,7 @@ static ALLOCATOR: allocator::OrEnds = allocator::OrEnds;
 
 const EVENTS: usize = 1_000_000;
 
-const COMMANDS: [&str; 10] = [
+const COMMANDS: [&str; 11] = [
     "events",
     "score",
     "tune",
@@ -60,6 +60,7 @@ const COMMANDS: [&str; 10] = [
     "footprint",
     "fit",
     "check-fit",
+    "peaks",
     "profile",
     "replay",
     "run",
@@ -80,6 +81,8 @@ Usage: plain COMMAND [--NAME N ..] < INPUT
   fit        a history or a timeline: the table of least footprint, as a fit; the options of tune
   check-fit  a fit and a history or a timeline: whether the fit proves that no table has less
              footprint
+  peaks      a class line and a timeline: the most live blocks of each class, and when; the most
+             bytes of live blocks, and the most freed blocks
   profile    a trace: its profile
   replay     a class line and a trace: the tagged heap's report; --granules, --seed, --quarantine
   run        a trace: its best table, and the report with it; --limit, --step, those of replay
@@ -116,7 +119,7 @@ fn answer(words: Vec<String>, out: &mut impl Write) -> Result<ExitCode, Fault> {
     }
     let is_of_help = match words.as_slice() {
         [] => command == "help",
-        [of] => command == "help" && COMMANDS.contains(&of.as_str()),
+        [of] => command == "help" && (of == "help" || COMMANDS.contains(&of.as_str())),
         _ => false,
     };
     if is_help(&command) || is_of_help {
@@ -137,6 +140,7 @@ fn answer(words: Vec<String>, out: &mut impl Write) -> Result<ExitCode, Fault> {
         "footprint" => footprint(out),
         "fit" => fit(&options, out),
         "check-fit" => check_fit(out),
+        "peaks" => peaks(out),
         "profile" => profile(out),
         "replay" => replay(&options, out),
         _ => run(&options, out),
@@ -189,6 +193,17 @@ fn footprint(out: &mut impl Write) -> Result<ExitCode, Fault> {
         read.ok_or_else(|| faults::in_footprint(&input))?,
         out,
     )
+}
+
+fn peaks(out: &mut impl Write) -> Result<ExitCode, Fault> {
+    let input = read_all()?;
+    let mut text = Scanner::new(&input);
+    let read = read_classes(&mut text)
+        .and_then(|classes| Some(Timeline::read(&mut text)?.table_peaks(&classes)));
+    match read.ok_or_else(|| faults::in_peaks(&input))? {
+        Ok(lines) => written(out, &lines),
+        Err(size) => write_cost(b"", Err(size), out),
+    }
 }
 
 // the cost of a table with its word, or the least counted size that the table does not serve

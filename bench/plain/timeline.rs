@@ -4,7 +4,7 @@
 use crate::fitter;
 use crate::history::{History, MOST_SNAPSHOTS};
 use crate::profile::{GREATEST_COUNT, LARGEST};
-use crate::sheet::Sheet;
+use crate::sheet::{push_line, Sheet};
 use crate::text::Scanner;
 
 /// The first line of a timeline.
@@ -87,13 +87,7 @@ impl Timeline {
 
     // what the classes take, and for each the first moment at which most of its blocks are live
     fn peaks(&self, classes: &[u32]) -> (u64, Vec<usize>) {
-        let mut class_of = vec![classes.len(); LARGE + 1];
-        let mut from = 0;
-        for (number, class) in classes.iter().enumerate() {
-            let end = 16 * *class as usize - 15;
-            class_of[from..end].fill(number);
-            from = end;
-        }
+        let class_of = class_numbers(classes);
         // the last is for what has no class
         let mut live = vec![0_u32; classes.len() + 1];
         let mut most = live.clone();
@@ -113,6 +107,46 @@ impl Timeline {
         let blocks = classes.iter().zip(&most);
         let bytes = blocks.map(|(class, most)| 16 * u64::from(*class) * u64::from(*most));
         (bytes.sum(), firsts)
+    }
+
+    /// The lines of what the blocks of a table come to. Or the least counted size that no class serves.
+    pub fn table_peaks(&self, classes: &[u32]) -> Result<Vec<u8>, usize> {
+        if let Some(size) = self.unserved(classes) {
+            return Err(size);
+        }
+        let class_of = class_numbers(classes);
+        // the last is for what has no class, which counts for nothing
+        let mut live = vec![0_u64; classes.len() + 1];
+        let mut most = live.clone();
+        let mut firsts = live.clone();
+        let (mut bytes, mut most_bytes) = (0, 0);
+        let (mut free, mut most_free) = (0_u64, 0);
+        for (at, (size, is_free)) in self.counted().enumerate() {
+            let number = class_of[size];
+            let Some(class) = classes.get(number) else {
+                continue;
+            };
+            if is_free {
+                live[number] -= 1;
+                bytes -= 16 * u64::from(*class);
+                free += 1;
+            } else {
+                live[number] += 1;
+                bytes += 16 * u64::from(*class);
+                if live[number] > most[number] {
+                    (most[number], firsts[number]) = (live[number], at as u64 + 1);
+                } else {
+                    free -= 1;
+                }
+            }
+            (most_bytes, most_free) = (most_bytes.max(bytes), most_free.max(free));
+        }
+        let mut text = Vec::new();
+        push_line(&mut text, b"peaks", &most[..classes.len()]);
+        push_line(&mut text, b"moments", &firsts[..classes.len()]);
+        push_line(&mut text, b"live", &[most_bytes]);
+        push_line(&mut text, b"freed", &[most_free]);
+        Ok(text)
     }
 
     // the first moment at which a block of the largest counted size is live
@@ -184,6 +218,18 @@ impl Timeline {
             Ok(footprint) => (footprint != fit.cost).then_some("49 FootprintWrong"),
         })
     }
+}
+
+// the number of the class of each size, and as many as there are where it has none
+fn class_numbers(classes: &[u32]) -> Vec<usize> {
+    let mut class_of = vec![classes.len(); LARGE + 1];
+    let mut from = 0;
+    for (number, class) in classes.iter().enumerate() {
+        let end = 16 * *class as usize - 15;
+        class_of[from..end].fill(number);
+        from = end;
+    }
+    class_of
 }
 
 /// Reads the line that names the moments of a fit, if it comes next; the line itself may be faulty.

@@ -38,12 +38,13 @@ from mte_tool._arrays import (
 )  # fmt: skip
 from mte_tool._calls import Cost, Error, Fit, Verdict, version, version_number
 from mte_tool._codes import Code, End
-from mte_tool._commands import check, check_fit, fit, footprint, profile, replay, run, score, tune
+from mte_tool._commands import check, check_fit, fit, footprint, peaks, profile, replay, run, score, tune
 from mte_tool._heap import Heap, Outcome
 
 __version__ = "1.0.0"
 __all__ = [
     "Code", "Cost", "End", "Error", "Fit", "Heap", "Outcome", "Table", "Verdict", "check", "check_fit", "check_fit_history",
     "check_fit_timeline", "check_profile", "class_of", "fit", "fit_history", "fit_timeline", "footprint", "footprint_history",
-    "footprint_timeline", "profile", "replay", "run", "score", "score_profile", "tune", "tune_profile", "version", "version_number",
+    "footprint_timeline", "peaks", "profile", "replay", "run", "score", "score_profile", "tune", "tune_profile", "version",
+    "version_number",
 ]  # fmt: skip

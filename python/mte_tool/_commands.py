@@ -72,3 +72,8 @@ def run(trace: Bytes, limit: int, step: int = 1, *, granules: int = 65_536, quar
     seed: the seed of the random tags, 1 to 65535
     """
     return called("run", trace, limit=limit, step=step, granules=granules, quarantine=quarantine, seed=seed).text
+
+
+def peaks(classes: Bytes, timeline: Bytes) -> bytes:
+    """The most live blocks of each class of a class line over a timeline, and when."""
+    return called("peaks", classes, timeline).text

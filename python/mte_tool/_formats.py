@@ -22,4 +22,5 @@ COMMANDS = {
     "profile": 1,
     "replay": 2,
     "run": 1,
+    "peaks": 2,
 }

@@ -100,6 +100,7 @@ COMMANDS = {
     "profile": Command(("trace",), (), "text", "The profile of a trace"),
     "replay": Command(("classes", "trace"), HEAP, "text", "The report of the tagged heap over the table of a class line on a trace"),
     "run": Command(("trace",), (*LIMITS, *HEAP), "text", "The sheet of a trace's profile, and then the report with its table"),
+    "peaks": Command(("classes", "timeline"), (), "text", "The most live blocks of each class of a class line over a timeline, and when"),
 }
 
 

@@ -4,7 +4,8 @@
 //
 // FOUND is a descriptor: a page of notes, and then the texts that they give the lengths of. LIBRARIES are those of the program's
 // LD_PRELOAD, stream.c's first. WANTED is `all`: all requests of all processes; or of the first process, with what it runs in its own
-// place: `live`, the blocks live at the peak; `history N`, these and N snapshots; `timeline`, the record of the run; `windows N AT..`, its
+// place: `live`, the blocks live at the peak; `history N`, these and N snapshots; `timeline`, the record of the run, and with `events` after
+// it its events by numbers too; `windows N AT..`, its
 // moments, N windows and those after AT events, a history of the windows' most after that, and AT of each moment; `classes`, its moments for the classes of TABLES alone, class lines with a
 // comma between them; `trace N`, at most N events. With `-` before it a realloc leaves a block where Scudo does. `none`: nothing is followed,
 // and only the most resident memory is noted. ONLY: processes whose program has this name. PATH is the program's file, the words its own.
@@ -41,7 +42,7 @@ static struct notes {
   uint64_t events, snapshots, is_cut;          // of a timeline, and whether it became a history; of a trace, and whether it is cut
   uint64_t variables, shared;                  // of a trace: blocks with a variable of their own and without
   uint64_t left, processes[LEFT];              // those that run on; as many of them as there is room for
-  uint64_t sites;                              // the bytes of what sites.h writes after the upper history
+  uint64_t sites, codes;                       // the bytes of what sites.h writes after the upper history, and of the events after that
   int64_t taken[TABLES];                       // the bytes that each table of TABLES takes over the run
   char why[128];                               // why nothing is followed
   char allocator[NAME] __attribute__((aligned(NAME)));
@@ -390,8 +391,10 @@ static void write_texts(void) {
   long at = ftell(to) - PAGE - profile - text - upper;
   WITH_STACKS(if (record_of && !kept.is_reduced) write_sites(to, kept.piece, stacks);)
   long sites_ = ftell(to) - PAGE - profile - text - upper - at;
+  if (record_of == RECORDS && !kept.is_reduced && strstr(wanted, "events")) write_events(to);
+  long codes = ftell(to) - PAGE - profile - text - upper - at - sites_;
   if (fclose(to)) give_up("there is no room for what is recorded");
-  notes->profile = profile, notes->text = text, notes->upper = upper, notes->at = at, notes->sites = sites_;
+  notes->profile = profile, notes->text = text, notes->upper = upper, notes->at = at, notes->sites = sites_, notes->codes = codes;
   note();
   __atomic_fetch_add(&notes->version, 1, __ATOMIC_RELEASE);
 }

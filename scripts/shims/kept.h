@@ -169,4 +169,12 @@ static void write_timeline(FILE *to) {
     fwrite_unlocked(lines[counter], 1, sizes.lines[place_in(code)], to);
   }
 }
+
+// Writes its events in two bytes each.
+static void write_events(FILE *to) {
+  for (int i = 0; i < kept.piece; i++) {
+    uint16_t code = pieces[i / PIECE][i % PIECE], counter = sizes.counters[place_in(code)] | (code & FREED);
+    fwrite_unlocked(&counter, sizeof counter, 1, to);
+  }
+}
 #endif

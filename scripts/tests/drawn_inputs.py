@@ -13,7 +13,7 @@ from mte_scripts.formats import LARGEST_SIZE
 EDGES = [0, 1, 2, 15, 16, 17, 31, 32, 33, 63, 64, 65, 80, 1023, 1024, 1025, LARGEST_SIZE, LARGEST_SIZE + 1, 1_048_576, 1_048_577, 10**9, 10**9 + 1,
          2**31 - 1, 2**31, 2**32, 2**32 + 7, 10**18, 10**19 - 1, 10**19, 2**63, 2**64 - 1, 2**64, 2**64 + 16,
          10**20, 2**80 + 5, 2**128 - 1, 2**128, 2**128 + 40, 10**60]
-COMMANDS = "score tune check footprint fit check-fit profile replay run".split()
+COMMANDS = "score tune check footprint fit check-fit peaks profile replay run".split()
 VALUES = ("8", "1", "0", "33", "+8", "08", "8 ", "", "-1", "0x8", "1e1", "64", "65535", "65536", "18446744073709551616", "\uff15", "--", "-h",
           "\udcff")
 WORDS = ("--", "-", "x", "-h", "--help", "-V", "--version", "help", "score", "-l", "--limit=8=8", "\udcff")
@@ -131,12 +131,13 @@ def words(draw: random.Random) -> "list[str]":
 def drawn(draw: random.Random, times: int, tuned: "Callable[[str, bytes], bytes]") -> "Iterator[tuple[str, bytes]]":
     """So many inputs, each with the words of its command."""
     for _ in range(times):
-        command = draw.choice(("score", "tune", "check", "check", "footprint", "fit", "check-fit", "check-fit", "profile", "replay", "run"))
+        command = draw.choice(("score", "tune", "check", "check", "footprint", "fit", "check-fit", "check-fit", "peaks", "profile", "replay", "run"))
         limits = f"--limit {draw.choice((1, 2, 3, 8, 32))}" + draw.choice(("", "", " --step 2", " --step 4", " --step 8"))
         heap = draw.choice(("", "--granules 64", "--granules 97 --quarantine 64", "--seed 7 --quarantine 0"))
-        counts = draw.choice((history, timeline))(draw) if command in ("footprint", "fit", "check-fit") else profile(draw)
+        over_time = {"footprint": (history, timeline), "fit": (history, timeline), "check-fit": (history, timeline), "peaks": (timeline,)}
+        counts = draw.choice(over_time.get(command, (profile,)))(draw)
         text = {
-            "score": lambda: class_line(draw) + counts, "footprint": lambda: class_line(draw) + counts, "tune": lambda: counts, "fit": lambda: counts,
+            "score": lambda: class_line(draw) + counts, "footprint": lambda: class_line(draw) + counts, "peaks": lambda: class_line(draw) + counts, "tune": lambda: counts, "fit": lambda: counts,
             "check": lambda: tuned(f"tune {limits}", counts) + counts, "check-fit": lambda: tuned(f"fit {limits}", counts) + counts,
             "replay": lambda: class_line(draw) + trace(draw),
         }.get(command, lambda: trace(draw))()

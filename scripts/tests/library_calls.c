@@ -101,6 +101,7 @@ static ending make(const call *c, const void *input, size_t length, mte_tool_tex
         mte_tool_end (*call_on)(const mte_tool_options *, const void *, size_t, const void *, size_t, mte_tool_text *, mte_tool_result *);
     } commands[] = {{"score", NULL, mte_tool_score}, {"tune", mte_tool_tune, NULL}, {"check", NULL, mte_tool_check},
                     {"footprint", NULL, mte_tool_footprint}, {"fit", mte_tool_fit, NULL}, {"check-fit", NULL, mte_tool_check_fit},
+                    {"peaks", NULL, mte_tool_peaks},
                     {"profile", mte_tool_profile, NULL}, {"replay", NULL, mte_tool_replay}, {"run", mte_tool_run, NULL}};
     mte_tool_result result = MTE_TOOL_RESULT;
     size_t i;

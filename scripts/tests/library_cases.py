@@ -42,6 +42,7 @@ FAULTY = [
     ("fit", b"", 34), ("fit", b"snapshots 2\n16 1\n", 35), ("fit", b"timeline\nx\n", 37),
     ("footprint", (b"classes 2\n", b"timeline\n-16\n"), 38), ("fit", b"snapshots 1\n16 x\n", 30),
     ("footprint", (b"classes 2\n", b"snapshots 1025\n"), 34), ("footprint", (b"classes 0\n", b""), 21),
+    ("peaks", (b"classes 2\n", SMALL_HISTORY), 37),
     ("check-fit", (SMALL_SHEET, SMALL_HISTORY), 36), ("check-fit", (SMALL_FIT, b"snapshots 1\n5 1\n4 1\n"), 31),
     ("profile", b"malloc 1\n", 70), ("profile", b"malloc 1 x\n", 71), ("replay", (b"classes 2\n", b"free 1024\n"), 72),
     ("run", b"free 1\n" + b"x" * 81, 73), ("replay", (b"classes 2", b""), 0), ("profile", b"", 0), ("tune", b"", 0),
@@ -70,6 +71,7 @@ SMALL = [
     ("check", {}, (SMALL_SHEET, SMALL_PROFILE)), ("check", {}, (SMALL_SHEET.replace(b"16\n", b"15\n", 1), SMALL_PROFILE)),
     ("footprint", {}, (b"classes 4\n", SMALL_HISTORY)), ("footprint", {}, (b"classes 2\n", SMALL_HISTORY)),
     ("footprint", {}, (b"classes 4\n", SMALL_TIMELINE)), ("check-fit", {}, (SMALL_FIT, SMALL_HISTORY)),
+    ("peaks", {}, (b"classes 2 4\n", SMALL_TIMELINE)), ("peaks", {}, (b"classes 2\n", SMALL_TIMELINE)),
     ("check-fit", {}, (SMALL_FIT.replace(b"160\n", b"159\n", 1), SMALL_HISTORY)),
     ("profile", {}, SMALL_TRACE),
 ] + [

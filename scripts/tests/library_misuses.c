@@ -20,7 +20,7 @@ enum { LENGTH = sizeof profile - 1 };
 typedef mte_tool_end command(const mte_tool_options *, const void *, size_t, mte_tool_text *, mte_tool_result *);
 typedef mte_tool_end command_on(const mte_tool_options *, const void *, size_t, const void *, size_t, mte_tool_text *, mte_tool_result *);
 static command *const commands[] = {mte_tool_tune, mte_tool_fit, mte_tool_profile, mte_tool_run};
-static command_on *const commands_on[] = {mte_tool_score, mte_tool_check, mte_tool_footprint, mte_tool_check_fit, mte_tool_replay};
+static command_on *const commands_on[] = {mte_tool_score, mte_tool_check, mte_tool_footprint, mte_tool_check_fit, mte_tool_peaks, mte_tool_replay};
 
 static void nulls(void) {
     mte_tool_options options = MTE_TOOL_OPTIONS(2);

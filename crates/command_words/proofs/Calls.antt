@@ -7,7 +7,7 @@ use Rattle.command_words.specs.Calls.{Names}
 use Rattle.command_words.specs.Options.{HasOptions}
 use Rattle.tool_call.specs.declared.call.Call.{Call}
 use Rattle.tool_call.specs.declared.call.CommandName.{CommandName}
-use Rattle.tool_call.specs.declared.call.CommandName.TheVariants.{Score, Tune, Check, Footprint, Fit, CheckFit, Profile, Replay, Run}
+use Rattle.tool_call.specs.declared.call.CommandName.TheVariants.{Score, Tune, Check, Footprint, Fit, CheckFit, Peaks, Profile, Replay, Run}
 use Rattle.tool_call.specs.declared.options.Options.{Options}
 
 -- commands of one name are one
@@ -19,6 +19,7 @@ named name =
     else if bytes_eq name (codes "footprint") then Footprint
     else if bytes_eq name (codes "fit") then Fit
     else if bytes_eq name (codes "check-fit") then CheckFit
+    else if bytes_eq name (codes "peaks") then Peaks
     else if bytes_eq name (codes "profile") then Profile
     else if bytes_eq name (codes "replay") then Replay
     else Run
@@ -31,6 +32,7 @@ named_back Check = refl
 named_back Footprint = refl
 named_back Fit = refl
 named_back CheckFit = refl
+named_back Peaks = refl
 named_back Profile = refl
 named_back Replay = refl
 named_back Run = refl

@@ -6,7 +6,7 @@ use Rattle.clap.specs.declared.builder.command.Command.{Command}
 use Rattle.clap.specs.declared.builder.command.Command.TheViews.{out-Command as fields_of}
 use Rattle.command_words.specs.Options.{with_options}
 use Rattle.tool_call.specs.declared.call.CommandName.{CommandName}
-use Rattle.tool_call.specs.declared.call.CommandName.TheVariants.{Score, Tune, Check, Footprint, Fit, CheckFit, Profile, Replay, Run}
+use Rattle.tool_call.specs.declared.call.CommandName.TheVariants.{Score, Tune, Check, Footprint, Fit, CheckFit, Peaks, Profile, Replay, Run}
 
 abbrev pub name_of : CommandName → Text
 name_of Score = codes "score"
@@ -15,6 +15,7 @@ name_of Check = codes "check"
 name_of Footprint = codes "footprint"
 name_of Fit = codes "fit"
 name_of CheckFit = codes "check-fit"
+name_of Peaks = codes "peaks"
 name_of Profile = codes "profile"
 name_of Replay = codes "replay"
 name_of Run = codes "run"
@@ -36,7 +37,7 @@ abbrev pub with_table_commands : App → App
 with_table_commands a = with_command (with_command (with_command a Score) Tune) Check
 
 abbrev pub with_history_commands : App → App
-with_history_commands a = with_command (with_command (with_command a Footprint) Fit) CheckFit
+with_history_commands a = with_command (with_command (with_command (with_command a Footprint) Fit) CheckFit) Peaks
 
 abbrev pub with_trace_commands : App → App
 with_trace_commands a = with_command (with_command (with_command a Profile) Replay) Run

@@ -9,7 +9,7 @@ use Rattle.command_words.specs.declared.options.NumberOption.{NumberOption}
 use Rattle.heap_theory.specs.declared.config.Config.{Config}
 use Rattle.tool_call.specs.Options.{config_of, limits_of}
 use Rattle.tool_call.specs.declared.call.CommandName.{CommandName}
-use Rattle.tool_call.specs.declared.call.CommandName.TheVariants.{Score, Tune, Check, Footprint, Fit, CheckFit, Profile, Replay, Run}
+use Rattle.tool_call.specs.declared.call.CommandName.TheVariants.{Score, Tune, Check, Footprint, Fit, CheckFit, Peaks, Profile, Replay, Run}
 use Rattle.tool_call.specs.declared.options.Limits.{Limits}
 use Rattle.tool_call.specs.declared.options.Options.{Options}
 
@@ -122,6 +122,7 @@ with_options Check a = a
 with_options Footprint a = a
 with_options Fit a = with_tuner a
 with_options CheckFit a = a
+with_options Peaks a = a
 with_options Profile a = a
 with_options Replay a = with_config a
 with_options Run a = with_config (with_limits a)
@@ -133,6 +134,7 @@ HasOptions Check rows options = ⊤
 HasOptions Footprint rows options = ⊤
 HasOptions Fit rows options = HasTuner rows (limits_of options) options.largest_class
 HasOptions CheckFit rows options = ⊤
+HasOptions Peaks rows options = ⊤
 HasOptions Profile rows options = ⊤
 HasOptions Replay rows options = HasConfig rows (config_of options)
 HasOptions Run rows options = HasLimits rows (limits_of options) × HasConfig rows (config_of options)

@@ -13,6 +13,7 @@ pub mod check;
 pub mod check_fit;
 pub mod fit;
 pub mod footprint;
+pub mod peaks;
 pub mod profile;
 pub mod replay;
 pub mod run;
@@ -39,6 +40,7 @@ pub fn command_named(name: &str) -> Option<CommandName>
         footprint::NAME => Some(CommandName::Footprint),
         fit::NAME => Some(CommandName::Fit),
         check_fit::NAME => Some(CommandName::CheckFit),
+        peaks::NAME => Some(CommandName::Peaks),
         profile::NAME => Some(CommandName::Profile),
         replay::NAME => Some(CommandName::Replay),
         run::NAME => Some(CommandName::Run),
@@ -56,6 +58,7 @@ fn name_and_about(name: CommandName) -> Words
         CommandName::Footprint => footprint::WORDS,
         CommandName::Fit => fit::WORDS,
         CommandName::CheckFit => check_fit::WORDS,
+        CommandName::Peaks => peaks::WORDS,
         CommandName::Profile => profile::WORDS,
         CommandName::Replay => replay::WORDS,
         CommandName::Run => run::WORDS,
@@ -71,6 +74,7 @@ fn text_after(name: CommandName) -> &'static str {
         CommandName::Footprint => footprint::AFTER,
         CommandName::Fit => fit::AFTER,
         CommandName::CheckFit => check_fit::AFTER,
+        CommandName::Peaks => peaks::AFTER,
         CommandName::Profile => profile::AFTER,
         CommandName::Replay => replay::AFTER,
         CommandName::Run => run::AFTER,

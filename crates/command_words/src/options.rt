@@ -93,6 +93,7 @@ pub fn options_of(command: CommandName) -> &'static [NumberOption]
         | CommandName::Check
         | CommandName::Footprint
         | CommandName::CheckFit
+        | CommandName::Peaks
         | CommandName::Profile => &[],
         CommandName::Tune | CommandName::Fit => TUNER,
         CommandName::Replay => CONFIG,
@@ -110,6 +111,7 @@ pub fn given_options(command: CommandName, words: &ArgMatches<'_>) -> Result<Opt
         | CommandName::Check
         | CommandName::Footprint
         | CommandName::CheckFit
+        | CommandName::Peaks
         | CommandName::Profile => Ok(options_from(NO_LIMITS, 0, NO_CONFIG)),
         CommandName::Tune | CommandName::Fit => tuner_options(words),
         CommandName::Replay => match config_of(words) {

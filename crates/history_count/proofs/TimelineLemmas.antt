@@ -11,4 +11,5 @@ pub mod Requested
 pub mod Requests
 pub mod Runs
 pub mod Steps
+pub mod TablePeaks
 pub mod Walk

@@ -4,4 +4,5 @@ pub mod Pieces
 pub mod Requests
 pub mod Runs
 pub mod Stretches
+pub mod TablePeaks
 pub mod TimelineText

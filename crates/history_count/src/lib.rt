@@ -16,7 +16,7 @@ pub use fault::{HistoryError, HistoryFault};
 pub use footprint::{blocks_between, line_from};
 pub use history::{History, Lines};
 pub use timelines::{
-    Footprint, Measured, TIMELINE, Timeline, TimelineError, TimelineFault, TimelineIndex,
-    TimelineReader, measure_over,
+    Footprint, Measured, TIMELINE, TablePeaks, Timeline, TimelineError, TimelineFault,
+    TimelineIndex, TimelineReader, measure_over, table_peaks,
 };
 pub use tuner_theory::MOST_SNAPSHOTS;

@@ -12,6 +12,7 @@ mod reader;
 mod reading;
 mod requested;
 mod stretches;
+mod sums;
 mod taking;
 mod timeline;
 
@@ -20,4 +21,5 @@ pub use footprint::{Footprint, Measured, measure_over};
 pub use index::TimelineIndex;
 pub use line::TIMELINE;
 pub use reader::TimelineReader;
+pub use sums::{TablePeaks, table_peaks};
 pub use timeline::Timeline;

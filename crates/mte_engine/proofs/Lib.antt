@@ -10,6 +10,7 @@ pub mod LawLemmas
 pub mod LineAndTrace
 pub mod OneAnswer
 pub mod Outcomes
+pub mod PeaksParts
 pub mod Reporting
 pub mod RowLines
 pub mod RunAnswers

@@ -5,6 +5,7 @@ use Rattle.mte_engine.specs.CheckFitOver.{CheckFitEitherAnswers}
 use Rattle.mte_engine.specs.FitOver.{FitEitherAnswers}
 use Rattle.mte_engine.specs.FootprintOver.{FootprintEitherAnswers}
 use Rattle.mte_engine.specs.Outcome.{Answer}
+use Rattle.mte_engine.specs.Peaks.{PeaksAnswers}
 use Rattle.mte_engine.specs.Profile.{ProfileAnswers}
 use Rattle.mte_engine.specs.Replay.{ReplayAnswers, ReplayOnAnswers}
 use Rattle.mte_engine.specs.Run.{RunAnswers}
@@ -15,7 +16,7 @@ use Rattle.mte_engine.specs.declared.fault.InputFault.{InputFault}
 use Rattle.mte_engine.specs.declared.two_texts.BlocksCommand.TheVariants as blocks
 use Rattle.mte_engine.specs.declared.two_texts.ProfileCommand.TheVariants as profile
 use Rattle.tool_call.specs.declared.call.Call.{Call}
-use Rattle.tool_call.specs.declared.call.Call.TheVariants.{Score, Tune, Check, Footprint, Fit, CheckFit, Profile, Replay, Run}
+use Rattle.tool_call.specs.declared.call.Call.TheVariants.{Score, Tune, Check, Footprint, Fit, CheckFit, Peaks, Profile, Replay, Run}
 
 abbrev pub answers_of : Call → List ℕ → Result Answer InputFault → Type 0
 answers_of Score = ScoreAnswers
@@ -24,6 +25,7 @@ answers_of Check = CheckAnswers
 answers_of Footprint = FootprintEitherAnswers
 answers_of (Fit limits largest_class) = FitEitherAnswers limits.limit limits.step (largest_class == 1)
 answers_of CheckFit = CheckFitEitherAnswers
+answers_of Peaks = PeaksAnswers
 answers_of Profile = ProfileAnswers
 answers_of (Replay config) = ReplayAnswers config
 answers_of (Run limits config) = RunAnswers limits.limit limits.step config
@@ -35,5 +37,6 @@ answers_on Score first = answers_beside_profile profile.Score first
 answers_on Check first = answers_beside_profile profile.Check first
 answers_on Footprint first = answers_beside_blocks blocks.Footprint first
 answers_on CheckFit first = answers_beside_blocks blocks.CheckFit first
+answers_on Peaks first = answers_beside_blocks blocks.Peaks first
 answers_on (Replay config) first = ReplayOnAnswers config first
 answers_on call first = answers_of call

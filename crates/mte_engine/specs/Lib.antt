@@ -11,6 +11,7 @@ pub mod Footprint
 pub mod FootprintOver
 pub mod Outcome
 pub mod Parts
+pub mod Peaks
 pub mod Profile
 pub mod Replay
 pub mod ReportFrom

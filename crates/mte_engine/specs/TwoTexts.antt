@@ -7,10 +7,11 @@ use Rattle.mte_engine.specs.Check.{ChecksParts}
 use Rattle.mte_engine.specs.CheckFitOver.{ChecksEitherParts}
 use Rattle.mte_engine.specs.FootprintOver.{MeasuresEitherParts}
 use Rattle.mte_engine.specs.Outcome.{Answer}
+use Rattle.mte_engine.specs.Peaks.{PeaksParts}
 use Rattle.mte_engine.specs.Score.{ScoresParts}
 use Rattle.mte_engine.specs.declared.fault.InputFault.{InputFault}
 use Rattle.mte_engine.specs.declared.two_texts.BlocksCommand.{BlocksCommand}
-use Rattle.mte_engine.specs.declared.two_texts.BlocksCommand.TheVariants.{Footprint, CheckFit}
+use Rattle.mte_engine.specs.declared.two_texts.BlocksCommand.TheVariants.{Footprint, CheckFit, Peaks}
 use Rattle.mte_engine.specs.declared.two_texts.ProfileCommand.{ProfileCommand}
 use Rattle.mte_engine.specs.declared.two_texts.ProfileCommand.TheVariants.{Score, Check}
 
@@ -21,3 +22,4 @@ answers_beside_profile Check first text = ChecksParts (leading_lines (lines firs
 abbrev pub answers_beside_blocks : BlocksCommand → List ℕ → List ℕ → Result Answer InputFault → Type 0
 answers_beside_blocks Footprint first text = MeasuresEitherParts (lines first) 0 (lines text)
 answers_beside_blocks CheckFit first text = ChecksEitherParts (leading_lines (lines first)) (lines_after (lines first)) 0 (lines text)
+answers_beside_blocks Peaks first text = PeaksParts (lines first) 0 (lines text)

@@ -11,6 +11,7 @@ use crate::fault::ToolFault;
 use crate::fit_checking::check_fit;
 use crate::fitting::fit;
 use crate::measuring::footprint;
+use crate::peaking::peaks;
 use crate::profiling::profile;
 use crate::replaying::replay;
 use crate::running::run;
@@ -42,6 +43,7 @@ pub fn run_call<R: ByteSource, W: ByteSink>(
             fit(alloc, limit, step, largest_class == 1, source, sink)
         }
         Call::CheckFit => check_fit(alloc, source, sink),
+        Call::Peaks => peaks(alloc, source, sink),
         Call::Profile => profile(alloc, source, sink),
         Call::Replay(config) => replay(alloc, config, source, sink),
         Call::Run(Limits { limit, step }, config) => run(alloc, limit, step, config, source, sink),
@@ -68,6 +70,7 @@ pub fn run_call_on<R: ByteSource, W: ByteSink>(
         Call::Check => beside_profile(alloc, ProfileCommand::Check, first, source, sink),
         Call::Footprint => beside_blocks(alloc, BlocksCommand::Footprint, first, source, sink),
         Call::CheckFit => beside_blocks(alloc, BlocksCommand::CheckFit, first, source, sink),
+        Call::Peaks => beside_blocks(alloc, BlocksCommand::Peaks, first, source, sink),
         Call::Replay(config) => {
             let engine = BesideTrace {
                 config,

@@ -73,8 +73,8 @@ fn text_of_between(
     Ok(text)
 }
 
-// the same numbers in 64 bits
-fn wide(alloc: Global, numbers: &[usize]) -> Result<Vec<u64>, AllocError>
+/// The same numbers in 64 bits. The only error is that the allocator refuses memory.
+pub(crate) fn wide(alloc: Global, numbers: &[usize]) -> Result<Vec<u64>, AllocError>
     ensures { IfOk result (λ wide. wide.items ≡ numbers.now) }
 {
     numbers.iter().map(|number| *number as u64).collect(alloc)

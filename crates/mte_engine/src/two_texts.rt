@@ -12,6 +12,7 @@ use crate::engine::{Engine, Status};
 use crate::fault::AnswerError;
 use crate::fit_checking::check_fit_texts;
 use crate::measuring::footprint_of_texts;
+use crate::peaking::peaks_of_texts;
 use crate::replaying::answer_to_texts;
 use crate::report::Report;
 use crate::scoring::score_of_texts;
@@ -59,6 +60,7 @@ impl<'a> Engine for BesideProfile<'a> {
 pub(crate) enum BlocksCommand {
     Footprint,
     CheckFit,
+    Peaks,
 }
 
 /// Such a command with its first text.
@@ -83,6 +85,7 @@ impl<'a> Engine for BesideBlocks<'a> {
         match self.command {
             BlocksCommand::Footprint => footprint_of_texts(alloc, self.first, input),
             BlocksCommand::CheckFit => check_fit_texts(alloc, self.first, input),
+            BlocksCommand::Peaks => peaks_of_texts(alloc, self.first, input),
         }
     }
 }

@@ -8,7 +8,7 @@ use Rattle.heap_theory.specs.declared.config.Config.{Config}
 use Rattle.tool_call.specs.Options.{AreTuneOptions, IsValid, call_of, config_of, limits_of}
 use Rattle.tool_call.specs.declared.call.Call.{Call}
 use Rattle.tool_call.specs.declared.call.CommandName.{CommandName}
-use Rattle.tool_call.specs.declared.call.CommandName.TheVariants.{Score, Tune, Check, Footprint, Fit, CheckFit, Profile, Replay, Run}
+use Rattle.tool_call.specs.declared.call.CommandName.TheVariants.{Score, Tune, Check, Footprint, Fit, CheckFit, Peaks, Profile, Replay, Run}
 use Rattle.tool_call.specs.declared.options.Limits.{Limits}
 use Rattle.tool_call.specs.declared.options.Options.{Options}
 
@@ -30,6 +30,7 @@ valid_options Check rows options has = tt
 valid_options Footprint rows options has = tt
 valid_options Fit rows options has = (valid_limits rows (limits_of options) has.0, has.1.2)
 valid_options CheckFit rows options has = tt
+valid_options Peaks rows options has = tt
 valid_options Profile rows options has = tt
 valid_options Replay rows options has = valid_config rows (config_of options) has
 valid_options Run rows options has = (valid_limits rows (limits_of options) has.0, valid_config rows (config_of options) has.1)

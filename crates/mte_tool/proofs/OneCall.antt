@@ -12,7 +12,7 @@ use Rattle.tool_call.specs.Options.{call_of, config_of, limits_of}
 use Rattle.tool_call.specs.declared.call.Call.{Call}
 use Rattle.tool_call.specs.declared.call.Call.TheVariants as call
 use Rattle.tool_call.specs.declared.call.CommandName.{CommandName}
-use Rattle.tool_call.specs.declared.call.CommandName.TheVariants.{Score, Tune, Check, Footprint, Fit, CheckFit, Profile, Replay, Run}
+use Rattle.tool_call.specs.declared.call.CommandName.TheVariants.{Score, Tune, Check, Footprint, Fit, CheckFit, Peaks, Profile, Replay, Run}
 use Rattle.tool_call.specs.declared.options.Limits.{Limits}
 use Rattle.tool_call.specs.declared.options.Options.{Options}
 
@@ -55,6 +55,7 @@ one_of_command Fit rows a b first second =
     ap (λ l. call.Fit l a.largest_class) (one_limits rows a b first.0 second.0)
     ∙ ap (λ n. call.Fit (limits_of b) n) (one_number rows _ a.largest_class b.largest_class first.1.0 second.1.0)
 one_of_command CheckFit rows a b first second = refl
+one_of_command Peaks rows a b first second = refl
 one_of_command Profile rows a b first second = refl
 one_of_command Replay rows a b first second = ap (λ c. call.Replay c) (one_config rows a b first second)
 one_of_command Run rows a b first second =

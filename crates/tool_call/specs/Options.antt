@@ -5,7 +5,7 @@ use Rattle.class_table.specs.declared.table.TheConstants.{MOST_CLASSES}
 use Rattle.heap_theory.specs.Config.{IsConfig}
 use Rattle.heap_theory.specs.declared.config.Config.{Config}
 use Rattle.tool_call.specs.declared.call.Call.{Call}
-use Rattle.tool_call.specs.declared.call.Call.TheVariants.{Score, Tune, Check, Footprint, Fit, CheckFit, Profile, Replay, Run}
+use Rattle.tool_call.specs.declared.call.Call.TheVariants.{Score, Tune, Check, Footprint, Fit, CheckFit, Peaks, Profile, Replay, Run}
 use Rattle.tool_call.specs.declared.call.CommandName.{CommandName}
 use Rattle.tool_call.specs.declared.call.CommandName.TheVariants as name
 use Rattle.tool_call.specs.declared.options.Limits.{Limits}
@@ -25,6 +25,7 @@ call_of name.Check options = Check
 call_of name.Footprint options = Footprint
 call_of name.Fit options = Fit (limits_of options) options.largest_class
 call_of name.CheckFit options = CheckFit
+call_of name.Peaks options = Peaks
 call_of name.Profile options = Profile
 call_of name.Replay options = Replay (config_of options)
 call_of name.Run options = Run (limits_of options) (config_of options)
@@ -37,6 +38,7 @@ has_two_texts Check = true
 has_two_texts Footprint = true
 has_two_texts (Fit limits largest_class) = false
 has_two_texts CheckFit = true
+has_two_texts Peaks = true
 has_two_texts Profile = false
 has_two_texts (Replay config) = true
 has_two_texts (Run limits config) = false
@@ -55,6 +57,7 @@ IsValid Check = ⊤
 IsValid Footprint = ⊤
 IsValid (Fit limits largest_class) = AreTuneOptions limits.limit limits.step × largest_class ≤ 1
 IsValid CheckFit = ⊤
+IsValid Peaks = ⊤
 IsValid Profile = ⊤
 IsValid (Replay config) = IsConfig config
 IsValid (Run limits config) = AreTuneOptions limits.limit limits.step × IsConfig config

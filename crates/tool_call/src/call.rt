@@ -13,6 +13,7 @@ pub enum CommandName {
     Footprint,
     Fit,
     CheckFit,
+    Peaks,
     Profile,
     Replay,
     Run,
@@ -26,6 +27,7 @@ pub const COMMANDS: &[CommandName] = &[
     CommandName::Footprint,
     CommandName::Fit,
     CommandName::CheckFit,
+    CommandName::Peaks,
     CommandName::Profile,
     CommandName::Replay,
     CommandName::Run,
@@ -42,6 +44,7 @@ pub enum Call {
     /// The same.
     Fit(Limits, u8),
     CheckFit,
+    Peaks,
     Profile,
     Replay(Config),
     Run(Limits, Config),
@@ -61,6 +64,7 @@ impl Call {
             CommandName::Footprint => Call::Footprint,
             CommandName::Fit => Call::Fit(options.limits(), options.largest_class),
             CommandName::CheckFit => Call::CheckFit,
+            CommandName::Peaks => Call::Peaks,
             CommandName::Profile => Call::Profile,
             CommandName::Replay => Call::Replay(options.config()),
             CommandName::Run => Call::Run(options.limits(), options.config()),
@@ -73,7 +77,12 @@ impl Call {
     {
         matches!(
             self,
-            Call::Score | Call::Check | Call::Footprint | Call::CheckFit | Call::Replay(_)
+            Call::Score
+                | Call::Check
+                | Call::Footprint
+                | Call::CheckFit
+                | Call::Peaks
+                | Call::Replay(_)
         )
     }
 
@@ -82,7 +91,12 @@ impl Call {
         ensures { IsTrue result ↔ IsValid self }
     {
         match self {
-            Call::Score | Call::Check | Call::Footprint | Call::CheckFit | Call::Profile => true,
+            Call::Score
+            | Call::Check
+            | Call::Footprint
+            | Call::CheckFit
+            | Call::Peaks
+            | Call::Profile => true,
             Call::Tune(limits, largest_class) | Call::Fit(limits, largest_class) => {
                 limits.are_valid() && largest_class <= 1
             }

@@ -321,6 +321,15 @@ extern "C" {
         output: *mut mte_tool_text,
         result: *mut mte_tool_result,
     ) -> mte_tool_end;
+    pub fn mte_tool_peaks(
+        options: *const mte_tool_options,
+        first: *const c_void,
+        first_length: usize,
+        input: *const c_void,
+        length: usize,
+        output: *mut mte_tool_text,
+        result: *mut mte_tool_result,
+    ) -> mte_tool_end;
     pub fn mte_tool_text_append(text: *mut mte_tool_text, piece: *const c_void, length: usize) -> mte_tool_end;
     pub fn mte_tool_text_free(text: *mut mte_tool_text);
 

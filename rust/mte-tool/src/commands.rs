@@ -76,3 +76,11 @@ pub fn replay(classes: &[u8], trace: &[u8], options: &Options) -> Result<Text, E
 pub fn run(trace: &[u8], options: &Options) -> Result<Text, Error> {
     Ok(call(c::mte_tool_run, trace, options)?.text)
 }
+
+/// The most live blocks of each class of a class line over a timeline, and when.
+///
+/// # Errors
+/// The input's first fault, or that memory ran out.
+pub fn peaks(classes: &[u8], timeline: &[u8]) -> Result<Text, Error> {
+    Ok(call_on(c::mte_tool_peaks, classes, timeline, &Options::default())?.text)
+}

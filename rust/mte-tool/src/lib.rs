@@ -57,7 +57,7 @@ pub use arrays::{
 };
 pub use calls::{version, version_number, Cost, End, Error, Verdict};
 pub use codes::Code;
-pub use commands::{check, check_fit, fit, footprint, profile, replay, run, score, tune};
+pub use commands::{check, check_fit, fit, footprint, peaks, profile, replay, run, score, tune};
 pub use heap::{Granule, GranuleState, Heap, HeapError, Refusal};
 pub use options::Options;
 pub use texts::{Fit, Text};

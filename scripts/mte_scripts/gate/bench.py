@@ -3,7 +3,7 @@
 Usage: bench [--instructions] [--branches] [--runs N] [--seed N] [--keep FOLDER] [ROW..]
        bench --growth [--seed N]
 
-A row is start, score, tune, check, footprint, fit, check-fit, profile, replay or run; or footprint-over, fit-over or
+A row is start, score, tune, check, footprint, fit, check-fit, peaks, profile, replay or run; or footprint-over, fit-over or
 check-fit-over, the same over a timeline; or `run` over a trace that allocates much: run-fifo, run-fragmented, run-whole or
 run-realloc; or over an example: run-jq, run-perl or run-sqlite. All of them where none is named.
 
@@ -75,6 +75,7 @@ ROWS: "dict[str, tuple]" = {
     "footprint-over": (["footprint"], "footprint-over.in", "`footprint` of a timeline, a million events ({size})"),
     "fit-over": (["fit", "--limit", "32"], "run.timeline", "`fit --limit 32` of it"),
     "check-fit-over": (["check-fit"], "check-fit-over.in", "`check-fit` of its fit"),
+    "peaks": (["peaks"], "footprint-over.in", "`peaks` of it, 32 classes"),
     "profile": (["profile"], "events.trace", "`profile`, a million mixed events ({size})"),
     "replay": (["replay"], "replay.in", "`replay` of them, eight classes"),
     "run": (["run", "--limit", "8"], "events.trace", "`run --limit 8` of them"),

@@ -6,7 +6,7 @@ Usage: statement [--html] NAME
   --html     one page in HTML: each name leads to its definition, and beside a definition is an example, if there is one
   --count    how many definitions, lines and modules each NAME has, in a table
 
-NAME is a command of mte_tool (score, tune, check, footprint, fit, check-fit, profile, replay, run), a promise of README.md
+NAME is a command of mte_tool (score, tune, check, footprint, fit, check-fit, peaks, profile, replay, run), a promise of README.md
 (safe, least-waste, headline, hardening, bounded), or `program`: the whole program on its own streams.
 
 The types and constants of the source that a definition cites come after the definitions. The words of std and clap come last, by

@@ -19,7 +19,7 @@ CRATES = os.path.join(ROOT, "crates")
 # the public functions whose contracts are a promise: crates and names
 COMMANDS = {
     name: (f"`{name}`", [("mte_engine", name.replace("-", "_"))])
-    for name in ("score", "tune", "check", "footprint", "fit", "check-fit", "profile", "replay", "run")
+    for name in ("score", "tune", "check", "footprint", "fit", "check-fit", "peaks", "profile", "replay", "run")
 }
 PROMISES = {
     "safe": ("Safe and total", []),

@@ -25,7 +25,7 @@ Run a program, and print how often it requested each size: a profile, the input 
 
 Usage: profile_program [--live] [--only NAME] [--said FILE] PROGRAM ARGS..
        profile_program --timeline|--history[=T]|--windows[=N]|--classes TABLE [--peak FILE] [--upper FILE] [--measured FILE]
-                       [--stacks FILE] [--processes FILE] [--again FILE] [--only NAME] PROGRAM ARGS..
+                       [--stacks FILE] [--events FILE] [--processes FILE] [--again FILE] [--only NAME] PROGRAM ARGS..
        profile_program --library [DIR]
        profile_program --follow STREAM [the options above]
        profile_program --read STREAM
@@ -52,6 +52,8 @@ Usage: profile_program [--live] [--only NAME] [--said FILE] PROGRAM ARGS..
                  or `footprint none` where it does not serve a size; and of each moment of --windows `moment N`, after N events
   --stacks FILE  with --timeline of a run: write into FILE, for tune_program --who, which calls made each request. The run takes
                  more time, by the depth of the calls. FILE is empty where the run is too long for a timeline
+  --events FILE  with --timeline of a run: write into FILE the same events, each in two bytes of this machine's order: its size,
+                 {timelines.LARGE:,} for a large block, and {timelines.FREED:,} more for a free. FILE is empty where the run is too long for a timeline
   --processes FILE
                  with these and --live: write into FILE a line for each program that requested, that of the counted one first:
                  how many, their requests, the most resident memory of one in bytes, 0 where none was seen, and the name
@@ -163,8 +165,9 @@ class Options(argparse.Namespace):
             raise Refused(2, "--upper goes with --windows, --timeline or --read")
         if self.again and self.live != "--windows":
             raise Refused(2, "--again goes with --windows")
-        if self.stacks and (self.live != "--timeline" or not self.words):
-            raise Refused(2, "--stacks goes with --timeline and a program to run")
+        for name in ("stacks", "events"):
+            if getattr(self, name) and (self.live != "--timeline" or not self.words):
+                raise Refused(2, f"--{name} goes with --timeline and a program to run")
         for name in ("measured", "as_scudo", "processes"):
             if getattr(self, name) and not self.live:
                 raise Refused(2, f"--{name.replace('_', '-')} goes with --live, --timeline, --history, --windows or --classes")
@@ -189,7 +192,8 @@ class Options(argparse.Namespace):
 
     def wanted(self) -> str:
         """What the reader is asked for."""
-        kinds = {None: "all", "--live": "live", "--history": f"history {self.history}", "--timeline": "timeline", "--classes": "classes",
+        kinds = {None: "all", "--live": "live", "--history": f"history {self.history}", "--classes": "classes",
+                 "--timeline": "timeline events" if self.events else "timeline",
                  "--windows": " ".join(map(str, ["windows", self.windows, *self.moments]))}
         return ("-" if self.as_scudo else "") + kinds[self.live]
 
@@ -386,6 +390,7 @@ def run_program(options: Options, speaker: recording.Speaker, path: str, work: p
     with recording.Run(speaker, work, options.wanted(), options.only, options.table_words(), bool(options.stacks)) as run:
         notes = run.run(options.words, path)
         write_beside(options.stacks, run.found.sites())
+        write_beside(options.events, run.found.events())
         write_beside(options.processes, "".join(f"{line}\n" for line in notes.programs()))
         if notes.left:
             say_left(speaker, options, notes)

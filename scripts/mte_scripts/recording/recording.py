@@ -241,6 +241,11 @@ class Found:
         notes = self.notes()
         return os.pread(self.descriptor, notes.sites, PAGE + notes.profile + notes.text + notes.upper + notes.at)
 
+    def events(self) -> bytes:
+        """The events of a timeline, as timelines.py has them; empty where they were not wanted."""
+        notes = self.notes()
+        return os.pread(self.descriptor, notes.codes, PAGE + notes.profile + notes.text + notes.upper + notes.at + notes.sites)
+
 
 @contextlib.contextmanager
 def of_timeline(path: str, work: private_folder.Folder, wanted: str, tables: str) -> "Iterator[Found]":

@@ -36,17 +36,22 @@ def text_of(events: array) -> Iterator[bytes]:
         yield b"".join(map(event_lines().__getitem__, events[at : at + PIECE]))
 
 
-def by_size(events: array) -> Counter:
-    """What the events add to the live blocks."""
+def requested(codes: Counter) -> Counter:
+    """How often each size is requested."""
+    return Counter({code: times for code, times in codes.items() if not code & FREED})
+
+
+def by_size(codes: Counter) -> Counter:
+    """What events add to the live blocks."""
     found: Counter = Counter()
-    for code, times in Counter(events).items():
+    for code, times in codes.items():
         found[code & SIZE] += -times if code & FREED else times
     return found
 
 
-def requested(events: array) -> Counter:
-    """How often each size is requested."""
-    return Counter({code: times for code, times in Counter(events).items() if not code & FREED})
+def counted(events: array, moments: list) -> list[Counter]:
+    """How often each event comes between each two of these moments."""
+    return [Counter(events[begin:end]) for begin, end in zip(moments, moments[1:])]
 
 
 def need_of(size: int) -> int:
@@ -72,11 +77,16 @@ def peaks(events: array, groups: tuple) -> dict:
 
 def live_at(events: array, moments: list) -> dict:
     """The live blocks at these ascending moments, each the number of events before it."""
+    return live_after(counted(events, [0, *moments]), moments)
+
+
+def live_after(codes: list[Counter], moments: list) -> dict:
+    """The live blocks at these moments, with the events between them."""
     live: Counter = Counter()
-    at, begin = {}, 0
-    for moment in moments:
-        live.update(by_size(events[begin:moment]))
-        at[moment], begin = named(live), moment
+    at = {}
+    for moment, each in zip(moments, codes):
+        live.update(by_size(each))
+        at[moment] = named(live)
     return at
 
 
@@ -100,25 +110,54 @@ def events_of(text: bytes) -> Iterator[list[bytes]]:
         begin = end + 1
 
 
-@functools.lru_cache(maxsize=1)
+class Read:
+    """A timeline's events, and how often each comes once that is counted."""
+
+    def __init__(self, text: bytes, events: array) -> None:
+        self.text, self.events = text, events
+        self.codes: "Counter | None" = None
+
+
+# the last one, since more than one thing is asked of it
+last = Read(b"", array("H"))
+
+
+def known(text: bytes, events: bytes) -> None:
+    """Takes over the events of a timeline, in two bytes each, from what recorded them."""
+    global last
+    if len(events) == 2 * (text.count(b"\n") - 1):
+        last = Read(text, array("H", events))
+
+
+def read(text: bytes) -> Read:
+    global last
+    if last.text != text:
+        code_of = {line[:-1]: code for code, line in enumerate(event_lines()) if line}
+        last = Read(text, array("H"))
+        for lines in events_of(text):
+            last.events.extend(map(code_of.__getitem__, lines))
+    return last
+
+
 def parsed(text: bytes) -> array:
-    """The events of a timeline. Those of the last one are kept, since more than one thing is asked of it."""
-    code_of = {line[:-1]: code for code, line in enumerate(event_lines()) if line}
-    events = array("H")
-    for lines in events_of(text):
-        events.extend(map(code_of.__getitem__, lines))
-    return events
+    """The events of a timeline."""
+    return read(text).events
 
 
 def history_at(text: bytes, moments: list) -> texts.History:
     """The blocks that are live at these ascending moments, each the number of events before it."""
-    return history_of(live_at(parsed(text), moments))
+    found = read(text)
+    codes = counted(found.events, [0, *moments, len(found.events)])
+    found.codes = sum(codes, Counter())
+    return history_of(live_after(codes, moments))
 
 
-@functools.lru_cache(maxsize=1)
 def requests_of(text: bytes) -> dict:
-    """The profile of all requests. That of the last timeline is kept, since more than one thing is asked of it."""
-    return named(requested(parsed(text)))
+    """The profile of all requests."""
+    found = read(text)
+    if found.codes is None:
+        found.codes = Counter(found.events)
+    return named(requested(found.codes))
 
 
 def by_code(of_size: Callable[[int], int]) -> list:
@@ -132,41 +171,21 @@ def place_in(classes: list) -> Callable[[int], int]:
     return lambda size: bisect.bisect_left(classes, need_of(size)) + 1
 
 
-def most_of(text: bytes, amount: Callable[[int], int]) -> tuple[int, int]:
-    """The most of all live blocks, each with an amount of its size, and the first moment of that. Large blocks have none."""
-    amounts, events, now, most, at = by_code(amount), parsed(text), 0, 0, 0
+def most_of(text: bytes, amount: Callable[[int], int]) -> int:
+    """The most of all live blocks, each with an amount of its size. Large blocks have none."""
+    steps = filter(None, map(by_code(amount).__getitem__, parsed(text)))
+    return max(itertools.accumulate(steps, initial=0))
+
+
+def peak_of(text: bytes) -> int:
+    """The first moment of the most requested bytes. Large blocks count for nothing."""
+    amounts, events, now, most, at = by_code(int), parsed(text), 0, 0, 0
     for seen in range(0, len(events), PIECE):
         sums = list(itertools.accumulate(map(amounts.__getitem__, events[seen : seen + PIECE]), initial=now))
         now, top = sums[-1], max(sums)
         if top > most:
             most, at = top, seen + sums.index(top)
-    return most, at
-
-
-def peaks_of(text: bytes, classes: list) -> list:
-    """The first moments at which each class of a table that serves the timeline has the most blocks, in the order of time."""
-    groups = tuple(bisect.bisect_left(classes, need) for need in range(CLASSES + 1))
-    return sorted(peaks(parsed(text), groups))
-
-
-def most_and_freed(text: bytes, classes: list) -> tuple[list[int], int]:
-    """The most live blocks of each class of a table that serves the timeline; and the most blocks, of all classes together, that were freed
-    and not yet given out again. A block is given out again before a class has a new one."""
-    now, most = [0] * (len(classes) + 1), [0] * (len(classes) + 1)
-    freed = longest = 0
-    for place in map(by_code(place_in(classes)).__getitem__, parsed(text)):
-        if place < 0:
-            now[-place] -= 1
-            freed += 1
-            if freed > longest:
-                longest = freed
-        elif place:
-            now[place] += 1
-            if now[place] > most[place]:
-                most[place] = now[place]
-            else:
-                freed -= 1
-    return most[1:], longest
+    return at
 
 
 def heights(text: bytes, classes: list, parts: int) -> list[list[int]]:

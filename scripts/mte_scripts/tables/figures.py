@@ -59,6 +59,34 @@ def footprint(classes: "list[int]", text: bytes) -> "int | None":
     return int(answer.split()[-1]) if status == 0 else None
 
 
+class Peaks(NamedTuple):
+    """What the blocks of a table come to over a timeline: for each class the most that are live, and the first moment of so many; the most bytes
+    of all live ones, and the most that are freed and not yet given out again."""
+
+    most: list[int]
+    moments: list[int]
+    live: int
+    freed: int
+
+    def reached(self) -> list[int]:
+        """The moments at which some class first has its most blocks, in the order of time."""
+        return sorted({moment for most, moment in zip(self.most, self.moments) if most})
+
+
+def peaks(classes: list[int], text: bytes) -> Optional[Peaks]:
+    """What a table comes to over a timeline; None where it does not serve a size. A class above the largest one counts as that."""
+    return peaks_of(tuple(min(each, texts.LARGEST_CLASS) for each in classes), text)
+
+
+@functools.lru_cache(maxsize=8)
+def peaks_of(classes: Classes, text: bytes) -> Optional[Peaks]:
+    status, answer = run(["peaks"], texts.joined(class_text(list(classes)), text))
+    if status:
+        return None
+    most, moments, (live,), (freed,) = ([int(word) for word in line.split()[1:]] for line in answer.split("\n"))
+    return Peaks(most, moments, live, freed)
+
+
 def refuse_timeline(data: bytes, name: str) -> None:
     """Refuses a timeline at its first faulty line, which the program finds."""
     status, _, error = texts.mte_tool(["footprint"], texts.joined(class_text([texts.LARGEST_CLASS]), data))
@@ -103,7 +131,7 @@ def over_time(kind: str, text: bytes, largest: bool, limit: int, step: int) -> O
     if status == 1:
         classes, cost, bound = answer.split("\n")
         fit = texts.Fit(texts.parse_class_line(classes), limit, step, largest, int(cost.split()[-1]), [], [])
-        moments, verdict = timelines.peaks_of(text, fit.classes), f"between {bound.split()[-1]}"
+        moments, verdict = peaks(fit.classes, text).reached(), f"between {bound.split()[-1]}"
     else:
         fit = texts.parse_fit(answer)
         _, verdict = run(["check-fit"], texts.joined(answer, text))
@@ -128,7 +156,14 @@ class Table:
         """What it takes over time. Of a run that is longer than its history, what was counted, or what it takes over the moments."""
         counted = timed.interval.counted if timed.interval else {}
         self.takes_more = bool(timed.interval) and tuple(self.classes) not in counted
-        self.footprint = footprint(self.classes, timed.text) if tuple(self.classes) not in counted else counted[tuple(self.classes)]
+        self.footprint = counted[tuple(self.classes)] if tuple(self.classes) in counted else self.footprint_over(timed)
+
+    def footprint_over(self, timed: OverTime) -> Optional[int]:
+        """What it takes over a history or a timeline; None where it does not serve a size."""
+        if timed.kind != "timeline":
+            return footprint(self.classes, timed.text)
+        found = peaks(self.classes, timed.text)
+        return found and sum(GRANULE * each * most for each, most in zip(self.classes, found.most))
 
 
 def block_of(classes: list[int], size: int) -> int:
@@ -222,12 +257,14 @@ class Figures:
     def most(self, amount: Callable[[int], int]) -> int:
         """The most of all live blocks together at a moment, each with an amount of its size."""
         if self.timed.kind == "timeline":
-            return timelines.most_of(self.timed.text, amount)[0]
+            return timelines.most_of(self.timed.text, amount)
         rows = [[amount(size) * count for count in counts] for size, counts in self.timed.history.counts.items() if size != "large"]
         return max(map(sum, zip(*rows)), default=0)
 
     def most_live(self, table: Table) -> int:
         """The most bytes of all its live blocks together: what it takes where each block that is freed is given back at once."""
+        if self.timed.kind == "timeline":
+            return peaks(table.classes, self.timed.text).live
         return self.most(lambda size: block_of(table.classes, size))
 
     def heights(self, parts: int) -> list[list[int]]:
@@ -250,7 +287,8 @@ class Figures:
     def in_scudo(self, classes: list[int]) -> int:
         """The bytes that Scudo is predicted to take with a map of these classes while it gives nothing back."""
         if self.timed.kind == "timeline":
-            return scudo_memory.taken(classes, *timelines.most_and_freed(self.timed.text, classes))
+            found = peaks(classes, self.timed.text)
+            return scudo_memory.taken(classes, found.most, found.freed)
         most, freed = [0] * len(classes), 0
         for row in self.at_moments(classes):
             most = [max(pair) for pair in zip(most, row)]

@@ -218,7 +218,7 @@ def read_given(options: Options) -> "dict[str, str | bytes]":
     if texts.is_timeline(data):
         options.agree_on(data)
         figures.refuse_timeline(data, name)
-        peak = timelines.history_at(data, [timelines.most_of(data, int)[1]])
+        peak = timelines.history_at(data, [timelines.peak_of(data)])
         profile, files["program.timeline"] = {size: counts[0] for size, counts in peak.counts.items()}, data
     elif texts.is_history(data):
         history = texts.parse_history(data, name)
@@ -506,7 +506,7 @@ def read_stacks(options: Options, record: heaptrack_stacks.Record) -> "dict[str,
     """The files of heaptrack's record."""
     text = who.timeline_of(who.of_heaptrack(record), {})
     options.agree_on(text)
-    peak = timelines.history_at(text, [timelines.most_of(text, int)[1]])
+    peak = timelines.history_at(text, [timelines.peak_of(text)])
     return {"program.profile": texts.profile_text({size: counts[0] for size, counts in peak.counts.items()}), "program.timeline": text}
 
 
@@ -521,7 +521,7 @@ def made(options: Options, folder: Folder, others: list, recorded: long_runs.Rec
     _, answer = figures.run(["tune", *words], figures.profile_text(profile))
     sheet = f"{answer}\n"
     folder.write("tuned.sheet", sheet)
-    timed = fitted(options, folder, timed)
+    timed = fitted(options, folder, timed, recorded.events)
     given = "program.timeline" if timed and timed.kind == "timeline" else "program.history"
     found = figures.Figures(profile, sheet, others, timed, options.objective, "program.profile", given)
     # none of these is needed for what follows
@@ -614,8 +614,8 @@ def measured_lines(options: Options, folder: Folder, found: figures.Figures, row
     return lines
 
 
-def fitted(options: Options, folder: Folder, timed: "figures.OverTime | None") -> "figures.OverTime | None":
-    """The fit of the timeline or of the history, if there is one, and its files."""
+def fitted(options: Options, folder: Folder, timed: "figures.OverTime | None", events: bytes) -> "figures.OverTime | None":
+    """The fit of the timeline, whose events may be known, or of the history, if there is one, and its files."""
     kind = next((kind for kind in ("timeline", "history") if folder.has(f"program.{kind}")), None)
     if kind is None:
         return None
@@ -623,6 +623,7 @@ def fitted(options: Options, folder: Folder, timed: "figures.OverTime | None") -
         text = texts.read(folder.at(f"program.{kind}"))
         if kind == "history":
             text = texts.history_text(texts.parse_history(text)).encode()
+        timelines.known(text, events)
         timed = figures.over_time(kind, text, options.largest, options.limit, options.step)
     folder.write("fitted.fit", timed.fit_text)
     if kind == "timeline":

@@ -137,7 +137,7 @@ class Who:
     def __init__(self, run: Run, timed: figures.OverTime) -> None:
         self.run, self.timed = run, timed
         fit = timed.fit
-        self.parts = at_peaks(run, fit.classes, sorted(set(fit.moments or timelines.peaks_of(timed.text, fit.classes))))
+        self.parts = at_peaks(run, fit.classes, sorted(set(fit.moments or figures.peaks(fit.classes, timed.text).reached())))
         self.footprint = sum(part.taken() for part in self.parts)
         if timed.verdict == "optimal" and self.footprint != fit.footprint:
             raise texts.Refused(3, f"the stacks are of another run: the blocks at the peaks take {self.footprint:,} bytes, not {fit.footprint:,}")

@@ -70,13 +70,13 @@ macro_rules! about {
 
 // A command's text after its options. A part of it is a literal, or a word for what several commands say:
 // - `class_line` and `profile_lines`: the forms of these lines (`check` says them in words of its own)
-// - `history_lines`: the forms of a history's lines, and of a timeline's
+// - `history_lines` and `timeline_lines`: the forms of a history's lines and of a timeline's, and of a timeline's alone
 // - `largest`: the largest size that is counted
 // - `trace_lines`: the forms of a trace's lines
 // - `step_refusals`: the refusals of an option `--step`, with their head
 // - `class_line_refusals` and `count_refusals`: those of a class line, and of lines with sizes and counts
-// - `profile_refusals`, `history_refusals` and `trace_refusals`: those of a profile, of a history or a timeline and of a trace, and the
-//   failures, which end the text
+// - `profile_refusals`, `history_refusals`, `timeline_refusals` and `trace_refusals`: those of a profile, of a history or a timeline, of a
+//   timeline and of a trace, and the failures, which end the text
 macro_rules! help_text {
     (@[$($done:tt)*]) => {
         concat!($($done),*)
@@ -103,7 +103,11 @@ macro_rules! help_text {
   large N1 .. NT     how many blocks of more than " largest " bytes were, if any; it is the last line, and
                      is not in the footprint
 
-or a timeline: the line `timeline`, and a line for each request and each free in their order:
+or a timeline: " timeline_lines $($rest)*)
+    };
+    (@[$($done:tt)*] timeline_lines $($rest:tt)*) => {
+        help_text!(@[$($done)*]
+            "the line `timeline`, and a line for each request and each free in their order:
 
   N, -N              a request of N bytes, 0 to " largest ", and the free of such a block
   large, -large      of more than " largest " bytes; they are not in the footprint" $($rest)*)
@@ -145,7 +149,10 @@ of each event. "] $($rest)*)
     (@[$($done:tt)*] history_refusals $($rest:tt)*) => {
         help_text!(@[$($done)*] count_refusals "
   34 BadSnapshots      the history's first line is not `snapshots T`, T from 1 to 1024
-  35 WrongLength       a line does not have T numbers, one for each snapshot
+  35 WrongLength       a line does not have T numbers, one for each snapshot" timeline_refusals $($rest)*)
+    };
+    (@[$($done:tt)*] timeline_refusals $($rest:tt)*) => {
+        help_text!(@[$($done)*] "
   37 BadTimeline       a line of the timeline is none of its four forms
   38 NotLive           a free of a size of which no block is live" failures $($rest)*)
     };

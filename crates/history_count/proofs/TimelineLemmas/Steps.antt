@@ -382,32 +382,32 @@ nothing_live events classes = record {
       });
 }
 
-pub all_counted : (events : List SizeEvent) (classes live counted firsts : List ℕ)
-    → AreLive events classes (length events) live counted firsts
-    → counted ≡ most_blocks events classes
-all_counted events classes live counted firsts are =
-    ext_get_or 0 counted (most_blocks events classes)
-    (are.most_len ∙ sym (length-map classes (λ class. most (blocks classes class) (moments events))))
-    (λ j lt.
-    let within : j < length classes = omega (arith, are.most_len) in
-    are.most_at j within
-    ∙ most_to-all (blocks classes (slice_index classes j)) events
-    ∙ sym (get_or-map (λ class. most (blocks classes class) (moments events)) classes j 0 0 within))
+module _ (events : List SizeEvent) (classes : List ℕ) (k : ℕ) (live counted firsts : List ℕ) (all : k ≡ length events)
+    (so_far : AreLive events classes k live counted firsts) where
+  are : AreLive events classes (length events) live counted firsts
+  are = subst (λ (moment : ℕ). AreLive events classes moment live counted firsts) all so_far
 
-pub all_small : (events : List SizeEvent) (classes live counted firsts : List ℕ)
-    → AreLive events classes (length events) live counted firsts
-    → All (λ count. count ≤ length events) counted
-all_small events classes live counted firsts are k d lt =
-    omega (arith, are.small k (omega (arith, are.most_len)), get_or_default counted k d 0 lt)
+  pub all_counted : counted ≡ most_blocks events classes
+  all_counted =
+      ext_get_or 0 counted (most_blocks events classes)
+      (are.most_len ∙ sym (length-map classes (λ class. most (blocks classes class) (moments events))))
+      (λ j lt.
+      let within : j < length classes = omega (arith, are.most_len) in
+      are.most_at j within
+      ∙ most_to-all (blocks classes (slice_index classes j)) events
+      ∙ sym (get_or-map (λ class. most (blocks classes class) (moments events)) classes j 0 0 within))
 
-pub all_first : (events : List SizeEvent) (classes live counted firsts : List ℕ)
-    → AreLive events classes (length events) live counted firsts → AreFirsts events classes firsts
-all_first events classes live counted firsts are = record {
-  len = are.firsts_len;
-  first = λ j within.
-      subst (λ (much : ℕ). IsFirst (blocks classes (slice_index classes j)) events (length events) much (slice_index firsts j))
-      (are.most_at j within ∙ most_to-all (blocks classes (slice_index classes j)) events) (are.first_at j within);
-}
+  pub all_small : All (λ count. count ≤ length events) counted
+  all_small j d lt =
+      omega (arith, are.small j (omega (arith, are.most_len)), get_or_default counted j d 0 lt)
+
+  pub all_first : AreFirsts events classes firsts
+  all_first = record {
+    len = are.firsts_len;
+    first = λ j within.
+        subst (λ (much : ℕ). IsFirst (blocks classes (slice_index classes j)) events (length events) much (slice_index firsts j))
+        (are.most_at j within ∙ most_to-all (blocks classes (slice_index classes j)) events) (are.first_at j within);
+  }
 
 -- ---- the bytes of one class more
 

@@ -1,10 +1,13 @@
 -- What is counted of the blocks of each class, event by event.
-use Rattle.std.specs.Prelude.{◌≡◌, ℕ, ◌*◌, ◌<◌, ◌≤◌, if◌then◌else◌, nat_lt, List, length, map, slice_index, slice_set}
+use Rattle.std.specs.Prelude.{◌≡◌, ◌≢◌, Bool, ℕ, ◌+◌, ◌*◌, ◌<◌, ◌≤◌, if◌then◌else◌, nat_lt, List, length, map, slice_index, slice_set}
 use Rattle.class_table.specs.Sizes.{granule_bytes}
 use Rattle.tuner_theory.specs.Footprint.{blocks}
 use Rattle.tuner_theory.specs.Histories.{most}
 use Rattle.tuner_theory.specs.Timelines.{moments, most_to, snapshot_at}
 use Rattle.tuner_theory.specs.declared.size_event.SizeEvent.{SizeEvent}
+use Rattle.tuner_theory.specs.declared.size_event.SizeEvent.TheVariants.{Request, Free}
+use Rattle.history_count.specs.declared.timelines.counting.Moved.{Moved}
+use Rattle.history_count.specs.declared.timelines.counting.Moved.TheVariants.{Nothing, New, Again, Freed}
 
 -- The first moment at which a measure is so much, up to this one.
 pub record IsFirst (measure : List ℕ → ℕ) (events : List SizeEvent) (moment much first : ℕ) : Type 0 where
@@ -30,6 +33,28 @@ pub record AreLive (events : List SizeEvent) (classes : List ℕ) (moment : ℕ)
 -- The first moments where `newer` blocks of the class of this number are live at a moment, before which `much` was the most.
 abbrev pub first_moved : ℕ → ℕ → ℕ → ℕ → List ℕ → List ℕ
 first_moved much newer number moment firsts = if nat_lt much newer then slice_set firsts number moment else firsts
+
+-- The counts but for that of this number, which is one more.
+pub record IsOneMore (number : ℕ) (counts more : List ℕ) : Type 0 where
+  pub within : number < length counts
+  pub there : slice_index more number ≡ slice_index counts number + 1
+  pub others : (j : ℕ) → j ≢ number → slice_index more j ≡ slice_index counts j
+
+-- What an event does to the blocks of its class, of which it may make more than there were.
+abbrev pub moved_by : SizeEvent → ℕ → Bool → Moved
+moved_by (Request n) number is_more = if is_more then New number else Again number
+moved_by (Free n) number is_more = Freed number
+
+-- The same counts, one by one.
+abbrev pub AreSame : List ℕ → List ℕ → Type 0
+AreSame counts same = (j : ℕ) → slice_index same j ≡ slice_index counts j
+
+-- What an event did to the live blocks of each class and to the most so far, `newer` and `greater` after it.
+abbrev pub IsMoved : Moved → List ℕ → List ℕ → List ℕ → List ℕ → Type 0
+IsMoved Nothing live most newer greater = AreSame live newer × AreSame most greater
+IsMoved (New number) live most newer greater = IsOneMore number live newer × IsOneMore number most greater
+IsMoved (Again number) live most newer greater = IsOneMore number live newer × AreSame most greater
+IsMoved (Freed number) live most newer greater = IsOneMore number newer live × AreSame most greater
 
 -- For each class the most of its blocks that are live at a moment.
 abbrev pub most_blocks : List SizeEvent → List ℕ → List ℕ

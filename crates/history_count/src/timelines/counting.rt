@@ -1,8 +1,8 @@
 //! One pass over a timeline: for each class of a table the most of its blocks that are live at a moment, and which size has no class.
-ghost use Rattle.std.specs.Prelude.{◌≡◌, ◌<◌, ◌≤◌, ◌+◌, ◌-◌, ◌*◌, ◌^◌, ◌⊎◌, ℕ, max, All, IfOk, IfSome, IfNone, Some, None, length, replicate, slice_index, slice_set};
+ghost use Rattle.std.specs.Prelude.{◌≡◌, ◌<◌, ◌≤◌, ◌+◌, ◌-◌, ◌*◌, ◌^◌, ◌⊎◌, ℕ, max, All, IfOk, IfSome, IfNone, Some, None, length, nat_lt, replicate, slice_index, slice_set};
 ghost use Rattle.class_table.specs.Sizes.{largest_counted};
 ghost use Rattle.class_table.specs.Tables.{IsLegalTable, class_number_for};
-ghost use Rattle.history_count.specs.Timelines.LiveBlocks.{AreFirsts, AreLive, first_moved, most_blocks};
+ghost use Rattle.history_count.specs.Timelines.LiveBlocks.{AreFirsts, AreLive, IsMoved, first_moved, most_blocks, moved_by};
 ghost use Rattle.history_count.specs.Timelines.Requests.{IsLeastSoFar};
 ghost use Rattle.tuner_theory.specs.Timelines.{IsTimeline};
 
@@ -21,6 +21,28 @@ pub(crate) struct ClassPeaks {
     pub(crate) firsts: Vec<usize>,
     /// The least counted size that is requested and has no class, or `LARGE_SIZE` if there is none.
     pub(crate) least: u16,
+}
+
+/// What an event does to the blocks of a class, by its number, where a class has a new block only if none of its own is free.
+#[derive(Clone, Copy)]
+pub(crate) enum Moved {
+    /// Its size has no class.
+    Nothing,
+    /// The class has a new block.
+    New(usize),
+    /// A freed block is given out again.
+    Again(usize),
+    /// A block is freed.
+    Freed(usize),
+}
+
+/// What one event more comes to.
+#[derive(Clone, Copy)]
+pub(crate) struct Counted {
+    /// The least size without a class so far, or `LARGE_SIZE` if there is none.
+    pub(crate) least: u16,
+    /// What the event does.
+    pub(crate) moved: Moved,
 }
 
 /// Counts the blocks of each class of a table over a timeline. It goes over the events once. The only error is that the allocator refuses
@@ -44,7 +66,8 @@ pub(crate) fn class_peaks(
     // no size below this one lacks a class
     let mut least = LARGE_SIZE;
     for k in 0..events.len() {
-        least = count_event(&mut live, &mut most, &mut firsts, least, events, k, &layout);
+        let counted = count_event(&mut live, &mut most, &mut firsts, least, events, k, &layout);
+        least = counted.least;
     }
     Ok(ClassPeaks {
         most,
@@ -53,9 +76,9 @@ pub(crate) fn class_peaks(
     })
 }
 
-// counts one event more; gives the least size without a class
+/// Counts one event more.
 #[inline(always)]
-fn count_event(
+pub(crate) fn count_event(
     live: &mut [u32],
     most: &mut [u32],
     firsts: &mut [usize],
@@ -63,24 +86,41 @@ fn count_event(
     events: &[SizeEvent],
     k: usize,
     layout: &Layout,
-) -> u16
+) -> Counted
     requires timeline { IsTimeline events.now }
     requires event { k < length events.now }
     requires legal { IsLegalTable 1 layout.now.classes }
     requires live { AreLive events.now layout.now.classes k live.old most.old firsts.old }
     requires least { IsLeastSoFar events.now layout.now.classes k least }
     ensures live { AreLive events.now layout.now.classes (k + 1) live.new most.new firsts.new }
-    ensures least { IsLeastSoFar events.now layout.now.classes (k + 1) result }
+    ensures least { IsLeastSoFar events.now layout.now.classes (k + 1) result.least }
+    ensures moved { IsMoved result.moved live.old most.old live.new most.new }
 {
     let event = events[k];
     let n = event_size(event);
     let Some(number) = counted_class(layout, n) else {
-        return least.min(n);
+        return Counted {
+            least: least.min(n),
+            moved: Moved::Nothing,
+        };
     };
     let count = counted(live[number], event);
+    let moved = moved_by(event, number, most[number] < count);
     live[number] = count;
     note(most, firsts, number, count, k + 1);
-    least
+    Counted { least, moved }
+}
+
+// what an event does to the blocks of its class, of which it may make more than there were
+#[inline(always)]
+fn moved_by(event: SizeEvent, number: usize, is_more: bool) -> Moved
+    ensures { result ≡ moved_by event number is_more }
+{
+    match event {
+        SizeEvent::Free { .. } => Moved::Freed(number),
+        SizeEvent::Request { .. } if is_more => Moved::New(number),
+        SizeEvent::Request { .. } => Moved::Again(number),
+    }
 }
 
 // the number of the class of a size that is counted
@@ -117,8 +157,8 @@ pub(crate) fn zeros(alloc: Global, n: usize) -> Result<Vec<u32>, AllocError>
     vec![in alloc; 0u32; n]
 }
 
-// this many times the moment before any event
-fn no_moments(alloc: Global, n: usize) -> Result<Vec<usize>, AllocError>
+/// This many times the moment before any event. The only error is that the allocator refuses memory.
+pub(crate) fn no_moments(alloc: Global, n: usize) -> Result<Vec<usize>, AllocError>
     ensures { IfOk result (λ moments. moments.items ≡ replicate n 0) }
 {
     vec![in alloc; 0usize; n]

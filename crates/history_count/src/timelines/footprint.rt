@@ -60,8 +60,8 @@ pub fn measure_over(
     })
 }
 
-// the least size without a class, if there is one
-fn unserved_in(least: u16) -> Option<u32>
+/// The least size without a class, if there is one.
+pub(crate) fn unserved_in(least: u16) -> Option<u32>
     ensures some { IfSome result (λ n. (n ≡ least) × (n ≤ largest_counted)) }
     ensures none { IfNone result (largest_counted < least) }
 {

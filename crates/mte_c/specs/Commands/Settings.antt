@@ -3,12 +3,12 @@ use Rattle.std.specs.Prelude.{ℕ, List, [], ◌∷◌, slice_get, Option, optio
 use Rattle.tool_call.specs.Options.{call_of}
 use Rattle.tool_call.specs.declared.call.Call.{Call}
 use Rattle.tool_call.specs.declared.call.CommandName.{CommandName}
-use Rattle.tool_call.specs.declared.call.CommandName.TheVariants.{Score, Tune, Check, Footprint, Fit, CheckFit, Profile, Replay, Run}
+use Rattle.tool_call.specs.declared.call.CommandName.TheVariants.{Score, Tune, Check, Footprint, Fit, CheckFit, Peaks, Profile, Replay, Run}
 use Rattle.tool_call.specs.declared.options.Options.{Options}
 
 -- The commands in the order of their numbers, from 0 on.
 abbrev pub commands : List CommandName
-commands = Score ∷ Tune ∷ Check ∷ Footprint ∷ Fit ∷ CheckFit ∷ Profile ∷ Replay ∷ Run ∷ []
+commands = Score ∷ Tune ∷ Check ∷ Footprint ∷ Fit ∷ CheckFit ∷ Profile ∷ Replay ∷ Run ∷ Peaks ∷ []
 
 -- The call of the command of this number, with those of the options that are its own.
 abbrev pub call_numbered : Options → ℕ → Option Call

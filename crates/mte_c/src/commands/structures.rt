@@ -7,7 +7,8 @@ use crate::commands::faults::{code_of, line_of};
 use handed_text::{BAD_OPTION, DONE, MISUSE, NO, OUT_OF_MEMORY, REFUSED};
 use tool_call::CommandName;
 
-/// The command of this number: `score` 0, `tune` 1, `check` 2, `footprint` 3, `fit` 4, `check_fit` 5, `profile` 6, `replay` 7 and `run` 8.
+/// The command of this number: `score` 0, `tune` 1, `check` 2, `footprint` 3, `fit` 4, `check_fit` 5, `profile` 6, `replay` 7, `run` 8 and `peaks`
+/// 9.
 pub fn command_numbered(number: u8) -> Option<CommandName>
     ensures { result ≡ slice_get commands number }
 {
@@ -21,6 +22,7 @@ pub fn command_numbered(number: u8) -> Option<CommandName>
         6 => Some(CommandName::Profile),
         7 => Some(CommandName::Replay),
         8 => Some(CommandName::Run),
+        9 => Some(CommandName::Peaks),
         _ => None,
     }
 }

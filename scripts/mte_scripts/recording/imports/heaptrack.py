@@ -2,6 +2,7 @@
 
 import re
 from array import array
+from collections import Counter
 
 from mte_scripts import texts
 from mte_scripts.recording import timelines
@@ -105,7 +106,7 @@ def read(source: Source, kind: str) -> Found:
 
 
 def counted(run: Run, kind: str) -> Found:
-    counts = timelines.by_size(run.events[: run.peak_at]) if kind == found.LIVE else timelines.requested(run.events)
+    counts = timelines.by_size(Counter(run.events[: run.peak_at])) if kind == found.LIVE else timelines.requested(Counter(run.events))
     events = f"{len(run.events):,} requests and frees"
     told = [f"heaptrack: {events}. Each size is exact; that of an aligned block is without its alignment"]
     if run.is_attached:

@@ -10,5 +10,5 @@ loop-name-preserved c =
 
 pub returns : goal.returns
 returns c =
-    let all : c.loop-name.name-index ≡ 9 = omega arith in
+    let all : c.loop-name.name-index ≡ 10 = omega arith in
     rw all at c.loop-name.invariant

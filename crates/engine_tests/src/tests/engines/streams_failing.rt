@@ -41,6 +41,11 @@ const CASES: &[Case] = &[
     ),
     Case(Call::CheckFit, FIT, "optimal\n"),
     Case(
+        Call::Peaks,
+        "classes 2\ntimeline\n16\n",
+        "peaks 1\nmoments 1\nlive 32\nfreed 0\n",
+    ),
+    Case(
         Call::Profile,
         "malloc 1 40\ncalloc 2 16369\n",
         "40 1\nlarge 1\n",

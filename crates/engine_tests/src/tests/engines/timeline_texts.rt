@@ -1,4 +1,4 @@
-//! `footprint` and `fit` over timelines, however their text is cut.
+//! `footprint`, `peaks` and `fit` over timelines, however their text is cut.
 use super::pieces::{Case, check};
 use mte_engine::{Call, Limits};
 use std::process::Abort;
@@ -38,6 +38,32 @@ const FOOTPRINTS: &[Case] = &[
     Case::Text("classes 2\ntimelines\n", "", "error 34 BadSnapshots line 2"),
 ];
 
+const PEAKS: &[Case] = &[
+    Case::Text(
+        "classes 2 4\ntimeline\n16\n16\n-16\n40\n",
+        "peaks 2 1\nmoments 2 4\nlive 96\nfreed 1\n",
+        "done",
+    ),
+    Case::Text(
+        "classes 2 8\ntimeline\nlarge\n16\n-16\n16\n-large",
+        "peaks 1 0\nmoments 2 0\nlive 32\nfreed 1\n",
+        "done",
+    ),
+    Case::Text(
+        "classes\ntimeline\n",
+        "peaks\nmoments\nlive 0\nfreed 0\n",
+        "done",
+    ),
+    Case::Text("classes 2\ntimeline\n16\n40", "not serving 40\n", "no"),
+    Case::Text(
+        "classes 2\nsnapshots 1\n",
+        "",
+        "error 37 BadTimeline line 2",
+    ),
+    Case::Text("classes 2", "", "error 37 BadTimeline line 2"),
+    Case::Text("classes 2\ntimeline\n-16\n", "", "error 38 NotLive line 3"),
+];
+
 const FITS: &[Case] = &[
     Case::Text(
         "timeline\n16\n-16\n",
@@ -51,5 +77,6 @@ const FITS: &[Case] = &[
 #[test]
 fn timelines_in_pieces(rt: HostRuntime) -> Result<(), Fail> {
     check(&rt, Call::Footprint, FOOTPRINTS)?;
+    check(&rt, Call::Peaks, PEAKS)?;
     check(&rt, Call::Fit(Limits { limit: 1, step: 1 }, 0), FITS)
 }

@@ -114,6 +114,21 @@ const FOOTPRINTS: &[Case] = &[
     ),
 ];
 
+const PEAKS: &[Case] = &[
+    (
+        b"classes 4",
+        b"timeline\n16\n40\n-16",
+        "peaks 2\nmoments 2\nlive 128\nfreed 1\n",
+        "done",
+    ),
+    (
+        b"classes 4\n",
+        b"timeline\n-16\n",
+        "",
+        "error 38 NotLive line 2",
+    ),
+];
+
 const FIT: &[u8] = b"classes 2 4\nlimit 2\nfootprint 160\nrow 192 64\nrow 160 64\n";
 
 const OVER: &[u8] = b"classes 2\nlimit 1\nfootprint 32\nrow 32\nmoments 1";
@@ -180,7 +195,11 @@ fn two_texts_are_apart(rt: HostRuntime) -> Result<(), Fail> {
     run(&rt, &[(Call::Score, SCORES), (Call::Check, CHECKS)])?;
     run(
         &rt,
-        &[(Call::Footprint, FOOTPRINTS), (Call::CheckFit, FIT_CHECKS)],
+        &[
+            (Call::Footprint, FOOTPRINTS),
+            (Call::Peaks, PEAKS),
+            (Call::CheckFit, FIT_CHECKS),
+        ],
     )?;
     run(&rt, &[(Call::Replay(HEAP), REPLAYS)])
 }

@@ -67,6 +67,17 @@ fn checking_a_fit(rt: HostRuntime) -> Result<(), Fail> {
 }
 
 #[test]
+fn counting_peaks(rt: HostRuntime) -> Result<(), Fail> {
+    let input = "classes 2 4\ntimeline\n16\n16\n-16\n40\n";
+    answers(
+        &rt,
+        Call::Peaks,
+        input,
+        "peaks 2 1\nmoments 2 4\nlive 96\nfreed 1\n",
+    )
+}
+
+#[test]
 fn profiling(rt: HostRuntime) -> Result<(), Fail> {
     let trace = "malloc 1 40\ncalloc 2 16369\n";
     answers(&rt, Call::Profile, trace, "40 1\nlarge 1\n")

@@ -1,6 +1,5 @@
 use Rattle.std.proofs.Common.{◌≡◌, ◌∙◌, arith, length, subst, ℕ}
 use Rattle.std.proofs.lemmas.List.{with_items_is}
-use Rattle.history_count.specs.Timelines.LiveBlocks.{AreLive}
 use Rattle.history_count.specs.Timelines.Requests.{IsLeastSoFar}
 use Rattle.history_count.proofs.TimelineLemmas.Requests.{least_none}
 use Rattle.history_count.proofs.TimelineLemmas.Steps.{all_counted, all_first, all_small, nothing_live}
@@ -15,31 +14,28 @@ loop-k-init c = record {
 
 pub loop-k-preserved : goal.loop-k-preserved
 loop-k-preserved c =
-    let live = with_items_is c.loop-k.live c.count_event-least.new.live (c.count_event-least.auto.live ∙ c.deref_mut.ensures.len) in
-    let most = with_items_is c.loop-k.most c.count_event-least.new.most (c.count_event-least.auto.most ∙ c.deref_mut-in-loop-k.ensures.len) in
-    let firsts = with_items_is c.loop-k.firsts c.count_event-least.new.firsts (c.count_event-least.auto.firsts ∙ c.deref_mut-in-loop-k-2.ensures.len) in
+    let live = with_items_is c.loop-k.live c.count_event-counted.new.live (c.count_event-counted.auto.live ∙ c.deref_mut.ensures.len) in
+    let most = with_items_is c.loop-k.most c.count_event-counted.new.most (c.count_event-counted.auto.most ∙ c.deref_mut-in-loop-k.ensures.len) in
+    let firsts = with_items_is c.loop-k.firsts c.count_event-counted.new.firsts (c.count_event-counted.auto.firsts ∙ c.deref_mut-in-loop-k-2.ensures.len) in
     record {
-      live = rw (live, most, firsts) (rw c.new-layout.ensures at c.count_event-least.ensures.live);
-      least = rw c.new-layout.ensures at c.count_event-least.ensures.least;
+      live = rw (live, most, firsts) (rw c.new-layout.ensures at c.count_event-counted.ensures.live);
+      least = rw c.new-layout.ensures at c.count_event-counted.ensures.least;
     }
 
 pub returns-clause-most : goal.returns-clause-most
 returns-clause-most c =
-    let all : c.loop-k.k ≡ length c.args.events.now = omega arith in
-    all_counted c.args.events.now c.args.table.now c.loop-k.live.items c.loop-k.most.items c.loop-k.firsts.items
-    (subst (λ (k : ℕ). AreLive c.args.events.now c.args.table.now k c.loop-k.live.items c.loop-k.most.items c.loop-k.firsts.items) all c.loop-k.invariant.live)
+    all_counted c.args.events.now c.args.table.now c.loop-k.k c.loop-k.live.items c.loop-k.most.items c.loop-k.firsts.items (omega arith)
+    c.loop-k.invariant.live
 
 pub returns-clause-small : goal.returns-clause-small
 returns-clause-small c =
-    let all : c.loop-k.k ≡ length c.args.events.now = omega arith in
-    all_small c.args.events.now c.args.table.now c.loop-k.live.items c.loop-k.most.items c.loop-k.firsts.items
-    (subst (λ (k : ℕ). AreLive c.args.events.now c.args.table.now k c.loop-k.live.items c.loop-k.most.items c.loop-k.firsts.items) all c.loop-k.invariant.live)
+    all_small c.args.events.now c.args.table.now c.loop-k.k c.loop-k.live.items c.loop-k.most.items c.loop-k.firsts.items (omega arith)
+    c.loop-k.invariant.live
 
 pub returns-clause-firsts : goal.returns-clause-firsts
 returns-clause-firsts c =
-    let all : c.loop-k.k ≡ length c.args.events.now = omega arith in
-    all_first c.args.events.now c.args.table.now c.loop-k.live.items c.loop-k.most.items c.loop-k.firsts.items
-    (subst (λ (k : ℕ). AreLive c.args.events.now c.args.table.now k c.loop-k.live.items c.loop-k.most.items c.loop-k.firsts.items) all c.loop-k.invariant.live)
+    all_first c.args.events.now c.args.table.now c.loop-k.k c.loop-k.live.items c.loop-k.most.items c.loop-k.firsts.items (omega arith)
+    c.loop-k.invariant.live
 
 pub returns-clause-least : goal.returns-clause-least
 returns-clause-least c =

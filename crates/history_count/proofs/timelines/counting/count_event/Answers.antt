@@ -1,8 +1,9 @@
-use Rattle.std.proofs.Common.{get_or, refl, inl, inr}
+use Rattle.std.proofs.Common.{arith, get_or, refl, inl, inr}
 use Rattle.tuner_theory.specs.declared.size_event.SizeEvent.TheVariants.{Request}
 use Rattle.history_count.specs.Timelines.Runs.{size_of}
 use Rattle.history_count.proofs.TimelineLemmas.Requests.{least_kept, least_unserved}
 use Rattle.history_count.proofs.TimelineLemmas.Steps.{event_live, event_step, number_gives_none, number_serves, unserved_step}
+use Rattle.history_count.proofs.TimelineLemmas.TablePeaks.{event_moved}
 use Rattle.history_count.proofs.timelines.counting.count_event.Goals as goal
 
 pub counted-count-requires-clause-live : goal.counted-count-requires-clause-live
@@ -23,6 +24,20 @@ pub returns-in_default-clause-live : goal.returns-in_default-clause-live
 returns-in_default-clause-live c =
     unserved_step c.args.events.now c.args.layout.now.classes c.args.k (get_or c.args.events.now c.args.k (Request 0)) c.args.live.now
     c.args.most.now c.args.firsts.now c.requires.timeline c.requires.event c.requires.live refl (rw c.event_size-n.ensures at c.in_default.ensures.none)
+
+pub returns-clause-moved : goal.returns-clause-moved
+returns-clause-moved c =
+    let found = rw c.event_size-n.ensures at c.in-Some.ensures.some in
+    let are = c.requires.live in
+    let event = get_or c.args.events.now c.args.k (Request 0) in
+    let may = event_live c.args.events.now c.args.layout.now.classes c.args.k c.in-Some.number c.args.live.now c.args.most.now c.args.firsts.now
+    c.requires.timeline c.requires.event are found.2 event refl found.0 found.1 in
+    rw (c.moved_by-moved.ensures, c.note.ensures.most, c.counted-count.ensures)
+    (event_moved event c.args.live.now c.args.most.now c.in-Some.number (omega (arith, are.live_len, found.2))
+    (omega (arith, are.most_len, found.2)) (are.below c.in-Some.number found.2) may)
+
+pub returns-in_default-clause-moved : goal.returns-in_default-clause-moved
+returns-in_default-clause-moved c = (λ j. refl, λ j. refl)
 
 pub returns-clause-least : goal.returns-clause-least
 returns-clause-least c =
