@@ -102,11 +102,22 @@ def run(name: str, main: "str | Callable[[list[str]], int | None]", prints: bool
     except SystemExit as asked:
         status = asked.code or 0  # type: ignore[assignment]  # a text is printed by Python's own end
     except Exception as error:
-        status = fail(name, error)
+        status = end_within(error) or fail(name, error)
     for each in ending:
         _signal.signal(each, _signal.SIG_DFL)
     begin()
     end(name, status)
+
+
+def end_within(error: "BaseException | None") -> int:
+    """The status of an end by a signal in which an error came, as in a library's way out; else 0."""
+    while error:
+        if isinstance(error, KeyboardInterrupt):
+            return INTERRUPTED
+        if isinstance(error, SystemExit) and error.code in (128 + each for each in ENDING):
+            return int(str(error.code))
+        error = error.__context__
+    return 0
 
 
 def leave(number: int, frame: object) -> None:

@@ -9,7 +9,9 @@ not replayed."""
 import re
 from typing import NamedTuple, Optional
 
-LARGEST, MOST, MOST_COUNT = 16_368, 1024, 10**9
+from mte_scripts.formats import LARGEST_SIZE as LARGEST
+
+MOST, MOST_COUNT = 1024, 10**9
 NUMBER = re.compile(rb"0|[1-9][0-9]*")
 NAMES = {23: "BadLine", 20: "TooMany", 21: "OutOfRange", 22: "NotAscending", 30: "BadLine", 31: "NotAscending", 32: "CountOutOfRange",
          34: "BadSnapshots", 35: "WrongLength", 37: "BadTimeline", 38: "NotLive", 48: "BadSheet", 36: "BadFit", 39: "OffStep", 40: "OverLimit",
