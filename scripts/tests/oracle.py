@@ -287,6 +287,25 @@ def priced(text: bytes, word: str) -> "tuple[int, str, str]":
     return (0, f"{word} {cost}\n", "") if cost is not None else (1, f"not serving {size}\n", "")
 
 
+def peaked(text: bytes) -> "tuple[int, str, str]":
+    rows = lines_of(text)
+    classes = class_line(rows)
+    if rows[1:2] != [b"timeline"]:
+        raise Fault(37, 2)
+    counts = timeline(rows[1:], 2)
+    if cost_of(counts, classes)[0] is None:
+        return 1, f"not serving {cost_of(counts, classes)[1]}\n", ""
+    blocks = {each: [0] * (counts.events + 1) for each in classes}
+    for size, numbers in zip(counts.sizes, counts.numbers):
+        found = class_of(size, classes)
+        blocks[found] = [sum(both) for both in zip(blocks[found], numbers)]
+    most = [max(blocks[each]) for each in classes]
+    firsts = [blocks[each].index(peak) for each, peak in zip(classes, most)]
+    live = max(sum(16 * each * blocks[each][at] for each in classes) for at in range(counts.events + 1))
+    freed = max(sum(max(blocks[each][: at + 1]) - blocks[each][at] for each in classes) for at in range(counts.events + 1))
+    return 0, "".join(" ".join(map(str, row)) + "\n" for row in (("peaks", *most), ("moments", *firsts), ("live", live), ("freed", freed))), ""
+
+
 EVENTS = {b"malloc": "VN", b"calloc": "VN", b"realloc": "VN", b"free": "V", b"load": "VOL", b"store": "VOLH", b"addg": "VVGT", b"subg": "VVGT"}
 RANGES = {"V": (0, 1023), "N": (0, 2**31 - 1), "O": (-(2**20), 2**20), "L": (1, 64), "G": (0, 63), "T": (0, 15), "H": (0, 255)}
 
@@ -331,8 +350,8 @@ def answer(command: str, text: bytes, limit: int = 1, step: int = 1, largest_cla
             return priced(text, "waste" if command == "score" else "footprint")
         if command in ("check", "check-fit"):
             return checked(text, "waste" if command == "check" else "footprint")
-        if command == "profile":
-            return profiled(text)
+        if command in ("profile", "peaks"):
+            return profiled(text) if command == "profile" else peaked(text)
         return tuned((profile if command == "tune" else history)(lines_of(text), 1), limit, step, bool(largest_class))
     except Fault as fault:
         return 2, "", str(fault)
