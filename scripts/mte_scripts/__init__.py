@@ -2,6 +2,7 @@
 
 import os
 import sys
+from _frozen_importlib_external import SourceFileLoader  # the module importlib.machinery takes longer to import
 
 
 def byte_code() -> "str | None":
@@ -24,7 +25,24 @@ def byte_code() -> "str | None":
     return path if status.st_uid == own[1] and not status.st_mode & 0o022 else None
 
 
+def write_whole(_: object, path: str, data: bytes, **how: int) -> None:
+    """Puts byte code into the cache, all of it or nothing. Python itself leaves a part of it where the disk is full, which no later run can read."""
+    new = f"{path}.{os.getpid()}"
+    try:
+        os.makedirs(os.path.dirname(path), 0o700, exist_ok=True)
+        try:
+            with open(new, "xb") as file:
+                file.write(data)
+            os.replace(new, path)
+        except BaseException:
+            os.unlink(new)
+            raise
+    except OSError:
+        pass
+
+
 # a script has it off, so that nothing is left beside the sources
 if sys.dont_write_bytecode and not sys.flags.dont_write_bytecode:
     sys.pycache_prefix = byte_code()
     sys.dont_write_bytecode = sys.pycache_prefix is None
+    SourceFileLoader.set_data = write_whole  # type: ignore[method-assign]
