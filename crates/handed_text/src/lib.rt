@@ -6,6 +6,7 @@
 
 mod ends;
 mod filling;
+mod growth;
 mod handle;
 mod held;
 pub mod laws;
@@ -13,5 +14,6 @@ mod parts;
 mod text;
 
 pub use ends::{BAD_OPTION, DONE, MISUSE, NO, OUT_OF_MEMORY, REFUSED};
+pub use growth::{HELD_BYTES, OutOfMemory};
 pub use parts::BoxParts;
 pub use text::HandedText;

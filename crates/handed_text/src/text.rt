@@ -1,12 +1,13 @@
 //! A text that C holds.
-ghost use Rattle.std.specs.Prelude.{◌≡◌, ◌<◌, length, vec_len};
+ghost use Rattle.std.specs.Prelude.{◌≡◌, ◌++◌, ◌<◌, IfErr, OnErr, OnOk, length, vec_len};
 ghost use Rattle.std.specs.Option.{ForNone, ForSome};
 
 use crate::filling::fill;
+use crate::growth::{OutOfMemory, boxed, reserve};
 use crate::handle::Handle;
 use crate::held::Held;
 use crate::parts::BoxParts;
-use std::alloc::{AllocError, Global};
+use std::alloc::Global;
 
 /// A text with its length. All zeros is the empty text, which holds no memory. Dropping a text frees nothing: `clear` does.
 #[repr(C)]
@@ -19,7 +20,8 @@ pub struct HandedText {
 }
 
 impl HandedText {
-    ghost use Rattle.std.specs.Prelude.{None, ◌++◌, [], drop, min, ◌-◌, OnOk, OnErr, false};
+    ghost use Rattle.std.specs.Prelude.{None, [], drop, max, min, ◌-◌, ◌≤◌, false};
+    ghost use Rattle.handed_text.specs.declared.growth.TheConstants.{HELD_BYTES};
     ghost use Rattle.handed_text.specs.Bytes.{IsLeft, bytes_of, filled, is_answer_of};
 
     /// The empty text.
@@ -74,9 +76,10 @@ impl HandedText {
     }
 
     /// Takes these bytes, the answer of a call, in place of its own, whose memory it frees. If memory runs out, the empty text is left.
-    pub fn put(&mut self, alloc: Global, text: Vec<u8>) -> Result<(), AllocError>
+    pub fn put(&mut self, alloc: Global, text: Vec<u8>) -> Result<(), OutOfMemory>
         ensures put { OnOk result (bytes_of self.new ≡ text.items) }
         ensures empty { OnErr result (bytes_of self.new ≡ []) }
+        ensures refused { IfErr result (λ bytes. bytes ≡ HELD_BYTES) }
         ensures left { IsLeft self.new }
     {
         self.clear(alloc);
@@ -85,23 +88,26 @@ impl HandedText {
                 text,
                 is_answer: true,
             };
-            self.close(Box::new(alloc, answer)?);
+            self.close(boxed(alloc, answer)?);
         }
         Ok(())
     }
 
     /// Appends these bytes to an input. If memory runs out, the text stays as it is.
-    pub fn append(&mut self, alloc: Global, piece: &[u8]) -> Result<(), AllocError>
+    pub fn append(&mut self, alloc: Global, piece: &[u8]) -> Result<(), OutOfMemory>
         requires { is_answer_of self.old ≡ false }
         ensures appended { OnOk result (bytes_of self.new ≡ bytes_of self.old ++ piece.now) }
         ensures kept { OnErr result (bytes_of self.new ≡ bytes_of self.old) }
+        ensures refused { IfErr result (λ bytes. bytes ≤ max (length piece.now) HELD_BYTES) }
         ensures input { is_answer_of self.new ≡ false }
     {
         if self.length == 0 {
-            return self.begin(alloc, Vec::from_slice(alloc, piece)?);
+            let mut text = Vec::new(alloc);
+            extend(&mut text, piece)?;
+            return self.begin(alloc, text);
         }
         let mut held = self.open(alloc);
-        let extended = held.text.extend_from_slice(piece);
+        let extended = extend(&mut held.text, piece);
         self.close(held);
         extended
     }
@@ -131,10 +137,11 @@ impl HandedText {
     }
 
     // the first bytes of an input, put into the empty text
-    fn begin(&mut self, alloc: Global, text: Vec<u8>) -> Result<(), AllocError>
+    fn begin(&mut self, alloc: Global, text: Vec<u8>) -> Result<(), OutOfMemory>
         requires { self.old.length ≡ 0 }
         ensures put { OnOk result (bytes_of self.new ≡ text.items) }
         ensures empty { OnErr result (bytes_of self.new ≡ []) }
+        ensures refused { IfErr result (λ bytes. bytes ≡ HELD_BYTES) }
         ensures input { is_answer_of self.new ≡ false }
     {
         if !text.is_empty() {
@@ -142,7 +149,7 @@ impl HandedText {
                 text,
                 is_answer: false,
             };
-            self.close(Box::new(alloc, held)?);
+            self.close(boxed(alloc, held)?);
         }
         Ok(())
     }
@@ -172,4 +179,16 @@ impl HandedText {
             length,
         };
     }
+}
+
+// appends the piece to the text, which stays as it is if memory runs out
+fn extend(text: &mut Vec<u8>, piece: &[u8]) -> Result<(), OutOfMemory>
+    ensures extended { OnOk result (text.new.items ≡ text.old.items ++ piece.now) }
+    ensures kept { OnErr result (text.new.items ≡ text.old.items) }
+    ensures asked { IfErr result (λ bytes. bytes ≡ length piece.now) }
+{
+    reserve(text, piece.len())?;
+    // with room there, this call does not fail
+    let _ = text.extend_from_slice(piece);
+    Ok(())
 }

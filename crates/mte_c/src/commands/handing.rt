@@ -67,7 +67,7 @@ fn ended_with(alloc: Global, ended: Ended, written: Vec<u8>, text: &mut HandedTe
 {
     match text.put(alloc, written) {
         Ok(()) => ended,
-        Err(AllocError) => Ended::OutOfMemory,
+        Err(_) => Ended::OutOfMemory,
     }
 }
 
