@@ -17,7 +17,7 @@ from mte_scripts.gate.planted import Plant
 from mte_scripts.places import ROOT
 
 SECONDS = 900  # of one check, before its plants are tried in halves
-MOST = 24  # in one check, so that a part of the checks can be small
+MOST = 24  # in one check
 # set once the run is to end: no check is begun then
 ENDED = threading.Event()
 LINE = re.compile(r"^(?:fn|struct|enum) (\S+?): (.*)")
@@ -186,11 +186,11 @@ def tried(copy: Copy, plants: "list[Plant]") -> "dict[Plant, Verdict]":
     return found
 
 
-def rounds(plants: "list[Plant]") -> "list[list[Plant]]":
-    """The wrong bodies in turns, in each of which a function has one at most."""
+def rounds(plants: "list[Plant]", most: int = MOST) -> "list[list[Plant]]":
+    """The wrong bodies in turns of so many at most, in each of which a function has one at most."""
     turns: list[list[Plant]] = []
     for plant in plants:
-        free = [it for it in turns if len(it) < MOST and (plant.path, plant.of) not in {(other.path, other.of) for other in it}]
+        free = [it for it in turns if len(it) < min(most, MOST) and (plant.path, plant.of) not in {(other.path, other.of) for other in it}]
         if free:
             free[0].append(plant)
         else:

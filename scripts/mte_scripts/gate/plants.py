@@ -50,7 +50,7 @@ from mte_scripts.words import Words, between
 KNOWN = os.path.join(os.path.dirname(os.path.realpath(__file__)), "plants.txt")
 ROW = re.compile(r"^(proves|no-ensures) +(\S+?):\d+ (.*?)(?:  \(and in \d+ more impls\))?$")
 FIGURES = ("refused", "proves", "same", "not-judged", "not-run")
-SECONDS = 300  # of processor time, which a part is estimated to take at most
+SECONDS, CHECK_SECONDS = 300, 90  # of processor time, which a part and a check of it are estimated to take at most
 WORDS = {plant_rounds.PASSES: "THROUGH", plant_rounds.REFUSED: "GONE", plant_rounds.BAD: "BAD"}
 DOCUMENT = os.path.join(ROOT, "docs", "MUST_FAIL.md")
 HEAD = "| Crate | Planted | Refused | Equivalent | Open |\n|---|---:|---:|---:|---:|\n"
@@ -136,8 +136,11 @@ def verdicts(plants: "dict[str, list[Plant]]", jobs: int, log: "str | None") -> 
 def parts_of(plants: "dict[str, list[Plant]]", seconds: "dict[str, float]") -> "list[dict[str, list[Plant]]]":
     """All checks in parts that are estimated to take about the same time, at most SECONDS: the longest check first, each into the part that
     has the least. The checks of a crate go into parts of their own as far as there are some, since they are done one after the other."""
-    other = max(seconds.values(), default=1.0)
-    turns = [(seconds.get(crate, other) * len(turn), crate, turn) for crate, its in plants.items() for turn in plant_rounds.rounds(its)]
+    other, turns = max(seconds.values(), default=1.0), []
+    for crate, its in plants.items():
+        each = seconds.get(crate, other)
+        # a check by itself takes about as long as two wrong bodies
+        turns += [(each * (len(turn) + 2), crate, turn) for turn in plant_rounds.rounds(its, max(1, int(CHECK_SECONDS / each)))]
     parts: list[dict[str, list[Plant]]] = [{} for _ in range(math.ceil(sum(cost for cost, _, _ in turns) / SECONDS))]
     costs = [0.0] * len(parts)
     for cost, crate, turn in sorted(turns, key=lambda it: -it[0]):
