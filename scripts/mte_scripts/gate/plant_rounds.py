@@ -4,6 +4,7 @@ has a wrong body too, it is tried again without that one."""
 
 import os
 import re
+import resource
 import shutil
 import subprocess
 import threading
@@ -16,7 +17,7 @@ from mte_scripts.gate.planted import Plant
 from mte_scripts.places import ROOT
 
 SECONDS = 900  # of one check, before its plants are tried in halves
-MOST = 24  # in one check, so that a tenth of the checks is about a tenth of the time
+MOST = 24  # in one check
 # set once the run is to end: no check is begun then
 ENDED = threading.Event()
 LINE = re.compile(r"^(?:fn|struct|enum) (\S+?): (.*)")
@@ -55,6 +56,12 @@ def module_of(plant: Plant) -> str:
     return plant.crate if inner in ("lib", "main") else f"{plant.crate}::{inner}"
 
 
+def seconds_used() -> float:
+    """The processor time of the checks that ended."""
+    used = resource.getrusage(resource.RUSAGE_CHILDREN)
+    return used.ru_utime + used.ru_stime
+
+
 class Copy:
     """A copy of a crate and those below it, in which wrong bodies are written and checked."""
 
@@ -88,6 +95,7 @@ class Copy:
         self.write(plants)
         names = sorted({self.asked(it) for it in plants})
         command = ["rt", "check", *(word for name in names for word in ("--only", name)), "--jobs", "1"]
+        before = seconds_used()
         try:
             done = subprocess.run(command, cwd=self.folder, stdin=subprocess.DEVNULL, stdout=subprocess.PIPE, stderr=subprocess.STDOUT,
                                   text=True, errors="replace", timeout=SECONDS)
@@ -95,7 +103,8 @@ class Copy:
             return None
         if self.log:
             with open(self.log, "a", encoding="utf-8") as file:
-                file.write(f"=== {self.crate}: {' '.join(it.name for it in plants)}\n{done.stdout}\n")
+                said = f"{self.crate}: {' '.join(it.name for it in plants)}"
+                file.write(f"=== {said}\n{done.stdout}\n--- {seconds_used() - before:.0f} s\n")
         return done.stdout
 
     def asked(self, plant: Plant) -> str:
@@ -177,11 +186,11 @@ def tried(copy: Copy, plants: "list[Plant]") -> "dict[Plant, Verdict]":
     return found
 
 
-def rounds(plants: "list[Plant]") -> "list[list[Plant]]":
-    """The wrong bodies in turns, in each of which a function has one at most."""
+def rounds(plants: "list[Plant]", most: int = MOST) -> "list[list[Plant]]":
+    """The wrong bodies in turns of so many at most, in each of which a function has one at most."""
     turns: list[list[Plant]] = []
     for plant in plants:
-        free = [it for it in turns if len(it) < MOST and (plant.path, plant.of) not in {(other.path, other.of) for other in it}]
+        free = [it for it in turns if len(it) < min(most, MOST) and (plant.path, plant.of) not in {(other.path, other.of) for other in it}]
         if free:
             free[0].append(plant)
         else:

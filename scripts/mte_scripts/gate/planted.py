@@ -139,5 +139,7 @@ def faults(crate: str, root: str = ROOT) -> "Iterator[str]":
             text = source(plant, root)
             if planted(text, plant) == text:
                 raise Unread("it changes nothing")
+            if "::" in plant.of and sum(it.name == plant.of.rpartition("::")[2] for it in functions(text)) == 1:
+                raise Unread(f"`{plant.of}` is the only function of its name: `of:` has the name alone")
         except Unread as unread:
             yield f"{crate}, {plant.name}: {unread}"

@@ -5,13 +5,15 @@ Usage: plants [--jobs N] [--log FILE] [--part N] [CRATE..]
        plants --check | --table | --write
 
 The wrong bodies are crates/CRATE/plants/*.plant. Many are tried in one check of a copy of the crate, one in each function. With no CRATE it is
-each crate that has some. The last line of a crate has how many were tried, and how many were refused. Before it a line is printed for
+each crate that has some. The last line of a crate has how many were tried, how many were refused, and with one job the processor time. Before
+it a line is printed for
 
   THROUGH  a wrong body that is proved, and has no line `passes:` with a reason
   GONE     one that is refused, and has such a line
   BAD      one that can't be tried: it does not compile, or a proof names what it took away
 
-  --part N      those of the Nth of ten parts alone, 0 to 9; each part has a tenth of the checks
+  --part N      those of one part of the checks alone, for about five minutes of processor time: the Nth from 0 on, and the first one again
+                after the last one. It prints which part it is, and of how many
   --jobs N      so many crates are tried side by side, 1 if left out
   --log FILE    what the checks said
   --tool        tries the wrong bodies of `rt plant` instead. What it lets through is compared with scripts/mte_scripts/gate/plants.txt, where
@@ -29,6 +31,7 @@ Exit status:
 """
 
 import collections
+import math
 import os
 import re
 import subprocess
@@ -47,26 +50,29 @@ from mte_scripts.words import Words, between
 KNOWN = os.path.join(os.path.dirname(os.path.realpath(__file__)), "plants.txt")
 ROW = re.compile(r"^(proves|no-ensures) +(\S+?):\d+ (.*?)(?:  \(and in \d+ more impls\))?$")
 FIGURES = ("refused", "proves", "same", "not-judged", "not-run")
-PARTS = 10
+SECONDS, CHECK_SECONDS = 300, 90  # of processor time, which a part and a check of it are estimated to take at most
 WORDS = {plant_rounds.PASSES: "THROUGH", plant_rounds.REFUSED: "GONE", plant_rounds.BAD: "BAD"}
 DOCUMENT = os.path.join(ROOT, "docs", "MUST_FAIL.md")
 HEAD = "| Crate | Planted | Refused | Equivalent | Open |\n|---|---:|---:|---:|---:|\n"
 
-Known = namedtuple("Known", "figures reasons")
+Known = namedtuple("Known", "figures seconds reasons")
 
 
 def known() -> Known:
-    """The figures of each crate, and the reason of each wrong body of `rt plant` that is known, by crate and body."""
-    figures, reasons = {}, {}
+    """Of each crate the figures of `rt plant` and the processor time that one of our wrong bodies takes, and the reason of each wrong body of
+    `rt plant` that is known, by crate and body."""
+    figures, seconds, reasons = {}, {}, {}
     with open(KNOWN, encoding="utf-8") as file:
         for line in file:
             crate, _, rest = line.rstrip("\n").partition("  ")
             if rest.startswith("figures "):
                 figures[crate] = dict(zip(FIGURES, map(int, rest.split()[1:])))
+            elif rest.startswith("seconds "):
+                seconds[crate] = float(rest.split()[1])
             elif rest:
                 body, _, reason = rest.partition("  -- ")
                 reasons[crate, body] = reason
-    return Known(figures, reasons)
+    return Known(figures, seconds, reasons)
 
 
 def planted_by_tool(crate: str, minutes: int) -> "tuple[list[str], list[str]]":
@@ -98,7 +104,7 @@ def by_tool(names: "list[str]", minutes: int) -> int:
 
 def by_hand(plants: "dict[str, list[Plant]]", jobs: int, log: "str | None") -> int:
     """Tries these wrong bodies of each crate, and prints those whose verdict is not what their lines say."""
-    wrong = 0
+    wrong, before = 0, plant_rounds.seconds_used()
     for crate, found in verdicts(plants, jobs, log):
         for plant in plants[crate]:
             kind, why = found[plant]
@@ -107,7 +113,9 @@ def by_hand(plants: "dict[str, list[Plant]]", jobs: int, log: "str | None") -> i
                 more = f" ({why[:300]})" if kind == plant_rounds.BAD else ""
                 print(f"{WORDS[kind]:8} {crate}, {plant.name} of {plant.of}: {plant.what}{more}")
         refused = sum(it.kind == plant_rounds.REFUSED for it in found.values())
-        print(f"{crate}: {len(found)} tried, {refused} refused", flush=True)
+        used = plant_rounds.seconds_used()
+        print(f"{crate}: {len(found)} tried, {refused} refused{f', {used - before:.0f} s' if jobs == 1 else ''}", flush=True)
+        before = used
     return int(wrong > 0)
 
 
@@ -125,13 +133,29 @@ def verdicts(plants: "dict[str, list[Plant]]", jobs: int, log: "str | None") -> 
             raise
 
 
-def part_of(plants: "dict[str, list[Plant]]", part: int) -> "dict[str, list[Plant]]":
-    """The wrong bodies of every tenth check."""
-    turns = [(crate, turn) for crate, its in plants.items() for turn in plant_rounds.rounds(its)]
-    found: dict[str, list[Plant]] = {}
-    for crate, turn in turns[part::PARTS]:
-        found.setdefault(crate, []).extend(turn)
-    return found
+def parts_of(plants: "dict[str, list[Plant]]", seconds: "dict[str, float]") -> "list[dict[str, list[Plant]]]":
+    """All checks in parts that are estimated to take about the same time, at most SECONDS: the longest check first, each into the part that
+    has the least. The checks of a crate go into parts of their own as far as there are some, since they are done one after the other."""
+    other, turns = max(seconds.values(), default=1.0), []
+    for crate, its in plants.items():
+        each = seconds.get(crate, other)
+        # a check by itself takes about as long as two wrong bodies
+        turns += [(each * (len(turn) + 2), crate, turn) for turn in plant_rounds.rounds(its, max(1, int(CHECK_SECONDS / each)))]
+    parts: list[dict[str, list[Plant]]] = [{} for _ in range(math.ceil(sum(cost for cost, _, _ in turns) / SECONDS))]
+    costs = [0.0] * len(parts)
+    for cost, crate, turn in sorted(turns, key=lambda it: -it[0]):
+        least = min(range(len(parts)), key=lambda it: (crate in parts[it], costs[it]))
+        parts[least].setdefault(crate, []).extend(turn)
+        costs[least] += cost
+    return parts
+
+
+def part_of(plants: "dict[str, list[Plant]]", number: int) -> "dict[str, list[Plant]]":
+    """The wrong bodies of one part, which it prints."""
+    parts = parts_of(plants, known().seconds)
+    number %= len(parts)
+    print(f"part {number} of 0 to {len(parts) - 1}: {', '.join(f'{crate} {len(its)}' for crate, its in parts[number].items())}", flush=True)
+    return parts[number]
 
 
 def is_to_try(crate: str) -> bool:
@@ -175,14 +199,16 @@ def write() -> int:
 
 
 def check(names: "list[str]") -> int:
+    seconds = known().seconds
     found = [fault for crate in names for fault in planted.faults(crate)]
+    found += [f"{it}: plants.txt has no seconds for it" for it in names if it not in seconds and planted.plants_of(it)]
     for fault in found:
         print(f"plants: {fault}", file=sys.stderr)
     return int(bool(found))
 
 
 def plants(words: "list[str]") -> int:
-    parser = Words(__doc__, "crates", {"minutes": 10, "jobs": 1}, minutes=between(1, 10_000), jobs=between(1, 64), part=between(0, PARTS - 1))
+    parser = Words(__doc__, "crates", {"minutes": 10, "jobs": 1}, minutes=between(1, 10_000), jobs=between(1, 64), part=between(0, 10_000_000))
     options = parser.take(words)
     crates = CrateList(ROOT)
     if unknown := [it for it in options.crates if it not in crates.stands_on]:
