@@ -209,9 +209,9 @@ def forms(draw: random.Random, folder: str) -> "list[list[str]]":
 
 def expect_end(seed: str, words: "list[str]", ends: "tuple[int, ...]", done: "tuple[int, bytes, bytes]") -> None:
     """How a script may end: with one of these statuses, and with a reason that was foreseen."""
-    is_early = done[0] < 0  # the signal came before a script's handlers stood
-    is_foreseen = is_early or b"not foreseen" not in done[2] and b"Traceback" not in done[2]
-    expect(f"{seed}: {' '.join(words)}: its end", done[0] in ends and is_foreseen and (done[0] not in (2, 3) or done[2]), done[0], done[1][-300:], done[2][-500:])
+    is_early = done[0] < 0 or b"Python runtime state" in done[2]  # a signal came before a script's first lines
+    is_foreseen = b"not foreseen" not in done[2] and b"Traceback" not in done[2] and (done[0] not in (2, 3) or done[2])
+    expect(f"{seed}: {' '.join(words)}: its end", is_early or done[0] in ends and is_foreseen, done[0], done[1][-300:], done[2][-500:])
 
 
 def attack_files(draw: random.Random, folder: str, seed: str) -> None:
