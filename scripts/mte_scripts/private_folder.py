@@ -12,6 +12,7 @@ A shell script calls it:
     scripts/step private_folder remove NAME "$work"
 """
 
+import _signal  # the module signal alone takes longer to import than this one
 import contextlib
 import errno
 import os
@@ -21,6 +22,7 @@ from _collections_abc import Callable, Iterator
 from mte_scripts.running import Refused
 
 MOST_LINKS = 40
+WAITING = (_signal.SIGINT, _signal.SIGTERM, _signal.SIGHUP)
 LOOK = os.O_PATH | os.O_NOFOLLOW | os.O_CLOEXEC
 LIST = os.O_RDONLY | os.O_DIRECTORY | os.O_NOFOLLOW | os.O_CLOEXEC
 CREATE = os.O_WRONLY | os.O_CREAT | os.O_EXCL | os.O_NOFOLLOW | os.O_CLOEXEC
@@ -259,11 +261,14 @@ class Folder(Place):
 
     def close(self) -> None:
         if not self.keep:
+            before = _signal.pthread_sigmask(_signal.SIG_BLOCK, WAITING)  # a signal waits until all is removed
             with contextlib.suppress(OSError):
                 empty(self.descriptor)
                 named = os.stat(self.name, dir_fd=self.place.descriptor, follow_symlinks=False)
                 if os.path.samestat(named, os.fstat(self.descriptor)):  # the name is still its own
                     os.rmdir(self.name, dir_fd=self.place.descriptor)
+            self.keep = True
+            _signal.pthread_sigmask(_signal.SIG_SETMASK, before)
         super().close()
         self.place.close()
 

@@ -275,6 +275,8 @@ def attack_disk(draw: random.Random, folder: str, seed: str) -> None:
 class Attacks(checks.Part):
     """Rounds, so many or for so many minutes; another number of a seed may be given."""
 
+    of_scripts = (attack_files, attack_disk)  # a signal at any moment comes in the long tests alone
+
     def attack(self, rounds: int, minutes: float) -> None:
         program, begun = checks.built(), time.monotonic()
         os.environ["MTE_TOOL"] = program
@@ -291,7 +293,7 @@ class Attacks(checks.Part):
         for _ in range(EACH):
             for attack in (attack_answers, attack_certificates, attack_timelines, attack_library):
                 attack(draw, program, plain, f"seed {seed}")
-        for of_script in (attack_files, attack_signals, attack_disk):
+        for of_script in type(self).of_scripts:
             with tempfile.TemporaryDirectory() as folder:
                 of_script(draw, folder, f"seed {seed}")
 
