@@ -262,13 +262,15 @@ class Folder(Place):
     def close(self) -> None:
         if not self.keep:
             before = _signal.pthread_sigmask(_signal.SIG_BLOCK, WAITING)  # a signal waits until all is removed
-            with contextlib.suppress(OSError):
-                empty(self.descriptor)
-                named = os.stat(self.name, dir_fd=self.place.descriptor, follow_symlinks=False)
-                if os.path.samestat(named, os.fstat(self.descriptor)):  # the name is still its own
-                    os.rmdir(self.name, dir_fd=self.place.descriptor)
-            self.keep = True
-            _signal.pthread_sigmask(_signal.SIG_SETMASK, before)
+            try:
+                with contextlib.suppress(OSError):
+                    empty(self.descriptor)
+                    named = os.stat(self.name, dir_fd=self.place.descriptor, follow_symlinks=False)
+                    if os.path.samestat(named, os.fstat(self.descriptor)):  # the name is still its own
+                        os.rmdir(self.name, dir_fd=self.place.descriptor)
+            finally:
+                self.keep = True
+                _signal.pthread_sigmask(_signal.SIG_SETMASK, before)
         super().close()
         self.place.close()
 
