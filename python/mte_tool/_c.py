@@ -65,19 +65,15 @@ def found() -> str:
     return named or NAMES[0]
 
 
-def loaded(path: str) -> ctypes.CDLL:
-    """The library at a path, with the types of its functions."""
-    try:
-        library = ctypes.CDLL(path)
-    except OSError as error:
-        raise ImportError(f"the library of mte_tool can't be loaded: {error}; MTE_TOOL_LIBRARY=FILE says where it is") from None
+def calls() -> "dict[str, list[Any]]":
+    """The parameters of each call that returns how it ended."""
     to: Any = ctypes.POINTER
     options, result, text, heap, outcome = to(Options), to(Result), to(Text), HeapPointer, to(Outcome)
     profile, history, timeline = to(Profile), to(History), to(Timeline)
     classes, rows, moments = to(c_uint16), to(c_uint64), to(c_uint32)
     table, room = [classes, c_size_t], [classes, c_size_t, rows, c_size_t]
     claim = [classes, c_size_t, c_uint64, rows, c_size_t]
-    types: "dict[str, list[Any]]" = {
+    return {
         **{name: [options, *inputs * [c_char_p, c_size_t], text, result] for name, inputs in COMMANDS.items()},
         "score_profile": [options, *table, profile, result],
         "footprint_history": [options, *table, history, result],
@@ -100,19 +96,27 @@ def loaded(path: str) -> ctypes.CDLL:
         "heap_granule": [heap, c_uint64, outcome],
         "heap_addg": [heap, c_uint64, c_uint64, c_uint64, outcome],
     }
-    for name, arguments in types.items():
-        function = getattr(library, f"mte_tool_{name}")
-        function.argtypes, function.restype = arguments, c_int
-    others: "dict[str, tuple[list[Any], Any]]" = {
-        "text_free": ([text], None),
-        "heap_close": ([heap], None),
-        "version": ([], c_char_p),
-        "version_number": ([], c_uint32),
-        "end_sentence": ([c_int], c_char_p),
-        "code_sentence": ([c_uint32], c_char_p),
-        "code_name": ([c_uint32], c_char_p),
-    }
-    for name, (takes, gives) in others.items():
+
+
+# the parameters of the others, and what they return
+OTHERS: "dict[str, tuple[list[Any], Any]]" = {
+    "text_free": ([ctypes.POINTER(Text)], None),
+    "heap_close": ([HeapPointer], None),
+    "version": ([], c_char_p),
+    "version_number": ([], c_uint32),
+    "end_sentence": ([c_int], c_char_p),
+    "code_sentence": ([c_uint32], c_char_p),
+    "code_name": ([c_uint32], c_char_p),
+}
+
+
+def loaded(path: str) -> ctypes.CDLL:
+    """The library at a path, with the types of its functions."""
+    try:
+        library = ctypes.CDLL(path)
+    except OSError as error:
+        raise ImportError(f"the library of mte_tool can't be loaded: {error}; MTE_TOOL_LIBRARY=FILE says where it is") from None
+    for name, (takes, gives) in {**{name: (takes, c_int) for name, takes in calls().items()}, **OTHERS}.items():
         function = getattr(library, f"mte_tool_{name}")
         function.argtypes, function.restype = takes, gives
     return library

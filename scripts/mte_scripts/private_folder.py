@@ -245,12 +245,16 @@ def look_at(path: str, flags: int) -> int:
     return os.open(path, flags | os.O_NOFOLLOW | os.O_NONBLOCK | os.O_CLOEXEC)
 
 
+# The names of folders that are to be removed, each with the place where it is.
+unremoved: "dict[str, Place]" = {}
+
+
 class Folder(Place):
-    """A new folder of the user's alone. `close` removes what is in it and then itself, by descriptors, unless `keep` is set."""
+    """A new folder of the user's alone. `close` removes what is in it and then itself, by descriptors, unless `keep` was called."""
 
     def __init__(self, place: Place, name: str) -> None:
         super().__init__(os.open(name, LIST, dir_fd=place.descriptor), place.file(name))
-        self.place, self.name, self.keep = place, name, False
+        self.place, self.name, self.is_kept = place, name, False
         status = os.fstat(self.descriptor)
         if status.st_uid != os.geteuid() or status.st_mode & 0o077:
             super().close()
@@ -259,8 +263,12 @@ class Folder(Place):
     def __enter__(self) -> "Folder":
         return self
 
+    def keep(self) -> None:
+        self.is_kept = True
+        unremoved.pop(self.name, None)
+
     def close(self) -> None:
-        if not self.keep:
+        if not self.is_kept:
             before = _signal.pthread_sigmask(_signal.SIG_BLOCK, WAITING)  # a signal waits until all is removed
             try:
                 with contextlib.suppress(OSError):
@@ -269,7 +277,7 @@ class Folder(Place):
                     if os.path.samestat(named, os.fstat(self.descriptor)):  # the name is still its own
                         os.rmdir(self.name, dir_fd=self.place.descriptor)
             finally:
-                self.keep = True
+                self.keep()
                 _signal.pthread_sigmask(_signal.SIG_SETMASK, before)
         super().close()
         self.place.close()
@@ -295,8 +303,18 @@ def empty(descriptor: int) -> None:
 def new_folder(place: Place) -> Folder:
     """A new folder in a place that was tested."""
     name = f"mte_tool.{os.urandom(8).hex()}"
+    unremoved[name] = place
     make_folder(place, name)
     return Folder(place, name)
+
+
+def remove_left() -> None:
+    """Removes, at the end of the process, the folders that nobody closed: a signal may come before a `with` begins or as it ends."""
+    if unremoved:
+        _signal.pthread_sigmask(_signal.SIG_BLOCK, WAITING)
+        for name, place in list(unremoved.items()):
+            with contextlib.suppress(NotPrivate, OSError):
+                Folder(place, name).close()
 
 
 def temporary_folder() -> Folder:
@@ -332,7 +350,7 @@ def remove_named(path: str) -> None:
 def main(words: list) -> None:
     if words[:1] == ["make"] and len(words) == 2:
         folder = temporary_folder()
-        folder.keep = True
+        folder.keep()
         print(folder.path)
     elif words[:1] == ["remove"] and len(words) == 3:
         remove_named(words[2])

@@ -103,6 +103,9 @@ def run(name: str, main: "str | Callable[[list[str]], int | None]", prints: bool
         status = asked.code or 0  # type: ignore[assignment]  # a text is printed by Python's own end
     except Exception as error:
         status = end_within(error) or fail(name, error)
+    folders = sys.modules.get("mte_scripts.private_folder")
+    if hasattr(folders, "remove_left"):  # it is imported whole
+        folders.remove_left()
     for each in ending:
         _signal.signal(each, _signal.SIG_DFL)
     begin()

@@ -242,14 +242,19 @@ def add_row(rows: dict, key: object, counts: "list[int]", factor: int = 1) -> No
     rows[key] = list(map(operator.add, rows[key], more)) if key in rows else list(more)
 
 
+def first_line(data: bytes) -> bytes:
+    """Its first line, without a copy of the others."""
+    return data[: data.find(b"\n")] if b"\n" in data else data
+
+
 def is_history(data: bytes) -> bool:
     """Whether a text that begins with these bytes is a history, or means to be one."""
-    return data.split(b"\n", 1)[0].split(b" ", 1)[0] == b"snapshots"
+    return first_line(data).split(b" ", 1)[0] == b"snapshots"
 
 
 def is_timeline(data: bytes) -> bool:
     """Whether a text that begins with these bytes is a timeline, or means to be one."""
-    return data.split(b"\n", 1)[0].rstrip(b"\r ") == b"timeline"
+    return first_line(data).rstrip(b"\r ") == b"timeline"
 
 
 def parse_history(data: bytes, name: str = "the history") -> History:
@@ -403,7 +408,7 @@ def shown(text: bytes) -> str:
 def class_line(path: str) -> "list[int] | None":
     """The classes of the first line of a file, which may be a sheet, in granules."""
     text = read(path, MOST_INPUT)  # and not the first line alone: what writes the rest would fail
-    return parse_class_line(text.split(b"\n", 1)[0] if text else None, named(path))
+    return parse_class_line(first_line(text) if text else None, named(path))
 
 
 def parse_class_line(text: "str | bytes", name: str = "the class line") -> list[int]:
@@ -487,7 +492,7 @@ def joined(first: "str | bytes", second: "str | bytes", name: str = "the first t
         rows = SHEET_WORDS.index(b"row")
         at = next((k for k in range(1, len(lines)) if places[k] < places[k - 1] or places[k] == places[k - 1] != rows), 0)
         raise Refused(2, f"{name}: line {at + 1}: no {kind} has this line here")
-    if second.split(b"\n", 1)[0].split(b" ", 1)[0] in (b"row", b"moments"):
+    if first_line(second).split(b" ", 1)[0] in (b"row", b"moments"):
         raise Refused(2, f"what comes after {name} begins with a line of a sheet: {shown(lines_of(second)[0])}")
     return b"".join(line + b"\n" for line in lines) + second
 
@@ -531,7 +536,10 @@ def program() -> str:
 def mte_tool(words: list[str], given: bytes = b"") -> tuple[int, bytes, str]:
     """Runs the program over these bytes: its status, its output, and its standard error as text."""
     try:
-        done = subprocess.run([program(), *words], input=given, stdout=subprocess.PIPE, stderr=subprocess.PIPE)
+        with open(os.memfd_create("given"), "w+b") as file:  # a pipe would take a piece of it at a time
+            file.write(given)
+            file.seek(0)
+            done = subprocess.run([program(), *words], stdin=file, stdout=subprocess.PIPE, stderr=subprocess.PIPE)
     except OSError as error:
         raise Refused(3, f"{program()} can't be run: {error.strerror}") from None
     return done.returncode, done.stdout, done.stderr.decode(errors="replace").strip()

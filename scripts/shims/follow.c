@@ -28,10 +28,11 @@
 #include "traced.h"
 
 enum { PATIENCE = 2000, WHILE_FULL = 500, ABOUT_TO_END = 200, SAMPLES = 20, LOOKS = 10, LEFT = 32, NAMED = 16, LOOKED_AT = 8 };  // milliseconds, samples, processes
+enum { PROFILE, WANTED, MOMENTS, UPPER, SITES, EVENTS, TEXTS };  // the texts: of MOMENTS are the numbers; sites.h has SITES, and kept.h EVENTS
 // mte_scripts/recording/notes.py reads it
 static struct notes {
   uint64_t version;                            // how often the texts were written; 0 while there are none
-  uint64_t profile, text, upper, at;           // the bytes of the profile, of what else is wanted, of the upper history, and of the moments' numbers
+  uint64_t bytes[TEXTS];
   uint64_t status, error;                      // the program's, as a shell has it; why it could not be run
   uint64_t started, executed;                  // whether there is a process that is followed; how many ran another program at last, unseen
   uint64_t requests, live;                     // of all that are counted; the bytes that are live
@@ -42,7 +43,6 @@ static struct notes {
   uint64_t events, snapshots, is_cut;          // of a timeline, and whether it became a history; of a trace, and whether it is cut
   uint64_t variables, shared;                  // of a trace: blocks with a variable of their own and without
   uint64_t left, processes[LEFT];              // those that run on; as many of them as there is room for
-  uint64_t sites, codes;                       // the bytes of what sites.h writes after the upper history, and of the events after that
   int64_t taken[TABLES];                       // the bytes that each table of TABLES takes over the run
   char why[128];                               // why nothing is followed
   char allocator[NAME] __attribute__((aligned(NAME)));
@@ -358,43 +358,47 @@ static void note(void) {
   memcpy(notes->refused, stream->refused, sizeof notes->refused), memcpy(notes->allocator, stream->allocator, NAME);
 }
 
+static long written;  // bytes of the texts, with the notes
+
+static void end_text(FILE *to, int text) {
+  long before = written;
+  written = ftell(to), notes->bytes[text] = written - before;
+}
+
+static void write_wanted(FILE *to) {
+  if (most_traced) {
+    fwrite(trace.text, 1, trace.length, to);
+    notes->events = trace.events, notes->variables = trace.variables, notes->shared = trace.shared;
+    notes->is_cut = trace.has_ended, notes->wrong = trace.wrong;
+  } else if (record_of && kept.is_reduced) {
+    reduce_pieces(), write_moments(to, 0);
+    for (int t = 0; t < given_tables; t++) notes->taken[t] = taken_by(&tables[number_of_tables - given_tables + t]);
+  } else if (record_of) {
+    if (kept.events) write_timeline(to);
+  } else if (*wanted == 'h') {
+    number_chosen = 0, choose_all(snapshots, number_of_snapshots), choose(&kept.peak), write_history(to);
+  }
+}
+
 static void write_texts(void) {
   if (kept.is_open) follow_peak();
   if (ftruncate(found, PAGE) || lseek(found, PAGE, SEEK_SET) < 0) give_up("there is no room for what is recorded");
   FILE *to = fdopen(fcntl(found, F_DUPFD_CLOEXEC, 0), "w");
   if (!to) give_up("it has no memory");
   setvbuf(to, NULL, _IOFBF, 1 << 20);
-  static uint64_t numbers[MOST_SNAPSHOTS];
-  int is_all = !strcmp(wanted, "all");
-  write_profile(to, is_all ? all : NULL);
-  long profile = ftell(to) - PAGE;
-  notes->events = kept.events, notes->snapshots = 0, notes->is_cut = kept.is_reduced && record_of == RECORDS;
-  if (most_traced) {
-    fwrite(trace.text, 1, trace.length, to);
-    notes->events = trace.events, notes->variables = trace.variables, notes->shared = trace.shared;
-    notes->is_cut = trace.has_ended, notes->wrong = trace.wrong;
-  } else if (record_of && kept.is_reduced) {
-    reduce_pieces();
-    write_moments(to, 0), notes->snapshots = number_chosen;
-    for (int k = 0; k < number_chosen; k++) numbers[k] = chosen[k]->at;
-    for (int t = 0; t < given_tables; t++) notes->taken[t] = taken_by(&tables[number_of_tables - given_tables + t]);
-  } else if (record_of) {
-    if (kept.events) write_timeline(to);
-  } else if (*wanted == 'h') {
-    number_chosen = 0, choose_all(snapshots, number_of_snapshots), choose(&kept.peak);
-    write_history(to), notes->snapshots = number_chosen;
-  }
-  long text = ftell(to) - PAGE - profile;
+  int is_record = record_of && !kept.is_reduced;
+  written = PAGE, number_chosen = 0, notes->events = kept.events, notes->is_cut = kept.is_reduced && record_of == RECORDS;
+  write_profile(to, strcmp(wanted, "all") ? NULL : all), end_text(to, PROFILE);
+  write_wanted(to), end_text(to, WANTED), notes->snapshots = number_chosen;
+  for (int k = 0; record_of && k < number_chosen; k++) fprintf(to, "%lu\n", (unsigned long)chosen[k]->at);
+  end_text(to, MOMENTS);
   if (windows.wanted && kept.is_reduced) write_moments(to, 1);
-  long upper = ftell(to) - PAGE - profile - text;
-  for (uint64_t k = 0; record_of && k < notes->snapshots; k++) fprintf(to, "%lu\n", (unsigned long)numbers[k]);
-  long at = ftell(to) - PAGE - profile - text - upper;
-  WITH_STACKS(if (record_of && !kept.is_reduced) write_sites(to, kept.piece, stacks);)
-  long sites_ = ftell(to) - PAGE - profile - text - upper - at;
-  if (record_of == RECORDS && !kept.is_reduced && strstr(wanted, "events")) write_events(to);
-  long codes = ftell(to) - PAGE - profile - text - upper - at - sites_;
+  end_text(to, UPPER);
+  WITH_STACKS(if (is_record) write_sites(to, kept.piece, stacks);)
+  end_text(to, SITES);
+  if (is_record && strstr(wanted, "events")) write_events(to);
+  end_text(to, EVENTS);
   if (fclose(to)) give_up("there is no room for what is recorded");
-  notes->profile = profile, notes->text = text, notes->upper = upper, notes->at = at, notes->sites = sites_, notes->codes = codes;
   note();
   __atomic_fetch_add(&notes->version, 1, __ATOMIC_RELEASE);
 }

@@ -159,22 +159,27 @@ static void write_moments(FILE *to, int is_upper) {
 }
 
 static void write_timeline(FILE *to) {
-  static char lines[COUNTERS][8];
-  for (int i = 0; i < LARGE; i++) snprintf(lines[i], sizeof *lines, "%d\n", i);
-  strcpy(lines[LARGE], "large\n");
-  fputs("timeline\n", to);
+  static char lines[2][COUNTERS][8], room[1 << 16];
+  for (int i = 0; i < COUNTERS; i++)
+    for (int is_free = 0; is_free < 2; is_free++) snprintf(lines[is_free][i], 8, i < LARGE ? "%s%d\n" : "%slarge\n", is_free ? "-" : "", i);
+  char *end = stpcpy(room, "timeline\n");
   for (int i = 0; i < kept.piece; i++) {
-    int code = pieces[i / PIECE][i % PIECE], counter = sizes.counters[place_in(code)];
-    if (code & FREED) putc_unlocked('-', to);
-    fwrite_unlocked(lines[counter], 1, sizes.lines[place_in(code)], to);
+    int code = pieces[i / PIECE][i % PIECE], place = place_in(code), is_free = code >= FREED;
+    if (end > room + sizeof room - 8) fwrite(room, 1, end - room, to), end = room;
+    memcpy(end, lines[is_free][sizes.counters[place]], 8), end += sizes.lines[place] + is_free;
   }
+  fwrite(room, 1, end - room, to);
 }
 
 // Writes its events in two bytes each.
 static void write_events(FILE *to) {
-  for (int i = 0; i < kept.piece; i++) {
-    uint16_t code = pieces[i / PIECE][i % PIECE], counter = sizes.counters[place_in(code)] | (code & FREED);
-    fwrite_unlocked(&counter, sizeof counter, 1, to);
+  static uint16_t codes[PIECE];
+  for (int i = 0, number; i < kept.piece; i += number) {
+    for (number = 0; number < PIECE && i + number < kept.piece; number++) {
+      uint16_t code = pieces[i / PIECE][number];
+      codes[number] = sizes.counters[place_in(code)] | (code & FREED);
+    }
+    fwrite(codes, sizeof *codes, number, to);
   }
 }
 #endif

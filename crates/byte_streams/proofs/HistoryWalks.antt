@@ -2,11 +2,8 @@
 use Rattle.std.proofs.Common.{List, [], ◌∷◌, refl}
 use seplogic.Ra.Ura.{Ura}
 use mir.Val.{Val, vstruct, vcons, vnil}
-use types.Logic.{Logic}
-use types.Kit.{Goal, Step, step, Item, ‵, ◌$◌, move, fjoin, fpack, feq_i}
-use denote.RattleType.{RattleType, Valss}
-use denote.Steps.{nothing}
-use denote.Struct.Struct.{Struct, within}
+use types.{Kit.{Goal, Step, step, Item, ‵, ◌$◌, move, fjoin, fpack, feq_i}, Logic.{Logic}}
+use denote.{RattleType.{RattleType, Valss}, Steps.{nothing}, Struct.Struct.{Struct, within}}
 
 -- a struct by its fields alone: what it owns does not read its name
 abbrev pub plainly : List RattleType → RattleType

@@ -1,7 +1,6 @@
 -- A step of the reading loop and of the writing loop.
 use Rattle.std.proofs.Common.{◌≡◌, ℕ, ◌≤◌, List, ◌++◌, length, take, drop, Option, Some, None, sym, ap, ◌∙◌, append_assoc}
-use Rattle.std.proofs.lemmas.List.{take-append-drop, take-append-le}
-use Rattle.std.proofs.Math.Seq.{take-append_seam}
+use Rattle.std.proofs.{Math.Seq.{take-append_seam}, lemmas.List.{take-append-drop, take-append-le}}
 use Rattle.std.specs.Io.KnownBytes.{Appends, Consumes}
 
 -- ---- reading

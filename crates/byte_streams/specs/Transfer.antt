@@ -1,10 +1,8 @@
 -- What the two loops have done: reading a whole input, and writing a whole text.
-use Rattle.std.specs.Prelude.{◌≡◌, ℕ, ◌+◌, true, ◌<◌, ◌≤◌, List, ◌++◌, length, Result, Ok, Err}
 use Rattle.std.specs.Io.KnownBytes.{Appends, Consumes, IsAtEnd}
-use Rattle.byte_streams.specs.Streams.{SinkState, SourceState}
-use Rattle.byte_streams.specs.declared.fault.ReadError.{ReadError}
+use Rattle.std.specs.Prelude.{◌≡◌, ℕ, ◌+◌, true, ◌<◌, ◌≤◌, List, ◌++◌, length, Result, Ok, Err}
+use Rattle.byte_streams.specs.{Streams.{SinkState, SourceState}, declared.fault.ReadError.{ReadError}, declared.streams.Failure.{Failure}}
 use Rattle.byte_streams.specs.declared.fault.ReadError.TheVariants.{OutOfMemory, TooLong, Failed}
-use Rattle.byte_streams.specs.declared.streams.Failure.{Failure}
 
 -- The most bytes of an input.
 abbrev pub most_input : ℕ

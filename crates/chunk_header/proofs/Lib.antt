@@ -1,4 +1,3 @@
 pub mod FirstWords
-pub mod LinkSet
 pub mod LinkedHeaders
 pub mod Rewrites

@@ -1,55 +1,41 @@
 -- A first word that is written makes another header, with the mark that stands there.
-use Rattle.std.proofs.Common.{◌≡◌, ℕ, ◌+◌, ◌*◌, List, sym, ◌∙◌, arith}
-use Rattle.std.specs.Int.{w64, to_le_bytes}
+use Rattle.std.{proofs.Common.{◌≡◌, ℕ, ◌+◌, ◌*◌, List, ap, subst, sym, ◌∙◌, inr, arith}, specs.Int.{w64, to_le_bytes}}
 use Rattle.machine_theory.specs.Memory.{Granule, IsMemory, word_at, written}
-use Rattle.heap_theory.specs.Header.{Header, first_word, header_of, header_at, with_header}
-use Rattle.heap_theory.specs.Header.Standing.{Freed, Quarantined}
-use Rattle.heap_theory.proofs.HeaderWords.{with_header-words}
-use Rattle.chunk_header.proofs.Rewrites.{word_written_over}
+use Rattle.granule_memory.specs.Changes.{ChangesOnlyBytes}
+use Rattle.heap_theory.proofs.HeaderWords.{header_at-elsewhere, with_header-words}
+use Rattle.heap_theory.specs.Header.{Standing, first_word, header_of, header_at, with_header}
+use Rattle.chunk_header.proofs.{FirstWords.{header_of-relinked, relinked}, Rewrites.{word_written_over}}
+use Rattle.chunk_header.specs.HeaderWrite.{WritesHeader}
 
--- the header in granule g, with this link
-abbrev linked : List Granule → ℕ → ℕ → Header
-linked memory g next = record (header_at memory g) { next = next }
-
--- the first word of that header, by the first word that was read
-pub word_linked : (memory : List Granule) (g next word second : ℕ) → word ≡ word_at memory (16 * g + 0) →
-    first_word (record (header_of word second) { next = next }) ≡ first_word (linked memory g next)
+-- the first word of the header in granule g with another standing and link, by the first word that was read
+pub word_relinked : (standing : Standing → Standing) (memory : List Granule) (g next word second : ℕ) → word ≡ word_at memory (16 * g + 0) →
+    first_word (relinked standing next (header_of word second)) ≡ first_word (relinked standing next (header_at memory g))
 unfolding header_at
-word_linked memory g next word second read =
+word_relinked standing memory g next word second read =
     let at : 16 * g + 0 ≡ 16 * g = omega arith in
-    (λ i. first_word (record (header_of (read i) second) { next = next }))
-    ∙ (λ i. first_word (record (header_of (word_at memory (at i)) second) { next = next }))
+    (λ i. first_word (relinked standing next (header_of (read i) second)))
+    ∙ (λ i. first_word (relinked standing next (header_of (word_at memory (at i)) second)))
 
--- the first word of the header of a released slot, by the first word that was read
-pub word_freed : (memory : List Granule) (g next word second : ℕ) → word ≡ word_at memory (16 * g + 0) →
-    first_word (record (header_of word second) { standing = Freed; next = next })
-    ≡ first_word (record (header_at memory g) { standing = Freed; next = next })
+-- the word that is written makes that header; the second word is not written, since it would not change
+pub one_word : (standing : Standing → Standing) (old new : List Granule) (g next word before : ℕ) → before ≡ word_at old (16 * g + 0)
+    → word ≡ first_word (relinked standing next (header_of before 0)) → new ≡ written (16 * g + 0) (to_le_bytes w64 word) old
+    → word_at new (16 * g + 0) ≡ word → ChangesOnlyBytes old new (16 * g + 0) (16 * g + 0 + 8) → IsMemory new
+    → WritesHeader old new g 8 (relinked standing next (header_at old g))
 unfolding header_at
-word_freed memory g next word second read =
+one_word standing old new g next word before was is writes reads others memory =
+    let header = relinked standing next (header_at old g) in
     let at : 16 * g + 0 ≡ 16 * g = omega arith in
-    (λ i. first_word (record (header_of (read i) second) { standing = Freed; next = next }))
-    ∙ (λ i. first_word (record (header_of (word_at memory (at i)) second) { standing = Freed; next = next }))
-
--- the first word of the header of a slot in quarantine, by the first word that was read
-pub word_quarantined : (memory : List Granule) (g word second : ℕ) → word ≡ word_at memory (16 * g + 0) →
-    first_word (record (header_of word second) { standing = Quarantined; next = 0 })
-    ≡ first_word (record (header_at memory g) { standing = Quarantined; next = 0 })
-unfolding header_at
-word_quarantined memory g word second read =
-    let at : 16 * g + 0 ≡ 16 * g = omega arith in
-    (λ i. first_word (record (header_of (read i) second) { standing = Quarantined; next = 0 }))
-    ∙ (λ i. first_word (record (header_of (word_at memory (at i)) second) { standing = Quarantined; next = 0 }))
-
--- the second word is not written, since it would not change
-pub first_written : (old new : List Granule) (g : ℕ) (header : Header) → IsMemory new → word_at new (16 * g + 8) ≡ header.mark →
-    new ≡ written (16 * g) (to_le_bytes w64 (first_word header)) old → new ≡ with_header old g header
-first_written old new g header is mark first =
-    sym (word_written_over new (16 * g + 8) is)
-    ∙ (λ i. written (16 * g + 8) (to_le_bytes w64 (mark i)) (first i))
-    ∙ sym (with_header-words old g header)
-
--- the mark is the second word, whatever the first one is
-pub first_read : (new : List Granule) (g : ℕ) (header : Header) → word_at new (16 * g) ≡ first_word header →
-    word_at new (16 * g + 8) ≡ header.mark → header_of (first_word header) header.mark ≡ header → header_at new g ≡ header
-unfolding header_at
-first_read new g header first mark back = (λ i. header_of (first i) (mark i)) ∙ back
+    let word_is : word ≡ first_word header = is ∙ word_relinked standing old g next before 0 was in
+    let first : word_at new (16 * g) ≡ first_word header = ap (word_at new) (sym at) ∙ reads ∙ word_is in
+    let second : word_at new (16 * g + 8) ≡ header.mark = others.word (16 * g + 8) (inr (omega arith)) in
+    let written_is : new ≡ with_header old g header =
+    sym (word_written_over new (16 * g + 8) memory)
+    ∙ (λ i. written (16 * g + 8) (to_le_bytes w64 (second i)) ((writes ∙ (λ j. written (at j) (to_le_bytes w64 (word_is j)) old)) i))
+    ∙ sym (with_header-words old g header) in
+    record {
+      written = written_is;
+      read = (λ i. header_of (first i) (second i)) ∙ header_of-relinked standing (word_at old (16 * g)) (word_at old (16 * g + 8)) next;
+      headers = λ k other. ap (λ memory. header_at memory k) written_is ∙ header_at-elsewhere old g k header other;
+      others = subst (λ k. ChangesOnlyBytes old new k (k + 8)) at others;
+      memory = memory;
+    }

@@ -1,13 +1,13 @@
 -- What is written where it was read changes nothing.
-use Rattle.std.specs.Int.{w64, to_le_bytes}
-use Rattle.std.proofs.Common.{◌≡◌, ℕ, ◌+◌, ◌-◌, ◌*◌, ◌/◌, ◌%◌, ◌<◌, List, length, get_or, false, ⊎_elim, inl, inr, refl, sym, ap, ◌∙◌, arith, slice_index}
+use Rattle.std.proofs.Common.{◌≡◌, ℕ, ◌+◌, ◌-◌, ◌*◌, ◌/◌, ◌%◌, ◌<◌, List, length, get_or, false, ⊎_elim, inl, inr, refl, sym, ap, ◌∙◌}
+use Rattle.std.proofs.{Common.{arith, slice_index}, lemmas.List.FromFn.{fill_by_all}, lemmas.Nat.{le_bytes_8}}
 use Rattle.std.proofs.lemmas.Bool.{cases_lt, cond-true, cond-false, and_from, and_left, and_right, le-leb, lt-ltb, lt-leb, le-ltb}
-use Rattle.std.proofs.lemmas.List.FromFn.{fill_by_all}
-use Rattle.std.proofs.lemmas.Nat.{le_bytes_8}
+use Rattle.std.specs.Int.{w64, to_le_bytes}
 use Rattle.granule_memory.specs.Changes.{ChangesOnlyBytes}
-use Rattle.machine_theory.specs.Memory as memory_words
-use Rattle.machine_theory.specs.Memory.{Granule, IsGranule, IsMemory, no_granule, granule_at, byte_at, bytes_at, word_at, is_among, written, byte_after, bytes_after}
 use Rattle.machine_theory.proofs.ByteLaws.{byte_below, bytes_at-below, get_or-bytes_at, length-bytes_at}
+use Rattle.machine_theory.specs.Memory.{Granule, IsGranule, IsMemory, no_granule, granule_at, byte_at, bytes_at, word_at, is_among, written}
+use Rattle.machine_theory.specs.Memory.{byte_after, bytes_after}
+use Rattle.machine_theory.specs.Memory as memory_words
 
 module _ (memory : List Granule) (is : IsMemory memory) (i len : ℕ) where
   abbrev run : List ℕ

@@ -1,9 +1,7 @@
 -- Which header of the theory a value is.
 use Rattle.heap_theory.specs.Header.{Standing, Header as TheHeader}
 use Rattle.heap_theory.specs.Header.Standing.{Fresh as IsFresh, Live as IsLive, Quarantined as IsQuarantined, Freed as IsFreed}
-use Rattle.chunk_header.specs.declared.header.Header.{Header}
-use Rattle.chunk_header.specs.declared.header.State.{State}
-use Rattle.chunk_header.specs.declared.header.State.TheVariants.{Fresh, Live, Quarantined, Freed}
+use Rattle.chunk_header.specs.declared.header.{Header.{Header}, State.{State}, State.TheVariants.{Fresh, Live, Quarantined, Freed}}
 
 abbrev pub standing_seen : State → Standing
 standing_seen Fresh = IsFresh

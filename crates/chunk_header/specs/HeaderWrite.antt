@@ -1,9 +1,8 @@
 -- What stays the same when one header is written.
 use Rattle.std.specs.Prelude.{◌≡◌, ◌≢◌, ℕ, ◌+◌, ◌*◌, List}
-use Rattle.machine_theory.specs.Memory.{Granule, IsMemory}
+use Rattle.machine_theory.specs.{Memory.{Granule, IsMemory}, declared.sizes.TheConstants.{GRANULE_BYTES}}
 use Rattle.granule_memory.specs.Changes.{ChangesOnlyBytes}
 use Rattle.heap_theory.specs.Header.{Header, header_at, with_header}
-use Rattle.machine_theory.specs.declared.sizes.TheConstants.{GRANULE_BYTES}
 
 -- The header in granule g becomes this one: no other header and no tag changes, and of all bytes at most the first n of the granule.
 pub record WritesHeader (old new : List Granule) (g n : ℕ) (header : Header) : Type 0 where

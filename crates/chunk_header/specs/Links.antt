@@ -1,10 +1,9 @@
 -- What changes when one link is set.
 use Rattle.std.specs.Prelude.{◌≡◌, ℕ, ◌+◌, ◌*◌, List, length}
-use Rattle.machine_theory.specs.Memory.{Granule, IsMemory}
+use Rattle.machine_theory.specs.{Memory.{Granule, IsMemory}, declared.sizes.TheConstants.{GRANULE_BYTES}}
 use Rattle.granule_memory.specs.Changes.{ChangesOnlyBytes}
 use Rattle.class_table.specs.Layout.{Partition, slot_of}
 use Rattle.heap_theory.specs.Region.{region_of, with_slot_link}
-use Rattle.machine_theory.specs.declared.sizes.TheConstants.{GRANULE_BYTES}
 
 -- The link of slot s is set to `next`. Of the region nothing else changes, and of the memory at most the first word of the slot's header.
 pub record SetsLink (layout : Partition) (old new : List Granule) (s next : ℕ) : Type 0 where

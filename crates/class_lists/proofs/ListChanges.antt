@@ -1,10 +1,8 @@
 -- How a list is shown as a slot comes in front of it, or leaves it.
 use Rattle.std.proofs.Common.{◌≡◌, ◌≢◌, ℕ, ◌+◌, ◌<◌, ◌≤◌, List, [], ◌∷◌, length, drop, refl, sym, subst, ⊎_elim, arith, Contains}
-use Rattle.heap_theory.specs.Links.{IsLinked}
+use Rattle.heap_theory.proofs.{Linked.{IsLinked-first, IsLinked-none, IsLinked-once, IsLinked-same}, Regions.{as_many_headers, other_link}}
+use Rattle.heap_theory.{proofs.ListSearch.{Contains-cases, Contains-tail, AllPairs-first}, specs.Links.{IsLinked}}
 use Rattle.heap_theory.specs.Region.{Region, next_in, with_slot_link}
-use Rattle.heap_theory.proofs.ListSearch.{Contains-cases, Contains-tail, AllPairs-first}
-use Rattle.heap_theory.proofs.Linked.{IsLinked-first, IsLinked-none, IsLinked-once, IsLinked-same}
-use Rattle.heap_theory.proofs.Regions.{as_many_headers, other_link}
 use Rattle.class_lists.specs.Lists.{ShowsList}
 
 pub shown_pushed : (region : Region) (front s : ℕ) (list : List ℕ) → s < length region.headers →

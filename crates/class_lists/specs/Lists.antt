@@ -3,8 +3,7 @@ use Rattle.std.specs.Prelude.{◌≡◌, ℕ, ◌+◌, ◌<◌, List, length, sl
 use Rattle.machine_theory.specs.Memory.{Granule}
 use Rattle.chunk_header.specs.Links.{SetsLink}
 use Rattle.class_table.specs.Layout.{Partition}
-use Rattle.heap_theory.specs.Links.{IsLinked}
-use Rattle.heap_theory.specs.Region.{Region, next_in, region_of}
+use Rattle.heap_theory.specs.{Links.{IsLinked}, Region.{Region, next_in, region_of}}
 
 -- From the link `front` on, the links show these slots in order and then end, and all of them are slots of the region.
 pub record ShowsList (region : Region) (front : ℕ) (list : List ℕ) : Type 0 where

@@ -1,13 +1,11 @@
 -- The class of a slot, by the first slots of all classes.
-use Rattle.std.proofs.Common.{◌≡◌, ℕ, ◌+◌, ◌-◌, ◌*◌, ◌<◌, ◌≤◌, List, length, map, get_or, sym, ◌∙◌, ap, subst, arith, zero-add, inl, inr, slice_get, slice_index, Some}
-use Rattle.std.specs.List.{range_with_len}
+use Rattle.std.proofs.Common.{◌≡◌, ℕ, ◌+◌, ◌-◌, ◌*◌, ◌<◌, ◌≤◌, List, length, map, get_or, sym, ◌∙◌, ap, subst, arith, zero-add, inl, inr}
+use Rattle.std.proofs.{Common.{slice_get, slice_index, Some}, lemmas.Bool.{cases_lt}, lemmas.Option.{slice_get-get_or}}
+use Rattle.std.{proofs.lemmas.List.FromFn.{length-map-range_with_len, get_or-map-range_with_len}, specs.List.{range_with_len}}
 use Rattle.std.specs.List.Sorted.{IsNonDecreasingBy}
-use Rattle.std.proofs.lemmas.Bool.{cases_lt}
-use Rattle.std.proofs.lemmas.List.FromFn.{length-map-range_with_len, get_or-map-range_with_len}
-use Rattle.std.proofs.lemmas.Option.{slice_get-get_or}
-use Rattle.class_table.specs.Layout.{Partition, Slot, IsClassOf, share_of, slot_count, slot_of, first_slot}
 use Rattle.class_table.proofs.FirstSlots.{first_slot-suc, first_slots_ascend, first_slot-most}
 use Rattle.class_table.proofs.Slots.{place_of, slot_of-class, slots_of_classes_are_all}
+use Rattle.class_table.specs.Layout.{Partition, Slot, IsClassOf, share_of, slot_count, slot_of, first_slot}
 
 -- the first slots of all classes, and the number of slots after them
 abbrev pub firsts_of : Partition → List ℕ

@@ -1,6 +1,5 @@
 -- Numbers that are known to be at most another one.
-use Rattle.std.proofs.Common.{◌≡◌, ℕ, ◌*◌, ◌/◌, ◌%◌, ◌^◌, ◌<◌, ◌≤◌, List, arith, subst, slice_index}
-use Rattle.std.proofs.lemmas.Nat.{pow_pos}
+use Rattle.std.proofs.{Common.{◌≡◌, ℕ, ◌*◌, ◌/◌, ◌%◌, ◌^◌, ◌<◌, ◌≤◌, List, arith, subst, slice_index}, lemmas.Nat.{pow_pos}}
 use Rattle.std.proofs.Math.Nat.{div-lt_iff_lt-mul, mul-div-le, mul-le-mul_left, pow-le-pow_right}
 use Rattle.class_table.specs.Counts.{AreAtMost, AreCounts}
 

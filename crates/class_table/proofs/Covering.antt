@@ -1,12 +1,9 @@
 -- The slot that covers a granule.
-use Rattle.std.proofs.Common.{◌≡◌, ℕ, ◌<◌, ◌≤◌, true, ltb, Some, None, ◌∙◌, ap, cond, arith, ◌↔◌}
+use Rattle.std.proofs.{Common.{◌≡◌, ℕ, ◌<◌, ◌≤◌, true, ltb, Some, None, ◌∙◌, ap, cond, arith, ◌↔◌}, lemmas.List.Quantifiers.{position-Some}}
+use Rattle.std.proofs.lemmas.{Bool.{and_from, le-leb, lt-ltb, cond-true, false_from_ne_true}, List.Sums.{position_or_len_is}}
 use Rattle.std.specs.List.{position_or_len}
-use Rattle.std.proofs.lemmas.Bool.{and_from, le-leb, lt-ltb, cond-true, false_from_ne_true}
-use Rattle.std.proofs.lemmas.List.Quantifiers.{position-Some}
-use Rattle.std.proofs.lemmas.List.Sums.{position_or_len_is}
+use Rattle.class_table.{proofs.Slots.{legal_slots_are_in_order}, specs.Tables.{IsLegalTable}}
 use Rattle.class_table.specs.Layout.{Partition, Slot, no_slot, end_of, slots_of, slot_count, slot_of, Covers, covers, slot_over}
-use Rattle.class_table.specs.Tables.{IsLegalTable}
-use Rattle.class_table.proofs.Slots.{legal_slots_are_in_order}
 
 pub Covers-true : (slot : Slot) (granule : ℕ) → covers slot granule ≡ true → Covers slot granule
 Covers-true slot granule test = grind arith

@@ -1,13 +1,10 @@
 -- The line at which a text is refused as a class line is its first fault.
 use Rattle.std.proofs.Common.{◌≡◌, ℕ, List, [], ◌∷◌, take, Result, Ok, Err, refl, ap, arith, ◌⊎◌, inl, inr, IsErr, ◌↔◌}
-use Rattle.line_text.specs.FirstFault.{IsFirstFault}
-use Rattle.line_text.specs.Lines.{lines}
-use Rattle.class_table.specs.ClassLine.{BeginsWithTable, SpellsTable, class_line, table_of_lines, table_of_line, table_of}
-use Rattle.class_table.specs.Tables.{IsLegalTable}
-use Rattle.class_table.specs.declared.fault.TableError.{TableError}
-use Rattle.class_table.specs.declared.fault.TableError.TheVariants.{BadLine}
-use Rattle.class_table.proofs.Legal.{no_classes_are_legal}
+use Rattle.line_text.specs.{FirstFault.{IsFirstFault}, Lines.{lines}}
+use Rattle.class_table.{proofs.Legal.{no_classes_are_legal}, specs.Tables.{IsLegalTable}, specs.declared.fault.TableError.{TableError}}
 use Rattle.class_table.proofs.Spelled.{line_is_its_text, lines-spelled, read_line_is_spelled, table_is_spelled, table_line_is_read}
+use Rattle.class_table.specs.ClassLine.{BeginsWithTable, SpellsTable, class_line, table_of_lines, table_of_line, table_of}
+use Rattle.class_table.specs.declared.fault.TableError.TheVariants.{BadLine}
 
 -- what is read is not refused
 read_or_refused : (read : Result (List ℕ) TableError) (table : List ℕ) → IsErr read → read ≡ Ok table → ⊥

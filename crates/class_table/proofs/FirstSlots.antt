@@ -1,12 +1,9 @@
 -- The numbers of first slots: how large they are, and where they lead.
 use Rattle.std.proofs.Common.{◌≡◌, ℕ, ◌+◌, ◌*◌, ◌/◌, ◌%◌, ◌<◌, ◌≤◌, length, take, get_or, arith, length-take, subst, All, sum_by}
-use Rattle.std.proofs.lemmas.List.{take-take}
-use Rattle.std.proofs.lemmas.List.Elements.{All-take, All-weaker}
-use Rattle.std.proofs.lemmas.List.Sums.{sum_by-le, sum_by_more, sum_by-take-le}
+use Rattle.std.proofs.lemmas.{List.{take-take}, List.Elements.{All-take, All-weaker}, List.Sums.{sum_by-le, sum_by_more, sum_by-take-le}}
 use Rattle.std.proofs.lemmas.Nat.{mul-le, div-add-mod'}
+use Rattle.class_table.{proofs.Slots.{length-slots_of_classes}, specs.Sizes.{IsBlockSize}}
 use Rattle.class_table.specs.Layout.{Partition, IsPartition, share_of, slots_of, slot_count, first_slot}
-use Rattle.class_table.specs.Sizes.{IsBlockSize}
-use Rattle.class_table.proofs.Slots.{length-slots_of_classes}
 
 pub first_slot-suc : (layout : Partition) (number : ℕ) → number < length layout.classes →
     first_slot layout (number + 1) ≡ first_slot layout number + share_of layout / get_or layout.classes number 0

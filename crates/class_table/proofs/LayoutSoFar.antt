@@ -1,10 +1,8 @@
 -- What `Layout::new` has made of the first classes of a table.
-use Rattle.std.proofs.Common.{◌≡◌, ℕ, ◌+◌, ◌/◌, ◌<◌, List, [], ◌∷◌, ◌++◌, length, map, take, get_or, sym, ◌∙◌, ap, zero-add, arith, take_all}
+use Rattle.std.proofs.Common.{◌≡◌, ℕ, ◌+◌, ◌/◌, ◌<◌, List, [], ◌∷◌, ◌++◌, length, map, take, get_or, sym, ◌∙◌, ap, zero-add, arith}
+use Rattle.std.proofs.{Common.{take_all}, lemmas.List.{take_more}, lemmas.List.FromFn.{length-map-range_with_len, map-range_with_len_more}}
 use Rattle.std.specs.List.{range_with_len}
-use Rattle.std.proofs.lemmas.List.{take_more}
-use Rattle.std.proofs.lemmas.List.FromFn.{length-map-range_with_len, map-range_with_len_more}
-use Rattle.class_table.specs.Layout.{Partition, share_of, first_slot}
-use Rattle.class_table.proofs.FirstSlots.{first_slot-suc}
+use Rattle.class_table.{proofs.FirstSlots.{first_slot-suc}, specs.Layout.{Partition, share_of, first_slot}}
 
 pub record IsFilled (layout : Partition) (filled numbers : List ℕ) (count number : ℕ) : Type 0 where
   pub classes : filled ≡ take number layout.classes

@@ -1,20 +1,12 @@
 -- The first class that serves a size is the least one.
-use Rattle.std.proofs.Common.{◌≡◌, ℕ, ◌<◌, ◌≤◌, Bool, true, false, List, [], ◌∷◌, length, slice_index, get_or, Option, Some, None, arith, refl, sym, ◌∙◌, inl, inr, subst, IfSome, IfNone, slice_get, option_and_then, All}
-use Rattle.std.specs.List.{position_or_len}
-use Rattle.std.proofs.lemmas.Bool.{cases_order, cases_lt, both_ways, lt-ltb, le-ltb, le-leb, lt-leb}
-use Rattle.std.proofs.lemmas.Grind.{div_ceil_times}
-use Rattle.std.proofs.lemmas.List.Sums.{position_or_len_is}
-use Rattle.std.specs.Int.{div_ceil}
+use Rattle.std.proofs.Common.{◌≡◌, ℕ, ◌<◌, ◌≤◌, Bool, true, false, List, [], ◌∷◌, length, slice_index, get_or, Option, Some, None, arith}
+use Rattle.std.{proofs.Common.{refl, sym, ◌∙◌, inl, inr, subst, IfSome, IfNone, slice_get, option_and_then, All}, specs.Int.{div_ceil}}
+use Rattle.std.proofs.lemmas.{Bool.{cases_order, cases_lt, both_ways, lt-ltb, le-ltb, le-leb, lt-leb}, Grind.{div_ceil_times}}
+use Rattle.std.proofs.lemmas.{List.{get_or_default}, List.Elements.{All-nil, All-cons}, List.Folds.{find_at}}
+use Rattle.std.proofs.lemmas.List.{Kept.{AllPairs-from_increasing}, Quantifiers.{position-Some}, Sums.{position_or_len_is}}
+use Rattle.std.{proofs.lemmas.Option.{get_or_from_slice_get, slice_get_past}, specs.List.{position_or_len}}
 use Rattle.std.specs.List.Sorted.{IsNonDecreasingBy, IsStrictlyIncreasing}
-use Rattle.std.proofs.lemmas.List.Elements.{All-nil, All-cons}
-use Rattle.std.proofs.lemmas.List.Folds.{find_at}
-use Rattle.std.proofs.lemmas.Option.{get_or_from_slice_get, slice_get_past}
-use Rattle.std.proofs.lemmas.List.{get_or_default}
-use Rattle.std.proofs.lemmas.List.Quantifiers.{position-Some}
-use Rattle.std.proofs.lemmas.List.Kept.{AllPairs-from_increasing}
-use Rattle.class_table.specs.Counts.{AreCounts}
-use Rattle.class_table.specs.Sizes.{serves}
-use Rattle.class_table.specs.Tables.{IsLegalTable, IsLeastServing, class_for, class_number_for}
+use Rattle.class_table.specs.{Counts.{AreCounts}, Sizes.{serves}, Tables.{IsLegalTable, IsLeastServing, class_for, class_number_for}}
 
 pub least_at : (step : ℕ) (classes : List ℕ) (n number : ℕ) → IsLegalTable step classes → class_number_for classes n ≡ Some number
     → (number < length classes) × IsLeastServing classes n (slice_index classes number)

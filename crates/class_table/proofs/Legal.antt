@@ -1,11 +1,8 @@
 -- A legal table, class by class: classes without a fault are one, and the classes of a legal table have no fault.
-use Rattle.std.proofs.Common.{◌≡◌, ℕ, zero, suc, ◌%◌, ◌<◌, ◌≤◌, Bool, true, false, List, [], ◌∷◌, length, slice_index, get_or, None, refl, arith, leb}
-use Rattle.std.specs.List.{All, AllPairs}
-use Rattle.std.proofs.lemmas.List.Kept.{AllPairs-from_increasing}
-use Rattle.std.proofs.lemmas.Bool.{lt-leb, le-ltb, or_from, or_parts, ltb-false, leb-false}
-use Rattle.class_table.specs.Faults.{fault_from, is_out_of_range}
-use Rattle.class_table.specs.Sizes.{IsBlockSize}
-use Rattle.class_table.specs.Tables.{FitsStep, IsLegalTable}
+use Rattle.std.proofs.Common.{◌≡◌, ℕ, zero, suc, ◌%◌, ◌<◌, ◌≤◌, Bool, true, false, List, [], ◌∷◌, length, slice_index, get_or, None, refl}
+use Rattle.std.proofs.{Common.{arith, leb}, lemmas.Bool.{lt-leb, le-ltb, or_from, or_parts, ltb-false, leb-false}}
+use Rattle.std.{proofs.lemmas.List.Kept.{AllPairs-from_increasing}, specs.List.{All, AllPairs}}
+use Rattle.class_table.specs.{Faults.{fault_from, is_out_of_range}, Sizes.{IsBlockSize}, Tables.{FitsStep, IsLegalTable}}
 
 -- Each class is above the one before it, the first above low, none above 1024, and each a multiple of the step. Where low is 1 or more,
 -- they are the classes of a legal table.

@@ -12,6 +12,4 @@ pub mod NamedLines
 pub mod SlotAt
 pub mod Slots
 pub mod Spelled
-pub mod FaultWalk
 pub mod Words
-pub mod WrittenLines

@@ -1,15 +1,9 @@
 -- The line of a name and numbers is read as these numbers, and no other line is.
-use Rattle.std.proofs.lemmas.Grind.{common_steps}
 use Rattle.std.proofs.Common.{◌≡◌, ℕ, ◌<◌, ◌^◌, Bool, true, not, ◌&&◌, List, [], ◌∷◌, length, map, Some, refl, arith, length-append, All}
-use Rattle.std.specs.List.{list_all}
-use Rattle.std.specs.Fmt.{decimal}
-use Rattle.std.proofs.lemmas.Bool.{and_parts, not-true}
-use Rattle.std.proofs.lemmas.List.Elements.{All-nil, All-cons, All-head, All-tail}
-use Rattle.std.proofs.lemmas.Option.{same_Some}
-use Rattle.std.proofs.lemmas.Slice.Eq.{bytes_eq-Decides}
-use Rattle.line_text.specs.Lines.{words, IsFullLine, IsLine, IsWord, is_newline, is_space}
+use Rattle.std.proofs.lemmas.{Bool.{and_parts, not-true}, Grind.{common_steps}, List.Elements.{All-nil, All-cons, All-head, All-tail}}
+use Rattle.std.{proofs.lemmas.Option.{same_Some}, proofs.lemmas.Slice.Eq.{bytes_eq-Decides}, specs.Fmt.{decimal}, specs.List.{list_all}}
+use Rattle.line_text.{proofs.LawLemmas.{text_laws as laws}, specs.Lines.{words, IsFullLine, IsLine, IsWord, is_newline, is_space}}
 use Rattle.line_text.specs.Numbers.{number_of}
-use Rattle.line_text.proofs.LawLemmas.{text_laws as laws}
 use Rattle.class_table.specs.NamedLines.{named_line, numbers_in, numbers_of}
 
 abbrev pub AreSmall : List ℕ → Type 0

@@ -1,10 +1,9 @@
 -- Which slot covers a granule, by arithmetic on the share.
 use Rattle.std.proofs.Common.{◌≡◌, ℕ, ◌+◌, ◌-◌, ◌*◌, ◌/◌, ◌%◌, ◌<◌, ◌≤◌, length, get_or, Option, Some, None, refl, sym, ◌∙◌, ap, arith}
 use Rattle.std.proofs.lemmas.Nat.{mul-le, div-add-mod', div-mul-add, mod-mul-add, mod_below}
-use Rattle.class_table.specs.Layout.{Partition, IsPartition, Slot, share_of, slot_count, slot_of, first_slot, Covers, slot_over}
-use Rattle.class_table.proofs.Covering.{one_slot_covers}
-use Rattle.class_table.proofs.FirstSlots.{first_slot-suc, first_slot-most}
+use Rattle.class_table.proofs.{Covering.{one_slot_covers}, FirstSlots.{first_slot-suc, first_slot-most}}
 use Rattle.class_table.proofs.Slots.{Place, place_of, slot_of-class}
+use Rattle.class_table.specs.Layout.{Partition, IsPartition, Slot, share_of, slot_count, slot_of, first_slot, Covers, slot_over}
 
 record IsAt (share granule number class k : ℕ) : Type 0 where
   number_is : number ≡ granule / share

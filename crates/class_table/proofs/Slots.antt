@@ -1,15 +1,11 @@
 -- The slots of a region: in address order, class after class.
-use Rattle.std.proofs.Common.{◌≡◌, ℕ, zero, suc, ◌+◌, ◌-◌, ◌*◌, ◌/◌, ◌%◌, ◌<◌, ◌≤◌, inl, inr, List, [], ◌∷◌, ◌++◌, map, length, take, get_or, refl, sym, ◌∙◌, ap, subst, arith, zero-add, All, Contains, sum_by}
-use Rattle.std.specs.List.{range_with_len}
-use Rattle.std.proofs.lemmas.Bool.{cases_lt}
-use Rattle.std.proofs.lemmas.List.{get_or_append_left, get_or-append-add, length-append, take_all}
-use Rattle.std.proofs.lemmas.List.Elements.{All-contains, All-tail, Contains-get_or}
-use Rattle.std.proofs.lemmas.List.FromFn.{length-map-range_with_len, get_or-map-range_with_len}
-use Rattle.std.proofs.lemmas.List.Sums.{sum_by-cons}
-use Rattle.std.proofs.lemmas.Nat.{div-add-mod'}
-use Rattle.class_table.specs.Layout.{Partition, Slot, no_slot, end_of, share_of, slots_of_class, slots_of_classes, slots_of, slot_count, slot_of, first_slot, AreInOrder}
-use Rattle.class_table.specs.Sizes.{IsBlockSize}
-use Rattle.class_table.specs.Tables.{IsLegalTable}
+use Rattle.std.proofs.Common.{◌≡◌, ℕ, zero, suc, ◌+◌, ◌-◌, ◌*◌, ◌/◌, ◌%◌, ◌<◌, ◌≤◌, inl, inr, List, [], ◌∷◌, ◌++◌, map, length, take}
+use Rattle.std.proofs.{Common.{get_or, refl, sym, ◌∙◌, ap, subst, arith, zero-add, All, Contains, sum_by}, lemmas.Bool.{cases_lt}}
+use Rattle.std.proofs.lemmas.{List.{get_or_append_left, get_or-append-add, length-append, take_all}, List.Sums.{sum_by-cons}}
+use Rattle.std.proofs.lemmas.{List.Elements.{All-contains, All-tail, Contains-get_or}, Nat.{div-add-mod'}}
+use Rattle.std.{proofs.lemmas.List.FromFn.{length-map-range_with_len, get_or-map-range_with_len}, specs.List.{range_with_len}}
+use Rattle.class_table.specs.Layout.{Partition, Slot, no_slot, end_of, share_of, slots_of_class, slots_of_classes, slots_of, slot_count}
+use Rattle.class_table.specs.{Layout.{slot_of, first_slot, AreInOrder}, Sizes.{IsBlockSize}, Tables.{IsLegalTable}}
 
 -- ---- in address order
 

@@ -1,17 +1,13 @@
 -- The line of a table is read as that table, and what is read as a table is its line.
-use Rattle.std.proofs.Common.{◌≡◌, ℕ, Bool, true, false, List, [], ◌∷◌, length, Option, Some, None, Ok, refl, sym, subst, ◌∙◌, arith, codes, ltb, inr, append-nil}
-use Rattle.std.proofs.lemmas.Bool.{le-ltb, ltb-false}
-use Rattle.std.proofs.lemmas.List.Concat.{flat_map-cons}
+use Rattle.std.proofs.Common.{◌≡◌, ℕ, Bool, true, false, List, [], ◌∷◌, length, Option, Some, None, Ok, refl, sym, subst, ◌∙◌, arith, codes}
+use Rattle.std.proofs.{Common.{ltb, inr, append-nil}, lemmas.Bool.{le-ltb, ltb-false}, lemmas.List.Concat.{flat_map-cons}}
 use Rattle.std.proofs.lemmas.List.Elements.{All-nil, All-cons}
-use Rattle.line_text.specs.Lines.{lines, words, ended, IsFullLine, IsLine, IsTextOf}
-use Rattle.line_text.proofs.LawLemmas.{text_laws as laws}
-use Rattle.class_table.specs.ClassLine.{SpellsTable, class_line, table_of_numbers, table_of_lines, table_of_line, table_of}
-use Rattle.class_table.specs.Faults.{fault_from, table_of_classes}
-use Rattle.class_table.specs.NamedLines.{numbers_in}
-use Rattle.class_table.specs.Tables.{IsLegalTable}
-use Rattle.class_table.specs.declared.fault.TableError.{TableError}
+use Rattle.line_text.{proofs.LawLemmas.{text_laws as laws}, specs.Lines.{lines, words, ended, IsFullLine, IsLine, IsTextOf}}
 use Rattle.class_table.proofs.Legal.{classes-from_no_fault, legal_table_of_classes, classes_of_legal_table, no_fault-from_classes}
 use Rattle.class_table.proofs.NamedLines.{AreSmall, IsName, line_of_read_numbers, named_line_is_full, named_numbers_are_read, plain_name}
+use Rattle.class_table.specs.ClassLine.{SpellsTable, class_line, table_of_numbers, table_of_lines, table_of_line, table_of}
+use Rattle.class_table.specs.{Faults.{fault_from, table_of_classes}, NamedLines.{numbers_in}, Tables.{IsLegalTable}}
+use Rattle.class_table.specs.declared.fault.TableError.{TableError}
 
 -- ---- classes
 

@@ -1,15 +1,11 @@
 -- Reading the numbers of a line, word by word.
-use Rattle.std.proofs.Common.{◌≡◌, ℕ, ◌<◌, ◌≤◌, Bool, true, false, List, [], ◌∷◌, ◌++◌, length, map, min, take, Option, Some, None, Result, Err, refl, sym, ap, ◌∙◌, arith, append_assoc, append-nil, codes, ltb, leb, length-append, option_and_then}
-use Rattle.std.specs.Option.{option_map}
-use Rattle.std.specs.Str.{bytes_eq}
-use Rattle.std.proofs.lemmas.Bool.{lt-ltb, le-ltb, ltb-false}
-use Rattle.std.proofs.lemmas.Bool.Decides.{nat_tests}
-use Rattle.std.proofs.lemmas.List.{take_all, take-append-le, length-take, length-map, map-append}
+use Rattle.std.proofs.Common.{◌≡◌, ℕ, ◌<◌, ◌≤◌, Bool, true, false, List, [], ◌∷◌, ◌++◌, length, map, min, take, Option, Some, None, Result}
+use Rattle.std.proofs.Common.{Err, refl, sym, ap, ◌∙◌, arith, append_assoc, append-nil, codes, ltb, leb, length-append, option_and_then}
+use Rattle.std.{proofs.lemmas.Bool.{lt-ltb, le-ltb, ltb-false}, proofs.lemmas.Bool.Decides.{nat_tests}, specs.Option.{option_map}}
+use Rattle.std.{proofs.lemmas.List.{take_all, take-append-le, length-take, length-map, map-append}, specs.Str.{bytes_eq}}
 use Rattle.line_text.specs.Numbers.{number_of}
-use Rattle.class_table.specs.ClassLine.{table_of_numbers}
-use Rattle.class_table.specs.Faults.{fault_from, is_out_of_range, table_of_classes}
-use Rattle.class_table.specs.NamedLines.{numbers_of, words_after}
-use Rattle.class_table.specs.declared.fault.TableError.{TableError}
+use Rattle.class_table.specs.{ClassLine.{table_of_numbers}, Faults.{fault_from, is_out_of_range, table_of_classes}}
+use Rattle.class_table.specs.{NamedLines.{numbers_of, words_after}, declared.fault.TableError.{TableError}}
 use Rattle.class_table.specs.declared.fault.TableError.TheVariants.{BadLine, TooMany}
 
 -- ---- a larger number in place of a number that is no class

@@ -1,11 +1,8 @@
 -- The spelling of a table as a line, and how a line is read, with its first fault.
 use Rattle.std.specs.Prelude.{◌≡◌, ℕ, List, [], ◌∷◌, take, codes, Option, Some, None, Result, Err}
 use Rattle.line_text.specs.Lines.{IsTextOf, lines}
-use Rattle.class_table.specs.Faults.{table_of_classes}
-use Rattle.class_table.specs.NamedLines.{named_line, numbers_in}
-use Rattle.class_table.specs.Tables.{IsLegalTable}
-use Rattle.class_table.specs.declared.fault.TableError.{TableError}
-use Rattle.class_table.specs.declared.fault.TableError.TheVariants.{BadLine}
+use Rattle.class_table.specs.{Faults.{table_of_classes}, NamedLines.{named_line, numbers_in}, Tables.{IsLegalTable}}
+use Rattle.class_table.specs.declared.fault.{TableError.{TableError}, TableError.TheVariants.{BadLine}}
 
 -- The line of a table, without its newline.
 abbrev pub class_line : List ℕ → List ℕ

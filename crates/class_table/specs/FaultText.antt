@@ -1,7 +1,6 @@
 -- How a fault of a table or of its line is shown: by its code and its name.
 use Rattle.std.specs.Prelude.{ℕ, List, codes}
-use Rattle.class_table.specs.declared.fault.TableError.{TableError}
-use Rattle.class_table.specs.declared.fault.TableError.TheVariants.{BadLine, TooMany, OutOfRange, NotAscending}
+use Rattle.class_table.specs.declared.fault.{TableError.{TableError}, TableError.TheVariants.{BadLine, TooMany, OutOfRange, NotAscending}}
 
 abbrev pub shown_table_error : TableError → List ℕ
 shown_table_error BadLine = codes "23 BadLine"

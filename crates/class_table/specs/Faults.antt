@@ -1,9 +1,7 @@
 -- What is wrong with a list of classes, and the table that a list without faults is.
 use Rattle.std.specs.Prelude.{◌≡◌, ℕ, ◌||◌, Bool, List, [], ◌∷◌, length, Option, Some, None, Result, Ok, Err, nat_lt, nat_le, if◌then◌else◌}
-use Rattle.class_table.specs.declared.fault.TableError.{TableError}
-use Rattle.class_table.specs.declared.fault.TableError.TheVariants.{TooMany, OutOfRange, NotAscending}
-use Rattle.class_table.specs.declared.sizes.TheConstants.{SMALLEST_CLASS, LARGEST_CLASS}
-use Rattle.class_table.specs.declared.table.TheConstants.{MOST_CLASSES}
+use Rattle.class_table.specs.declared.fault.{TableError.{TableError}, TableError.TheVariants.{TooMany, OutOfRange, NotAscending}}
+use Rattle.class_table.specs.declared.{sizes.TheConstants.{SMALLEST_CLASS, LARGEST_CLASS}, table.TheConstants.{MOST_CLASSES}}
 
 -- Whether a number is no class.
 abbrev pub is_out_of_range : ℕ → Bool

@@ -1,9 +1,8 @@
 -- How a region is divided into slots: each class has an equal share of its granules. The rule is this project's own, not Scudo's.
-use Rattle.std.specs.Prelude.{ℕ, ◌+◌, ◌*◌, ◌/◌, ◌<◌, ◌≤◌, Bool, ◌&&◌, nat_le, nat_lt, List, [], ◌∷◌, ◌++◌, length, map, position, take, sum_by, slice_index_or, Option}
 use Rattle.std.specs.List.{range_with_len}
-use Rattle.class_table.specs.Sizes.{granule_bytes}
-use Rattle.class_table.specs.Tables.{IsLegalTable}
-use Rattle.class_table.specs.declared.layout.TheConstants.{FEWEST_GRANULES, MOST_GRANULES}
+use Rattle.std.specs.Prelude.{◌<◌, ◌≤◌, Bool, ◌&&◌, nat_le, nat_lt, List, [], ◌∷◌, ◌++◌, length, map, position, take, sum_by}
+use Rattle.std.specs.Prelude.{slice_index_or, Option, ℕ, ◌+◌, ◌*◌, ◌/◌}
+use Rattle.class_table.specs.{Sizes.{granule_bytes}, Tables.{IsLegalTable}, declared.layout.TheConstants.{FEWEST_GRANULES, MOST_GRANULES}}
 
 -- A table, and the number of granules of the region that its classes share.
 pub record Partition : Type 0 where

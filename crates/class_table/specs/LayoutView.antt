@@ -1,11 +1,7 @@
 -- What a `Layout` keeps.
-use Rattle.std.specs.Prelude.{◌≡◌, ◌+◌, ◌*◌, ◌^◌, ◌≤◌, length, map}
-use Rattle.std.specs.List.{range_with_len}
-use Rattle.class_table.specs.Counts.{AreCounts}
-use Rattle.class_table.specs.Layout.{Partition, IsPartition, share_of, slot_count, first_slot}
-use Rattle.class_table.specs.declared.layout.Layout.TheInside.{Inside}
-use Rattle.class_table.specs.declared.layout.TheConstants.{LARGEST_SHIFT}
-use Rattle.class_table.specs.declared.counts.TheConstants.{COUNTS}
+use Rattle.std.specs.{List.{range_with_len}, Prelude.{◌≡◌, ◌+◌, ◌*◌, ◌^◌, ◌≤◌, length, map}}
+use Rattle.class_table.specs.{Counts.{AreCounts}, Layout.{Partition, IsPartition, share_of, slot_count, first_slot}}
+use Rattle.class_table.specs.declared.{counts.TheConstants.{COUNTS}, layout.Layout.TheInside.{Inside}, layout.TheConstants.{LARGEST_SHIFT}}
 
 abbrev pub partition_of : Inside → Partition
 partition_of layout = record { classes = layout.classes.items; granules = layout.granules }

@@ -1,10 +1,7 @@
 -- A line of a name and numbers, as `classes 1 2 3` is one: how it is spelled, and which numbers are read off it.
+use Rattle.std.specs.{Fmt.{decimal}, Option.{option_map}, Str.{bytes_eq}}
 use Rattle.std.specs.Prelude.{ℕ, List, [], ◌∷◌, map, Option, Some, None, option_and_then, if◌then◌else◌}
-use Rattle.std.specs.Option.{option_map}
-use Rattle.std.specs.Fmt.{decimal}
-use Rattle.std.specs.Str.{bytes_eq}
-use Rattle.line_text.specs.Lines.{words, line_of}
-use Rattle.line_text.specs.Numbers.{number_of}
+use Rattle.line_text.specs.{Lines.{words, line_of}, Numbers.{number_of}}
 
 -- The line of a name and numbers, without its newline.
 abbrev pub named_line : List ℕ → List ℕ → List ℕ

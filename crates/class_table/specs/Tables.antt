@@ -1,9 +1,7 @@
 -- Class tables, and the class of a size.
+use Rattle.std.specs.{List.Sorted.{IsStrictlyIncreasing}, Option.{option_map_or}}
 use Rattle.std.specs.Prelude.{◌≡◌, ℕ, ◌%◌, ◌≤◌, List, length, find, position, sum_by, Option, IsSome, IsTrue, All, Contains}
-use Rattle.std.specs.Option.{option_map_or}
-use Rattle.std.specs.List.Sorted.{IsStrictlyIncreasing}
-use Rattle.class_table.specs.Sizes.{IsBlockSize, loss_of, serves}
-use Rattle.class_table.specs.declared.table.TheConstants.{MOST_CLASSES}
+use Rattle.class_table.specs.{Sizes.{IsBlockSize, loss_of, serves}, declared.table.TheConstants.{MOST_CLASSES}}
 
 -- Each class is a multiple of the step.
 abbrev pub FitsStep : ℕ → List ℕ → Type 0

@@ -1,10 +1,7 @@
 -- Binary digits, and the count of calls row by row.
-use Rattle.std.proofs.Common.{◌≡◌, ℕ, zero, suc, ◌+◌, ◌-◌, ◌*◌, ◌/◌, ◌^◌, ◌<◌, ◌≤◌, arith, ap, subst, inl, inr}
-use Rattle.std.proofs.lemmas.Bool.{cases_lt}
-use Rattle.std.proofs.lemmas.Int.Digits.{length-digits_of-le, length-digits_of_step}
-use Rattle.std.proofs.Math.Nat.{mul-le-mul_left, mul-le-mul_right}
-use Rattle.class_table.specs.declared.sizes.TheConstants.{MOST_NEEDS}
-use Rattle.class_table.specs.declared.table.TheConstants.{MOST_CLASSES}
+use Rattle.std.proofs.{Common.{◌≡◌, ℕ, zero, suc, ◌+◌, ◌-◌, ◌*◌, ◌/◌, ◌^◌, ◌<◌, ◌≤◌, arith, ap, subst, inl, inr}, lemmas.Bool.{cases_lt}}
+use Rattle.std.proofs.{Math.Nat.{mul-le-mul_left, mul-le-mul_right}, lemmas.Int.Digits.{length-digits_of-le, length-digits_of_step}}
+use Rattle.class_table.specs.declared.{sizes.TheConstants.{MOST_NEEDS}, table.TheConstants.{MOST_CLASSES}}
 use Rattle.class_tuner.specs.CallCounts.{bits, most_calls}
 
 doubled : (n b c : ℕ) → n / 2 < 2 ^ b → c ≡ suc b → n < 2 ^ c

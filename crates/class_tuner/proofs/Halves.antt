@@ -1,9 +1,7 @@
 -- The two halves of a part: where their least ends are, and how often the source is asked for them.
 use Rattle.std.proofs.Common.{◌≡◌, ℕ, suc, ◌+◌, ◌*◌, ◌^◌, ◌/◌, ◌<◌, ◌≤◌, List, slice_index, arith}
 use Rattle.class_tuner.specs.Filling.{AreEndsBetween, end_cost}
-use Rattle.tuner_theory.specs.Rows.{IsLeastEnd}
-use Rattle.tuner_theory.specs.Spans.{IsCrossing}
-use Rattle.tuner_theory.proofs.LawLemmas.{ends_ascend}
+use Rattle.tuner_theory.{proofs.LawLemmas.{ends_ascend}, specs.Rows.{IsLeastEnd}, specs.Spans.{IsCrossing}}
 
 module _ (cost : ℕ → ℕ → ℕ) (d : ℕ) (crossing : IsCrossing cost d) (before : List ℕ) (start stop low high middle end : ℕ)
     (between : AreEndsBetween cost d before start stop low high) (least : IsLeastEnd (end_cost cost before middle) middle d end) where

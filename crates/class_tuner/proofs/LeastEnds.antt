@@ -1,6 +1,5 @@
 -- The least end in a window, and the least end of a place.
-use Rattle.std.proofs.Common.{◌≡◌, ℕ, zero, suc, ◌+◌, ◌-◌, ◌<◌, ◌≤◌, arith, ap, subst, inl, inr}
-use Rattle.std.proofs.lemmas.Bool.{cases_lt}
+use Rattle.std.proofs.{Common.{◌≡◌, ℕ, zero, suc, ◌+◌, ◌-◌, ◌<◌, ◌≤◌, arith, ap, subst, inl, inr}, lemmas.Bool.{cases_lt}}
 use Rattle.tuner_theory.specs.Rows.{IsLeastEnd, IsLeastWithin}
 
 -- a window has one first least end

@@ -5,7 +5,6 @@ pub mod Halves
 pub mod LeastEnds
 pub mod OneSheet
 pub mod PartCalls
-pub mod ReadOff
 pub mod Rows
 pub mod Tried
 pub mod Tunings

@@ -1,13 +1,8 @@
 -- What is made for one measure, step and limit is the same, and so is the number of evaluations.
 use Rattle.std.proofs.Common.{◌≡◌, ℕ, zero, suc, ◌<◌, ◌≤◌, Bool, List, arith, refl, ap, sym, ◌∙◌}
-use Rattle.class_tuner.specs.Fits.Fitted.{IsFitOf}
-use Rattle.class_tuner.specs.Tuned.{AreEvaluations, IsMadeFor, IsTuned}
-use Rattle.class_tuner.proofs.Tried.{calls-same}
-use Rattle.tuner_theory.specs.Measures.{Measure, footprint_on, waste_on}
-use Rattle.tuner_theory.specs.Served.{served}
-use Rattle.tuner_theory.specs.Sheets.{Sheet}
-use Rattle.tuner_theory.specs.Rows.{AreLeastRows, number_at}
-use Rattle.tuner_theory.proofs.LawLemmas.{one_canonical, one_least_rows}
+use Rattle.class_tuner.{proofs.Tried.{calls-same}, specs.Fits.Fitted.{IsFitOf}, specs.Tuned.{AreEvaluations, IsMadeFor, IsTuned}}
+use Rattle.tuner_theory.{proofs.LawLemmas.{one_canonical, one_least_rows}, specs.Measures.{Measure, footprint_on, waste_on}}
+use Rattle.tuner_theory.specs.{Rows.{AreLeastRows, number_at}, Served.{served}, Sheets.{Sheet}}
 
 same_sheet : (table table' : List ℕ) (limit limit' step step' cost cost' : ℕ) (forced forced' : Bool)
     (rows rows' : List (List ℕ)) → table ≡ table' → limit ≡ limit' → step ≡ step' → forced ≡ forced' → cost ≡ cost' → rows ≡ rows'

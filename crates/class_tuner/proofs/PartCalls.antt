@@ -2,10 +2,8 @@
 use Rattle.std.proofs.Common.{◌≡◌, ℕ, zero, suc, ◌+◌, ◌-◌, ◌*◌, ◌/◌, ◌^◌, ◌<◌, ◌≤◌, max, List, slice_index, arith}
 use Rattle.std.specs.declared.ops.Range.{Range}
 use Rattle.class_table.specs.declared.sizes.TheConstants.{MOST_NEEDS}
-use Rattle.class_tuner.specs.CallCounts.{AreCallsForPart, tried_within}
-use Rattle.class_tuner.specs.declared.halving.Window.{Window}
-use Rattle.class_tuner.proofs.Halves.{count-halves, half-digits}
-use Rattle.class_tuner.proofs.Tried.{tried-none, tried-part}
+use Rattle.class_tuner.proofs.{Halves.{count-halves, half-digits}, Tried.{tried-none, tried-part}}
+use Rattle.class_tuner.specs.{CallCounts.{AreCallsForPart, tried_within}, declared.halving.Window.{Window}}
 
 -- a part without places
 pub calls-none : (ends : List ℕ) (part : Range ℕ) (window : Window) (calls : ℕ) → part.end ≤ part.start

@@ -1,15 +1,10 @@
 -- Rows of least costs, one after another.
-use Rattle.std.proofs.lemmas.Grind.{common_steps}
-use Rattle.std.proofs.Common.{◌≡◌, ℕ, zero, suc, ◌-◌, ◌<◌, ◌≤◌, List, [], ◌∷◌, ◌++◌, length, slice_index, arith, ap, subst, ◌∙◌, inl, inr, Vec, slice_index_or}
-use Rattle.std.specs.declared.alloc.Global.{Global}
-use Rattle.std.proofs.lemmas.Bool.{cases_lt}
-use Rattle.std.proofs.lemmas.List.{get_or_append_left, get_or_past}
-use Rattle.class_tuner.specs.Filling.{IsFilledWithin, IsFirstRow, IsLeastAt, IsNextRow}
-use Rattle.class_tuner.specs.declared.filling.Row.{Row}
-use Rattle.tuner_theory.specs.Lists.{lists_of}
+use Rattle.std.proofs.Common.{◌≡◌, ℕ, zero, suc, ◌-◌, ◌<◌, ◌≤◌, List, [], ◌∷◌, ◌++◌, length, slice_index, arith, ap, subst, ◌∙◌, inl, inr}
+use Rattle.std.proofs.{Common.{Vec, slice_index_or}, lemmas.Bool.{cases_lt}, lemmas.Grind.{common_steps}}
+use Rattle.std.{proofs.lemmas.List.{get_or_append_left, get_or_past}, specs.declared.alloc.Global.{Global}}
+use Rattle.class_tuner.specs.{Filling.{IsFilledWithin, IsFirstRow, IsLeastAt, IsNextRow}, declared.filling.Row.{Row}}
+use Rattle.tuner_theory.{proofs.Lists.{lists-length, row-read_at}, proofs.Sheets.{rows-end}, specs.Lists.{lists_of}}
 use Rattle.tuner_theory.specs.Rows.{HasShape, IsFilled, number_at}
-use Rattle.tuner_theory.proofs.Lists.{lists-length, row-read_at}
-use Rattle.tuner_theory.proofs.Sheets.{rows-end}
 
 -- ---- numbers in rows
 

@@ -1,7 +1,6 @@
 -- A source that is asked again and again.
 use Rattle.std.proofs.Common.{◌≡◌, ℕ, ap, sym, ◌∙◌, arith}
-use Rattle.class_tuner.specs.SourceChanges.{OnlyCounts}
-use Rattle.class_tuner.specs.declared.cost_source.CostSource.{Ghosts}
+use Rattle.class_tuner.specs.{SourceChanges.{OnlyCounts}, declared.cost_source.CostSource.{Ghosts}}
 
 module _ {S : Type 0} (source : Ghosts S) where
   -- a count that was set is the source's own

@@ -1,8 +1,7 @@
 -- How many ends are tried for a part of the places, half by half, and for rows, one by one.
-use Rattle.std.proofs.Common.{◌≡◌, ℕ, zero, suc, ◌+◌, ◌-◌, ◌/◌, ◌<◌, ◌≤◌, max, List, [], ◌∷◌, ◌++◌, length, slice_index, arith, refl, ap, sym, ◌∙◌, inl, inr}
-use Rattle.std.proofs.lemmas.Bool.{cases_lt, cond-true, lt-ltb}
-use Rattle.class_tuner.specs.CallCounts.{calls_of, ends_after, tried_in_row, tried_within}
-use Rattle.class_tuner.proofs.Rows.{number_at-new, number_at-old}
+use Rattle.std.proofs.Common.{◌≡◌, ℕ, zero, suc, ◌+◌, ◌-◌, ◌/◌, ◌<◌, ◌≤◌, max, List, [], ◌∷◌, ◌++◌, length, slice_index, arith, refl, ap}
+use Rattle.std.proofs.{Common.{sym, ◌∙◌, inl, inr}, lemmas.Bool.{cases_lt, cond-true, lt-ltb}}
+use Rattle.class_tuner.{proofs.Rows.{number_at-new, number_at-old}, specs.CallCounts.{calls_of, ends_after, tried_in_row, tried_within}}
 use Rattle.tuner_theory.specs.Rows.{number_at}
 
 -- no place, no end

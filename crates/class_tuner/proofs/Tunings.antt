@@ -1,21 +1,12 @@
 -- What least rows over the places of a profile make, by any measure.
 use Rattle.std.proofs.Common.{◌≡◌, ℕ, ◌≤◌, Bool, List, refl, sym, arith}
-use Rattle.class_table.specs.Steps.{IsStep}
-use Rattle.class_table.specs.Tables.{IsLegalTable}
-use Rattle.class_table.specs.declared.table.TheConstants.{MOST_CLASSES}
-use Rattle.class_tuner.specs.Fits.Fitted.{IsFitOf}
-use Rattle.class_tuner.specs.Tuned.{IsMadeFor, IsTunedOver, sheet_of_rows}
-use Rattle.tuner_theory.specs.Best.{IsCanonicalBy}
-use Rattle.tuner_theory.specs.Histories.{AreSnapshots}
-use Rattle.tuner_theory.specs.Intervals.{span_cost}
-use Rattle.tuner_theory.specs.Measures.{AreSums, Measure, footprint_on, waste_on}
-use Rattle.tuner_theory.specs.Profiles.{AreCounts}
-use Rattle.tuner_theory.specs.Rows.{AreLaterEnds, IsFilled, number_at}
-use Rattle.tuner_theory.specs.Sheets.{Sheet}
-use Rattle.tuner_theory.specs.Spans.{places, span_waste}
-use Rattle.tuner_theory.specs.Tuned.{AreRowsBy, tuned_table}
-use Rattle.tuner_theory.proofs.FootprintRests.{fitted_rows_are_rests}
-use Rattle.tuner_theory.proofs.LawLemmas.{ends_are_later, least_rows_are_valid, rows-canonical, rows-optimal_by, step-positive, tuned_rows_are_rests}
+use Rattle.class_table.specs.{Steps.{IsStep}, Tables.{IsLegalTable}, declared.table.TheConstants.{MOST_CLASSES}}
+use Rattle.class_tuner.specs.{Fits.Fitted.{IsFitOf}, Tuned.{IsMadeFor, IsTunedOver, sheet_of_rows}}
+use Rattle.tuner_theory.{proofs.FootprintRests.{fitted_rows_are_rests}, specs.Best.{IsCanonicalBy}, specs.Histories.{AreSnapshots}}
+use Rattle.tuner_theory.proofs.LawLemmas.{tuned_rows_are_rests, ends_are_later, least_rows_are_valid, rows-canonical, rows-optimal_by}
+use Rattle.tuner_theory.{proofs.LawLemmas.{step-positive}, specs.Intervals.{span_cost}, specs.Profiles.{AreCounts}, specs.Sheets.{Sheet}}
+use Rattle.tuner_theory.specs.{Measures.{AreSums, Measure, footprint_on, waste_on}, Rows.{AreLaterEnds, IsFilled, number_at}}
+use Rattle.tuner_theory.specs.{Spans.{places, span_waste}, Tuned.{AreRowsBy, tuned_table}}
 
 -- a table that is legal for any step is legal for step 1
 legal-for_one : (step : ℕ) (classes : List ℕ) → IsLegalTable step classes → IsLegalTable 1 classes

@@ -1,7 +1,6 @@
 -- How often a source is asked for costs: for a part of a row, for a row and for all rows.
+use Rattle.std.specs.{Int.Digits.{digits_of}, declared.ops.Range.{Range}}
 use Rattle.std.specs.Prelude.{◌≡◌, ℕ, zero, suc, ◌+◌, ◌-◌, ◌*◌, ◌/◌, ◌^◌, ◌<◌, ◌≤◌, max, nat_lt, if◌then◌else◌, List, length, slice_index}
-use Rattle.std.specs.Int.Digits.{digits_of}
-use Rattle.std.specs.declared.ops.Range.{Range}
 use Rattle.class_tuner.specs.declared.halving.Window.{Window}
 use Rattle.class_table.specs.declared.sizes.TheConstants.{MOST_NEEDS}
 

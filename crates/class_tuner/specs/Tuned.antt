@@ -2,16 +2,9 @@
 use Rattle.std.specs.Prelude.{◌≡◌, ℕ, ◌<◌, ◌≤◌, Bool, List}
 use Rattle.class_tuner.specs.CallCounts.{calls_of}
 use Rattle.potential_check.specs.declared.certificates.certificate.Certificate.{Certificate}
-use Rattle.tuner_theory.specs.Best.{IsCanonicalBy}
-use Rattle.tuner_theory.specs.Measures.{Measure, waste_on}
-use Rattle.tuner_theory.specs.Potentials.{AreValidPotentials}
-use Rattle.tuner_theory.specs.Rests.{IsRest}
-use Rattle.tuner_theory.specs.Rows.{HasShape, IsFilled, number_at}
-use Rattle.tuner_theory.specs.Served.{served}
-use Rattle.tuner_theory.specs.Sheets.{IsVerdictOn, Sheet}
-use Rattle.tuner_theory.specs.Spans.{places, span_waste}
-use Rattle.tuner_theory.specs.Tuned.{AreRowsBy, tuned_table}
-use Rattle.tuner_theory.specs.declared.verdict.Verdict.TheVariants.{Optimal}
+use Rattle.tuner_theory.specs.{Best.{IsCanonicalBy}, Measures.{Measure, waste_on}, Potentials.{AreValidPotentials}, Rests.{IsRest}}
+use Rattle.tuner_theory.specs.{Rows.{HasShape, IsFilled, number_at}, Served.{served}, Sheets.{IsVerdictOn, Sheet}}
+use Rattle.tuner_theory.specs.{Spans.{places, span_waste}, Tuned.{AreRowsBy, tuned_table}, declared.verdict.Verdict.TheVariants.{Optimal}}
 
 -- A certificate, and how many costs of spans were asked for to make it.
 pub record Making (C : Type 0) : Type 0 where

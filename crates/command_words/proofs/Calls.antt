@@ -1,14 +1,9 @@
 -- The call that words mean.
-use Rattle.std.proofs.Common.{◌≡◌, ◌∙◌, List, ap, codes, if◌then◌else◌, refl, subst, sym}
-use Rattle.std.specs.Str.{bytes_eq}
+use Rattle.std.{proofs.Common.{◌≡◌, ◌∙◌, List, ap, codes, if◌then◌else◌, refl, subst, sym}, specs.Str.{bytes_eq}}
 use Rattle.clap.specs.Words.{Row, Text}
-use Rattle.command_words.specs.AcceptedWords.{name_of}
-use Rattle.command_words.specs.Calls.{Names}
-use Rattle.command_words.specs.Options.{HasOptions}
-use Rattle.tool_call.specs.declared.call.Call.{Call}
-use Rattle.tool_call.specs.declared.call.CommandName.{CommandName}
+use Rattle.command_words.specs.{AcceptedWords.{name_of}, Calls.{Names}, Options.{HasOptions}}
+use Rattle.tool_call.specs.declared.{call.Call.{Call}, call.CommandName.{CommandName}, options.Options.{Options}}
 use Rattle.tool_call.specs.declared.call.CommandName.TheVariants.{Score, Tune, Check, Footprint, Fit, CheckFit, Peaks, Profile, Replay, Run}
-use Rattle.tool_call.specs.declared.options.Options.{Options}
 
 -- commands of one name are one
 named : Text → CommandName

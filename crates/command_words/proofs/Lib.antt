@@ -1,5 +1,3 @@
 pub mod Calls
-pub mod Numbers
-pub mod PlainWords
 pub mod Tables
 pub mod LawLemmas

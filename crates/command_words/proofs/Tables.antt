@@ -1,9 +1,7 @@
 -- A loop over a table adds what the table's values describe.
-use Rattle.std.proofs.Common.{◌≡◌, ℕ, ◌+◌, ◌<◌, List, fold, get_or, length, take, ap, sym, ◌∙◌}
-use Rattle.std.proofs.lemmas.List.Sums.{fold_more}
+use Rattle.std.proofs.{Common.{◌≡◌, ℕ, ◌+◌, ◌<◌, List, fold, get_or, length, take, ap, sym, ◌∙◌}, lemmas.List.Sums.{fold_more}}
 use Rattle.clap.specs.Words.{App, Rule, with_rule, with_subcommand}
-use Rattle.command_words.specs.AcceptedWords.{with_command, words_of}
-use Rattle.command_words.specs.Options.{facts_of, option_rule, with_option}
+use Rattle.command_words.specs.{AcceptedWords.{with_command, words_of}, Options.{facts_of, option_rule, with_option}}
 use Rattle.command_words.specs.declared.options.NumberOption.{NumberOption}
 use Rattle.tool_call.specs.declared.call.CommandName.{CommandName}
 

@@ -1,8 +1,6 @@
 -- The words that the program takes.
 use Rattle.std.specs.Prelude.{◌≡◌, true, false, codes}
-use Rattle.clap.specs.Words.{App, Text, app_of, new_app, with_subcommand}
-use Rattle.clap.specs.Simple.{on_top}
-use Rattle.clap.specs.declared.builder.command.Command.{Command}
+use Rattle.clap.specs.{Simple.{on_top}, Words.{App, Text, app_of, new_app, with_subcommand}, declared.builder.command.Command.{Command}}
 use Rattle.clap.specs.declared.builder.command.Command.TheViews.{out-Command as fields_of}
 use Rattle.command_words.specs.Options.{with_options}
 use Rattle.tool_call.specs.declared.call.CommandName.{CommandName}

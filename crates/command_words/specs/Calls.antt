@@ -1,11 +1,8 @@
 -- Which call the words of a command mean.
 use Rattle.std.specs.Prelude.{◌≡◌, List, Option, Some, None, Result, Ok, Err}
 use Rattle.clap.specs.Words.{Row, Text}
-use Rattle.command_words.specs.AcceptedWords.{name_of}
-use Rattle.command_words.specs.Options.{HasOptions}
-use Rattle.tool_call.specs.Options.{call_of}
-use Rattle.tool_call.specs.declared.call.Call.{Call}
-use Rattle.tool_call.specs.declared.call.CommandName.{CommandName}
+use Rattle.command_words.specs.{AcceptedWords.{name_of}, Options.{HasOptions}}
+use Rattle.tool_call.specs.{Options.{call_of}, declared.call.Call.{Call}, declared.call.CommandName.{CommandName}}
 use Rattle.tool_call.specs.declared.options.Options.{Options}
 
 -- The command of this name, or that there is none.

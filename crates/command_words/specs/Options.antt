@@ -1,16 +1,13 @@
 -- The options: the facts of each, how clap reads one, and what it is that words give it a number. Then which options a command has.
 use Rattle.std.specs.Prelude.{◌≡◌, ℕ, ◌≤◌, List, [], ◌∷◌, Option, Some, None, Result, Ok, Err, codes, option_map, pos, true, false, ⊤}
 use Rattle.std.specs.Str.Parse.{IsNumeral, without_leading_plus, digits_value}
-use Rattle.clap.specs.Words.{App, Row, Rule, Text, new_rule, one_of, rule_of, with_rule}
-use Rattle.clap.specs.declared.builder.arg.Arg.{Arg}
+use Rattle.clap.specs.{Words.{App, Row, Rule, Text, new_rule, one_of, rule_of, with_rule}, declared.builder.arg.Arg.{Arg}}
 use Rattle.clap.specs.declared.builder.value_parser.ValueParser.TheVariants.{Signed}
 use Rattle.class_table.specs.Steps.{IsStep}
 use Rattle.command_words.specs.declared.options.NumberOption.{NumberOption}
 use Rattle.heap_theory.specs.declared.config.Config.{Config}
-use Rattle.tool_call.specs.Options.{config_of, limits_of}
-use Rattle.tool_call.specs.declared.call.CommandName.{CommandName}
+use Rattle.tool_call.specs.{Options.{config_of, limits_of}, declared.call.CommandName.{CommandName}, declared.options.Limits.{Limits}}
 use Rattle.tool_call.specs.declared.call.CommandName.TheVariants.{Score, Tune, Check, Footprint, Fit, CheckFit, Peaks, Profile, Replay, Run}
-use Rattle.tool_call.specs.declared.options.Limits.{Limits}
 use Rattle.tool_call.specs.declared.options.Options.{Options}
 
 -- ---- the facts of each option

@@ -1,14 +1,10 @@
 -- What the words of a command line mean.
 use Rattle.std.specs.Prelude.{◌≡◌, ◌≢◌, List, [], ⊤}
-use Rattle.clap.specs.Kinds.{IsAmong}
-use Rattle.clap.specs.Words.{Text, kind_of, fault_of, subcommand_of}
-use Rattle.clap.specs.declared.error.Error.{Error}
-use Rattle.clap.specs.declared.error.kind.ErrorKind.TheVariants as kind
-use Rattle.command_words.specs.Calls.{IsCall, IsNoCall}
-use Rattle.command_words.specs.AcceptedWords.{program}
-use Rattle.command_words.specs.declared.refusal.Refusal.{Refusal}
+use Rattle.clap.specs.{Kinds.{IsAmong}, Words.{Text, kind_of, fault_of, subcommand_of}, declared.error.Error.{Error}}
+use Rattle.command_words.specs.{AcceptedWords.{program}, Calls.{IsCall, IsNoCall}, declared.refusal.Refusal.{Refusal}}
 use Rattle.command_words.specs.declared.refusal.Refusal.TheVariants.{OutOfMemory, Words, Options}
 use Rattle.tool_call.specs.declared.call.Call.{Call}
+use Rattle.clap.specs.declared.error.kind.ErrorKind.TheVariants as kind
 
 -- The words, of which the first is the program's name, mean this call.
 abbrev pub Mean : List Text → Call → Type 0

@@ -1,12 +1,8 @@
 -- A chunk that was freed is not live.
-use Rattle.std.proofs.Common.{◌≡◌, ◌≢◌, arith, ℕ, ◌<◌, Bool, true, false, cond, Option, Some, None, Result, Ok, Err, refl, sym, ap, ◌∙◌, length, ⊎_elim, ◌==◌}
-use Rattle.std.proofs.lemmas.List.{get_or-set_same, get_or_past}
-use Rattle.std.proofs.lemmas.Bool.{cases_lt, eqb-true}
-use Rattle.heap_theory.specs.Calls.{Step, free_step, free_with, freed}
-use Rattle.heap_theory.specs.Lookups.{Chunk, chunk_at, chunk_in, chunk_in_slot, slot_of_pointer}
-use Rattle.heap_theory.specs.State.{State, Heap, state_at}
-use Rattle.heap_theory.specs.State.State.{Fresh, Live, Dead}
-use Rattle.heap_theory.specs.declared.refusal.FreeError.{FreeError}
+use Rattle.std.proofs.Common.{◌≡◌, ◌≢◌, arith, ℕ, ◌<◌, Bool, true, false, cond, Option, Some, None, Result, Ok, Err, refl, sym, ap, ◌∙◌}
+use Rattle.std.proofs.{Common.{length, ⊎_elim, ◌==◌}, lemmas.Bool.{cases_lt, eqb-true}, lemmas.List.{get_or-set_same, get_or_past}}
+use Rattle.heap_theory.specs.{Calls.{Step, free_step, free_with, freed}, State.{State, Heap, state_at}, State.State.{Fresh, Live, Dead}}
+use Rattle.heap_theory.specs.{Lookups.{Chunk, chunk_at, chunk_in, chunk_in_slot, slot_of_pointer}, declared.refusal.FreeError.{FreeError}}
 use Rattle.heap_theory.specs.declared.refusal.FreeError.TheVariants.{NotLive}
 
 abbrev FreeStep : Type 0

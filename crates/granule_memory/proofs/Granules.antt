@@ -1,14 +1,12 @@
 -- What the granules that lie in a list of bytes are.
-use Rattle.std.specs.Int.{w64, from_le_bytes}
+use Rattle.std.proofs.Common.{◌≡◌, ℕ, ◌+◌, ◌-◌, ◌*◌, ◌/◌, ◌%◌, ◌<◌, ◌≤◌, List, [], ◌∷◌, map, length, take, drop, get_or, refl, sym, ap}
+use Rattle.std.proofs.{Common.{subst, ◌∙◌, arith, slice_range, slice_index, slice_index_or}, lemmas.Grind.{same_number_lists}}
+use Rattle.std.proofs.lemmas.{List.{length-take-le, length-drop, get_or-take, get_or-drop, get_or_past}, List.Elements.{All-take, All-drop}}
+use Rattle.std.{proofs.lemmas.List.FromFn.{get_or-map-range_with_len, length-map-range_with_len}, specs.Int.{w64, from_le_bytes}}
 use Rattle.std.specs.List.{range_with_len}
-use Rattle.std.proofs.Common.{◌≡◌, ℕ, ◌+◌, ◌-◌, ◌*◌, ◌/◌, ◌%◌, ◌<◌, ◌≤◌, List, [], ◌∷◌, map, length, take, drop, get_or, refl, sym, ap, subst, ◌∙◌, arith, slice_range, slice_index, slice_index_or}
-use Rattle.std.proofs.lemmas.Grind.{same_number_lists}
-use Rattle.std.proofs.lemmas.List.{length-take-le, length-drop, get_or-take, get_or-drop, get_or_past}
-use Rattle.std.proofs.lemmas.List.Elements.{All-take, All-drop}
-use Rattle.std.proofs.lemmas.List.FromFn.{get_or-map-range_with_len, length-map-range_with_len}
 use Rattle.machine_theory.specs.Memory.{Granule, IsGranule, IsMemory, no_granule, granule_at, tag_at, byte_at, bytes_at, word_at}
-use Rattle.raw_region.specs.Bytes as raw
 use Rattle.granule_memory.specs.BytesOfGranules.{granule_in, granules_of, IsLaidOut}
+use Rattle.raw_region.specs.Bytes as raw
 
 pub granules_counted : (bytes : List ℕ) (count : ℕ) → length (granules_of bytes count) ≡ count
 unfolding granules_of

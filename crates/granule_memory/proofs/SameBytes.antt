@@ -1,13 +1,10 @@
 -- Where two lists have the same bytes, their granules have the same tags and bytes.
+use Rattle.std.proofs.Common.{◌≡◌, ℕ, ◌+◌, ◌*◌, ◌/◌, ◌%◌, ◌<◌, ◌≤◌, List, length, sym, ap, subst, ◌∙◌, arith, inl, inr, ⊎_elim, slice_range}
+use Rattle.std.proofs.{Common.{slice_index, ◌⊎◌}, lemmas.Bool.{cases_lt}, lemmas.Grind.{same_number_lists}}
 use Rattle.std.specs.Int.{w64, from_le_bytes}
-use Rattle.std.proofs.Common.{◌≡◌, ℕ, ◌+◌, ◌*◌, ◌/◌, ◌%◌, ◌<◌, ◌≤◌, List, length, sym, ap, subst, ◌∙◌, arith, inl, inr, ⊎_elim, slice_range, slice_index, ◌⊎◌}
-use Rattle.std.proofs.lemmas.Bool.{cases_lt}
-use Rattle.std.proofs.lemmas.Grind.{same_number_lists}
-use Rattle.machine_theory.specs.Memory.{Granule, no_granule, granule_at, tag_at, byte_at, word_at}
-use Rattle.machine_theory.proofs.ByteLaws.{bytes_at_agree}
-use Rattle.granule_memory.specs.BytesOfGranules.{granules_of}
-use Rattle.granule_memory.specs.Changes.{ChangesOnlyBytes, ChangesOnlyTags}
+use Rattle.machine_theory.{proofs.ByteLaws.{bytes_at_agree}, specs.Memory.{Granule, no_granule, granule_at, tag_at, byte_at, word_at}}
 use Rattle.granule_memory.proofs.Granules.{granules_counted, granule_is, granule_past, tag_is, byte_is, slice_range_byte, slice_range_long}
+use Rattle.granule_memory.specs.{BytesOfGranules.{granules_of}, Changes.{ChangesOnlyBytes, ChangesOnlyTags}}
 
 module _ (xs ys : List ℕ) (count : ℕ) (long : length xs ≡ 17 * count) (same_length : length ys ≡ length xs) where
   abbrev old : List Granule

@@ -1,13 +1,10 @@
 -- Words that are compared from one of their bytes on, and the tags that are the bytes.
-use Rattle.std.specs.Int.{w64, from_le_bytes, to_le_bytes}
-use Rattle.std.proofs.Common.{◌≡◌, ℕ, zero, suc, ◌+◌, ◌-◌, ◌*◌, ◌/◌, ◌%◌, ◌^◌, ◌<◌, ◌≤◌, ◌↔◌, List, length, refl, sym, ap, subst, ◌∙◌, arith, inl, inr, slice_range, slice_index}
-use Rattle.std.proofs.lemmas.Bool.{cases_lt}
-use Rattle.std.proofs.lemmas.List.{get_or_past}
-use Rattle.std.proofs.lemmas.Nat.{le_bytes_8, pow-add}
+use Rattle.std.proofs.Common.{◌≡◌, ℕ, zero, suc, ◌+◌, ◌-◌, ◌*◌, ◌/◌, ◌%◌, ◌^◌, ◌<◌, ◌≤◌, ◌↔◌, List, length, refl, sym, ap, subst, ◌∙◌}
+use Rattle.std.proofs.{Common.{arith, inl, inr, slice_range, slice_index}, lemmas.Bool.{cases_lt}, lemmas.List.{get_or_past}}
+use Rattle.std.{proofs.lemmas.Nat.{le_bytes_8, pow-add}, specs.Int.{w64, from_le_bytes, to_le_bytes}}
 use native.Mathlib.Nat.{div-div-eq-div-mul}
 use Rattle.raw_region.specs.Bytes.{word_at}
-use Rattle.granule_memory.specs.BytesOfGranules.{IsLaidOut}
-use Rattle.granule_memory.proofs.Granules.{slice_range_byte, slice_range_long}
+use Rattle.granule_memory.{proofs.Granules.{slice_range_byte, slice_range_long}, specs.BytesOfGranules.{IsLaidOut}}
 
 -- byte i of a number, the lowest first
 abbrev byte_in : ℕ → ℕ → ℕ

@@ -1,18 +1,18 @@
 -- A run of bytes that is written into the list is written into the granules, and a run of one byte past them is the tag of a run of
 -- granules.
-use Rattle.std.specs.Int.{byte_at, bytes_low_first}
-use Rattle.std.proofs.Common.{◌≡◌, ℕ, zero, suc, ◌+◌, ◌-◌, ◌*◌, ◌<◌, ◌≤◌, ◌++◌, List, length, take, drop, refl, sym, ap, subst, ◌∙◌, lit<, arith, inl, inr, ⊎_elim, if◌then◌else◌, slice_range, slice_index, ◌⊎◌, All, replicate}
+use Rattle.std.proofs.Common.{◌≡◌, ℕ, zero, suc, ◌+◌, ◌-◌, ◌*◌, ◌<◌, ◌≤◌, ◌++◌, List, length, take, drop, refl, sym, ap, subst, ◌∙◌, lit<}
+use Rattle.std.proofs.Common.{arith, inl, inr, ⊎_elim, if◌then◌else◌, slice_range, slice_index, ◌⊎◌, All, replicate}
 use Rattle.std.proofs.lemmas.Bool.{cases_lt, cond-true, cond-false, and_from, and_left, and_right, le-leb, lt-ltb, lt-leb, le-ltb}
-use Rattle.std.proofs.lemmas.Grind.{same_number_lists}
-use Rattle.std.proofs.lemmas.List.{length-append, length-take-le, length-drop, length-replicate, get_or-take, get_or-drop, get_or_append_left, get_or-append_right, get_or-replicate}
-use Rattle.std.proofs.lemmas.List.Elements.{All-nil, All-cons, All-take, All-drop, All-append, All-replicate}
+use Rattle.std.proofs.lemmas.{Grind.{same_number_lists}, List.Elements.{All-nil, All-cons, All-take, All-drop, All-append, All-replicate}}
+use Rattle.std.proofs.lemmas.List.{length-append, length-take-le, length-drop, length-replicate, get_or-take, get_or-drop}
+use Rattle.std.{proofs.lemmas.List.{get_or_append_left, get_or-append_right, get_or-replicate}, specs.Int.{byte_at, bytes_low_first}}
 use Rattle.std.proofs.lemmas.List.FromFn.{get_or-map-range_with_len, length-map-range_with_len, fill_by_all}
-use Rattle.machine_theory.specs.Memory.{Granule, no_granule, granule_at, tag_at, bytes_at, each_granule, is_among, tagged, byte_after, bytes_after, written, new_granule}
+use Rattle.machine_theory.specs.Memory.{Granule, no_granule, granule_at, tag_at, bytes_at, each_granule, is_among, tagged, byte_after}
+use Rattle.machine_theory.specs.Memory.{bytes_after, written, new_granule}
 use Rattle.raw_region.specs.Bytes.{with_bytes}
-use Rattle.granule_memory.specs.BytesOfGranules.{granule_in, granules_of, IsLaidOut}
-use Rattle.granule_memory.specs.Changes.{ChangesOnlyBytes, ChangesOnlyTags}
 use Rattle.granule_memory.proofs.Granules.{granules_counted, granule_is, tag_is, bytes_are, slice_range_byte, slice_range_long}
-use Rattle.granule_memory.proofs.SameBytes.{changes_bytes, changes_tags}
+use Rattle.granule_memory.{proofs.SameBytes.{changes_bytes, changes_tags}, specs.BytesOfGranules.{granule_in, granules_of, IsLaidOut}}
+use Rattle.granule_memory.specs.Changes.{ChangesOnlyBytes, ChangesOnlyTags}
 
 abbrev Below : ℕ → Type 0
 Below byte = byte < 256

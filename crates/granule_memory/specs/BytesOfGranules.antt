@@ -1,8 +1,6 @@
 -- How granules lie in a list of bytes: the sixteen bytes of each, one granule after the other, and then the tag of each.
-use Rattle.std.specs.Prelude.{◌≡◌, ℕ, ◌+◌, ◌*◌, ◌<◌, ◌≤◌, List, map, length, slice_index, slice_range, All}
-use Rattle.std.specs.List.{range_with_len}
-use Rattle.machine_theory.specs.Memory.{Granule}
-use Rattle.machine_theory.specs.declared.sizes.TheConstants.{FEWEST_GRANULES, GRANULE_BYTES, MOST_GRANULES}
+use Rattle.std.specs.{List.{range_with_len}, Prelude.{◌≡◌, ℕ, ◌+◌, ◌*◌, ◌<◌, ◌≤◌, List, map, length, slice_index, slice_range, All}}
+use Rattle.machine_theory.specs.{Memory.{Granule}, declared.sizes.TheConstants.{FEWEST_GRANULES, GRANULE_BYTES, MOST_GRANULES}}
 
 abbrev pub granule_in : List ℕ → ℕ → ℕ → Granule
 granule_in bytes count g = record {

@@ -1,7 +1,6 @@
 -- What stays the same under a change of tags or bytes.
 use Rattle.std.specs.Prelude.{◌≡◌, ℕ, ◌+◌, ◌*◌, ◌<◌, ◌≤◌, ◌⊎◌, List, length}
-use Rattle.machine_theory.specs.Memory.{Granule, granule_at, tag_at, byte_at, word_at}
-use Rattle.machine_theory.specs.declared.sizes.TheConstants.{GRANULE_BYTES}
+use Rattle.machine_theory.specs.{Memory.{Granule, granule_at, tag_at, byte_at, word_at}, declared.sizes.TheConstants.{GRANULE_BYTES}}
 
 -- all tags, and the bytes before `from` and from `to` on, are the same
 pub record ChangesOnlyBytes (old new : List Granule) (from to : ℕ) : Type 0 where

@@ -234,6 +234,18 @@ impl Memory {
         self.region.write_bytes(i, bytes);
     }
 
+    /// Writes `b` to the `count` bytes, 0 to 64, from byte `i` of the memory on; granule g begins at byte 16 g. No tag changes. It serves stores
+    /// of one byte many times. It checks no tag; a store does that first.
+    #[tactic(auto, using(crate::proofs::Granules::granules_counted))]
+    pub fn fill_bytes(&mut self, i: usize, count: usize, b: u8)
+        requires place { i + count ≤ GRANULE_BYTES * length self.old }
+        requires count { count ≤ 64 }
+        ensures written { self.new ≡ written i (replicate count b) self.old }
+        ensures memory { IsMemory self.new }
+    {
+        self.region.fill_few(i, count, b);
+    }
+
     /// Copies the `count` bytes from byte `from` of the memory on to those from byte `to` on, in one copy; granule g begins at byte 16 g. No tag
     /// changes. It serves a `realloc` that moves a chunk.
     #[tactic(auto, using(crate::proofs::Granules::granules_counted))]

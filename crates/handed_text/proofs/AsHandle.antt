@@ -1,9 +1,9 @@
 -- The handle to a text.
 use mathlib.Core.Path.{refl}
+use Rattle.handed_text.proofs.LawLemmas.Handles.{HandleOf}
 use Rattle.handed_text.specs.contracts.handle.Handle as Handle
 use Rattle.handed_text.specs.contracts.held.Held as Held
 use Rattle.handed_text.proofs.held.Held.TheLaws as held
-use Rattle.handed_text.proofs.LawLemmas.Handles.{HandleOf}
 
 abbrev pub K : HandleOf
 K = record {

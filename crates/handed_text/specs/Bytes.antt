@@ -1,7 +1,6 @@
 -- The bytes of a text that C holds, and whether they are an answer.
 use Rattle.std.specs.Prelude.{◌≡◌, ◌⊎◌, ℕ, Bool, true, false, List, ◌++◌, [], Option, Some, None, take, drop, length}
-use Rattle.handed_text.specs.declared.held.Held.{Held}
-use Rattle.handed_text.specs.declared.text.HandedText.{HandedText}
+use Rattle.handed_text.specs.declared.{held.Held.{Held}, text.HandedText.{HandedText}}
 
 abbrev pub held_bytes : Option Held → List ℕ
 held_bytes None = []

@@ -1,11 +1,8 @@
 -- What a handle owns: the value that its pointer leads to, and the right to free that block; nothing if it has none. The right is the same
 -- for each `Global`.
-use Rattle.std.specs.Prelude.{Option, Some, None}
-use Rattle.std.specs.Box.Ownership.{box_owns}
-use Rattle.std.specs.Global.{Global}
+use Rattle.std.specs.{Box.Ownership.{box_owns}, Global.{Global}, Prelude.{Option, Some, None}}
 use base.Fml.{Fml, ftrue}
-use denote.RattleType.{RattleType}
-use denote.RawPtr.{Ptr}
+use denote.{RattleType.{RattleType}, RawPtr.{Ptr}}
 use Rattle.std_heap.specs.contracts.GlobalAllocator.TheImpl.{ghosts}
 
 abbrev pub global : Global

@@ -49,19 +49,6 @@ impl HandedText {
         is_answer
     }
 
-    /// Lets its bytes be the beginning of an input, also where they are an answer.
-    pub fn make_input(&mut self, alloc: Global)
-        ensures bytes { bytes_of self.new ≡ bytes_of self.old }
-        ensures input { is_answer_of self.new ≡ false }
-    {
-        if self.length == 0 {
-            return;
-        }
-        let mut held = self.open(alloc);
-        held.is_answer = false;
-        self.close(held);
-    }
-
     /// Its bytes. The empty text is left.
     pub fn take(&mut self, alloc: Global) -> Vec<u8>
         ensures bytes { result.items ≡ bytes_of self.old }

@@ -1,21 +1,16 @@
 -- Each call keeps a sound heap, and gives out a slot or leaves what was given out.
-use Rattle.std.proofs.Common.{arith, ◌≡◌, ℕ, ◌*◌, ◌<◌, Bool, true, false, cond, List, length, get_or, refl, sym, ◌∙◌, subst, Some, None, Option, Result, Ok, Err, ◌==◌, slice_set, min, replicate}
+use Rattle.std.proofs.Common.{arith, ◌≡◌, ℕ, ◌*◌, ◌<◌, Bool, true, false, cond, List, length, get_or, refl, sym, ◌∙◌, subst, Some, None}
+use Rattle.std.proofs.{Common.{Option, Result, Ok, Err, ◌==◌, slice_set, min, replicate}, lemmas.List.{get_or-set_same, get_or-set_other}}
 use Rattle.std.specs.Result.{result_ok}
-use Rattle.std.proofs.lemmas.List.{get_or-set_same, get_or-set_other}
-use Rattle.machine_theory.specs.declared.fault.Fault.{Fault}
-use Rattle.machine_theory.specs.Access.{access_fault}
-use Rattle.machine_theory.specs.Address.{logical_tag}
-use Rattle.machine_theory.specs.Memory.{written}
-use Rattle.class_table.specs.Layout.{Partition, slot_count}
-use Rattle.heap_theory.specs.declared.refusal.FreeError.{FreeError}
-use Rattle.heap_theory.specs.Calls.{Step, next_tag, given_out, freed, resized, with_payload, payload_bytes, moved, malloc_with, malloc_step, calloc_with, calloc_step, free_with, free_step, stays_in_class, slot_if_moved, move_with, realloc_with, realloc_step, store_with, store_step}
+use Rattle.machine_theory.specs.{Access.{access_fault}, Address.{logical_tag}, Memory.{written}, declared.fault.Fault.{Fault}}
+use Rattle.class_table.specs.{Layout.{Partition, slot_count}, Sizes.{chunk_granules}}
+use Rattle.heap_theory.proofs.HeapKept.{in_states, IsSoundHeap-given_out, IsSoundHeap-resized, IsSoundHeap-freed, IsSoundHeap-written}
+use Rattle.heap_theory.proofs.{HeapKept.{IsSoundHeap-with_payload}, Lookups.{slot_for_request-cases, chunk_at-is, room_in_place}}
+use Rattle.heap_theory.specs.Calls.{Step, next_tag, given_out, freed, resized, with_payload, payload_bytes, moved, malloc_with, malloc_step}
+use Rattle.heap_theory.specs.Calls.{calloc_with, calloc_step, free_with, free_step, stays_in_class, slot_if_moved, move_with, realloc_with}
+use Rattle.heap_theory.specs.{Calls.{realloc_step, store_with, store_step}, Sound.{IsSoundHeap}, State.State.{Fresh, Live, Dead}}
 use Rattle.heap_theory.specs.Lookups.{Chunk, IsReusable, MayBeGiven, IsLiveChunk, slot_for_request, chunk_at}
-use Rattle.heap_theory.specs.Sound.{IsSoundHeap}
-use Rattle.class_table.specs.Sizes.{chunk_granules}
-use Rattle.heap_theory.specs.State.{State, Heap, state_at, last_tag, is_fresh}
-use Rattle.heap_theory.specs.State.State.{Fresh, Live, Dead}
-use Rattle.heap_theory.proofs.Lookups.{slot_for_request-cases, chunk_at-is, room_in_place}
-use Rattle.heap_theory.proofs.HeapKept.{in_states, IsSoundHeap-given_out, IsSoundHeap-resized, IsSoundHeap-freed, IsSoundHeap-written, IsSoundHeap-with_payload}
+use Rattle.heap_theory.specs.{State.{State, Heap, state_at, last_tag, is_fresh}, declared.refusal.FreeError.{FreeError}}
 
 -- ---- changes that give out no slot, and leave dead ones as they are
 

@@ -1,9 +1,7 @@
 -- The states of a heap in which one slot has another.
-use Rattle.std.proofs.Common.{◌≡◌, ◌≢◌, ℕ, ◌<◌, List, length, slice_set}
-use Rattle.std.proofs.lemmas.List.{get_or-set_same, get_or-set_other}
+use Rattle.std.proofs.{Common.{◌≡◌, ◌≢◌, ℕ, ◌<◌, List, length, slice_set}, lemmas.List.{get_or-set_same, get_or-set_other}}
 use Rattle.machine_theory.specs.Memory.{Granule}
-use Rattle.heap_theory.specs.State.{State, Heap, state_at}
-use Rattle.heap_theory.specs.State.State.{Fresh}
+use Rattle.heap_theory.specs.{State.{State, Heap, state_at}, State.State.{Fresh}}
 
 -- the heap in which slot s has another state, and which has another memory, total, seed and tag
 abbrev pub changed : Heap → ℕ → State → List Granule → ℕ → ℕ → ℕ → Heap

@@ -1,15 +1,11 @@
 -- A new heap is sound.
-use Rattle.std.proofs.Common.{◌≡◌, ℕ, length, get_or, replicate, cond, arith}
-use Rattle.std.proofs.lemmas.Bool.{cases_lt, cond_both}
+use Rattle.std.proofs.{Common.{◌≡◌, ℕ, length, get_or, replicate, cond, arith}, lemmas.Bool.{cases_lt, cond_both}}
 use Rattle.std.proofs.lemmas.List.{get_or-replicate, length-replicate, get_or_past}
 use Rattle.std.proofs.lemmas.List.FromFn.{get_or-map-range_with_len, length-map-range_with_len}
-use Rattle.machine_theory.specs.Memory.{no_granule, new_granule, tag_at}
+use Rattle.machine_theory.{proofs.MemoryLaws.{tag_at_past}, specs.Memory.{no_granule, new_granule, tag_at}}
 use Rattle.class_table.specs.Layout.{Partition, IsPartition, slot_count}
-use Rattle.machine_theory.proofs.MemoryLaws.{tag_at_past}
+use Rattle.heap_theory.specs.{Sound.{IsSoundHeap}, State.{is_header_granule, first_memory, first_heap}, State.State.{Fresh}}
 use Rattle.heap_theory.proofs.TheoryLemmas as laws
-use Rattle.heap_theory.specs.Sound.{IsSoundHeap}
-use Rattle.heap_theory.specs.State.{is_header_granule, first_memory, first_heap}
-use Rattle.heap_theory.specs.State.State.{Fresh}
 
 pub length-first_memory : (layout : Partition) → length (first_memory layout) ≡ layout.granules
 unfolding first_memory

@@ -1,18 +1,15 @@
 -- The front of a class's list is the slot that the class gives out next.
-use Rattle.std.proofs.Common.{◌≡◌, ℕ, ◌-◌, ◌<◌, ◌≤◌, true, List, [], ◌∷◌, refl, sym, ap, ◌∙◌, subst, inl, inr, arith, Some, None, Option, ◌==◌, ◌&&◌, nat_le, slice_get, Contains}
+use Rattle.std.proofs.Common.{◌≡◌, ℕ, ◌-◌, ◌<◌, ◌≤◌, true, List, [], ◌∷◌, refl, sym, ap, ◌∙◌, subst, inl, inr, arith, Some, None, Option}
+use Rattle.std.proofs.{Common.{◌==◌, ◌&&◌, nat_le, slice_get, Contains}, lemmas.List.Sums.{AllPass-from_list_all, list_all-from_AllPass}}
+use Rattle.std.{proofs.lemmas.Bool.{cases_eq, eq-eqb, leb-true, le-leb, ltb-true, and_from, and_parts}, specs.List.{range_with_len}}
 use Rattle.std.specs.Option.{option_or}
-use Rattle.std.specs.List.{range_with_len}
-use Rattle.std.proofs.lemmas.Bool.{cases_eq, eq-eqb, leb-true, le-leb, ltb-true, and_from, and_parts}
-use Rattle.std.proofs.lemmas.List.Sums.{AllPass-from_list_all, list_all-from_AllPass}
 use Rattle.class_table.specs.Layout.{slot_count}
-use Rattle.heap_theory.specs.QueueAndLists.{HasMark, IsFreedList, AgreeWithMarks}
-use Rattle.heap_theory.specs.Lookups.{slots_with, freed_last, lowest_fresh, slot_for}
-use Rattle.heap_theory.specs.Links.{list_of}
-use Rattle.heap_theory.specs.Sound.{IsSoundHeap}
-use Rattle.heap_theory.specs.State.{Heap, slot_in, state_at, is_dead, is_released, mark_of}
-use Rattle.heap_theory.proofs.Lookups.{IsCandidate, All-slots_with, is_latest, freed_last-is}
-use Rattle.heap_theory.proofs.ListSearch.{find_only, in_filter, Contains-range, Contains-cases, Contains-none}
+use Rattle.heap_theory.{proofs.ListSearch.{find_only, in_filter, Contains-range, Contains-cases, Contains-none}, specs.Links.{list_of}}
+use Rattle.heap_theory.{proofs.Lookups.{IsCandidate, All-slots_with, is_latest, freed_last-is}, specs.Sound.{IsSoundHeap}}
 use Rattle.heap_theory.proofs.Marks.{HasMark-own, mark_of-is, same_mark, released_from_mark, chain_bytes, list_mark, IsNumberOf, number_is}
+use Rattle.heap_theory.specs.Lookups.{slots_with, freed_last, lowest_fresh, slot_for}
+use Rattle.heap_theory.specs.QueueAndLists.{HasMark, IsFreedList, AgreeWithMarks}
+use Rattle.heap_theory.specs.State.{Heap, slot_in, state_at, is_dead, is_released, mark_of}
 
 module _ (h : Heap) (queue : List ℕ) (lists : List (List ℕ)) (number class : ℕ) (sound : IsSoundHeap h) (b : AgreeWithMarks h queue lists)
     (numbered : slice_get h.layout.classes number ≡ Some class) where

@@ -1,15 +1,15 @@
 -- What the kinds of granules mean.
-use Rattle.std.proofs.Common.{◌≡◌, ℕ, ◌+◌, ◌<◌, ◌≤◌, true, cond, refl, sym, ap, ◌∙◌, subst, inl, inr, arith, Some, None, Option, ◌==◌, nat_le, nat_lt}
-use Rattle.std.proofs.lemmas.Bool.{and_from, cases_eq, cases_lt, cond-true, cond-false, eq-eqb, false_from_ne_true, le-leb, lt-ltb, ltb-true, and_parts, ne_eqb}
+use Rattle.std.proofs.Common.{◌≡◌, ℕ, ◌+◌, ◌<◌, ◌≤◌, true, cond, refl, sym, ap, ◌∙◌, subst, inl, inr, arith, Some, None, Option, ◌==◌}
+use Rattle.std.proofs.Common.{nat_le, nat_lt}
+use Rattle.std.proofs.lemmas.Bool.{false_from_ne_true, le-leb, lt-ltb, ltb-true, and_parts, ne_eqb, and_from, cases_eq, cases_lt, cond-true}
+use Rattle.std.proofs.lemmas.Bool.{cond-false, eq-eqb}
 use Rattle.machine_theory.specs.Memory.{is_among}
 use Rattle.class_table.specs.Layout.{Covers, slot_over}
-use Rattle.heap_theory.proofs.TheoryLemmas as laws
-use Rattle.heap_theory.specs.declared.place_kind.PlaceKind.{PlaceKind}
-use Rattle.heap_theory.specs.declared.place_kind.PlaceKind.TheVariants.{Slack, Header, Tail, Dead as DeadChunk, Other}
 use Rattle.heap_theory.specs.GranuleKinds.{IsChunkGranule, IsPayloadGranule, IsOfItsKind, kind_of_chunk, kind_in_slot, kind_at, place_kind}
-use Rattle.heap_theory.specs.Sound.{IsSoundHeap}
+use Rattle.heap_theory.specs.{Sound.{IsSoundHeap}, State.State.{Fresh, Live, Dead}, declared.place_kind.PlaceKind.{PlaceKind}}
 use Rattle.heap_theory.specs.State.{State, Heap, IsLive, is_dead, slot_in, state_at, chunk_granules_of, payload_start, IsSlot}
-use Rattle.heap_theory.specs.State.State.{Fresh, Live, Dead}
+use Rattle.heap_theory.specs.declared.place_kind.PlaceKind.TheVariants.{Slack, Header, Tail, Dead as DeadChunk, Other}
+use Rattle.heap_theory.proofs.TheoryLemmas as laws
 
 is_among-from : (first count n : ℕ) → first ≤ n → n < first + count → is_among first count n ≡ true
 is_among-from first count n from to = grind (arith, and_from, le-leb, lt-ltb)

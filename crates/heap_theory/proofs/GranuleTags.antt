@@ -2,10 +2,9 @@
 use Rattle.std.proofs.Common.{◌≡◌, ◌⊎◌, ℕ, ◌+◌, ◌<◌, ◌≤◌, true, false, refl, sym, ◌∙◌, subst, arith, Some, None, Option}
 use Rattle.std.proofs.lemmas.Bool.{cases_lt, eqb-true, eqb-false, and_cases, leb-false, ltb-false}
 use Rattle.machine_theory.specs.Memory.{tag_at, is_among}
-use Rattle.class_table.specs.Layout.{Slot, Covers, slot_over}
-use Rattle.class_table.proofs.LawLemmas.{one_slot_covers}
-use Rattle.heap_theory.specs.GranuleKinds.{IsBookkeeping, IsChunkGranule, IsPayloadGranule, kind_of_chunk, kind_in_slot, kind_at, place_kind}
-use Rattle.heap_theory.specs.HeapTags.{ChunksAreTagged, ParitiesDiffer}
+use Rattle.class_table.{proofs.LawLemmas.{one_slot_covers}, specs.Layout.{Slot, Covers, slot_over}}
+use Rattle.heap_theory.specs.GranuleKinds.{IsBookkeeping, IsChunkGranule, IsPayloadGranule, kind_of_chunk, kind_in_slot, kind_at}
+use Rattle.heap_theory.specs.{GranuleKinds.{place_kind}, HeapTags.{ChunksAreTagged, ParitiesDiffer}}
 use Rattle.heap_theory.specs.Sound.{IsTagOf, IsTaggedSlot, IsSoundHeap}
 use Rattle.heap_theory.specs.State.{State, Heap, slot_in, state_at, chunk_granules_of, payload_start}
 

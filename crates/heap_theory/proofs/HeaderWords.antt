@@ -1,29 +1,23 @@
 -- A header that is written is read, and says how its slot stands.
-use Rattle.std.proofs.Common.{⊎_elim, ◌≡◌, ◌⊎◌, ℕ, ◌+◌, ◌*◌, ◌%◌, ◌^◌, ◌<◌, ◌≤◌, length, refl, sym, ap, ◌∙◌, inl, inr, arith, Some, None, Option}
-use Rattle.std.specs.Prelude.{◌==◌, All, slice_get, position, unwrap_or, List, ◌≢◌}
-use Rattle.std.specs.Int.{w64, to_le_bytes, from_le_bytes}
-use Rattle.std.proofs.lemmas.Bool.{cases_order, eq-eqb, eqb-true, both_ways}
-use Rattle.std.proofs.lemmas.List.Elements.{All-from_recursion}
-use Rattle.std.proofs.lemmas.List.Quantifiers.{position-Some}
-use Rattle.std.proofs.lemmas.Option.{slice_get-get_or, slice_get_within}
-use Rattle.machine_theory.specs.Memory.{IsMemory, word_at, written, Granule, tagged}
-use Rattle.class_table.specs.Layout.{Partition, slot_count, slot_of}
-use Rattle.class_table.specs.Sizes.{largest_counted}
-use Rattle.class_table.specs.Tables.{IsLegalTable}
-use Rattle.heap_theory.proofs.TheoryLemmas as laws
-use Rattle.heap_theory.specs.Header.{Standing, code_of, standing_of, first_word, second_word, header_of, header_at, with_header, size_of, class_number, header_for, Header, FitsWords}
-use Rattle.heap_theory.specs.Sound.{IfDead, IsChunkTag, IsSoundHeap}
+use Rattle.std.proofs.Common.{⊎_elim, ◌≡◌, ◌⊎◌, ℕ, ◌+◌, ◌*◌, ◌%◌, ◌^◌, ◌<◌, ◌≤◌, length, refl, sym, ap, ◌∙◌, inl, inr, arith, Some, None}
+use Rattle.std.proofs.{Common.{Option}, lemmas.Bool.{cases_order, eq-eqb, eqb-true, both_ways}, lemmas.List.Elements.{All-from_recursion}}
+use Rattle.std.proofs.lemmas.{List.Quantifiers.{position-Some}, Option.{slice_get-get_or, slice_get_within}}
+use Rattle.std.specs.{Int.{w64, to_le_bytes, from_le_bytes}, Prelude.{◌==◌, All, slice_get, position, unwrap_or, List, ◌≢◌}}
+use Rattle.machine_theory.specs.{Memory.{IsMemory, word_at, written, Granule, tagged}, declared.sizes.TheConstants.{GRANULE_BYTES}}
+use Rattle.class_table.specs.{Layout.{Partition, slot_count, slot_of}, Sizes.{largest_counted}, Tables.{IsLegalTable}}
+use Rattle.heap_theory.{proofs.ListSearch.{position-None}, specs.Sound.{IfDead, IsChunkTag, IsSoundHeap}}
+use Rattle.heap_theory.specs.Header.{header_of, header_at, with_header, size_of, class_number, header_for, Header, FitsWords, Standing}
+use Rattle.heap_theory.specs.Header.{code_of, standing_of, first_word, second_word}
 use Rattle.heap_theory.specs.State.{State, slot_in, state_at, last_tag, chunk_granules_of, mark_of, Heap, IsSlot}
 use Rattle.heap_theory.specs.State.State.{Fresh as NeverGiven, Live as Given, Dead}
-use Rattle.heap_theory.proofs.ListSearch.{position-None}
-use Rattle.machine_theory.specs.declared.sizes.TheConstants.{GRANULE_BYTES}
+use Rattle.heap_theory.proofs.TheoryLemmas as laws
 
 -- ---- words
 
-code_fits : (standing : Standing) → code_of standing < 4
+pub code_fits : (standing : Standing) → code_of standing < 4
 code_fits x0 = grind arith
 
-standing_of-code_of : (standing : Standing) → standing_of (code_of standing) ≡ standing
+pub standing_of-code_of : (standing : Standing) → standing_of (code_of standing) ≡ standing
 standing_of-code_of x0 = grind arith
 
 pub header_of-words : (header : Header) → FitsWords header → header_of (first_word header) (second_word header) ≡ header

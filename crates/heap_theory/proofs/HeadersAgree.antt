@@ -1,17 +1,13 @@
 -- The slots of a heap determine the words of their headers.
-use Rattle.std.proofs.Common.{◌≡◌, ℕ, suc, ◌+◌, ◌-◌, ◌*◌, ◌<◌, List, [], ◌∷◌, length, refl, sym, ap, ◌∙◌, subst, inl, inr, arith, AllPairs, Contains}
-use Rattle.std.proofs.lemmas.Bool.{and_from, cases_Bool, cases_lt, le-leb, lt-ltb}
-use Rattle.std.proofs.lemmas.Option.{slice_get_within}
+use Rattle.std.proofs.Common.{◌≡◌, ℕ, suc, ◌+◌, ◌-◌, ◌*◌, ◌<◌, List, [], ◌∷◌, length, refl, sym, ap, ◌∙◌, subst, inl, inr, arith, AllPairs}
+use Rattle.std.proofs.{Common.{Contains}, lemmas.Bool.{and_from, cases_Bool, cases_lt, le-leb, lt-ltb}, lemmas.Option.{slice_get_within}}
 use Rattle.machine_theory.specs.Memory.{Granule, word_at}
 use Rattle.class_table.specs.Layout.{slot_count, slot_of}
-use Rattle.heap_theory.specs.Header.{first_word, second_word, header_at, class_number, header_for}
-use Rattle.heap_theory.specs.HeapInMemory.{IsKeptIn, HaveSameSlots, HeaderWordsStay}
-use Rattle.heap_theory.specs.Links.{IsLinked, list_of}
-use Rattle.heap_theory.specs.Region.{Region, header_in, next_in, region_of}
-use Rattle.heap_theory.specs.State.{Heap, state_at, is_dead, mark_of}
+use Rattle.heap_theory.proofs.{HeaderWords.{class_number-is, words-header_of}, Regions.{header_in-region_of}}
 use Rattle.heap_theory.proofs.ListSearch.{Contains-head, Contains-tail, Contains-cases, Contains-none, AllPairs-first}
-use Rattle.heap_theory.proofs.HeaderWords.{class_number-is, words-header_of}
-use Rattle.heap_theory.proofs.Regions.{header_in-region_of}
+use Rattle.heap_theory.specs.{Header.{first_word, second_word, header_at, class_number, header_for}, Links.{IsLinked, list_of}}
+use Rattle.heap_theory.specs.{HeapInMemory.{IsKeptIn, HaveSameSlots, HeaderWordsStay}, Region.{Region, header_in, next_in, region_of}}
+use Rattle.heap_theory.specs.State.{Heap, state_at, is_dead, mark_of}
 
 -- ---- lists in an order
 

@@ -1,17 +1,12 @@
 -- Each change that a call makes of a heap keeps it sound.
-use Rattle.std.proofs.Common.{◌≡◌, ◌≢◌, ◌⊎◌, ℕ, ◌+◌, ◌<◌, ◌≤◌, List, length, get_or, refl, sym, ◌∙◌, subst, inl, inr, ⊎_elim, arith, slice_set}
-use Rattle.std.proofs.lemmas.Bool.{cases_lt, cases_eq}
-use Rattle.std.proofs.lemmas.List.{get_or-set_same, get_or-set_other, length-set}
-use Rattle.machine_theory.specs.Memory.{Granule, tag_at, tagged, written}
-use Rattle.machine_theory.specs.Seed.{next_seed}
-use Rattle.class_table.specs.Layout.{Slot, end_of, slot_count, Covers, block_bytes}
-use Rattle.heap_theory.proofs.TheoryLemmas as laws
-use Rattle.heap_theory.specs.Calls.{next_tag, chunk_tagged, given_out, freed, resized, with_payload}
-use Rattle.heap_theory.specs.Sound.{IsTagOf, IsTaggedSlot, IfDead, IsSoundHeap}
-use Rattle.class_table.specs.Sizes.{chunk_granules}
+use Rattle.std.proofs.Common.{◌≡◌, ◌≢◌, ◌⊎◌, ℕ, ◌+◌, ◌<◌, ◌≤◌, List, length, get_or, refl, sym, ◌∙◌, subst, inl, inr, ⊎_elim, arith}
+use Rattle.std.proofs.{Common.{slice_set}, lemmas.Bool.{cases_lt, cases_eq}, lemmas.List.{get_or-set_same, get_or-set_other, length-set}}
+use Rattle.machine_theory.specs.{Memory.{Granule, tag_at, tagged, written}, Seed.{next_seed}}
+use Rattle.class_table.specs.{Layout.{Slot, end_of, slot_count, Covers, block_bytes}, Sizes.{chunk_granules}}
+use Rattle.heap_theory.{proofs.Tags.{IsTagOf-next_tag, next_tag-differs}, specs.Sound.{IsTagOf, IsTaggedSlot, IfDead, IsSoundHeap}}
+use Rattle.heap_theory.specs.{Calls.{next_tag, chunk_tagged, given_out, freed, resized, with_payload}, State.State.{Fresh, Live, Dead}}
 use Rattle.heap_theory.specs.State.{State, Heap, slot_in, state_at, last_tag, chunk_granules_of, payload_start}
-use Rattle.heap_theory.specs.State.State.{Fresh, Live, Dead}
-use Rattle.heap_theory.proofs.Tags.{IsTagOf-next_tag, next_tag-differs}
+use Rattle.heap_theory.proofs.TheoryLemmas as laws
 
 -- a slot inside the region
 pub in_region : (h : Heap) (s : ℕ) → IsSoundHeap h → s < slot_count h.layout → end_of (slot_in h s) ≤ length h.memory

@@ -1,14 +1,12 @@
 -- What the queue and the lists hold.
-use Rattle.std.proofs.Common.{◌≡◌, ℕ, ◌+◌, ◌-◌, ◌<◌, ◌≤◌, true, List, [], ◌∷◌, sym, ◌∙◌, subst, inl, inr, arith, AllPairs, Contains, slice_get, Some, length}
-use Rattle.std.proofs.lemmas.Bool.{and_from, and_parts, cases_lt, leb-true, le-leb}
+use Rattle.std.proofs.Common.{◌≡◌, ℕ, ◌+◌, ◌-◌, ◌<◌, ◌≤◌, true, List, [], ◌∷◌, sym, ◌∙◌, subst, inl, inr, arith, AllPairs, Contains}
+use Rattle.std.proofs.{Common.{slice_get, Some, length}, lemmas.Bool.{and_from, and_parts, cases_lt, leb-true, le-leb}}
 use Rattle.class_table.specs.Layout.{slot_count, block_bytes}
+use Rattle.heap_theory.{proofs.Front.{freed_list, listed}, proofs.ListSearch.{AllPairs-cons, AllPairs-nil}, specs.Links.{list_of}}
+use Rattle.heap_theory.proofs.Marks.{list_dead, one_number, HasMark-own, mark_of-is, dead_with_mark, released_from_mark, chain_bytes}
+use Rattle.heap_theory.{proofs.Marks.{chain_dead}, specs.Sound.{IsSoundHeap}}
 use Rattle.heap_theory.specs.QueueAndLists.{IsChain, IsFreedList, AgreeWithMarks, HoldsQuarantined, HoldsReleased}
-use Rattle.heap_theory.specs.Links.{list_of}
-use Rattle.heap_theory.specs.Sound.{IsSoundHeap}
 use Rattle.heap_theory.specs.State.{Heap, slot_in, state_at, is_dead, is_released, is_quarantined, mark_of}
-use Rattle.heap_theory.proofs.ListSearch.{AllPairs-cons, AllPairs-nil}
-use Rattle.heap_theory.proofs.Front.{freed_list, listed}
-use Rattle.heap_theory.proofs.Marks.{HasMark-own, mark_of-is, dead_with_mark, released_from_mark, chain_bytes, chain_dead, list_dead, one_number}
 
 -- ---- the queue
 

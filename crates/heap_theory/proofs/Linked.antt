@@ -1,7 +1,8 @@
 -- Lists that are linked through headers.
-use Rattle.std.proofs.Common.{◌≡◌, ◌≢◌, ℕ, ◌<◌, List, [], ◌∷◌, ◌++◌, length, suc, refl, sym, ap, subst, inl, inr, arith, drop, Contains, AllPairs}
-use Rattle.heap_theory.specs.Links.{IsLinked, last_link}
+use Rattle.std.proofs.Common.{◌≡◌, ◌≢◌, ℕ, ◌<◌, List, [], ◌∷◌, ◌++◌, length, suc, refl, sym, ap, subst, inl, inr, arith, drop, Contains}
+use Rattle.std.proofs.Common.{AllPairs}
 use Rattle.heap_theory.proofs.ListSearch.{Contains-head, Contains-tail, Contains-cases, Contains-none, AllPairs-cons, AllPairs-nil}
+use Rattle.heap_theory.specs.Links.{IsLinked, last_link}
 
 -- links that change outside the list leave it linked
 pub IsLinked-same : (next new : ℕ → ℕ) (front : ℕ) (list : List ℕ) → ((s : ℕ) → Contains list s → new s ≡ next s) →

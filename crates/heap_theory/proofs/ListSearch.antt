@@ -1,14 +1,10 @@
 -- What `find`, `filter` and `position` give.
-use Rattle.std.proofs.Common.{◌≡◌, ◌≢◌, ◌⊎◌, ℕ, zero, suc, ◌<◌, ◌≤◌, Bool, true, false, cond, List, [], ◌∷◌, length, get_or, refl, sym, ap, ◌∙◌, subst, inl, inr, arith, Some, None, Option, slice_get, All, AllPairs, Contains}
-use Rattle.std.specs.List.{find, filter, position, range_with_len}
-use Rattle.std.proofs.lemmas.Bool.{both_ways, cases_Bool, cases_lt, cond_both, cond-true, eqb-true, lt-ltb}
-use Rattle.std.proofs.lemmas.Bool.Decides.{Decides-eqb}
-use Rattle.std.proofs.lemmas.List.Elements.{All-nil, All-cons, Contains-get_or}
-use Rattle.std.proofs.lemmas.List.Sums.{fails_before_first}
-use Rattle.std.proofs.lemmas.List.FromFn.{get_or-range_with_len, length-range_with_len}
-use Rattle.std.proofs.lemmas.Map.Made.{IsDistinct-from_AllPairs}
-use Rattle.std.proofs.lemmas.Map.Steps.{length-le_from_distinct_below}
-use Rattle.std.proofs.lemmas.Map.Views.{Contains-from_any}
+use Rattle.std.proofs.Common.{◌≡◌, ◌≢◌, ◌⊎◌, ℕ, zero, suc, ◌<◌, ◌≤◌, Bool, true, false, cond, List, [], ◌∷◌, length, get_or, refl, sym, ap}
+use Rattle.std.proofs.Common.{◌∙◌, subst, inl, inr, arith, Some, None, Option, slice_get, All, AllPairs, Contains}
+use Rattle.std.proofs.lemmas.{Bool.{both_ways, cases_Bool, cases_lt, cond_both, cond-true, eqb-true, lt-ltb}, Bool.Decides.{Decides-eqb}}
+use Rattle.std.proofs.lemmas.List.{Elements.{All-nil, All-cons, Contains-get_or}, FromFn.{get_or-range_with_len, length-range_with_len}}
+use Rattle.std.proofs.lemmas.{List.Sums.{fails_before_first}, Map.Made.{IsDistinct-from_AllPairs}, Map.Views.{Contains-from_any}}
+use Rattle.std.{proofs.lemmas.Map.Steps.{length-le_from_distinct_below}, specs.List.{find, filter, position, range_with_len}}
 
 -- ---- find
 

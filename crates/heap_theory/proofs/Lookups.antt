@@ -1,21 +1,15 @@
 -- What is true of the slot that a request is given, and of the chunk that a pointer names.
-use Rattle.std.proofs.Common.{◌≡◌, ℕ, ◌^◌, ◌<◌, ◌≤◌, Bool, true, List, refl, sym, ap, ◌∙◌, inl, arith, Some, None, Option, Result, Ok, Err, ◌==◌, ◌&&◌, nat_le, All}
-use Rattle.std.specs.Option.{ok_or, option_or}
-use Rattle.std.specs.List.{range_with_len, list_all}
-use Rattle.std.proofs.lemmas.Bool.{eqb-true, leb-true, ltb-true, and_parts, cases_Bool}
-use Rattle.std.proofs.lemmas.List.Elements.{All-filter, filter_passes}
-use Rattle.std.proofs.lemmas.List.Quantifiers.{position-Some}
+use Rattle.std.proofs.Common.{◌≡◌, ℕ, ◌^◌, ◌<◌, ◌≤◌, Bool, true, List, refl, sym, ap, ◌∙◌, inl, arith, Some, None, Option, Result, Ok, Err}
+use Rattle.std.proofs.{Common.{◌==◌, ◌&&◌, nat_le, All}, lemmas.Bool.{eqb-true, leb-true, ltb-true, and_parts, cases_Bool}}
+use Rattle.std.proofs.lemmas.List.{Elements.{All-filter, filter_passes}, Quantifiers.{position-Some}}
+use Rattle.std.specs.{List.{range_with_len, list_all}, Option.{ok_or, option_or}}
 use Rattle.machine_theory.specs.Address.{place_of}
-use Rattle.class_table.specs.Layout.{slot_count}
-use Rattle.class_table.specs.Sizes.{chunk_granules}
-use Rattle.class_table.specs.Tables.{class_for}
-use Rattle.heap_theory.specs.declared.refusal.NullCause.{NullCause}
-use Rattle.heap_theory.specs.declared.refusal.NullCause.TheVariants.{Exhausted}
-use Rattle.heap_theory.specs.Calls.{is_class_of, stays_in_class}
-use Rattle.heap_theory.specs.Lookups.{Chunk, IsReusable, MayBeGiven, IsLiveChunk, slots_with, freed_last, lowest_fresh, slot_for, class_for_request, slot_in_class, slot_for_request, slot_of_pointer, chunk_at}
-use Rattle.heap_theory.specs.Sound.{IsSoundHeap}
+use Rattle.class_table.specs.{Layout.{slot_count}, Sizes.{chunk_granules}, Tables.{class_for}}
+use Rattle.heap_theory.{proofs.ListSearch.{All-find, find_passes, first_in_filter, All-range}, specs.Calls.{is_class_of, stays_in_class}}
+use Rattle.heap_theory.specs.Lookups.{Chunk, IsReusable, MayBeGiven, IsLiveChunk, slots_with, freed_last, lowest_fresh, slot_for}
+use Rattle.heap_theory.specs.{Lookups.{class_for_request, slot_in_class, slot_for_request, slot_of_pointer, chunk_at}, Sound.{IsSoundHeap}}
 use Rattle.heap_theory.specs.State.{State, Heap, slot_in, state_at, is_fresh, payload_place, is_released, mark_of}
-use Rattle.heap_theory.proofs.ListSearch.{All-find, find_passes, first_in_filter, All-range}
+use Rattle.heap_theory.specs.declared.refusal.{NullCause.{NullCause}, NullCause.TheVariants.{Exhausted}}
 
 -- ---- slots of a class
 

@@ -1,15 +1,10 @@
 -- The marks of slots in a queue and in lists.
-use Rattle.std.proofs.Common.{◌≡◌, ◌≢◌, ℕ, ◌+◌, ◌-◌, ◌<◌, ◌≤◌, true, false, List, [], ◌∷◌, length, get_or, sym, ◌∙◌, subst, inl, inr, arith, Contains, slice_get, Some}
-use Rattle.std.proofs.lemmas.Bool.{cases_order}
-use Rattle.std.proofs.lemmas.List.Kept.{AllPairs-from_increasing}
-use Rattle.std.proofs.lemmas.List.Sums.{sum_by-cons}
-use Rattle.std.proofs.lemmas.Option.{get_or_from_slice_get, slice_get_within}
-use Rattle.class_table.specs.Layout.{Partition, slot_count, slot_of, block_bytes}
-use Rattle.class_table.specs.Tables.{IsLegalTable}
-use Rattle.heap_theory.specs.QueueAndLists.{HasMark, IsChain, IsFreedList, bytes_of}
-use Rattle.heap_theory.specs.Sound.{IfDead}
-use Rattle.heap_theory.specs.State.{State, Heap, slot_in, state_at, mark_of, is_dead, is_released}
-use Rattle.heap_theory.proofs.ListSearch.{Contains-cases, Contains-none}
+use Rattle.std.proofs.Common.{◌≡◌, ◌≢◌, ℕ, ◌+◌, ◌-◌, ◌<◌, ◌≤◌, true, false, List, [], ◌∷◌, length, get_or, sym, ◌∙◌, subst, inl, inr, arith}
+use Rattle.std.proofs.{Common.{Contains, slice_get, Some}, lemmas.Bool.{cases_order}, lemmas.List.Kept.{AllPairs-from_increasing}}
+use Rattle.std.proofs.lemmas.{List.Sums.{sum_by-cons}, Option.{get_or_from_slice_get, slice_get_within}}
+use Rattle.class_table.specs.{Layout.{Partition, slot_count, slot_of, block_bytes}, Tables.{IsLegalTable}}
+use Rattle.heap_theory.{proofs.ListSearch.{Contains-cases, Contains-none}, specs.QueueAndLists.{HasMark, IsChain, IsFreedList, bytes_of}}
+use Rattle.heap_theory.specs.{Sound.{IfDead}, State.{State, Heap, slot_in, state_at, mark_of, is_dead, is_released}}
 
 -- ---- one mark
 

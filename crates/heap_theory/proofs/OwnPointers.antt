@@ -1,24 +1,21 @@
 -- The pointer that was given out for a live chunk is accepted by `free` and by `realloc`, and of the others only null is.
-use Rattle.std.proofs.Common.{◌≡◌, ◌≢◌, ℕ, ◌*◌, ◌^◌, ◌<◌, length, List, refl, sym, ap, ◌∙◌, subst, inl, inr, arith, Option, Some, None, Result, Ok, Err, ◌==◌, min, replicate, ◌↔◌}
+use Rattle.std.proofs.Common.{◌≡◌, ◌≢◌, ℕ, ◌*◌, ◌^◌, ◌<◌, length, List, refl, sym, ap, ◌∙◌, subst, inl, inr, arith, Option, Some, None}
+use Rattle.std.proofs.{Common.{Result, Ok, Err, ◌==◌, min, replicate, ◌↔◌}, lemmas.List.{get_or-set_same, get_or-set_other}}
 use Rattle.std.proofs.lemmas.Bool.{cases_eq, cond-true, cond-false, cond_both, eq-eqb, eqb-true, false_from_ne_true}
-use Rattle.std.proofs.lemmas.List.{get_or-set_same, get_or-set_other}
-use Rattle.machine_theory.specs.Address.{logical_tag, place_of, with_tag}
-use Rattle.machine_theory.specs.declared.fault.Fault.{Fault}
-use Rattle.machine_theory.specs.Access.{access_fault}
-use Rattle.class_table.specs.Layout.{Partition, slot_count, slot_of}
-use Rattle.heap_theory.specs.declared.refusal.FreeError.{FreeError}
-use Rattle.heap_theory.specs.declared.refusal.ReallocError.{ReallocError}
-use Rattle.heap_theory.specs.Calls.{Step, given_out, freed, resized, with_payload, payload_bytes, moved, malloc_with, malloc_step, calloc_with, calloc_step, free_with, free_step, stays_in_class, move_with, realloc_with, as_realloc, realloc_step, store_with, store_step}
-use Rattle.heap_theory.specs.Lookups.{Chunk, MayBeGiven, IsLiveChunk, slot_for_request, chunk_at}
-use Rattle.heap_theory.specs.OwnPointers.{IsOwnPointer, IsNullOrOwn, FreeAccepts, IsNotRefused, ReallocAccepts, GivesOwnPointers, StaysOwnPointer}
-use Rattle.heap_theory.specs.Sound.{IsSoundHeap}
-use Rattle.class_table.specs.Sizes.{chunk_granules}
+use Rattle.machine_theory.specs.{Access.{access_fault}, Address.{logical_tag, place_of, with_tag}, declared.fault.Fault.{Fault}}
+use Rattle.class_table.specs.{Layout.{Partition, slot_count, slot_of}, Sizes.{chunk_granules}}
+use Rattle.heap_theory.proofs.CallsKept.{KeepsGiven, KeepsGiven-refl, KeepsGiven-with_payload, KeepsGiven-resized, KeepsGiven-moved}
+use Rattle.heap_theory.proofs.CallsKept.{HeapChange, IsKept-malloc, IsKept-calloc, IsKept-free, IsKept-realloc, IsKept-store}
+use Rattle.heap_theory.proofs.CallsKept.{state_at-with_payload, state_at-given_out, state_at-given_out_other, live_moved, layout-given_out}
+use Rattle.heap_theory.proofs.{CallsKept.{not_reusable}, HeapKept.{in_states}, Lookups.{slot_for_request-cases, chunk_at-is}}
+use Rattle.heap_theory.{proofs.Pointers.{own_chunk}, specs.Lookups.{Chunk, MayBeGiven, IsLiveChunk, slot_for_request, chunk_at}}
+use Rattle.heap_theory.specs.Calls.{move_with, realloc_with, as_realloc, realloc_step, store_with, store_step, Step, given_out, freed}
+use Rattle.heap_theory.specs.Calls.{resized, with_payload, payload_bytes, moved, malloc_with, malloc_step, calloc_with, calloc_step}
+use Rattle.heap_theory.specs.{Calls.{free_with, free_step, stays_in_class}, Sound.{IsSoundHeap}, State.State.{Fresh, Live, Dead}}
+use Rattle.heap_theory.specs.OwnPointers.{GivesOwnPointers, StaysOwnPointer, IsOwnPointer, IsNullOrOwn, FreeAccepts, IsNotRefused}
+use Rattle.heap_theory.specs.{OwnPointers.{ReallocAccepts}, declared.refusal.FreeError.{FreeError}}
 use Rattle.heap_theory.specs.State.{State, Heap, IsLive, state_at, last_tag, payload_place, pointer_to, IsSlot}
-use Rattle.heap_theory.specs.State.State.{Fresh, Live, Dead}
-use Rattle.heap_theory.proofs.CallsKept.{KeepsGiven, KeepsGiven-refl, KeepsGiven-with_payload, KeepsGiven-resized, KeepsGiven-moved, HeapChange, IsKept-malloc, IsKept-calloc, IsKept-free, IsKept-realloc, IsKept-store, state_at-with_payload, state_at-given_out, state_at-given_out_other, live_moved, layout-given_out, not_reusable}
-use Rattle.heap_theory.proofs.Lookups.{slot_for_request-cases, chunk_at-is}
-use Rattle.heap_theory.proofs.HeapKept.{in_states}
-use Rattle.heap_theory.proofs.Pointers.{own_chunk}
+use Rattle.heap_theory.specs.declared.refusal.ReallocError.{ReallocError}
 
 -- ---- own pointers and named chunks
 

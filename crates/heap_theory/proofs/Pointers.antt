@@ -1,19 +1,14 @@
 -- Which slot a pointer names, and which fresh slot is the lowest.
-use Rattle.std.proofs.Common.{◌≡◌, ℕ, ◌^◌, ◌<◌, Bool, true, false, get_or, refl, sym, ap, ◌∙◌, subst, arith, Some, None, Option, ◌==◌, ◌&&◌, slice_get, ◌↔◌, IsTrue, IsFalse, Ok}
-use Rattle.std.specs.List.{find, position_or_len, range_with_len}
+use Rattle.std.proofs.Common.{◌≡◌, ℕ, ◌^◌, ◌<◌, Bool, true, false, get_or, refl, sym, ap, ◌∙◌, subst, arith, Some, None, Option, ◌==◌, ◌&&◌}
+use Rattle.std.proofs.{Common.{slice_get, ◌↔◌, IsTrue, IsFalse, Ok}, lemmas.List.Folds.{find_at}, lemmas.List.Sums.{position_or_len_is}}
 use Rattle.std.proofs.lemmas.Bool.{and_from, and_parts, cond-true, eq-eqb, eqb-true, lt-ltb, false_from_ne_true, both_ways}
-use Rattle.std.proofs.lemmas.List.Folds.{find_at}
-use Rattle.std.proofs.lemmas.List.FromFn.{get_or-range_with_len, length-range_with_len}
-use Rattle.std.proofs.lemmas.List.Sums.{position_or_len_is}
-use Rattle.std.proofs.lemmas.Option.{slice_get-get_or}
+use Rattle.std.proofs.lemmas.{List.FromFn.{get_or-range_with_len, length-range_with_len}, Option.{slice_get-get_or}}
+use Rattle.std.specs.List.{find, position_or_len, range_with_len}
 use Rattle.machine_theory.specs.Address.{place_of}
 use Rattle.class_table.specs.Layout.{slot_count}
-use Rattle.heap_theory.specs.Lookups.{lowest_fresh, slot_of_pointer, chunk_at}
-use Rattle.heap_theory.specs.Sound.{IsSoundHeap}
+use Rattle.heap_theory.{proofs.ListSearch.{first_in_filter}, proofs.Lookups.{slot_of_pointer-is, lowest_fresh-is}, specs.State.State.{Live}}
+use Rattle.heap_theory.specs.{Lookups.{lowest_fresh, slot_of_pointer, chunk_at}, Sound.{IsSoundHeap}}
 use Rattle.heap_theory.specs.State.{Heap, slot_in, state_at, is_fresh, payload_place, pointer_to, IsSlot}
-use Rattle.heap_theory.specs.State.State.{Live}
-use Rattle.heap_theory.proofs.Lookups.{slot_of_pointer-is, lowest_fresh-is}
-use Rattle.heap_theory.proofs.ListSearch.{first_in_filter}
 
 -- ---- the slot of a pointer
 

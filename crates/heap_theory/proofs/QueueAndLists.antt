@@ -1,23 +1,17 @@
 -- After each step of a call the queue and the lists agree with the marks again.
-use Rattle.std.proofs.lemmas.Grind.{common_steps}
-use Rattle.std.proofs.Common.{◌≡◌, ℕ, ◌+◌, ◌-◌, ◌<◌, true, false, List, [], ◌∷◌, ◌++◌, length, get_or, refl, sym, ap, ◌∙◌, subst, inl, inr, arith, Some, slice_get, slice_set, replicate, Contains, IsTrue}
-use Rattle.std.proofs.lemmas.Bool.{cases_eq}
-use Rattle.std.proofs.lemmas.List.{length-set, length-replicate}
+use Rattle.std.proofs.Common.{◌≡◌, ℕ, ◌+◌, ◌-◌, ◌<◌, true, false, List, [], ◌∷◌, ◌++◌, length, get_or, refl, sym, ap, ◌∙◌, subst, inl, inr}
+use Rattle.std.proofs.{Common.{arith, Some, slice_get, slice_set, replicate, Contains, IsTrue}, lemmas.Bool.{cases_eq}}
+use Rattle.std.proofs.lemmas.{Grind.{common_steps}, List.{length-set, length-replicate}}
 use Rattle.std.proofs.lemmas.List.Elements.{Contains-append_left, Contains-push}
 use Rattle.machine_theory.specs.Memory.{Granule}
 use Rattle.class_table.specs.Layout.{slot_count, block_bytes, Partition}
-use Rattle.heap_theory.specs.QueueAndLists.{HasMark, IsChain, IsFreedList, AgreeWithMarksFrom, AgreeWithMarks}
-use Rattle.heap_theory.specs.Calls.{next_tag, given_out, freed, resized}
-use Rattle.heap_theory.specs.Links.{list_of}
-use Rattle.heap_theory.specs.Sound.{IsSoundHeap}
-use Rattle.heap_theory.specs.State.{State, Heap, slot_in, state_at, last_tag, is_fresh, first_heap, is_dead, IsSlot}
+use Rattle.heap_theory.proofs.{ChangedSlot.{changed, state_here, state_there}, FirstHeap.{get_or-replicate_any}, HeapKept.{in_states}}
+use Rattle.heap_theory.proofs.{ListSearch.{Contains-head, Contains-tail}, Releasing.{list_of-here, list_of-there}}
+use Rattle.heap_theory.proofs.Marks.{list_mark, list_dead, list_weaker, one_number, IsNumberOf, number_is, one_mark, not_marked}
+use Rattle.heap_theory.{proofs.Marks.{chain_bytes, chain_mark, chain_dead}, specs.Calls.{next_tag, given_out, freed, resized}}
+use Rattle.heap_theory.specs.{Links.{list_of}, QueueAndLists.{HasMark, IsChain, IsFreedList, AgreeWithMarksFrom, AgreeWithMarks}}
+use Rattle.heap_theory.specs.{Sound.{IsSoundHeap}, State.{State, Heap, slot_in, state_at, last_tag, is_fresh, first_heap, is_dead, IsSlot}}
 use Rattle.heap_theory.specs.State.State.{Live, Dead}
-use Rattle.heap_theory.proofs.ChangedSlot.{changed, state_here, state_there}
-use Rattle.heap_theory.proofs.FirstHeap.{get_or-replicate_any}
-use Rattle.heap_theory.proofs.ListSearch.{Contains-head, Contains-tail}
-use Rattle.heap_theory.proofs.HeapKept.{in_states}
-use Rattle.heap_theory.proofs.Marks.{one_mark, not_marked, chain_bytes, chain_mark, chain_dead, list_mark, list_dead, list_weaker, one_number, IsNumberOf, number_is}
-use Rattle.heap_theory.proofs.Releasing.{list_of-here, list_of-there}
 
 -- ---- a change of the memory
 

@@ -1,19 +1,16 @@
 -- How a change of a memory changes its region.
-use Rattle.std.proofs.lemmas.Grind.{common_steps}
-use Rattle.std.proofs.Common.{◌≡◌, ◌≢◌, ◌⊎◌, ℕ, ◌+◌, ◌*◌, ◌<◌, ◌≤◌, true, List, ◌++◌, length, sym, ap, ◌∙◌, inl, inr, arith, slice_index_or, slice_set}
-use Rattle.std.specs.Int.{w64, to_le_bytes}
-use Rattle.std.proofs.lemmas.Bool.{cases_eq, cases_order, eq-eqb}
-use Rattle.std.proofs.lemmas.List.{get_or-set_same, get_or-set_other, get_or_default, length-set}
-use Rattle.std.proofs.lemmas.List.Folds.{list_any-from_Any}
-use Rattle.std.proofs.lemmas.List.FromFn.{fill_by_all, get_or-map-range_with_len, length-map-range_with_len}
+use Rattle.std.proofs.Common.{◌≡◌, ◌≢◌, ◌⊎◌, ℕ, ◌+◌, ◌*◌, ◌<◌, ◌≤◌, true, List, ◌++◌, length, sym, ap, ◌∙◌, inl, inr, arith, slice_index_or}
+use Rattle.std.proofs.{Common.{slice_set}, lemmas.Bool.{cases_eq, cases_order, eq-eqb}, lemmas.Grind.{common_steps}}
+use Rattle.std.proofs.lemmas.{List.{get_or-set_same, get_or-set_other, get_or_default, length-set}, List.Folds.{list_any-from_Any}}
+use Rattle.std.{proofs.lemmas.List.FromFn.{fill_by_all, get_or-map-range_with_len, length-map-range_with_len}, specs.Int.{w64, to_le_bytes}}
 use Rattle.machine_theory.specs.Memory.{Granule, IsMemory, tagged, written}
 use Rattle.class_table.specs.Layout.{Partition, IsPartition, slot_count, slot_of}
-use Rattle.heap_theory.proofs.TheoryLemmas as laws
+use Rattle.heap_theory.proofs.HeaderWords.{header_at-elsewhere, header_at-tagged, header_at-with_header, header_at-written}
+use Rattle.heap_theory.proofs.SeenMemory.{without_headers-in_header, without_headers-tagged, without_headers-written}
 use Rattle.heap_theory.specs.Header.{Header, FitsWords, first_word, second_word, header_at, with_header}
 use Rattle.heap_theory.specs.Region.{Region, headers_of, region_of, no_header, header_in, next_in, with_slot_header, with_slot_link}
 use Rattle.heap_theory.specs.State.{is_header_granule, without_headers}
-use Rattle.heap_theory.proofs.HeaderWords.{header_at-elsewhere, header_at-tagged, header_at-with_header, header_at-written}
-use Rattle.heap_theory.proofs.SeenMemory.{without_headers-in_header, without_headers-tagged, without_headers-written}
+use Rattle.heap_theory.proofs.TheoryLemmas as laws
 
 module _ (layout : Partition) where
   pub length-headers_of : (memory : List Granule) → length (headers_of layout memory) ≡ slot_count layout

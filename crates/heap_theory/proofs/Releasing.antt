@@ -1,14 +1,11 @@
 -- The front of the queue is released to its class's list.
-use Rattle.std.proofs.Common.{◌≡◌, ℕ, ◌+◌, ◌<◌, ◌≤◌, List, [], ◌∷◌, length, get_or, sym, ◌∙◌, subst, inl, inr, arith, Contains, slice_get, slice_set, Some}
-use Rattle.std.proofs.lemmas.Bool.{cases_eq, cases_lt}
+use Rattle.std.proofs.Common.{◌≡◌, ℕ, ◌+◌, ◌<◌, ◌≤◌, List, [], ◌∷◌, length, get_or, sym, ◌∙◌, subst, inl, inr, arith, Contains, slice_get}
+use Rattle.std.proofs.{Common.{slice_set, Some}, lemmas.Bool.{cases_eq, cases_lt}}
 use Rattle.std.proofs.lemmas.List.{get_or-set_same, get_or-set_other, length-set}
 use Rattle.class_table.specs.Layout.{block_bytes}
-use Rattle.heap_theory.specs.QueueAndLists.{HasMark, IsFreedList, AgreeWithMarksFrom, bytes_of}
-use Rattle.heap_theory.specs.Links.{list_of}
-use Rattle.heap_theory.specs.Sound.{IsSoundHeap}
-use Rattle.heap_theory.specs.State.{Heap, slot_in, state_at}
-use Rattle.heap_theory.proofs.ListSearch.{Contains-tail, Contains-cases}
+use Rattle.heap_theory.{proofs.ListSearch.{Contains-tail, Contains-cases}, specs.Links.{list_of}, specs.Sound.{IsSoundHeap}}
 use Rattle.heap_theory.proofs.Marks.{one_mark, bytes_of-cons, chain_bytes, chain_mark, list_weaker, one_number, IsNumberOf, number_is}
+use Rattle.heap_theory.specs.{QueueAndLists.{HasMark, IsFreedList, AgreeWithMarksFrom, bytes_of}, State.{Heap, slot_in, state_at}}
 
 -- a list for one class is another one
 pub list_of-here : (lists : List (List ℕ)) (number : ℕ) (list : List ℕ) → number < length lists →

@@ -1,18 +1,15 @@
 -- What is seen of a memory without the bytes of its headers.
-use Rattle.std.proofs.Common.{◌≡◌, ◌⊎◌, ℕ, ◌+◌, ◌-◌, ◌*◌, ◌/◌, ◌%◌, ◌<◌, ◌≤◌, Bool, true, false, cond, List, [], length, replicate, refl, sym, ap, ◌∙◌, subst, inl, inr, arith, slice_index, IsTrue, ◌≢◌, None, IsFalse}
-use Rattle.std.proofs.lemmas.Bool.{cases_lt, cases_Bool, cases_order, cond-false, cond_both, eqb-true, both_ways, and_left, and_right, lt-leb, le-ltb, false_from_ne_true}
+use Rattle.std.proofs.Common.{◌≡◌, ◌⊎◌, ℕ, ◌+◌, ◌-◌, ◌*◌, ◌/◌, ◌%◌, ◌<◌, ◌≤◌, Bool, true, false, cond, List, [], length, replicate, refl}
+use Rattle.std.proofs.Common.{sym, ap, ◌∙◌, subst, inl, inr, arith, slice_index, IsTrue, ◌≢◌, None, IsFalse}
+use Rattle.std.proofs.lemmas.Bool.{cases_lt, cases_Bool, cases_order, cond-false, cond_both, eqb-true, both_ways, and_left, and_right}
+use Rattle.std.proofs.lemmas.{Bool.{lt-leb, le-ltb, false_from_ne_true}, List.Folds.{Any-from_list_any}, List.FromFn.{fill_by_all}}
 use Rattle.std.proofs.lemmas.List.{length-replicate, get_or-replicate, get_or_past, get_or_default}
-use Rattle.std.proofs.lemmas.List.Folds.{Any-from_list_any}
-use Rattle.std.proofs.lemmas.List.FromFn.{fill_by_all}
-use Rattle.machine_theory.specs.Access.{access_fault}
-use Rattle.machine_theory.specs.Memory.{Granule, no_granule, new_granule, granule_at, tag_at, each_granule, is_among, tagged, byte_at, byte_after, bytes_after, written, IsMemory}
-use Rattle.machine_theory.proofs.MemoryLaws.{tag_at_past}
+use Rattle.machine_theory.{proofs.MemoryLaws.{tag_at_past}, specs.Access.{access_fault}, specs.Address.{logical_tag, Touches}}
+use Rattle.machine_theory.specs.Memory.{Granule, no_granule, new_granule, granule_at, tag_at, each_granule, is_among, tagged, byte_at}
+use Rattle.machine_theory.specs.{Memory.{byte_after, bytes_after, written, IsMemory}, declared.sizes.TheConstants.{GRANULE_BYTES}}
 use Rattle.class_table.specs.Layout.{Partition, slot_count, slot_of}
+use Rattle.heap_theory.specs.{Sound.{IsSoundHeap}, State.{Heap, is_header_granule, without_headers, first_memory}}
 use Rattle.heap_theory.proofs.TheoryLemmas as laws
-use Rattle.heap_theory.specs.Sound.{IsSoundHeap}
-use Rattle.heap_theory.specs.State.{Heap, is_header_granule, without_headers, first_memory}
-use Rattle.machine_theory.specs.declared.sizes.TheConstants.{GRANULE_BYTES}
-use Rattle.machine_theory.specs.Address.{logical_tag, Touches}
 
 -- what becomes of a granule
 abbrev hidden : Partition → ℕ → Granule → Granule

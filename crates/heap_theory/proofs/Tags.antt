@@ -2,10 +2,8 @@
 use Rattle.std.proofs.Common.{◌≡◌, ◌≢◌, ℕ, ◌%◌, ◌^◌, ◌<◌, Bool, true, false, cond, refl, arith, bit_or, ◌==◌}
 use Rattle.std.proofs.lemmas.Bool.{eqb-true, eqb-false}
 use Rattle.machine_theory.specs.Instructions.{drawn_tag}
+use Rattle.heap_theory.specs.{Calls.{parity_exclude, next_tag}, Sound.{IsTagOf}, State.{Heap, state_at, last_tag}}
 use Rattle.heap_theory.proofs.TheoryLemmas as laws
-use Rattle.heap_theory.specs.Calls.{parity_exclude, next_tag}
-use Rattle.heap_theory.specs.Sound.{IsTagOf}
-use Rattle.heap_theory.specs.State.{Heap, state_at, last_tag}
 
 module _ where
   drawn : (s last tag seed : ℕ) → tag < 16 →

@@ -1,21 +1,12 @@
 -- The calls of the heap: how each changes it, and what each returns; and what a store leaves.
-use Rattle.std.specs.Prelude.{ℕ, ◌+◌, ◌-◌, ◌*◌, ◌^◌, ◌%◌, min, Bool, false, ◌==◌, if◌then◌else◌, List, replicate, bit_or, slice_set, length, Option, Some, None, Result, Ok, Err}
-use Rattle.std.specs.Result.{result_map_both, result_ok}
-use Rattle.machine_theory.specs.declared.fault.Fault.{Fault}
-use Rattle.machine_theory.specs.Access.{access_fault, stored}
-use Rattle.machine_theory.specs.Instructions.{drawn_tag}
-use Rattle.machine_theory.specs.Memory.{Granule, tagged, written, bytes_at}
-use Rattle.machine_theory.specs.Seed.{next_seed}
-use Rattle.class_table.specs.Layout.{Slot, block_bytes}
-use Rattle.heap_theory.specs.declared.refusal.FreeError.{FreeError}
-use Rattle.heap_theory.specs.declared.refusal.NullCause.{NullCause}
-use Rattle.heap_theory.specs.declared.refusal.ReallocError.{ReallocError}
-use Rattle.heap_theory.specs.declared.refusal.ReallocError.TheVariants.{Null, Refused}
-use Rattle.heap_theory.specs.Lookups.{Chunk, class_for_request, slot_for_request, chunk_at}
-use Rattle.class_table.specs.Sizes.{chunk_granules}
-use Rattle.heap_theory.specs.State.{Heap, slot_in, state_at, last_tag, payload_start, pointer_to}
-use Rattle.heap_theory.specs.State.State.{Live, Dead}
-use Rattle.machine_theory.specs.declared.sizes.TheConstants.{GRANULE_BYTES}
+use Rattle.std.specs.Prelude.{ℕ, ◌+◌, ◌-◌, ◌*◌, ◌^◌, ◌%◌, min, Bool, false, ◌==◌, if◌then◌else◌, List, replicate, bit_or, slice_set, length}
+use Rattle.std.specs.{Prelude.{Option, Some, None, Result, Ok, Err}, Result.{result_map_both, result_ok}}
+use Rattle.machine_theory.specs.{Access.{access_fault, stored}, Instructions.{drawn_tag}, Memory.{Granule, tagged, written, bytes_at}}
+use Rattle.machine_theory.specs.{Seed.{next_seed}, declared.fault.Fault.{Fault}, declared.sizes.TheConstants.{GRANULE_BYTES}}
+use Rattle.class_table.specs.{Layout.{Slot, block_bytes}, Sizes.{chunk_granules}}
+use Rattle.heap_theory.specs.{Lookups.{Chunk, class_for_request, slot_for_request, chunk_at}, State.State.{Live, Dead}}
+use Rattle.heap_theory.specs.{State.{Heap, slot_in, state_at, last_tag, payload_start, pointer_to}, declared.refusal.FreeError.{FreeError}}
+use Rattle.heap_theory.specs.declared.refusal.{NullCause.{NullCause}, ReallocError.{ReallocError}, ReallocError.TheVariants.{Null, Refused}}
 
 -- ---- tags
 

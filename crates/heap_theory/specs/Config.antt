@@ -1,9 +1,7 @@
 -- What a heap is set up with.
 use Rattle.std.specs.Prelude.{◌≢◌, ℕ, ◌≤◌, List}
-use Rattle.class_table.specs.Layout.{Partition}
-use Rattle.class_table.specs.declared.layout.TheConstants.{FEWEST_GRANULES, MOST_GRANULES}
-use Rattle.heap_theory.specs.declared.config.Config.{Config}
-use Rattle.heap_theory.specs.declared.config.TheConstants.Config.{MOST_QUARANTINE}
+use Rattle.class_table.specs.{Layout.{Partition}, declared.layout.TheConstants.{FEWEST_GRANULES, MOST_GRANULES}}
+use Rattle.heap_theory.specs.declared.config.{Config.{Config}, TheConstants.Config.{MOST_QUARANTINE}}
 
 -- A heap can be set up so: each number is in its range.
 pub record IsConfig (config : Config) : Type 0 where

@@ -1,12 +1,10 @@
 -- The header of a slot: two words of 64 bits in its first granule, the lowest byte first. The fields are this project's own, not Scudo's.
-use Rattle.std.specs.Prelude.{ℕ, zero, suc, ◌+◌, ◌*◌, ◌/◌, ◌%◌, ◌^◌, ◌<◌, ◌==◌, if◌then◌else◌, Bool, List, ◌++◌, position, unwrap_or}
 use Rattle.std.specs.Int.{w64, to_le_bytes}
-use Rattle.machine_theory.specs.Memory.{Granule, word_at, written}
-use Rattle.class_table.specs.Layout.{Partition, slot_of}
+use Rattle.std.specs.Prelude.{ℕ, zero, suc, ◌+◌, ◌*◌, ◌/◌, ◌%◌, ◌^◌, ◌<◌, ◌==◌, if◌then◌else◌, Bool, List, ◌++◌, position, unwrap_or}
+use Rattle.machine_theory.specs.{Memory.{Granule, word_at, written}, declared.sizes.TheConstants.{GRANULE_BYTES}}
+use Rattle.class_table.specs.{Layout.{Partition, slot_of}, declared.table.TheConstants.{MOST_CLASSES}}
 use Rattle.heap_theory.specs.State.{State, Heap, state_at, last_tag, is_released, mark_of}
 use Rattle.heap_theory.specs.State.State.{Fresh as NeverGiven, Live as Given, Dead}
-use Rattle.machine_theory.specs.declared.sizes.TheConstants.{GRANULE_BYTES}
-use Rattle.class_table.specs.declared.table.TheConstants.{MOST_CLASSES}
 
 -- The state of a slot: fresh, live, dead and in the quarantine, or dead and in its class's list.
 pub data Standing : Type 0 where

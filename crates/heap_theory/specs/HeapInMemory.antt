@@ -1,13 +1,9 @@
 -- How the headers and links of a region show the slots of a heap at rest: `IsKeptIn`, what callers know of the memory that a heap lends.
 use Rattle.std.specs.Prelude.{◌≡◌, ◌≢◌, ℕ, ◌+◌, ◌*◌, ◌<◌, List, length, slice_get, slice_index, Some, AllPairs, Contains, IsFalse}
-use Rattle.machine_theory.specs.Memory.{Granule, word_at}
+use Rattle.machine_theory.specs.{Memory.{Granule, word_at}, declared.sizes.TheConstants.{GRANULE_BYTES}}
 use Rattle.class_table.specs.Layout.{Partition, slot_count, slot_of}
-use Rattle.heap_theory.specs.QueueAndLists.{HoldsQuarantined, HoldsReleased}
-use Rattle.heap_theory.specs.Header.{header_for}
-use Rattle.heap_theory.specs.Links.{IsLinked, list_of}
-use Rattle.heap_theory.specs.Region.{Region, header_in, next_in, region_of}
-use Rattle.heap_theory.specs.State.{Heap, state_at, IsSlot, is_dead}
-use Rattle.machine_theory.specs.declared.sizes.TheConstants.{GRANULE_BYTES}
+use Rattle.heap_theory.specs.{Header.{header_for}, Links.{IsLinked, list_of}, QueueAndLists.{HoldsQuarantined, HoldsReleased}}
+use Rattle.heap_theory.specs.{Region.{Region, header_in, next_in, region_of}, State.{Heap, state_at, IsSlot, is_dead}}
 
 -- The region of a heap at rest, over the heap and its memory alone: its headers, and the queue and lists that are linked through them.
 pub record IsKeptIn (heap : Heap) (region : Region) : Type 0 where

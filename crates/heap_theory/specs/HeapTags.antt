@@ -1,10 +1,7 @@
 -- The tags of chunks and addresses, and what they keep apart.
 use Rattle.std.specs.Prelude.{◌≡◌, ◌≢◌, ◌⊎◌, ℕ, ◌+◌, ◌%◌, length, IsFalse}
-use Rattle.machine_theory.specs.Access.{is_mapped}
-use Rattle.machine_theory.specs.Address.{logical_tag}
-use Rattle.machine_theory.specs.Memory.{tag_at}
-use Rattle.heap_theory.specs.GranuleKinds.{IsChunkGranule}
-use Rattle.heap_theory.specs.State.{Heap}
+use Rattle.machine_theory.specs.{Access.{is_mapped}, Address.{logical_tag}, Memory.{tag_at}}
+use Rattle.heap_theory.specs.{GranuleKinds.{IsChunkGranule}, State.{Heap}}
 
 -- ---- chunks
 

@@ -1,17 +1,13 @@
 -- Which slot a request is given, and which chunk a pointer names.
-use Rattle.std.specs.Prelude.{◌≡◌, ◌⊎◌, ℕ, ◌^◌, ◌<◌, Bool, IsTrue, ◌==◌, ◌&&◌, nat_lt, nat_le, if◌then◌else◌, List, filter, find, position, slice_get, Option, Some, None, Result, Ok, Err}
-use Rattle.std.specs.Option.{ok_or, option_or}
-use Rattle.std.specs.List.{range_with_len, list_all}
+use Rattle.std.specs.{List.{range_with_len, list_all}, Option.{ok_or, option_or}}
+use Rattle.std.specs.Prelude.{slice_get, Option, Some, None, Result, Ok, Err, ◌≡◌, ◌⊎◌, ℕ, ◌^◌, ◌<◌, Bool, IsTrue, ◌==◌, ◌&&◌, nat_lt}
+use Rattle.std.specs.Prelude.{nat_le, if◌then◌else◌, List, filter, find, position}
 use Rattle.machine_theory.specs.Address.{logical_tag, place_of}
-use Rattle.class_table.specs.Sizes.{largest_counted, chunk_granules}
-use Rattle.class_table.specs.Layout.{slots_of, slot_count}
-use Rattle.class_table.specs.Tables.{class_for}
-use Rattle.heap_theory.specs.declared.refusal.FreeError.{FreeError}
-use Rattle.heap_theory.specs.declared.refusal.FreeError.TheVariants.{Misplaced, NotLive, WrongTag}
-use Rattle.heap_theory.specs.declared.refusal.NullCause.{NullCause}
-use Rattle.heap_theory.specs.declared.refusal.NullCause.TheVariants.{Large, NoClass, Exhausted}
+use Rattle.class_table.specs.{Layout.{slots_of, slot_count}, Sizes.{largest_counted, chunk_granules}, Tables.{class_for}}
 use Rattle.heap_theory.specs.State.{State, Heap, slot_in, state_at, is_fresh, mark_of, is_released, payload_place, IsSlot}
-use Rattle.heap_theory.specs.State.State.{Fresh, Live, Dead}
+use Rattle.heap_theory.specs.{State.State.{Fresh, Live, Dead}, declared.refusal.FreeError.{FreeError}}
+use Rattle.heap_theory.specs.declared.refusal.{FreeError.TheVariants.{Misplaced, NotLive, WrongTag}, NullCause.{NullCause}}
+use Rattle.heap_theory.specs.declared.refusal.NullCause.TheVariants.{Large, NoClass, Exhausted}
 
 -- ---- the slot for a request
 

@@ -1,9 +1,8 @@
 -- The pointer that was given out for a live chunk, and which pointers `free` and `realloc` accept.
 use Rattle.std.specs.Prelude.{◌≡◌, ◌≢◌, ◌⊎◌, ℕ, List, Result, Ok, Err, ⊤}
-use Rattle.heap_theory.specs.declared.refusal.ReallocError.{ReallocError}
-use Rattle.heap_theory.specs.declared.refusal.ReallocError.TheVariants.{Null, Refused}
 use Rattle.heap_theory.specs.Calls.{malloc_step, calloc_step, free_step, realloc_step, store_step}
-use Rattle.heap_theory.specs.State.{Heap, IsLive, state_at, pointer_to, IsSlot}
+use Rattle.heap_theory.specs.{State.{Heap, IsLive, state_at, pointer_to, IsSlot}, declared.refusal.ReallocError.{ReallocError}}
+use Rattle.heap_theory.specs.declared.refusal.ReallocError.TheVariants.{Null, Refused}
 
 -- The own pointer of the live chunk in slot s: the address of its first byte, under the tag that the slot was given out with.
 pub record IsOwnPointer (heap : Heap) (s p : ℕ) : Type 0 where

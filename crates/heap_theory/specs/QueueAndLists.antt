@@ -1,8 +1,8 @@
 -- The freed slots: a queue for the quarantine and a list for each class, and how they agree with the marks in the slots' states.
-use Rattle.std.specs.Prelude.{◌≡◌, ◌↔◌, ℕ, ◌+◌, ◌-◌, ◌<◌, ◌≤◌, List, [], ◌∷◌, length, slice_get, slice_index, sum_by, Some, IsTrue, AllPairs, Contains, ⊤}
+use Rattle.std.specs.Prelude.{◌≡◌, ◌↔◌, ℕ, ◌+◌, ◌-◌, ◌<◌, ◌≤◌, List, [], ◌∷◌, length, slice_get, slice_index, sum_by, Some, IsTrue}
+use Rattle.std.specs.Prelude.{AllPairs, Contains, ⊤}
 use Rattle.class_table.specs.Layout.{Partition, block_bytes, slot_of}
-use Rattle.heap_theory.specs.Links.{list_of}
-use Rattle.heap_theory.specs.State.{State, Heap, slot_in, state_at, IsSlot, is_released, is_quarantined, mark_of}
+use Rattle.heap_theory.specs.{Links.{list_of}, State.{State, Heap, slot_in, state_at, IsSlot, is_released, is_quarantined, mark_of}}
 use Rattle.heap_theory.specs.State.State.{Fresh, Live, Dead}
 
 -- ---- what the lists hold

@@ -1,11 +1,8 @@
 -- A memory with the layout of its slots, seen as two things: the headers of the slots, and the granules without the bytes of headers.
-use Rattle.std.specs.Prelude.{ℕ, List, map, slice_index_or, slice_set}
-use Rattle.std.specs.List.{range_with_len}
+use Rattle.std.specs.{List.{range_with_len}, Prelude.{ℕ, List, map, slice_index_or, slice_set}}
 use Rattle.machine_theory.specs.Memory.{Granule}
 use Rattle.class_table.specs.Layout.{Partition, slot_count, slot_of}
-use Rattle.heap_theory.specs.Header.{Header, header_at}
-use Rattle.heap_theory.specs.Header.Standing.{Fresh}
-use Rattle.heap_theory.specs.State.{without_headers}
+use Rattle.heap_theory.specs.{Header.{Header, header_at}, Header.Standing.{Fresh}, State.{without_headers}}
 
 pub record Region : Type 0 where
   pub headers : List Header  -- one for each slot

@@ -2,8 +2,7 @@
 use Rattle.std.specs.Prelude.{◌≡◌, ◌≢◌, ℕ, ◌+◌, ◌%◌, ◌<◌, ◌≤◌, List, length, ⊤}
 use Rattle.machine_theory.specs.Memory.{Granule, tag_at}
 use Rattle.class_table.specs.Layout.{IsPartition, Slot, end_of, slot_count, Covers, AreInOrder}
-use Rattle.heap_theory.specs.State.{State, Heap, slot_in, state_at, chunk_granules_of, IsSlot}
-use Rattle.heap_theory.specs.State.State.{Fresh, Live, Dead}
+use Rattle.heap_theory.specs.{State.{State, Heap, slot_in, state_at, chunk_granules_of, IsSlot}, State.State.{Fresh, Live, Dead}}
 
 -- a tag that a slot of this number may take: not 0, and odd where the number is even
 pub record IsTagOf (s tag : ℕ) : Type 0 where

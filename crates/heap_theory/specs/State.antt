@@ -1,11 +1,10 @@
 -- What a heap holds.
-use Rattle.std.specs.Prelude.{ℕ, ◌+◌, ◌-◌, ◌*◌, ◌<◌, Bool, true, false, ◌&&◌, ◌==◌, nat_lt, nat_le, if◌then◌else◌, List, [], map, replicate, slice_index_or, ⊤}
 use Rattle.std.specs.List.{range_with_len, list_any}
-use Rattle.machine_theory.specs.Address.{region_start, with_tag}
-use Rattle.machine_theory.specs.Memory.{Granule, no_granule, new_granule, each_granule}
-use Rattle.class_table.specs.Sizes.{chunk_granules}
-use Rattle.class_table.specs.Layout.{Partition, Slot, slots_of, slot_count, slot_of}
+use Rattle.std.specs.Prelude.{[], map, replicate, slice_index_or, ⊤, ℕ, ◌+◌, ◌-◌, ◌*◌, ◌<◌, Bool, true, false, ◌&&◌, ◌==◌, nat_lt, nat_le}
+use Rattle.std.specs.Prelude.{if◌then◌else◌, List}
+use Rattle.machine_theory.specs.{Address.{region_start, with_tag}, Memory.{Granule, no_granule, new_granule, each_granule}}
 use Rattle.machine_theory.specs.declared.sizes.TheConstants.{GRANULE_BYTES}
+use Rattle.class_table.specs.{Layout.{Partition, Slot, slots_of, slot_count, slot_of}, Sizes.{chunk_granules}}
 
 -- A slot was never given out; or it was, for a request of `size` bytes under `tag`; or it was freed since. A freed one keeps both, and
 -- its mark is the bytes of all blocks that were freed before it.

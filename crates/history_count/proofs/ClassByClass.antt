@@ -1,26 +1,14 @@
 -- What a table takes, a class at a time: each class serves the sizes from where the one before it ends.
-use Rattle.std.proofs.Common.{◌≡◌, ℕ, zero, suc, ◌+◌, ◌-◌, ◌*◌, ◌^◌, ◌<◌, ◌≤◌, ◌&&◌, false, List, [], ◌∷◌, length, get_or, drop, cond, leb, ltb, refl, sym, ap, ◌∙◌, arith, add-one, All, slice_index}
-use Rattle.std.proofs.Math.Nat.{mul-le-mul}
-use Rattle.std.proofs.Math.Seq.{drop-cons}
-use Rattle.std.proofs.lemmas.Bool.{le-leb, le-ltb, lt-leb, lt-ltb}
-use Rattle.std.proofs.lemmas.List.{drop_all}
-use Rattle.std.proofs.lemmas.List.Elements.{All-head, All-tail}
-use Rattle.class_table.specs.Sizes.{largest_counted}
-use Rattle.class_table.specs.Tables.{IsLegalTable}
-use Rattle.class_table.specs.declared.sizes.TheConstants.{LARGEST_CLASS}
+use Rattle.std.proofs.Common.{◌≡◌, ℕ, zero, suc, ◌+◌, ◌-◌, ◌*◌, ◌^◌, ◌<◌, ◌≤◌, ◌&&◌, false, List, [], ◌∷◌, length, get_or, drop, cond, leb}
+use Rattle.std.proofs.{Common.{ltb, refl, sym, ap, ◌∙◌, arith, add-one, All, slice_index}, Math.Nat.{mul-le-mul}, Math.Seq.{drop-cons}}
+use Rattle.std.proofs.lemmas.{Bool.{le-leb, le-ltb, lt-leb, lt-ltb}, List.{drop_all}, List.Elements.{All-head, All-tail}}
+use Rattle.class_table.specs.{Sizes.{largest_counted}, Tables.{IsLegalTable}, declared.sizes.TheConstants.{LARGEST_CLASS}}
 use Rattle.profile_count.proofs.LawLemmas.{sum_up_to_the_rest}
-use Rattle.tuner_theory.specs.Footprint.{blocks_between, footprint_between, footprint_of}
-use Rattle.tuner_theory.specs.Histories.{AreSnapshots, most}
-use Rattle.tuner_theory.specs.Intervals.{cost_above}
-use Rattle.tuner_theory.specs.Profiles.{AreCounts, greatest_count}
-use Rattle.tuner_theory.specs.Spans.{rounded_need}
-use Rattle.tuner_theory.specs.Waste.{sum_below}
-use Rattle.tuner_theory.proofs.Footprint.{footprint_is_sum}
-use Rattle.tuner_theory.proofs.Rounding.{rounded-positive}
-use Rattle.tuner_theory.proofs.Sums.{sum_below-more, sum_none}
-use Rattle.history_count.specs.CountedLines.{AreSizes, IsCutAt, spread}
+use Rattle.tuner_theory.proofs.{Footprint.{footprint_is_sum}, Rounding.{rounded-positive}, Sums.{sum_below-more, sum_none}}
+use Rattle.tuner_theory.specs.{Footprint.{blocks_between, footprint_between, footprint_of}, Histories.{AreSnapshots, most}}
+use Rattle.tuner_theory.specs.{Intervals.{cost_above}, Profiles.{AreCounts, greatest_count}, Spans.{rounded_need}, Waste.{sum_below}}
+use Rattle.history_count.{proofs.CutLines.{most-lines, most-small}, specs.CountedLines.{AreSizes, IsCutAt, spread}}
 use Rattle.history_count.specs.Histories.{blocks_from}
-use Rattle.history_count.proofs.CutLines.{most-lines, most-small}
 
 -- ---- where the sizes that need more granules begin
 

@@ -1,17 +1,12 @@
 -- Sums of a snapshot up to a size, by the lines of its sizes.
-use Rattle.std.proofs.Common.{◌≡◌, ℕ, zero, suc, ◌+◌, ◌-◌, ◌*◌, ◌<◌, ◌≤◌, List, [], ◌∷◌, length, refl, sym, ◌∙◌, arith, All, slice_index, ◌⊎◌, inl, inr}
-use Rattle.std.proofs.lemmas.Bool.{cases_lt}
-use Rattle.std.proofs.lemmas.List.Elements.{All-head, All-tail}
+use Rattle.std.proofs.Common.{◌≡◌, ℕ, zero, suc, ◌+◌, ◌-◌, ◌*◌, ◌<◌, ◌≤◌, List, [], ◌∷◌, length, refl, sym, ◌∙◌, arith, All, slice_index}
+use Rattle.std.proofs.{Common.{◌⊎◌, inl, inr}, lemmas.Bool.{cases_lt}, lemmas.List.Elements.{All-head, All-tail}}
 use Rattle.class_table.specs.Sizes.{largest_counted}
 use Rattle.profile_count.specs.Counts.{zeros}
-use Rattle.tuner_theory.specs.Histories.{most}
-use Rattle.tuner_theory.specs.Profiles.{AreCounts, greatest_count}
-use Rattle.tuner_theory.specs.Waste.{sum_below}
-use Rattle.tuner_theory.proofs.Spans.{count-small}
-use Rattle.tuner_theory.proofs.Sums.{sum_below-more, sum_below-none}
-use Rattle.history_count.specs.CountedLines.{AreSizes, CountsSizes, IsCutAt, spread, with_sizes}
+use Rattle.tuner_theory.{proofs.Spans.{count-small}, proofs.Sums.{sum_below-more, sum_below-none}, specs.Histories.{most}}
+use Rattle.tuner_theory.specs.{Profiles.{AreCounts, greatest_count}, Waste.{sum_below}}
+use Rattle.history_count.{proofs.SpreadLines.{with_sizes-counts}, specs.CountedLines.{AreSizes, CountsSizes, IsCutAt, spread, with_sizes}}
 use Rattle.history_count.specs.Histories.{blocks_from}
-use Rattle.history_count.proofs.SpreadLines.{with_sizes-counts}
 
 module _ (snapshot sizes column : List ℕ) (are : AreSizes sizes) (counts : CountsSizes snapshot sizes column) where
   abbrev IsSummed : ℕ → ℕ → Type 0

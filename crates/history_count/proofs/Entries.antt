@@ -1,14 +1,11 @@
 -- The entry of a line by the numbers that were read of it.
-use Rattle.std.proofs.lemmas.Grind.{common_steps}
-use Rattle.std.proofs.Common.{◌≡◌, ℕ, ◌≤◌, Bool, true, false, ◌&&◌, List, [], ◌∷◌, length, map, Option, Some, Ok, Err, leb, ltb, eqb, refl, sym, ap, ◌∙◌, arith, All}
-use Rattle.std.proofs.lemmas.Bool.{eq-eqb, eqb-true, le-leb}
-use Rattle.std.proofs.lemmas.List.Elements.{All-head, All-tail}
-use Rattle.std.proofs.lemmas.Bool.Decides.{nat_tests}
+use Rattle.std.proofs.Common.{◌≡◌, ℕ, ◌≤◌, Bool, true, false, ◌&&◌, List, [], ◌∷◌, length, map, Option, Some, Ok, Err, leb, ltb, eqb, refl}
+use Rattle.std.proofs.{Common.{sym, ap, ◌∙◌, arith, All}, lemmas.Bool.{eq-eqb, eqb-true, le-leb}, lemmas.Bool.Decides.{nat_tests}}
+use Rattle.std.proofs.lemmas.{Grind.{common_steps}, List.Elements.{All-head, All-tail}}
 use Rattle.profile_count.specs.declared.fault.ProfileFault.TheVariants.{CountOutOfRange, NotAscending}
 use Rattle.tuner_theory.specs.Profiles.{greatest_count}
 use Rattle.history_count.specs.HistoryText.{Entry, are_few, are_in_range, entry_with, entry_with_numbers, is_in_order, is_some_counted}
-use Rattle.history_count.specs.LineView.{Fills, capped}
-use Rattle.history_count.specs.declared.fault.HistoryFault.TheVariants.{Counted}
+use Rattle.history_count.specs.{LineView.{Fills, capped}, declared.fault.HistoryFault.TheVariants.{Counted}}
 use Rattle.history_count.specs.declared.line.Subject.{Subject}
 
 -- ---- numbers as 32 bits hold them

@@ -1,19 +1,15 @@
 -- The line of an entry: the entry is read from it, and from no other line.
-use Rattle.std.proofs.Common.{◌≡◌, ℕ, ◌≤◌, ◌<◌, ◌^◌, Bool, false, List, [], ◌∷◌, length, map, Option, Some, Ok, refl, sym, ◌∙◌, arith, codes}
+use Rattle.std.proofs.Common.{◌≡◌, ℕ, ◌≤◌, ◌<◌, ◌^◌, Bool, false, List, [], ◌∷◌, length, map, Option, Some, Ok, refl, sym, ◌∙◌, arith}
+use Rattle.std.proofs.{Common.{codes}, lemmas.Bool.{eq-eqb, le-leb, leb-true}, lemmas.Slice.Eq.{bytes_eq-Decides}}
 use Rattle.std.specs.Fmt.{decimal}
-use Rattle.std.proofs.lemmas.Bool.{eq-eqb, le-leb, leb-true}
-use Rattle.std.proofs.lemmas.Slice.Eq.{bytes_eq-Decides}
-use Rattle.class_table.specs.NamedLines.{named_line, numbers_in, numbers_of}
+use Rattle.class_table.proofs.LawLemmas.{AreSmall, IsName, line_of_read_numbers, named_line_is_full, named_numbers_are_read, plain_name}
+use Rattle.class_table.{proofs.LawLemmas.{words_of_named_line}, specs.NamedLines.{named_line, numbers_in, numbers_of}}
 use Rattle.class_table.specs.Sizes.{largest_counted}
-use Rattle.class_table.proofs.LawLemmas.{AreSmall, IsName, line_of_read_numbers, named_line_is_full, named_numbers_are_read, plain_name, words_of_named_line}
-use Rattle.line_text.specs.Lines.{IsFullLine, words}
-use Rattle.line_text.specs.Numbers.{number_of}
-use Rattle.line_text.proofs.LawLemmas.{text_laws as laws}
+use Rattle.line_text.{proofs.LawLemmas.{text_laws as laws}, specs.Lines.{IsFullLine, words}, specs.Numbers.{number_of}}
 use Rattle.profile_count.proofs.LawLemmas.{number_is_not_large}
+use Rattle.history_count.{proofs.Entries.{IsGood, entry_with-good, few-from_all}, specs.declared.line.Subject.{Subject}}
 use Rattle.history_count.specs.HistoryText.{Entry, entry_of, entry_with_numbers, subject_of}
-use Rattle.history_count.specs.declared.line.Subject.{Subject}
 use Rattle.history_count.specs.declared.line.Subject.TheVariants.{Large, Size}
-use Rattle.history_count.proofs.Entries.{IsGood, entry_with-good, few-from_all}
 
 abbrev pub first_word : Subject → List ℕ
 first_word (Size size) = decimal size

@@ -1,9 +1,9 @@
 -- Reading the numbers of a line, word by word, into their places.
-use Rattle.std.proofs.Common.{◌≡◌, ◌≢◌, ℕ, ◌+◌, ◌<◌, Bool, true, false, nat_lt, List, [], ◌∷◌, ◌++◌, length, map, set, take, drop, Option, Some, None, option_map, slice_get, refl, sym, ◌∙◌, arith, append_assoc, append-nil, length-append}
+use Rattle.std.proofs.Common.{◌≡◌, ◌≢◌, ℕ, ◌+◌, ◌<◌, Bool, true, false, nat_lt, List, [], ◌∷◌, ◌++◌, length, map, set, take, drop, Option}
+use Rattle.std.proofs.Common.{Some, None, option_map, slice_get, refl, sym, ◌∙◌, arith, append_assoc, append-nil, length-append}
 use Rattle.std.proofs.lemmas.List.{map-append, take_more_set}
 use Rattle.class_table.specs.NamedLines.{numbers_of}
-use Rattle.line_text.specs.Numbers.{classified, number_of}
-use Rattle.line_text.specs.declared.number.Number.{Number}
+use Rattle.line_text.specs.{Numbers.{classified, number_of}, declared.number.Number.{Number}}
 use Rattle.history_count.specs.LineView.{capped}
 
 -- ---- the next word

@@ -1,17 +1,14 @@
 -- The line at which a text is refused as a history is its first fault.
-use Rattle.std.proofs.Common.{◌≡◌, ℕ, suc, ◌+◌, ◌-◌, ◌≤◌, ◌⊎◌, max, List, [], ◌∷◌, length, take, Option, Some, None, Result, Ok, Err, All, ◌↔◌, refl, sym, ap, ◌∙◌, arith, inl, inr, append-nil}
-use Rattle.std.proofs.lemmas.Bool.{cases_lt}
+use Rattle.std.proofs.Common.{◌≡◌, ℕ, suc, ◌+◌, ◌-◌, ◌≤◌, ◌⊎◌, max, List, [], ◌∷◌, length, take, Option, Some, None, Result, Ok, Err, All}
+use Rattle.std.proofs.{Common.{◌↔◌, refl, sym, ap, ◌∙◌, arith, inl, inr, append-nil}, lemmas.Bool.{cases_lt}}
 use Rattle.std.proofs.lemmas.List.Elements.{All-cons, All-nil, All-take}
-use Rattle.line_text.specs.FirstFault.{IsFirstFault}
-use Rattle.line_text.specs.Lines.{IsLine, lines, text_of, words}
-use Rattle.line_text.proofs.LawLemmas.{IsLineByLine, first_fault_is_a_refusal, refusal_has_its_place, refusal_is_first_fault, text_laws as laws}
-use Rattle.history_count.specs.Histories.{History}
-use Rattle.history_count.specs.HistoryText.{Entry, IsRefusedAt, Reading, SpellsHistory, first_reading, history_from, history_of, history_of_lines, next_entry, snapshots_line, snapshots_of, with_entry}
-use Rattle.history_count.specs.declared.fault.HistoryFault.{HistoryFault}
-use Rattle.history_count.specs.declared.fault.HistoryFault.TheVariants.{BadSnapshots}
-use Rattle.history_count.proofs.LineByLine.{first_line_read, line_faulty, line_read, no_line}
-use Rattle.history_count.proofs.ReadIsSpelled.{history_is_spelled}
-use Rattle.history_count.proofs.SpelledIsRead.{spelled_history_is_read, snapshots_line-full, snapshots_of-line}
+use Rattle.line_text.proofs.LawLemmas.{IsLineByLine, first_fault_is_a_refusal, refusal_has_its_place, refusal_is_first_fault}
+use Rattle.line_text.{proofs.LawLemmas.{text_laws as laws}, specs.FirstFault.{IsFirstFault}, specs.Lines.{IsLine, lines, text_of, words}}
+use Rattle.history_count.proofs.{LineByLine.{first_line_read, line_faulty, line_read, no_line}, ReadIsSpelled.{history_is_spelled}}
+use Rattle.history_count.{proofs.SpelledIsRead.{spelled_history_is_read, snapshots_line-full, snapshots_of-line}, specs.Histories.{History}}
+use Rattle.history_count.specs.HistoryText.{Entry, IsRefusedAt, Reading, SpellsHistory, first_reading, history_from, history_of}
+use Rattle.history_count.specs.HistoryText.{history_of_lines, next_entry, snapshots_line, snapshots_of, with_entry}
+use Rattle.history_count.specs.declared.fault.{HistoryFault.{HistoryFault}, HistoryFault.TheVariants.{BadSnapshots}}
 
 -- ---- one reading of all lines: before the first line there is none
 

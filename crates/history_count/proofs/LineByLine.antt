@@ -1,10 +1,9 @@
 -- Reading a history line by line.
 use Rattle.std.proofs.Common.{◌≡◌, ℕ, ◌+◌, List, [], ◌∷◌, length, Some, Ok, Err, refl, add-one, arith}
 use Rattle.line_text.specs.Lines.{lines, words}
-use Rattle.history_count.specs.Histories.{History}
-use Rattle.history_count.specs.HistoryText.{Entry, Reading, entry_of, first_reading, history_from, history_of, next_entry, snapshots_of, with_entry}
-use Rattle.history_count.specs.declared.fault.HistoryFault.{HistoryFault}
-use Rattle.history_count.specs.declared.line.Subject.{Subject}
+use Rattle.history_count.specs.{Histories.{History}, declared.fault.HistoryFault.{HistoryFault}, declared.line.Subject.{Subject}}
+use Rattle.history_count.specs.HistoryText.{Entry, Reading, entry_of, first_reading, history_from, history_of, next_entry, snapshots_of}
+use Rattle.history_count.specs.HistoryText.{with_entry}
 
 -- ---- the first line
 

@@ -1,16 +1,12 @@
 -- A reading of which no `large` line was read: nothing is counted from the next size on.
-use Rattle.std.proofs.Common.{◌≡◌, ℕ, ◌+◌, ◌≤◌, false, List, length, arith}
-use Rattle.std.proofs.lemmas.Bool.{leb-true}
+use Rattle.std.proofs.{Common.{◌≡◌, ℕ, ◌+◌, ◌≤◌, false, List, length, arith}, lemmas.Bool.{leb-true}}
 use Rattle.profile_count.specs.Counts.{zeros}
-use Rattle.tuner_theory.specs.Histories.{AreSnapshots}
-use Rattle.tuner_theory.specs.declared.most_snapshots.TheConstants.{MOST_SNAPSHOTS}
+use Rattle.tuner_theory.specs.{Histories.{AreSnapshots}, declared.most_snapshots.TheConstants.{MOST_SNAPSHOTS}}
 use Rattle.class_table.specs.Sizes.{largest_counted}
-use Rattle.history_count.specs.Histories.{counts_of}
+use Rattle.history_count.proofs.{Columns.{counts_of-other, with_counts-counts, with_counts-length}, EntryLines.{IsNext}}
+use Rattle.history_count.{proofs.Peaks.{empty-length, empty-nothing, empty-are}, specs.Histories.{counts_of}}
 use Rattle.history_count.specs.HistoryText.{Entry, Reading, first_reading, is_some_counted, with_entry}
 use Rattle.history_count.specs.declared.line.Subject.TheVariants.{Size}
-use Rattle.history_count.proofs.Columns.{counts_of-other, with_counts-counts, with_counts-length}
-use Rattle.history_count.proofs.EntryLines.{IsNext}
-use Rattle.history_count.proofs.Peaks.{empty-length, empty-nothing, empty-are}
 
 pub record IsOpen (r : Reading) : Type 0 where
   pub snapshots : AreSnapshots r.history.snapshots

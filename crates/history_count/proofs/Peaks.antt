@@ -1,20 +1,14 @@
 -- The peaks of snapshots, by the counts of each size.
 use Rattle.std.proofs.Common.{◌≡◌, ℕ, zero, suc, ◌+◌, ◌≤◌, false, List, [], ◌∷◌, length, get_or, set, refl, ◌∙◌, arith, All, slice_index}
-use Rattle.std.proofs.lemmas.Bool.{cases_eq}
-use Rattle.std.proofs.lemmas.Grind.{same_number_lists}
+use Rattle.std.proofs.lemmas.{Bool.{cases_eq}, Grind.{same_number_lists}}
 use Rattle.std.proofs.lemmas.List.{get_or-set_other, get_or-set_same, length-replicate, length-set}
 use Rattle.std.proofs.lemmas.List.Elements.{All-cons, All-from_get_or, All-head, All-nil, All-tail}
 use Rattle.class_table.specs.Sizes.{largest_counted}
-use Rattle.profile_count.specs.Counts.{zeros}
-use Rattle.profile_count.proofs.LawLemmas.{each_is_zero, zeros_are_counts}
-use Rattle.tuner_theory.specs.Histories.{AreSnapshots, most, peaks}
-use Rattle.tuner_theory.specs.Profiles.{AreCounts, greatest_count}
-use Rattle.tuner_theory.specs.declared.most_snapshots.TheConstants.{MOST_SNAPSHOTS}
-use Rattle.tuner_theory.proofs.Footprint.{peak-at, peaks-length}
-use Rattle.tuner_theory.proofs.Spans.{count-small}
+use Rattle.profile_count.{proofs.LawLemmas.{each_is_zero, zeros_are_counts}, specs.Counts.{zeros}}
+use Rattle.tuner_theory.{proofs.Footprint.{peak-at, peaks-length}, proofs.Spans.{count-small}, specs.Histories.{AreSnapshots, most, peaks}}
+use Rattle.tuner_theory.specs.{Profiles.{AreCounts, greatest_count}, declared.most_snapshots.TheConstants.{MOST_SNAPSHOTS}}
+use Rattle.history_count.{proofs.Columns.{counts_of-other, counts_of-same}, specs.HistoryText.{is_some_counted}}
 use Rattle.history_count.specs.Histories.{counts_of, empty_snapshots, greatest_of, with_counts}
-use Rattle.history_count.specs.HistoryText.{is_some_counted}
-use Rattle.history_count.proofs.Columns.{counts_of-other, counts_of-same}
 
 most-greatest : (snapshots : List (List ℕ)) (n : ℕ) → most (λ s. slice_index s n) snapshots ≡ greatest_of (counts_of snapshots n)
 most-greatest [] n = refl

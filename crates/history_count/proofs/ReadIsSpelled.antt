@@ -1,22 +1,19 @@
 -- From a text that is read as a history to its spelling: line by line, the rest spells what is counted from there on.
-use Rattle.std.proofs.Common.{◌≡◌, ℕ, suc, ◌+◌, ◌-◌, ◌<◌, ◌≤◌, true, List, [], ◌∷◌, ◌++◌, length, Option, Some, None, Result, Ok, Err, codes, leb, refl, subst, ap, ◌∙◌, arith}
-use Rattle.std.proofs.lemmas.Bool.{and_parts, leb-true}
+use Rattle.std.proofs.Common.{◌≡◌, ℕ, suc, ◌+◌, ◌-◌, ◌<◌, ◌≤◌, true, List, [], ◌∷◌, ◌++◌, length, Option, Some, None, Result, Ok, Err}
+use Rattle.std.proofs.{Common.{codes, leb, refl, subst, ap, ◌∙◌, arith}, lemmas.Bool.{and_parts, leb-true}}
 use Rattle.std.proofs.lemmas.Slice.Eq.{bytes_eq-Decides}
 use Rattle.class_table.specs.Sizes.{largest_counted}
-use Rattle.line_text.specs.Lines.{IsTextOf, lines, words}
-use Rattle.line_text.proofs.LawLemmas.{text_laws as laws}
+use Rattle.line_text.{proofs.LawLemmas.{text_laws as laws}, specs.Lines.{IsTextOf, lines, words}}
 use Rattle.tuner_theory.specs.declared.most_snapshots.TheConstants.{MOST_SNAPSHOTS}
-use Rattle.history_count.specs.Histories.{History, IsHistory, counts_of}
-use Rattle.history_count.specs.HistoryText.{Entry, Reading, SpellsHistory, counts_lines, first_reading, history_after, history_from, history_lines, history_of, history_of_lines, is_some_counted, next_entry, snapshots_line, snapshots_of, with_entry}
-use Rattle.history_count.specs.declared.fault.HistoryFault.{HistoryFault}
-use Rattle.history_count.specs.declared.line.Subject.{Subject}
-use Rattle.history_count.specs.declared.line.Subject.TheVariants.{Large, Size}
+use Rattle.history_count.proofs.{Columns.{counts_of-other, counts_of-same, with_counts-length}, Peaks.{empty-length, zeros-small}}
+use Rattle.history_count.{proofs.EntryLines.{IsNext, entry_line, entry_line-read}, specs.Histories.{History, IsHistory, counts_of}}
+use Rattle.history_count.{proofs.OpenReadings.{IsOpen, is_open-first, is_open-size, size_entry}, specs.declared.line.Subject.{Subject}}
+use Rattle.history_count.proofs.SizeLines.{counts_lines-none, counts_lines-some, size_lines-counted, size_lines-none, size_lines-passed}
+use Rattle.history_count.{proofs.SizeLines.{size_lines_from, zeros-none}, specs.declared.fault.HistoryFault.{HistoryFault}}
+use Rattle.history_count.specs.HistoryText.{Entry, Reading, SpellsHistory, counts_lines, first_reading, history_after, history_from}
+use Rattle.history_count.specs.HistoryText.{history_lines, history_of, history_of_lines, is_some_counted, next_entry, snapshots_line}
+use Rattle.history_count.specs.{HistoryText.{snapshots_of, with_entry}, declared.line.Subject.TheVariants.{Large, Size}}
 use Rattle.profile_count.proofs.LawLemmas.{length-zeros}
-use Rattle.history_count.proofs.Columns.{counts_of-other, counts_of-same, with_counts-length}
-use Rattle.history_count.proofs.EntryLines.{IsNext, entry_line, entry_line-read}
-use Rattle.history_count.proofs.OpenReadings.{IsOpen, is_open-first, is_open-size, size_entry}
-use Rattle.history_count.proofs.Peaks.{empty-length, zeros-small}
-use Rattle.history_count.proofs.SizeLines.{counts_lines-none, counts_lines-some, size_lines-counted, size_lines-none, size_lines-passed, size_lines_from, zeros-none}
 
 -- After a reading, lines spell a history: what it counts from the next size on, and its large blocks. Below that size it counts what was
 -- read.

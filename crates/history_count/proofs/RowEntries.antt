@@ -1,20 +1,12 @@
 -- The entry of a line by the numbers of its row.
 use Rattle.std.proofs.Common.{◌≡◌, ℕ, ◌<◌, ◌≤◌, Bool, false, List, [], ◌∷◌, length, map, Some, Err, refl, ap, subst, ◌∙◌}
-use Rattle.std.proofs.lemmas.Bool.{le-leb, lt-leb}
-use Rattle.std.proofs.lemmas.List.{length-map}
-use Rattle.class_table.specs.NamedLines.{numbers_of}
-use Rattle.class_table.specs.Sizes.{largest_counted}
-use Rattle.line_text.specs.Lines.{words}
-use Rattle.line_text.specs.Rows.{AreRowWords, SpellNumbers}
-use Rattle.profile_count.specs.declared.fault.ProfileFault.TheVariants.{BadLine}
-use Rattle.profile_count.proofs.LawLemmas.{number_is_not_large}
-use Rattle.history_count.specs.HistoryText.{entry_of, entry_with}
-use Rattle.history_count.specs.LineView.{GivesEntry, GivesNextEntry, capped}
-use Rattle.history_count.specs.declared.fault.HistoryFault.{HistoryFault}
-use Rattle.history_count.specs.declared.fault.HistoryFault.TheVariants.{Counted}
-use Rattle.history_count.specs.declared.line.Subject.{Subject}
-use Rattle.history_count.specs.declared.line.Subject.TheVariants.{Size}
-use Rattle.std.specs.Prelude.{Result}
+use Rattle.std.{proofs.lemmas.Bool.{le-leb, lt-leb}, proofs.lemmas.List.{length-map}, specs.Prelude.{Result}}
+use Rattle.class_table.specs.{NamedLines.{numbers_of}, Sizes.{largest_counted}}
+use Rattle.line_text.specs.{Lines.{words}, Rows.{AreRowWords, SpellNumbers}}
+use Rattle.profile_count.{proofs.LawLemmas.{number_is_not_large}, specs.declared.fault.ProfileFault.TheVariants.{BadLine}}
+use Rattle.history_count.specs.{HistoryText.{entry_of, entry_with}, LineView.{GivesEntry, GivesNextEntry, capped}}
+use Rattle.history_count.specs.declared.fault.{HistoryFault.{HistoryFault}, HistoryFault.TheVariants.{Counted}}
+use Rattle.history_count.specs.declared.line.{Subject.{Subject}, Subject.TheVariants.{Size}}
 
 -- The numbers that words spell.
 record AreSpelled (ws : List (List ℕ)) (xs : List ℕ) : Type 0 where

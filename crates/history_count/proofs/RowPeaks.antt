@@ -1,18 +1,13 @@
 -- The peaks of a history by the rows of its counts, line by line.
-use Rattle.std.proofs.Common.{◌≡◌, ◌≢◌, ℕ, zero, suc, ◌+◌, ◌<◌, ◌≤◌, ◌⊎◌, List, [], ◌∷◌, length, slice_index, refl, sym, ap, ◌∙◌, arith, All, inl, inr}
-use Rattle.std.proofs.lemmas.Bool.{cases_eq, cases_lt}
-use Rattle.std.proofs.lemmas.Grind.{same_number_lists}
+use Rattle.std.proofs.Common.{◌≡◌, ◌≢◌, ℕ, zero, suc, ◌+◌, ◌<◌, ◌≤◌, ◌⊎◌, List, [], ◌∷◌, length, slice_index, refl, sym, ap, ◌∙◌, arith}
+use Rattle.std.proofs.{Common.{All, inl, inr}, lemmas.Bool.{cases_eq, cases_lt}, lemmas.Grind.{same_number_lists}}
 use Rattle.class_table.specs.Sizes.{largest_counted}
-use Rattle.profile_count.specs.Counts.{nothing_counted, zeros}
-use Rattle.profile_count.proofs.LawLemmas.{each_is_zero, length-zeros}
+use Rattle.profile_count.{proofs.LawLemmas.{each_is_zero, length-zeros}, specs.Counts.{nothing_counted, zeros}}
+use Rattle.tuner_theory.{proofs.Footprint.{peak-at, peaks-length}, proofs.Sums.{sum_below-more}, specs.Profiles.{Profile}}
 use Rattle.tuner_theory.specs.Histories.{AreSnapshots, most, peaks}
-use Rattle.tuner_theory.specs.Profiles.{Profile}
-use Rattle.tuner_theory.proofs.Footprint.{peak-at, peaks-length}
-use Rattle.tuner_theory.proofs.Sums.{sum_below-more}
+use Rattle.history_count.proofs.{CutLines.{most-lines}, SpreadLines.{with_sizes-counts, with_sizes-length}}
 use Rattle.history_count.specs.CountedLines.{AreFew, AreSizes, CountsSizes, HoldsLines, IsCutAt, spread, with_sizes}
 use Rattle.history_count.specs.Histories.{blocks_from, peak_profile}
-use Rattle.history_count.proofs.CutLines.{most-lines}
-use Rattle.history_count.proofs.SpreadLines.{with_sizes-counts, with_sizes-length}
 
 -- Of the lines up to this one the profile has the peaks, and nothing else.
 pub record ArePeaksTo (sizes : List ℕ) (rows : List (List ℕ)) (line : ℕ) (kept : Profile) : Type 0 where

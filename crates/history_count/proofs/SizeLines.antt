@@ -1,12 +1,9 @@
 -- The lines of the sizes, of which only counted ones have one.
-use Rattle.std.proofs.Common.{◌≡◌, ℕ, zero, suc, ◌+◌, ◌-◌, ◌<◌, ◌≤◌, Bool, true, false, ◌||◌, List, [], ◌∷◌, length, refl, sym, ap, ◌∙◌, arith, ltb, replicate}
-use Rattle.std.specs.Fmt.{decimal}
-use Rattle.std.proofs.lemmas.Bool.{ltb-false}
-use Rattle.class_table.specs.NamedLines.{named_line}
-use Rattle.class_table.specs.Sizes.{largest_counted}
+use Rattle.std.proofs.Common.{◌≡◌, ℕ, zero, suc, ◌+◌, ◌-◌, ◌<◌, ◌≤◌, Bool, true, false, ◌||◌, List, [], ◌∷◌, length, refl, sym, ap, ◌∙◌}
+use Rattle.std.{proofs.Common.{arith, ltb, replicate}, proofs.lemmas.Bool.{ltb-false}, specs.Fmt.{decimal}}
+use Rattle.class_table.specs.{NamedLines.{named_line}, Sizes.{largest_counted}}
 use Rattle.profile_count.specs.Counts.{zeros}
-use Rattle.history_count.specs.HistoryText.{counts_lines, is_some_counted, size_lines}
-use Rattle.history_count.specs.Histories.{counts_of}
+use Rattle.history_count.specs.{Histories.{counts_of}, HistoryText.{counts_lines, is_some_counted, size_lines}}
 
 -- ---- counts that are all 0
 

@@ -1,23 +1,18 @@
 -- From the spelling of a history to the history that is read: size by size, the counts so far are the history's.
-use Rattle.std.proofs.Common.{◌≡◌, ℕ, zero, suc, ◌+◌, ◌<◌, ◌≤◌, ◌^◌, Bool, true, false, List, [], ◌∷◌, ◌++◌, length, Some, Ok, codes, refl, sym, ap, ◌∙◌, arith, All}
-use Rattle.std.proofs.lemmas.Bool.{le-leb}
-use Rattle.std.proofs.lemmas.List.Elements.{All-append, All-cons, All-nil}
-use Rattle.class_table.specs.Sizes.{largest_counted}
-use Rattle.class_table.proofs.LawLemmas.{named_line_is_full, plain_name, words_of_named_line}
-use Rattle.line_text.specs.Lines.{IsFullLine, lines, words}
-use Rattle.line_text.proofs.LawLemmas.{text_laws as laws}
-use Rattle.tuner_theory.specs.Profiles.{AreCounts}
-use Rattle.tuner_theory.specs.declared.most_snapshots.TheConstants.{MOST_SNAPSHOTS}
-use Rattle.history_count.specs.Histories.{History, IsHistory, counts_of}
-use Rattle.history_count.specs.HistoryText.{Entry, Reading, SpellsHistory, counts_lines, first_reading, history_from, history_lines, history_of, is_some_counted, size_lines, snapshots_line, snapshots_of, with_entry}
-use Rattle.history_count.specs.declared.line.Subject.TheVariants.{Large}
-use Rattle.profile_count.proofs.LawLemmas.{length-zeros}
+use Rattle.std.proofs.Common.{◌≡◌, ℕ, zero, suc, ◌+◌, ◌<◌, ◌≤◌, ◌^◌, Bool, true, false, List, [], ◌∷◌, ◌++◌, length, Some, Ok, codes, refl}
+use Rattle.std.proofs.{Common.{sym, ap, ◌∙◌, arith, All}, lemmas.Bool.{le-leb}, lemmas.List.Elements.{All-append, All-cons, All-nil}}
+use Rattle.class_table.{proofs.LawLemmas.{named_line_is_full, plain_name, words_of_named_line}, specs.Sizes.{largest_counted}}
+use Rattle.line_text.{proofs.LawLemmas.{text_laws as laws}, specs.Lines.{IsFullLine, lines, words}}
+use Rattle.tuner_theory.specs.{Profiles.{AreCounts}, declared.most_snapshots.TheConstants.{MOST_SNAPSHOTS}}
 use Rattle.history_count.proofs.Columns.{counts_of-length, counts_of-other, counts_of-same, same_snapshots, with_counts-length}
-use Rattle.history_count.proofs.EntryLines.{IsNext, entry_line, entry_line-full, entry_of-line}
-use Rattle.history_count.proofs.LineByLine.{first_line_read, line_read, no_line}
+use Rattle.history_count.proofs.{EntryLines.{IsNext, entry_line, entry_line-full, entry_of-line}, Peaks.{counts-small, empty-length}}
+use Rattle.history_count.{proofs.LineByLine.{first_line_read, line_read, no_line}, specs.Histories.{History, IsHistory, counts_of}}
 use Rattle.history_count.proofs.OpenReadings.{IsOpen, is_open-first, is_open-size, size_entry}
-use Rattle.history_count.proofs.Peaks.{counts-small, empty-length}
-use Rattle.history_count.proofs.SizeLines.{counts_lines-none, counts_lines-some, same_nothing, size_lines-counted, size_lines-zero, zeros-none}
+use Rattle.history_count.proofs.SizeLines.{counts_lines-none, counts_lines-some, same_nothing, size_lines-counted, size_lines-zero}
+use Rattle.history_count.{proofs.SizeLines.{zeros-none}, specs.declared.line.Subject.TheVariants.{Large}}
+use Rattle.history_count.specs.HistoryText.{Entry, Reading, SpellsHistory, counts_lines, first_reading, history_from, history_lines}
+use Rattle.history_count.specs.HistoryText.{history_of, is_some_counted, size_lines, snapshots_line, snapshots_of, with_entry}
+use Rattle.profile_count.proofs.LawLemmas.{length-zeros}
 
 -- ---- lines are read one by one
 

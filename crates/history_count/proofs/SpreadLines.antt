@@ -1,19 +1,16 @@
 -- The snapshots that lines spell: which sizes they count, and what is left where a line more is read.
-use Rattle.std.proofs.Common.{◌≡◌, ◌≢◌, ℕ, zero, suc, ◌+◌, ◌<◌, ◌≤◌, ◌++◌, List, [], ◌∷◌, length, length-append, get_or, set, take, refl, sym, ap, ◌∙◌, arith, All, slice_index, slice_index_or, replicate, ◌⊎◌, inl, inr}
-use Rattle.std.proofs.lemmas.Bool.{cases_lt}
-use Rattle.std.proofs.lemmas.List.{get_or-map, get_or-set_other, get_or-set_same, get_or_append_left, get_or_past, length-map, length-replicate, length-set}
-use Rattle.std.proofs.lemmas.List.Elements.{All-cons, All-from_get_or, All-head, All-nil, All-tail}
-use Rattle.std.proofs.Math.Seq.{get_or-append_seam}
+use Rattle.std.proofs.Common.{◌≡◌, ◌≢◌, ℕ, zero, suc, ◌+◌, ◌<◌, ◌≤◌, ◌++◌, List, [], ◌∷◌, length, length-append, get_or, set, take, refl}
+use Rattle.std.proofs.{Common.{sym, ap, ◌∙◌, arith, All, slice_index, slice_index_or, replicate, ◌⊎◌, inl, inr}, lemmas.Bool.{cases_lt}}
+use Rattle.std.proofs.{Math.Seq.{get_or-append_seam}, lemmas.List.Elements.{All-cons, All-from_get_or, All-head, All-nil, All-tail}}
+use Rattle.std.proofs.lemmas.List.{get_or-map, get_or-set_other, get_or-set_same, get_or_append_left, get_or_past, length-map}
+use Rattle.std.proofs.lemmas.List.{length-replicate, length-set}
 use Rattle.class_table.specs.Sizes.{largest_counted}
-use Rattle.profile_count.specs.Counts.{nothing_counted as no_requests, with_count, zeros}
-use Rattle.profile_count.proofs.LawLemmas.{each_is_zero, length-zeros}
-use Rattle.tuner_theory.specs.Profiles.{AreCounts, Profile, greatest_count}
+use Rattle.profile_count.{proofs.LawLemmas.{each_is_zero, length-zeros}, specs.Counts.{nothing_counted as no_requests, with_count, zeros}}
+use Rattle.tuner_theory.{proofs.Spans.{count-small}, specs.Profiles.{AreCounts, Profile, greatest_count}}
 use Rattle.tuner_theory.specs.declared.most_snapshots.TheConstants.{MOST_SNAPSHOTS}
-use Rattle.tuner_theory.proofs.Spans.{count-small}
+use Rattle.history_count.proofs.{Columns.{with_counts-counts, with_counts-length}, Peaks.{empty-are, peaks-empty, peaks-set}}
 use Rattle.history_count.specs.CountedLines.{AreFew, AreLinesOf, AreSizes, CountsSizes, HoldsLines, each_more, spread, with_sizes}
 use Rattle.history_count.specs.Histories.{empty_snapshots, greatest_of, with_counts}
-use Rattle.history_count.proofs.Columns.{with_counts-counts, with_counts-length}
-use Rattle.history_count.proofs.Peaks.{empty-are, peaks-empty, peaks-set}
 
 -- ---- one snapshot
 

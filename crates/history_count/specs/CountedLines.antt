@@ -2,8 +2,7 @@
 use Rattle.std.specs.Prelude.{◌≡◌, ◌≢◌, ℕ, ◌+◌, ◌<◌, ◌≤◌, ◌++◌, List, [], ◌∷◌, All, length, map, slice_index, slice_index_or, slice_set}
 use Rattle.class_table.specs.Sizes.{largest_counted}
 use Rattle.profile_count.specs.Counts.{zeros}
-use Rattle.tuner_theory.specs.Histories.{AreSnapshots}
-use Rattle.tuner_theory.specs.Profiles.{Profile, greatest_count}
+use Rattle.tuner_theory.specs.{Histories.{AreSnapshots}, Profiles.{Profile, greatest_count}}
 use Rattle.history_count.specs.Histories.{peak_profile}
 
 -- A snapshot with other counts of some sizes.

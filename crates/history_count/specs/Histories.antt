@@ -2,9 +2,7 @@
 use Rattle.std.specs.Prelude.{◌≡◌, ℕ, ◌+◌, ◌-◌, ◌≤◌, max, List, [], ◌∷◌, length, map, replicate, slice_index, slice_set, All}
 use Rattle.class_table.specs.Sizes.{largest_counted}
 use Rattle.profile_count.specs.Counts.{zeros}
-use Rattle.tuner_theory.specs.Histories.{AreSnapshots, peaks}
-use Rattle.tuner_theory.specs.Profiles.{Profile, greatest_count}
-use Rattle.tuner_theory.specs.Waste.{sum_below}
+use Rattle.tuner_theory.specs.{Histories.{AreSnapshots, peaks}, Profiles.{Profile, greatest_count}, Waste.{sum_below}}
 
 pub record History : Type 0 where
   pub snapshots : List (List ℕ)

@@ -1,22 +1,15 @@
 -- A history's text: the line `snapshots T`; a line `SIZE N1 .. NT` for each counted size, ascending; and then a line `large N1 .. NT` where
 -- large blocks were counted.
-use Rattle.std.specs.Prelude.{◌≡◌, ℕ, zero, suc, ◌+◌, ◌&&◌, Bool, true, false, not, List, [], ◌∷◌, ◌++◌, length, codes, Option, Some, None, Result, Ok, Err, nat_lt, nat_le, ◌==◌, if◌then◌else◌}
-use Rattle.std.specs.Fmt.{decimal}
-use Rattle.std.specs.List.{list_all, list_any}
-use Rattle.std.specs.Str.{bytes_eq}
-use Rattle.class_table.specs.NamedLines.{named_line, numbers_of}
-use Rattle.class_table.specs.Sizes.{largest_counted}
-use Rattle.line_text.specs.Lines.{IsTextOf, lines, words}
-use Rattle.line_text.specs.Numbers.{number_of}
-use Rattle.tuner_theory.specs.Profiles.{greatest_count}
-use Rattle.tuner_theory.specs.declared.most_snapshots.TheConstants.{MOST_SNAPSHOTS}
+use Rattle.std.specs.{Fmt.{decimal}, List.{list_all, list_any}, Str.{bytes_eq}}
+use Rattle.std.specs.Prelude.{◌≡◌, ℕ, zero, suc, ◌+◌, ◌&&◌, Bool, true, false, not, List, [], ◌∷◌, ◌++◌, length, codes, Option, Some, None}
+use Rattle.std.specs.Prelude.{Result, Ok, Err, nat_lt, nat_le, ◌==◌, if◌then◌else◌}
+use Rattle.class_table.specs.{NamedLines.{named_line, numbers_of}, Sizes.{largest_counted}}
+use Rattle.line_text.specs.{Lines.{IsTextOf, lines, words}, Numbers.{number_of}}
+use Rattle.tuner_theory.specs.{Profiles.{greatest_count}, declared.most_snapshots.TheConstants.{MOST_SNAPSHOTS}}
 use Rattle.profile_count.specs.declared.fault.ProfileFault.TheVariants.{BadLine, NotAscending, CountOutOfRange}
-use Rattle.history_count.specs.Histories.{History, IsHistory, counts_of, nothing_counted, with_counts}
-use Rattle.history_count.specs.declared.fault.HistoryError.{HistoryError}
-use Rattle.history_count.specs.declared.fault.HistoryError.TheVariants.{OutOfMemory, Line}
-use Rattle.history_count.specs.declared.fault.HistoryFault.{HistoryFault}
-use Rattle.history_count.specs.declared.fault.HistoryFault.TheVariants.{BadSnapshots, Counted, WrongLength}
-use Rattle.history_count.specs.declared.line.Subject.{Subject}
+use Rattle.history_count.specs.{Histories.{History, IsHistory, counts_of, nothing_counted, with_counts}, declared.line.Subject.{Subject}}
+use Rattle.history_count.specs.declared.fault.{HistoryError.{HistoryError}, HistoryError.TheVariants.{OutOfMemory, Line}}
+use Rattle.history_count.specs.declared.fault.{HistoryFault.{HistoryFault}, HistoryFault.TheVariants.{BadSnapshots, Counted, WrongLength}}
 use Rattle.history_count.specs.declared.line.Subject.TheVariants.{Size, Large}
 
 -- ---- the spelling

@@ -2,10 +2,8 @@
 use Rattle.std.specs.Prelude.{◌≡◌, ◌≢◌, ◌-◌, ◌^◌, ℕ, Bool, List, [], ◌∷◌, length, map, min, Option, Some, None, Result, Ok, Err}
 use Rattle.profile_count.specs.declared.fault.ProfileFault.TheVariants.{BadLine}
 use Rattle.line_text.specs.Lines.{words}
-use Rattle.history_count.specs.HistoryText.{Entry, entry_of}
-use Rattle.history_count.specs.declared.fault.HistoryFault.{HistoryFault}
+use Rattle.history_count.specs.{HistoryText.{Entry, entry_of}, declared.fault.HistoryFault.{HistoryFault}, declared.line.Subject.{Subject}}
 use Rattle.history_count.specs.declared.fault.HistoryFault.TheVariants.{Counted, WrongLength}
-use Rattle.history_count.specs.declared.line.Subject.{Subject}
 
 -- The subject that was read, with these counts, is the entry; or the fault is.
 abbrev pub GivesEntry : Result Subject HistoryFault → List ℕ → Result Entry HistoryFault → Type 0

@@ -1,13 +1,9 @@
 -- A text and its lines, a line and its words.
-use Rattle.std.proofs.lemmas.Grind.{common_steps}
-use Rattle.std.proofs.Common.{◌≡◌, ℕ, ◌+◌, ◌<◌, ◌∙◌, List, [], ◌∷◌, ◌++◌, length, get_or, take, drop, refl, ap, arith, add-one, append_assoc, All, inl, Some, None, false, eqb, eqb-true}
-use Rattle.std.proofs.Math.Seq.{split_at}
-use Rattle.std.proofs.lemmas.Bool.{false_from_ne_true}
-use Rattle.std.proofs.lemmas.List.{get_or-take, length-take-le}
-use Rattle.std.proofs.lemmas.List.Elements.{All-head, All-tail, All-cons, All-append, All-nil, All-from_get_or}
-use Rattle.std.proofs.lemmas.List.Concat.{flat_map-cons}
+use Rattle.std.proofs.Common.{◌≡◌, ℕ, ◌+◌, ◌<◌, ◌∙◌, List, [], ◌∷◌, ◌++◌, length, get_or, take, drop, refl, ap, arith, add-one}
+use Rattle.std.proofs.{Common.{append_assoc, All, inl, Some, None, false, eqb, eqb-true}, Math.Seq.{split_at}, lemmas.Grind.{common_steps}}
+use Rattle.std.proofs.lemmas.{Bool.{false_from_ne_true}, List.{get_or-take, length-take-le}, List.Concat.{flat_map-cons}}
+use Rattle.std.{proofs.lemmas.List.Elements.{All-head, All-tail, All-cons, All-append, All-nil, All-from_get_or}, specs.List.{onto_first}}
 use Rattle.std.proofs.lemmas.List.Splits.{slice_split_none, slice_split_at, join_with_byte-slice_split}
-use Rattle.std.specs.List.{onto_first}
 use Rattle.memchr.specs.Find.{IsFirstByte, is_byte}
 use Rattle.line_text.specs.Lines.{lines, words, is_newline, is_space, text_of, line_of, IsLine, IsTextOf, IsWord}
 

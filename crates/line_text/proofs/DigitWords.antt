@@ -1,18 +1,10 @@
 -- Bytes in one word: the test that all are digits.
-use Rattle.std.proofs.lemmas.Grind.{common_steps}
-use Rattle.std.proofs.Common.{◌≡◌, ℕ, suc, ◌+◌, ◌*◌, ◌-◌, ◌/◌, ◌%◌, ◌^◌, ◌<◌, ◌∙◌, List, [], ◌∷◌, All, length, get_or, map, refl, sym, ap, arith, true}
-use Rattle.std.specs.Char.{is_ascii_digit, digit_value}
-use Rattle.std.specs.Int.{from_le_bytes, w32}
-use Rattle.std.specs.Int.Bits.{bit_and, bit_or}
-use Rattle.std.specs.List.{list_all}
-use Rattle.std.proofs.Math.Pow.{split}
-use Rattle.std.proofs.lemmas.Bool.{and_from}
-use Rattle.std.proofs.lemmas.Bool.Decides.{nat_tests}
-use Rattle.std.proofs.lemmas.Nat.{and_block, le_or_l, le_or_r, or_mod, or_shr}
-use Rattle.std.proofs.lemmas.Nat.Bits.{and_high}
-use Rattle.std.proofs.lemmas.List.Elements.{All-cons, All-from_get_or, All-nil}
-use Rattle.line_text.specs.Numbers.{word_of}
-use Rattle.line_text.proofs.Digits.{digit_is}
+use Rattle.std.proofs.Common.{◌≡◌, ℕ, suc, ◌+◌, ◌*◌, ◌-◌, ◌/◌, ◌%◌, ◌^◌, ◌<◌, ◌∙◌, List, [], ◌∷◌, All, length, get_or, map, refl, sym, ap}
+use Rattle.std.proofs.{Common.{arith, true}, Math.Pow.{split}, lemmas.Bool.{and_from}, lemmas.Bool.Decides.{nat_tests}}
+use Rattle.std.proofs.lemmas.{Grind.{common_steps}, List.Elements.{All-cons, All-from_get_or, All-nil}, Nat.Bits.{and_high}}
+use Rattle.std.{proofs.lemmas.Nat.{and_block, le_or_l, le_or_r, or_mod, or_shr}, specs.Char.{is_ascii_digit, digit_value}}
+use Rattle.std.specs.{Int.{from_le_bytes, w32}, Int.Bits.{bit_and, bit_or}, List.{list_all}}
+use Rattle.line_text.{proofs.Digits.{digit_is}, specs.Numbers.{word_of}}
 
 -- this byte in place of each byte of a list, as one number
 abbrev pub each : ℕ → List ℕ → ℕ

@@ -1,21 +1,12 @@
 -- Reading a number digit by digit, and the laws of its spelling.
-use Rattle.std.proofs.lemmas.Grind.{common_steps}
-use Rattle.std.proofs.Common.{rules, ◌≡◌, ℕ, ◌+◌, ◌*◌, ◌-◌, ◌^◌, ◌<◌, ◌≤◌, true, false, not, eqb, ◌||◌, List, All, length, get_or, take, sym, ap, ◌∙◌, arith, Some, inl, inr, ne_eqb}
-use Rattle.std.specs.Fmt.{decimal}
-use Rattle.std.specs.Char.{is_ascii_digit, digit_value}
-use Rattle.std.specs.List.{list_all}
-use Rattle.std.specs.Str.Parse.{digits_value}
-use Rattle.std.proofs.lemmas.Bool.{cases_Bool, cases_lt, and_parts, and_from}
-use Rattle.std.proofs.lemmas.Int.Digits.{digits_value_more}
-use Rattle.std.proofs.lemmas.List.Elements.{All-from_get_or}
-use Rattle.std.proofs.lemmas.Bool.Decides.{nat_tests}
-use Rattle.std.proofs.lemmas.List.{length-take-le}
-use Rattle.std.proofs.lemmas.List.Folds.{list_all_more}
-use Rattle.std.proofs.lemmas.Str.Parse.{IsNumeralModel, numerals_by_value, digits_value_short, digits_value-take-le}
-use Rattle.std.proofs.lemmas.Fmt.{decimal-digits_value, digits_decimal, digits_value-decimal, decimal_nonempty, first_decimal, decimal_digit}
-use Rattle.std.proofs.lemmas.Option.{same_Some}
-use Rattle.line_text.specs.Lines.{IsLine, IsWord}
-use Rattle.line_text.specs.Numbers.{number_of, is_numeral}
+use Rattle.std.proofs.Common.{rules, ◌≡◌, ℕ, ◌+◌, ◌*◌, ◌-◌, ◌^◌, ◌<◌, ◌≤◌, true, false, not, eqb, ◌||◌, List, All, length, get_or, take}
+use Rattle.std.proofs.{Common.{sym, ap, ◌∙◌, arith, Some, inl, inr, ne_eqb}, lemmas.Bool.{cases_Bool, cases_lt, and_parts, and_from}}
+use Rattle.std.proofs.lemmas.{Bool.Decides.{nat_tests}, Grind.{common_steps}, Int.Digits.{digits_value_more}, List.{length-take-le}}
+use Rattle.std.proofs.lemmas.Fmt.{decimal_nonempty, first_decimal, decimal_digit, decimal-digits_value, digits_decimal}
+use Rattle.std.proofs.lemmas.{Fmt.{digits_value-decimal}, List.Elements.{All-from_get_or}, List.Folds.{list_all_more}, Option.{same_Some}}
+use Rattle.std.{proofs.lemmas.Str.Parse.{IsNumeralModel, numerals_by_value, digits_value_short, digits_value-take-le}, specs.Fmt.{decimal}}
+use Rattle.std.specs.{Char.{is_ascii_digit, digit_value}, List.{list_all}, Str.Parse.{digits_value}}
+use Rattle.line_text.specs.{Lines.{IsLine, IsWord}, Numbers.{number_of, is_numeral}}
 
 -- ---- reading
 

@@ -1,7 +1,5 @@
 -- A text has one first fault at most.
-use Rattle.std.proofs.Common.{◌≡◌, ℕ, ◌≤◌, List, take, sym, ap, ◌∙◌, arith}
-use Rattle.std.proofs.lemmas.Bool.{cases_lt}
-use Rattle.std.proofs.lemmas.List.{take-take}
+use Rattle.std.proofs.{Common.{◌≡◌, ℕ, ◌≤◌, List, take, sym, ap, ◌∙◌, arith}, lemmas.Bool.{cases_lt}, lemmas.List.{take-take}}
 use Rattle.line_text.specs.FirstFault.{IsFirstFault}
 
 -- lists that begin alike do so up to an earlier place

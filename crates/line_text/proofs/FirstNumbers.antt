@@ -1,19 +1,11 @@
 -- The number that the first word of a line spells, and the number in front of the line.
-use Rattle.std.proofs.lemmas.Grind.{common_steps}
-use Rattle.std.proofs.Common.{◌≡◌, ◌≢◌, ℕ, ◌∙◌, List, [], ◌∷◌, ◌++◌, append-nil, length, drop, refl, sym, ap, arith, true, false, Option, Some, None, get_or, ◌<◌, option_and_then, slice_get, inl, inr, ◌⊎◌}
-use Rattle.std.specs.Char.{is_ascii_digit}
-use Rattle.std.specs.List.{list_all, prefix_len}
-use Rattle.std.proofs.Math.Seq.{take-append_seam}
-use Rattle.std.proofs.lemmas.Bool.{cases_Bool}
-use Rattle.std.proofs.lemmas.Bool.Decides.{nat_tests}
-use Rattle.std.proofs.lemmas.List.{append_cancel_left}
-use Rattle.std.proofs.lemmas.List.Folds.{prefix_len-append}
-use Rattle.std.proofs.lemmas.List.Splits.{slice_split_none, slice_split_at}
-use Rattle.line_text.specs.Lines.{words, line_of, IsWord}
-use Rattle.line_text.specs.Numbers.{number_of, short_number_of, leading_digits, leading_number_of}
-use Rattle.line_text.proofs.Cuts.{line_is_its_words}
-use Rattle.line_text.proofs.Digits.{none_equal}
-use Rattle.line_text.proofs.LeadingDigits.{are_digits, all_digits_lead}
+use Rattle.std.proofs.Common.{◌≡◌, ◌≢◌, ℕ, ◌∙◌, List, [], ◌∷◌, ◌++◌, append-nil, length, drop, refl, sym, ap, arith, true, false, Option}
+use Rattle.std.proofs.{Common.{Some, None, get_or, ◌<◌, option_and_then, slice_get, inl, inr, ◌⊎◌}, Math.Seq.{take-append_seam}}
+use Rattle.std.proofs.lemmas.{Bool.{cases_Bool}, Bool.Decides.{nat_tests}, Grind.{common_steps}, List.{append_cancel_left}}
+use Rattle.std.proofs.lemmas.List.{Folds.{prefix_len-append}, Splits.{slice_split_none, slice_split_at}}
+use Rattle.std.specs.{Char.{is_ascii_digit}, List.{list_all, prefix_len}}
+use Rattle.line_text.proofs.{Cuts.{line_is_its_words}, Digits.{none_equal}, LeadingDigits.{are_digits, all_digits_lead}}
+use Rattle.line_text.specs.{Lines.{words, line_of, IsWord}, Numbers.{number_of, short_number_of, leading_digits, leading_number_of}}
 
 pub not_digits : (word : List ℕ) → list_all is_ascii_digit word ≡ false → short_number_of word ≡ None
 unfolding number_of

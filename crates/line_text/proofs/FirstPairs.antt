@@ -1,17 +1,12 @@
 -- The two numbers of the first line of a text, read from the front of the text.
-use Rattle.std.proofs.Common.{◌≡◌, ◌≢◌, ℕ, ◌<◌, ◌∙◌, Bool, true, false, cond, eqb-true, List, [], ◌∷◌, ◌++◌, length, get_or, drop, refl, sym, ap, arith, Option, Some, None, option_and_then, slice_get, inl, inr}
-use Rattle.std.specs.Char.{is_ascii_digit}
+use Rattle.std.proofs.Common.{◌≡◌, ◌≢◌, ℕ, ◌<◌, ◌∙◌, Bool, true, false, cond, eqb-true, List, [], ◌∷◌, ◌++◌, length, get_or, drop, refl}
+use Rattle.std.proofs.{Common.{sym, ap, arith, Option, Some, None, option_and_then, slice_get, inl, inr}, lemmas.Bool.{cases_Bool}}
+use Rattle.std.{proofs.lemmas.List.Elements.{All-head, All-tail}, proofs.lemmas.List.Sums.{take_while-cons}, specs.Char.{is_ascii_digit}}
 use Rattle.std.specs.List.{onto_first}
-use Rattle.std.proofs.lemmas.Bool.{cases_Bool}
-use Rattle.std.proofs.lemmas.List.Elements.{All-head, All-tail}
-use Rattle.std.proofs.lemmas.List.Sums.{take_while-cons}
-use Rattle.line_text.specs.Lines.{lines, words, line_of, is_newline, is_space, IsLine}
-use Rattle.line_text.specs.Numbers.{short_number_of, leading_digits, leading_number_of}
-use Rattle.line_text.specs.Pairs.{short_pair_of}
-use Rattle.line_text.proofs.Cuts.{line_is_its_words}
-use Rattle.line_text.proofs.Digits.{none_equal}
+use Rattle.line_text.proofs.{Cuts.{line_is_its_words}, Digits.{none_equal}, LeadingDigits.{are_digits}}
 use Rattle.line_text.proofs.FirstNumbers.{no_first_number, no_word_end, only_word, word_before, first_number_of}
-use Rattle.line_text.proofs.LeadingDigits.{are_digits}
+use Rattle.line_text.specs.{Lines.{lines, words, line_of, is_newline, is_space, IsLine}, Pairs.{short_pair_of}}
+use Rattle.line_text.specs.Numbers.{short_number_of, leading_digits, leading_number_of}
 
 -- ---- the first line of a text and the text after it
 

@@ -1,12 +1,9 @@
 -- The numbers of the first line of a text, read from the front of the text.
-use Rattle.std.proofs.Common.{◌≡◌, ℕ, ◌-◌, ◌^◌, ◌<◌, ◌∙◌, min, List, [], ◌∷◌, ◌++◌, append-nil, append_assoc, length, length-append, drop, refl, sym, ap, arith, All, Some, slice_get}
-use Rattle.std.proofs.lemmas.List.Elements.{All-append, All-cons, All-nil}
-use Rattle.line_text.specs.Lines.{lines, line_of, IsLine, IsWord}
-use Rattle.line_text.specs.Numbers.{leading_digits, leading_number_of, number_of}
-use Rattle.line_text.specs.Rows.{IsRow, SpellNumbers}
+use Rattle.std.proofs.Common.{◌≡◌, ℕ, ◌-◌, ◌^◌, ◌<◌, ◌∙◌, min, List, [], ◌∷◌, ◌++◌, append-nil, append_assoc, length, length-append, drop}
+use Rattle.std.proofs.{Common.{refl, sym, ap, arith, All, Some, slice_get}, lemmas.List.Elements.{All-append, All-cons, All-nil}}
 use Rattle.line_text.proofs.Cuts.{line_alone, line_in_front_is_read, lines-nil, words_make_a_line, written_words_are_read}
-use Rattle.line_text.proofs.Digits.{none_equal}
-use Rattle.line_text.proofs.LeadingDigits.{are_digits, short_is_number}
+use Rattle.line_text.{proofs.Digits.{none_equal}, proofs.LeadingDigits.{are_digits, short_is_number}, specs.Rows.{IsRow, SpellNumbers}}
+use Rattle.line_text.specs.{Lines.{lines, line_of, IsLine, IsWord}, Numbers.{leading_digits, leading_number_of, number_of}}
 
 -- The numbers that were read of the first line, and the rest of the text.
 pub record IsRowSoFar (text rest : List ℕ) (first : ℕ) (numbers : List ℕ) : Type 0 where

@@ -1,11 +1,8 @@
 -- Lines are read from the text that they make; where they are not empty, also without its last newline.
-use Rattle.std.proofs.Common.{◌≡◌, ℕ, List, [], ◌∷◌, ◌++◌, length, ◌<◌, Some, refl, ap, ◌∙◌, arith, append_assoc, append-nil, length-append, All}
-use Rattle.std.proofs.lemmas.Grind.{flat_map-append}
-use Rattle.std.proofs.lemmas.List.{append_cancel_right}
-use Rattle.std.proofs.lemmas.List.Concat.{flat_map-cons}
+use Rattle.std.proofs.Common.{◌≡◌, ℕ, List, [], ◌∷◌, ◌++◌, length, ◌<◌, Some, refl, ap, ◌∙◌, arith, append_assoc, append-nil, length-append}
+use Rattle.std.proofs.{Common.{All}, lemmas.Grind.{flat_map-append}, lemmas.List.{append_cancel_right}, lemmas.List.Concat.{flat_map-cons}}
 use Rattle.std.proofs.lemmas.List.Elements.{All-pop, All-weaker}
-use Rattle.line_text.specs.Lines.{lines, text_of, ended, IsFullLine, IsLine, IsTextOf}
-use Rattle.line_text.proofs.Cuts.{line_alone, lines-text_of}
+use Rattle.line_text.{proofs.Cuts.{line_alone, lines-text_of}, specs.Lines.{lines, text_of, ended, IsFullLine, IsLine, IsTextOf}}
 
 -- lines that are written as a text are its lines,
 pub written_lines_are_read : (ls : List (List ℕ)) → All IsLine ls → lines (text_of ls) ≡ ls

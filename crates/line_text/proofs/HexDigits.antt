@@ -1,11 +1,8 @@
 -- Reading a byte of two digits, and the laws of its spelling.
-use Rattle.std.proofs.Common.{rules, ◌≡◌, ℕ, ◌+◌, ◌*◌, ◌/◌, ◌%◌, ◌<◌, ◌^◌, Bool, true, false, ◌&&◌, cond, List, [], ◌∷◌, Some, None, refl, arith}
-use Rattle.std.specs.Char.{digit_value, digit_char}
-use Rattle.std.proofs.lemmas.Bool.{and_parts, and_from}
-use Rattle.std.proofs.lemmas.Bool.Decides.{nat_tests}
-use Rattle.std.proofs.lemmas.Str.{digit_value-digit_char}
-use Rattle.line_text.specs.Hexadecimal.{is_hex_digit, hex_of, hex}
-use Rattle.line_text.specs.Lines.{IsLine, IsWord}
+use Rattle.std.proofs.Common.{rules, ◌≡◌, ℕ, ◌+◌, ◌*◌, ◌/◌, ◌%◌, ◌<◌, ◌^◌, Bool, true, false, ◌&&◌, cond, List, [], ◌∷◌, Some, None, refl}
+use Rattle.std.proofs.{Common.{arith}, lemmas.Bool.{and_parts, and_from}, lemmas.Bool.Decides.{nat_tests}}
+use Rattle.std.{proofs.lemmas.Str.{digit_value-digit_char}, specs.Char.{digit_value, digit_char}}
+use Rattle.line_text.specs.{Hexadecimal.{is_hex_digit, hex_of, hex}, Lines.{IsLine, IsWord}}
 
 -- ---- one digit
 

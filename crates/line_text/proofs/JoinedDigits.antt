@@ -1,8 +1,6 @@
 -- The value of eight digits in one word, by three multiplications.
 use Rattle.std.proofs.Common.{◌≡◌, ℕ, ◌+◌, ◌*◌, ◌/◌, ◌%◌, ◌^◌, ◌<◌, ◌≤◌, ◌∙◌, List, [], ◌∷◌, All, length, get_or, refl, ap, arith}
-use Rattle.std.specs.Int.Bits.{bit_and}
-use Rattle.std.specs.Int.Digits.{number_from_digits}
-use Rattle.std.proofs.lemmas.Nat.{and_block, and_mask}
+use Rattle.std.{proofs.lemmas.Nat.{and_block, and_mask}, specs.Int.Bits.{bit_and}, specs.Int.Digits.{number_from_digits}}
 use Rattle.line_text.specs.Numbers.{word_of}
 
 -- each two neighbours of these digits, as a number below 100

@@ -1,15 +1,11 @@
 -- The digits in front of a text, and the number that they spell.
-use Rattle.std.proofs.lemmas.Grind.{common_steps}
-use Rattle.std.proofs.Common.{◌≡◌, ℕ, zero, suc, min, Bool, cond, ◌<◌, ◌≤◌, true, false, eqb, List, [], ◌∷◌, ◌++◌, append-nil, ◌∙◌, length, get_or, take, take_all, refl, sym, ap, arith, Some, None, inl, inr, ◌⊎◌}
-use Rattle.std.specs.Char.{is_ascii_digit}
-use Rattle.std.specs.List.{list_all, prefix_len, take_while}
-use Rattle.std.specs.Str.Parse.{digits_value}
-use Rattle.std.proofs.lemmas.Bool.{cases_lt, both_ways}
-use Rattle.std.proofs.lemmas.Bool.Decides.{nat_tests}
-use Rattle.std.proofs.lemmas.List.{get_or-take, length-take-le, take-take}
+use Rattle.std.proofs.Common.{◌≡◌, ℕ, zero, suc, min, Bool, cond, ◌<◌, ◌≤◌, true, false, eqb, List, [], ◌∷◌, ◌++◌, append-nil, ◌∙◌, length}
+use Rattle.std.proofs.{Common.{get_or, take, take_all, refl, sym, ap, arith, Some, None, inl, inr, ◌⊎◌}, lemmas.Bool.{cases_lt, both_ways}}
+use Rattle.std.proofs.lemmas.{Bool.Decides.{nat_tests}, Grind.{common_steps}, List.{get_or-take, length-take-le, take-take}}
 use Rattle.std.proofs.lemmas.List.Sums.{prefix_len_is, prefix_len_stops, prefix_len-le-length, take_while-cons}
-use Rattle.line_text.specs.Numbers.{AreLeading, AreNear, number_of, short_number_of, leading_digits, leading_number_of}
+use Rattle.std.specs.{Char.{is_ascii_digit}, List.{list_all, prefix_len, take_while}, Str.Parse.{digits_value}}
 use Rattle.line_text.proofs.Digits.{digit_at}
+use Rattle.line_text.specs.Numbers.{AreLeading, AreNear, number_of, short_number_of, leading_digits, leading_number_of}
 
 -- a digit before the end of digits
 digit_before : (text : List ℕ) (i k : ℕ) → i ≤ length text → list_all is_ascii_digit (take i text) ≡ true → k < i →

@@ -4,16 +4,15 @@ pub mod Digits
 mod DigitWords
 mod JoinedDigits
 pub mod FirstFaults
-mod FourMore
 pub mod FirstNumbers
 pub mod FirstPairs
 pub mod FirstRows
 pub mod FullLines
 pub mod HexDigits
 pub mod LeadingDigits
-pub mod DigitDistance
 pub mod LeadingWord
 pub mod LineFaults
 pub mod NearNumbers
 pub mod Prefixes
-pub mod Signs
+pub mod SignedWord
+mod Signs

@@ -1,12 +1,9 @@
 -- Readings of a text line by line, in states: the line at which one stops is the first fault of the text.
-use Rattle.std.proofs.Common.{◌≡◌, ℕ, suc, ◌+◌, ◌-◌, ◌≤◌, ◌⊎◌, List, [], ◌∷◌, ◌++◌, length, take, Result, Ok, Err, All, refl, sym, ap, ◌∙◌, arith, inl, inr, add-zero}
-use Rattle.std.proofs.lemmas.List.{length-take, take-append-le, take-take}
+use Rattle.std.proofs.Common.{◌≡◌, ℕ, suc, ◌+◌, ◌-◌, ◌≤◌, ◌⊎◌, List, [], ◌∷◌, ◌++◌, length, take, Result, Ok, Err, All, refl, sym, ap, ◌∙◌}
+use Rattle.std.proofs.{Common.{arith, inl, inr, add-zero}, lemmas.List.{length-take, take-append-le, take-take}}
 use Rattle.std.proofs.lemmas.List.Elements.{All-append, All-take}
-use Rattle.line_text.specs.FirstFault.{IsFirstFault}
-use Rattle.line_text.specs.Lines.{IsLine, lines, text_of}
-use Rattle.line_text.proofs.Cuts.{lines_are_lines}
-use Rattle.line_text.proofs.FirstFaults.{one_first_fault}
-use Rattle.line_text.proofs.FullLines.{written_lines_are_read}
+use Rattle.line_text.proofs.{Cuts.{lines_are_lines}, FirstFaults.{one_first_fault}, FullLines.{written_lines_are_read}}
+use Rattle.line_text.specs.{FirstFault.{IsFirstFault}, Lines.{IsLine, lines, text_of}}
 
 -- ---- lists that begin alike
 

@@ -1,19 +1,12 @@
 -- The first word of a line, where its digits end within the line's first bytes.
-use Rattle.std.proofs.lemmas.Grind.{common_steps}
-use Rattle.std.proofs.Common.{◌≡◌, ◌≢◌, ℕ, ◌+◌, ◌<◌, ◌≤◌, ◌∙◌, List, [], ◌∷◌, ◌++◌, length, length-drop, drop, take, sym, ap, arith, true, false, eqb, Option, Some, None, get_or, leb, refl, inl, inr, ◌⊎◌}
-use Rattle.std.specs.Char.{is_ascii_digit}
-use Rattle.std.specs.List.{list_all, prefix_len}
-use Rattle.std.specs.Str.Parse.{digits_value}
-use Rattle.std.proofs.lemmas.Bool.Decides.{nat_tests}
-use Rattle.std.proofs.lemmas.List.{drop-drop, get_or-drop, get_or-take, length-take-le, take-append-drop}
-use Rattle.std.proofs.lemmas.List.Folds.{prefix_len-append}
-use Rattle.std.proofs.lemmas.List.Sums.{prefix_len-le-length}
-use Rattle.std.proofs.lemmas.Bool.{cases_Bool, le-leb, lt-leb}
-use Rattle.line_text.specs.Lines.{line_of, words}
-use Rattle.line_text.specs.Numbers.{near_number_of, number_of, short_number_of, leading_digits}
-use Rattle.line_text.proofs.Cuts.{line_is_its_words}
+use Rattle.std.proofs.Common.{◌≡◌, ◌≢◌, ℕ, ◌+◌, ◌<◌, ◌≤◌, ◌∙◌, List, [], ◌∷◌, ◌++◌, length, length-drop, drop, take, sym, ap, arith, true}
+use Rattle.std.proofs.{Common.{false, eqb, Option, Some, None, get_or, leb, refl, inl, inr, ◌⊎◌}, lemmas.Bool.{cases_Bool, le-leb, lt-leb}}
+use Rattle.std.proofs.lemmas.{Bool.Decides.{nat_tests}, Grind.{common_steps}, List.Folds.{prefix_len-append}}
+use Rattle.std.{proofs.lemmas.List.{drop-drop, get_or-drop, get_or-take, length-take-le, take-append-drop}, specs.Char.{is_ascii_digit}}
+use Rattle.std.{proofs.lemmas.List.Sums.{prefix_len-le-length}, specs.List.{list_all, prefix_len}, specs.Str.Parse.{digits_value}}
+use Rattle.line_text.proofs.{Cuts.{line_is_its_words}, LeadingDigits.{a_number, are_digits, no_number, reaches}}
 use Rattle.line_text.proofs.FirstNumbers.{first_digits, first_number_of, no_first_number, no_word_end, not_digits, word_before}
-use Rattle.line_text.proofs.LeadingDigits.{a_number, are_digits, no_number, reaches}
+use Rattle.line_text.specs.{Lines.{line_of, words}, Numbers.{near_number_of, number_of, short_number_of, leading_digits}}
 
 -- so many digits are in front of the line's first bytes, and another byte ends them there
 pub record IsNear (line : List ℕ) (size : ℕ) : Type 0 where

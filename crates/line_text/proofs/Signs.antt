@@ -1,15 +1,9 @@
 -- Reading a number with its sign, and the laws of its spelling.
-use Rattle.std.proofs.Common.{◌≡◌, ℕ, suc, ℤ, pos, negsuc, true, false, List, [], ◌∷◌, drop, take, Option, Some, arith, eqb-true, nat_eq, FitsSigned}
-use Rattle.std.specs.Fmt.{signed_decimal}
-use Rattle.std.specs.Char.{is_ascii_digit}
-use Rattle.std.specs.Int.{w64}
-use Rattle.std.specs.List.{list_all}
-use Rattle.std.specs.Option.{option_map, option_and_then}
-use Rattle.std.proofs.lemmas.Fmt.{digits_decimal}
-use Rattle.line_text.specs.Lines.{IsLine, IsWord}
-use Rattle.line_text.specs.Numbers.{number_of}
-use Rattle.line_text.specs.Signed.{signed_of, negated}
-use Rattle.line_text.proofs.Digits.{own, number_is_spelled, spelled_number_is_read, spelled_number_is_a_word}
+use Rattle.std.proofs.Common.{◌≡◌, ℕ, suc, ℤ, pos, negsuc, true, false, List, [], ◌∷◌, drop, take, Option, Some, arith, eqb-true, nat_eq}
+use Rattle.std.{proofs.Common.{FitsSigned}, proofs.lemmas.Fmt.{digits_decimal}, specs.Char.{is_ascii_digit}, specs.Fmt.{signed_decimal}}
+use Rattle.std.specs.{Int.{w64}, List.{list_all}, Option.{option_map, option_and_then}}
+use Rattle.line_text.{proofs.Digits.{own, number_is_spelled, spelled_number_is_read, spelled_number_is_a_word}, specs.Numbers.{number_of}}
+use Rattle.line_text.specs.{Lines.{IsLine, IsWord}, Signed.{signed_of, negated}}
 use lib.Pointwise.{pointwise}
 
 -- ---- reading

@@ -1,7 +1,6 @@
 -- A byte as two digits to the base of 16, in small letters.
+use Rattle.std.specs.{Char.{is_ascii_digit, digit_value, digit_char}, Int.{is_in_range}}
 use Rattle.std.specs.Prelude.{ℕ, ◌+◌, ◌*◌, ◌/◌, ◌%◌, Bool, ◌&&◌, ◌||◌, List, [], ◌∷◌, Option, Some, None, if◌then◌else◌}
-use Rattle.std.specs.Char.{is_ascii_digit, digit_value, digit_char}
-use Rattle.std.specs.Int.{is_in_range}
 
 -- `0` to `9`, and 97 to 102, which are `a` to `f`.
 abbrev pub is_hex_digit : ℕ → Bool

@@ -1,8 +1,6 @@
 -- What a format of lines, words and numbers wants of them.
-use Rattle.std.specs.Prelude.{◌≡◌, ℕ, ◌<◌, ◌^◌, List, ◌∷◌, Some, All}
-use Rattle.std.specs.Fmt.{decimal}
-use Rattle.line_text.specs.Lines.{lines, words, text_of, line_of, IsFullLine, IsLine, IsTextOf, IsWord}
-use Rattle.line_text.specs.Numbers.{number_of}
+use Rattle.std.specs.{Fmt.{decimal}, Prelude.{◌≡◌, ℕ, ◌<◌, ◌^◌, List, ◌∷◌, Some, All}}
+use Rattle.line_text.specs.{Lines.{lines, words, text_of, line_of, IsFullLine, IsLine, IsTextOf, IsWord}, Numbers.{number_of}}
 
 pub record TextLaws : Type 0 where
   -- A text is its lines, the last of them with its newline or without. No line holds a newline.

@@ -1,10 +1,8 @@
 -- How a number is spelled, and how a word is read as one.
-use Rattle.std.specs.Prelude.{◌≡◌, ◌<◌, ◌≤◌, ℕ, ◌+◌, ◌*◌, ◌^◌, Bool, ◌&&◌, ◌||◌, not, List, [], ◌∷◌, length, take, slice_index, Option, Some, None, ◌==◌, nat_lt, nat_le, if◌then◌else◌}
-use Rattle.std.specs.Char.{is_ascii_digit}
-use Rattle.std.specs.List.{list_all, prefix_len, take_while}
-use Rattle.std.specs.Str.Parse.{digits_value}
-use Rattle.line_text.specs.Lines.{line_of}
-use Rattle.line_text.specs.declared.number.Number.{Number}
+use Rattle.std.specs.{Char.{is_ascii_digit}, List.{list_all, prefix_len, take_while}, Str.Parse.{digits_value}}
+use Rattle.std.specs.Prelude.{◌≡◌, ◌<◌, ◌≤◌, ℕ, ◌+◌, ◌*◌, ◌^◌, Bool, true, false, ◌&&◌, ◌||◌, not, List, [], ◌∷◌, length, take, slice_index}
+use Rattle.std.specs.Prelude.{Option, Some, None, ◌==◌, nat_lt, nat_le, if◌then◌else◌}
+use Rattle.line_text.specs.{Lines.{line_of}, declared.number.Number.{Number}}
 use Rattle.line_text.specs.declared.number.Number.TheVariants.{NoNumber, TooLarge, Value}
 
 abbrev pub is_no_digit : ℕ → Bool
@@ -56,3 +54,9 @@ AreNear (Some found) bytes =
 abbrev pub word_of : List ℕ → ℕ
 word_of [] = 0
 word_of (b ∷ bs) = b + 256 * word_of bs
+
+-- Bytes with the digit 0, 48, in the place of a sign in front of them.
+abbrev pub unsigned : Bool → List ℕ → List ℕ
+unsigned false bytes = bytes
+unsigned true [] = []
+unsigned true (b ∷ bs) = 48 ∷ bs

@@ -1,6 +1,5 @@
 -- A line of two numbers.
-use Rattle.std.specs.Prelude.{ℕ, List, [], ◌∷◌, Option, None, option_and_then}
-use Rattle.std.specs.Option.{option_map}
+use Rattle.std.specs.{Option.{option_map}, Prelude.{ℕ, List, [], ◌∷◌, Option, None, option_and_then}}
 use Rattle.line_text.specs.Numbers.{short_number_of}
 
 -- The numbers of a line's words, where they are two and each spells a number of at most 19 digits.

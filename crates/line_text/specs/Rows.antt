@@ -1,7 +1,6 @@
 -- A line of numbers.
 use Rattle.std.specs.Prelude.{◌≡◌, ℕ, ◌-◌, ◌^◌, min, List, [], ◌∷◌, Option, None, Some}
-use Rattle.line_text.specs.Lines.{words}
-use Rattle.line_text.specs.Numbers.{number_of}
+use Rattle.line_text.specs.{Lines.{words}, Numbers.{number_of}}
 
 -- Words that spell these numbers, of which a larger one stands as the largest that 32 bits hold.
 abbrev pub SpellNumbers : List (List ℕ) → List ℕ → Type 0

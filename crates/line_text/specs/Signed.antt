@@ -1,8 +1,8 @@
 -- How a number with a sign is spelled, and how a word is read as one.
-use Rattle.std.specs.Prelude.{ℕ, zero, suc, ◌^◌, Bool, List, [], ◌∷◌, Option, Some, None, option_and_then, ◌==◌, nat_lt, if◌then◌else◌, ℤ, pos, negsuc}
 use Rattle.std.specs.Option.{option_map}
-use Rattle.line_text.specs.Numbers.{number_of}
-use Rattle.line_text.specs.declared.signed.SignedNumber.{SignedNumber}
+use Rattle.std.specs.Prelude.{◌==◌, nat_lt, if◌then◌else◌, ℤ, pos, negsuc, ℕ, zero, suc, ◌^◌, Bool, List, [], ◌∷◌, Option, Some, None}
+use Rattle.std.specs.Prelude.{option_and_then}
+use Rattle.line_text.specs.{Numbers.{number_of}, declared.signed.SignedNumber.{SignedNumber}}
 use Rattle.line_text.specs.declared.signed.SignedNumber.TheVariants.{NoNumber, TooLarge, Value}
 
 -- The number after a `-`, if it is not 0: `negsuc n` is -(n + 1).

@@ -1,11 +1,11 @@
 //! Eight or four digits at once: the bytes are one word, and each multiplication doubles the number of digits that are joined.
-ghost use Rattle.std.specs.Prelude.{◌≡◌, ◌<◌, ℕ, All, Bool, IfSome, List, length, map, take};
+ghost use Rattle.std.specs.Prelude.{◌≡◌, ◌<◌, ◌≤◌, ℕ, All, Bool, IfSome, List, MatchOption, length, map, slice_index, take};
 ghost use Rattle.std.specs.Char.{is_ascii_digit};
 ghost use Rattle.std.specs.Int.Digits.{number_from_digits};
 ghost use Rattle.std.specs.List.{list_all, prefix_len};
 ghost use Rattle.std.specs.Simd.Lanes.{mask_l};
 ghost use Rattle.std.specs.Str.Parse.{digits_value};
-ghost use Rattle.line_text.specs.Numbers.{is_no_digit, word_of};
+ghost use Rattle.line_text.specs.Numbers.{is_no_digit, unsigned, word_of};
 
 use std::simd::prelude::*;
 
@@ -24,15 +24,37 @@ pub(crate) fn leading_eight(bytes: &[u8; 8]) -> (usize, u64)
     ensures value { result.1 ≡ digits_value 10 (take result.0 bytes.now) }
 {
     let count = digits_of(no_digits(u8x8::from_array(*bytes)));
-    let digits = u64::from_le_bytes(*bytes).wrapping_sub(ZEROS);
     if count == 8 {
-        return (8, joined(digits));
+        return (8, value_of(bytes, 8));
     }
     if count == 0 {
         return (0, 0);
     }
+    (count, value_of(bytes, count))
+}
+
+/// How many of eight bytes are digits, up to the first that is none; `None` if all are. A sign in front of them, `-`, counts as one.
+#[inline(always)]
+pub(crate) fn signed_count(bytes: &[u8; 8], is_signed: bool) -> Option<usize>
+    requires { is_signed ≡ Bool.true → slice_index bytes.now 0 ≡ 45 }
+    ensures count { IfSome result (λ count. count ≡ prefix_len is_ascii_digit (unsigned is_signed bytes.now)) }
+    ensures few { IfSome result (λ count. count < 8) }
+{
+    // the sign's bit is the lowest
+    first_other(no_digits(u8x8::from_array(*bytes)) - u64::from(is_signed))
+}
+
+/// The value of the first so many of eight bytes, which must be digits.
+#[inline(always)]
+pub(crate) fn value_of(bytes: &[u8; 8], count: usize) -> u64
+    requires digits { list_all is_ascii_digit (take count bytes.now) ≡ Bool.true }
+    requires some { 1 ≤ count }
+    requires few { count ≤ 8 }
+    ensures { result ≡ digits_value 10 (take count bytes.now) }
+{
+    let digits = u64::from_le_bytes(*bytes).wrapping_sub(ZEROS);
     // the digits go to the upper bytes, with zeros in front of them
-    (count, joined(digits << (64 - 8 * count)))
+    joined(digits << (64 - 8 * count))
 }
 
 // for each byte a bit, set where the byte is no digit
@@ -51,11 +73,23 @@ fn digits_of(others: u64) -> usize
     ensures { (bytes : List ℕ) → length bytes ≡ 8 → others ≡ mask_l (map is_no_digit bytes)
         → result ≡ prefix_len is_ascii_digit bytes }
 {
-    if others == 0 {
-        8
-    } else {
-        others.trailing_zeros() as usize
+    match first_other(others) {
+        Some(count) => count,
+        None => 8,
     }
+}
+
+// the same, or `None` if none is set
+#[inline(always)]
+fn first_other(others: u64) -> Option<usize>
+    ensures { (bytes : List ℕ) → length bytes ≡ 8 → others ≡ mask_l (map is_no_digit bytes)
+        → MatchOption result (8 ≡ prefix_len is_ascii_digit bytes)
+        (λ count. (count ≡ prefix_len is_ascii_digit bytes) × (count < 8)) }
+{
+    if others == 0 {
+        return None;
+    }
+    Some(others.trailing_zeros() as usize)
 }
 
 /// The value of the first four bytes of a text, if all are digits.

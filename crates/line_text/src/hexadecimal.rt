@@ -1,10 +1,7 @@
 //! Bytes as two hexadecimal digits.
-ghost use Rattle.std.specs.Prelude.{◌≡◌, ◌<◌, Some, None, if◌then◌else◌};
-ghost use Rattle.std.specs.Char.{digit_char, digit_value};
-ghost use Rattle.line_text.specs.Hexadecimal.{hex_of, hex, is_hex_digit};
-
-// the digits, by their values
-const DIGITS: [u8; 16] = *b"0123456789abcdef";
+ghost use Rattle.std.specs.Prelude.{◌≡◌, Some, None, if◌then◌else◌};
+ghost use Rattle.std.specs.Char.{digit_value};
+ghost use Rattle.line_text.specs.Hexadecimal.{hex_of, is_hex_digit};
 
 /// The byte that a word of exactly two digits from `0` to `9` and `a` to `f` spells, the high digit first. `None` for any other word.
 #[tactic(auto, unfolding(crate::specs::Hexadecimal::hex_of))]
@@ -17,13 +14,6 @@ pub fn hex_byte_in(word: &[u8]) -> Option<u8>
     Some(16 * hex_digit_in(*high)? + hex_digit_in(*low)?)
 }
 
-/// The two digits that spell a byte, the high digit first.
-pub fn hex_digits(byte: u8) -> [u8; 2]
-    ensures { result ≡ hex byte }
-{
-    [hex_digit(byte / 16), hex_digit(byte % 16)]
-}
-
 fn hex_digit_in(character: u8) -> Option<u8>
     ensures { result ≡ (if is_hex_digit character then Some (digit_value character) else None) }
 {
@@ -32,11 +22,4 @@ fn hex_digit_in(character: u8) -> Option<u8>
         b'a'..=b'f' => Some(character - b'a' + 10),
         _ => None,
     }
-}
-
-fn hex_digit(value: u8) -> u8
-    requires { value < 16 }
-    ensures { result ≡ digit_char value }
-{
-    DIGITS[usize::from(value)]
 }

@@ -1,9 +1,12 @@
 //! The number at the start of a text, in one pass over its digits.
-ghost use Rattle.std.specs.Prelude.{◌≡◌, ◌++◌, IfSome, Some};
+ghost use Rattle.std.specs.Prelude.{◌≡◌, ◌+◌, ◌<◌, ◌++◌, true, IfSome, Some, drop, length, slice_index};
+ghost use Rattle.std.specs.Char.{is_ascii_digit};
+ghost use Rattle.std.specs.Int.{from_bool};
+ghost use Rattle.std.specs.List.{prefix_len};
 ghost use Rattle.std.specs.Option.{option_map};
 ghost use Rattle.line_text.specs.Numbers.{AreLeading, leading_digits, leading_number_of};
 
-use crate::digit_words::leading_eight;
+use crate::digit_words::{leading_eight, signed_count, value_of};
 use crate::near_digits::near_digits;
 use crate::number::SHORT_DIGITS;
 
@@ -31,6 +34,28 @@ pub(crate) fn short_leading_number(text: &[u8]) -> Option<(u32, &[u8])>
         return None;
     }
     Some((value as u32, &text[end..]))
+}
+
+/// The number of digits at the start of a text, after a `-` if it is signed, and how many bytes both take, at most seven, in a text of at least
+/// eight bytes after the sign; `None` of any other text. The sign is counted with the digits: so the end does not wait for it.
+#[inline(always)]
+pub(crate) fn short_digits(text: &[u8], is_signed: bool) -> Option<(u32, usize)>
+    requires sign { is_signed ≡ true → slice_index text.now 0 ≡ 45 }
+    ensures number { IfSome result
+        (λ found. leading_number_of (drop (from_bool is_signed) text.now) ≡ Some found.0) }
+    ensures end { IfSome result (λ found.
+        found.1 ≡ from_bool is_signed + prefix_len is_ascii_digit (drop (from_bool is_signed) text.now)) }
+    ensures within { IfSome result (λ found. found.1 < length text.now) }
+{
+    let end = signed_count(text.first_chunk::<8>()?, is_signed)?;
+    let start = usize::from(is_signed);
+    let word = &text[start..];
+    let bytes = word.first_chunk::<8>()?;
+    let count = end - start;
+    if count == 0 || (word[0] == b'0' && 1 < count) {
+        return None;
+    }
+    Some((value_of(bytes, count) as u32, end))
 }
 
 // the value of the digits at the start of a text, and how many they are; `None` if they are more than 19

@@ -14,8 +14,9 @@ mod search;
 mod signed;
 mod words;
 
-pub use hexadecimal::{hex_byte_in, hex_digits};
+pub use hexadecimal::hex_byte_in;
 pub use lines::{Lines, first_line, lines_in};
 pub use number::{Number, capped_number_in, number_in};
+pub use row::short_line;
 pub use signed::{SignedNumber, signed_in};
 pub use words::{Words, words_in};

@@ -1,11 +1,12 @@
 //! A line of many numbers, in one pass over its bytes.
-ghost use Rattle.std.specs.Prelude.{◌≡◌, ◌++◌, ◌-◌, ◌^◌, IfSome, Some, drop, min, slice_get};
+ghost use Rattle.std.specs.Prelude.{◌≡◌, ◌++◌, ◌-◌, ◌^◌, ◌≤◌, [], true, IfSome, Some, drop, length, min, slice_get, slice_index};
 ghost use Rattle.line_text.specs.Lines.{lines};
 ghost use Rattle.line_text.specs.Numbers.{leading_digits, leading_number_of};
 ghost use Rattle.line_text.specs.Rows.{IsRow};
+ghost use Rattle.std.specs.Int.{from_bool};
 ghost use Rattle.std.specs.Option.{option_map};
 
-use crate::leading_number::{leading_number, short_leading_number};
+use crate::leading_number::{leading_number, short_digits, short_leading_number};
 use crate::pair::after_byte;
 
 /// The first number of the first line of a text, and the text after that line; the other numbers of the line are then in `numbers`, which
@@ -26,6 +27,24 @@ pub(crate) fn leading_row<'a>(text: &'a [u8], numbers: &mut [u32]) -> Option<(u6
         return Some((first, rest));
     }
     Some((first, after_byte(b'\n', rest)?))
+}
+
+/// The number that is the first line of a text, after a `-` if that is signed, and how many bytes the line takes with its newline, at most eight.
+/// `None` if the line is anything else, has no newline, or begins in the last seven bytes of the text.
+#[inline(always)]
+pub fn short_line(text: &[u8], is_signed: bool) -> Option<(u32, usize)>
+    requires sign { is_signed ≡ true → slice_index text.now 0 ≡ 45 }
+    ensures number { IfSome result
+        (λ found. IsRow (slice_get (lines (drop (from_bool is_signed) text.now)) 0) found.0 []) }
+    ensures after { IfSome result
+        (λ found. lines (drop found.1 text.now) ≡ drop 1 (lines (drop (from_bool is_signed) text.now))) }
+    ensures within { IfSome result (λ found. found.1 ≤ length text.now) }
+{
+    let (number, end) = short_digits(text, is_signed)?;
+    if text[end] != b'\n' {
+        return None;
+    }
+    Some((number, end + 1))
 }
 
 // The number at the start of a text, or the largest that a place holds if that is less, and the text after it.

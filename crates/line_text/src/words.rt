@@ -1,11 +1,10 @@
 //! Words of a line.
-ghost use Rattle.std.specs.Prelude.{◌≡◌, List, ℕ, IfSome, IfNone, drop, option_and_then, slice_get};
+ghost use Rattle.std.specs.Prelude.{◌≡◌, List, ℕ, IfSome, IfNone, drop, slice_get};
 ghost use Rattle.std.specs.Iterator.{YieldsFirstBy, item_count};
 ghost use Rattle.std.specs.Option.{option_map};
 ghost use Rattle.line_text.specs.Lines.{words, words_left};
-ghost use Rattle.line_text.specs.Numbers.{classified, near_number_of, number_of, short_number_of};
+ghost use Rattle.line_text.specs.Numbers.{classified, near_number_of, number_of};
 
-use crate::leading_number::leading_number;
 use crate::near_digits::near_digits;
 use crate::number::{Number, SHORT_DIGITS, number_in};
 use crate::search::first_place;
@@ -32,26 +31,6 @@ pub fn words_in(line: &[u8]) -> Words<'_>
 }
 
 impl<'a> Words<'a> {
-    /// Takes the next word as a number, in one pass over its bytes. `None`, with no word taken, if no word is left, the next word spells no
-    /// number, or it has more than 19 digits.
-    #[inline]
-    pub fn next_number(&mut self) -> Option<u64>
-        ensures number { result ≡ option_and_then short_number_of (slice_get self.old 0) }
-        ensures taken { IfSome result (λ _. self.new ≡ drop 1 self.old) }
-        ensures kept { IfNone result (self.new ≡ self.old) }
-    {
-        let (value, after) = leading_number(self.rest?)?;
-        if after.is_empty() {
-            self.rest = None;
-            return Some(value);
-        }
-        if after[0] != b' ' {
-            return None;
-        }
-        self.rest = Some(&after[1..]);
-        Some(value)
-    }
-
     /// Takes the next word, and returns what it spells as a number, mostly in one pass over its bytes. `None` if no word is left.
     #[inline(always)]
     pub fn next_as_number(&mut self) -> Option<Number>

@@ -1,11 +1,11 @@
 -- Which accesses are faults, and which granule a tag fault names.
-use Rattle.std.proofs.Common.{◌≡◌, ◌≢◌, ◌⊎◌, ℕ, zero, suc, ◌+◌, ◌-◌, ◌*◌, ◌<◌, ◌≤◌, Bool, true, false, not, cond, List, length, refl, ap, ◌∙◌, subst, inl, inr, arith, Some, None, Option, ◌==◌, ◌↔◌, IsSome, IsTrue, option_map}
+use Rattle.std.proofs.Common.{◌≡◌, ◌≢◌, ◌⊎◌, ℕ, zero, suc, ◌+◌, ◌-◌, ◌*◌, ◌<◌, ◌≤◌, Bool, true, false, not, cond, List, length, refl, ap}
+use Rattle.std.proofs.Common.{◌∙◌, subst, inl, inr, arith, Some, None, Option, ◌==◌, ◌↔◌, IsSome, IsTrue, option_map}
+use Rattle.std.proofs.lemmas.Bool.{cases_Bool, false_from_ne_true, iff_false, cond-true, cond-false, eqb-true, eqb-false, cases_lt}
+use Rattle.std.proofs.lemmas.Bool.{not-true, not-false, and_parts, and_from, ltb-true, leb-true, lt-ltb, le-leb}
 use Rattle.std.specs.List.{find, range_with_len}
-use Rattle.std.proofs.lemmas.Bool.{cases_Bool, false_from_ne_true, iff_false, cond-true, cond-false, eqb-true, eqb-false, cases_lt, not-true, not-false, and_parts, and_from, ltb-true, leb-true, lt-ltb, le-leb}
-use Rattle.machine_theory.specs.Address.{logical_tag, place_of, region_start, granule_of, Holds, Touches}
-use Rattle.machine_theory.specs.Memory.{Granule, tag_at}
-use Rattle.machine_theory.specs.Access.{IsMapped, IsTagFault, is_mapped, touched, tag_fault, access_fault}
-use Rattle.machine_theory.specs.declared.fault.Fault.{Fault}
+use Rattle.machine_theory.specs.{Access.{IsMapped, IsTagFault, is_mapped, touched, tag_fault, access_fault}, Memory.{Granule, tag_at}}
+use Rattle.machine_theory.specs.{Address.{logical_tag, place_of, region_start, granule_of, Holds, Touches}, declared.fault.Fault.{Fault}}
 use Rattle.machine_theory.specs.declared.fault.Fault.TheVariants.{Unmapped, TagCheck}
 
 -- what `find` finds among neighbouring numbers

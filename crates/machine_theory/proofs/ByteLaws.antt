@@ -1,15 +1,12 @@
 -- Bytes that are read are below 256, and which bytes are read after a change.
-use Rattle.std.proofs.Common.{◌≡◌, ℕ, ◌+◌, ◌-◌, ◌*◌, ◌/◌, ◌%◌, ◌<◌, ◌≤◌, ◌^◌, List, length, get_or, refl, sym, ap, ◌∙◌, arith, ◌⊎◌, All, slice_index}
-use Rattle.std.specs.List.{range_with_len}
-use Rattle.std.specs.Int.{w64, to_le_bytes}
-use Rattle.std.proofs.lemmas.List.{get_or_past}
-use Rattle.std.proofs.lemmas.List.Elements.{All-map}
-use Rattle.std.proofs.lemmas.List.FromFn.{get_or-map-range_with_len, length-map-range_with_len, fill_by_all}
-use Rattle.std.proofs.lemmas.Bool.{cases_lt, cond_both}
-use Rattle.std.proofs.lemmas.Nat.{from_le_bytes-to_le_bytes_8}
-use Rattle.machine_theory.specs.Memory.{Granule, no_granule, IsMemory, granule_at, each_granule, tagged, byte_at, bytes_at, word_at, written}
-use Rattle.machine_theory.proofs.MemoryLaws.{length-each_granule, granule_at-each_granule}
+use Rattle.std.proofs.Common.{◌≡◌, ℕ, ◌+◌, ◌-◌, ◌*◌, ◌/◌, ◌%◌, ◌<◌, ◌≤◌, ◌^◌, List, length, get_or, refl, sym, ap, ◌∙◌, arith, ◌⊎◌, All}
+use Rattle.std.proofs.{Common.{slice_index}, lemmas.Bool.{cases_lt, cond_both}, lemmas.List.{get_or_past}, lemmas.List.Elements.{All-map}}
+use Rattle.std.{proofs.lemmas.List.FromFn.{get_or-map-range_with_len, length-map-range_with_len, fill_by_all}, specs.Int.{w64, to_le_bytes}}
+use Rattle.std.{proofs.lemmas.Nat.{from_le_bytes-to_le_bytes_8}, specs.List.{range_with_len}}
 use Rattle.machine_theory.proofs.ChangeLaws.{length-bytes_after, byte-bytes_after, byte_after-inside, byte_after-outside}
+use Rattle.machine_theory.proofs.MemoryLaws.{length-each_granule, granule_at-each_granule}
+use Rattle.machine_theory.specs.Memory.{word_at, written, Granule, no_granule, IsMemory, granule_at, each_granule, tagged, byte_at}
+use Rattle.machine_theory.specs.Memory.{bytes_at}
 
 pub length-bytes_at : (memory : List Granule) (i len : ℕ) → length (bytes_at memory i len) ≡ len
 unfolding bytes_at

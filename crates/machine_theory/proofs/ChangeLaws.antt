@@ -1,11 +1,10 @@
 -- Changes of the memory, one after another.
 use Rattle.std.proofs.Common.{◌≡◌, ℕ, ◌+◌, ◌-◌, ◌*◌, ◌<◌, ◌≤◌, false, List, ◌++◌, map, length, get_or, sym, ◌∙◌, arith, ◌⊎◌, slice_index}
-use Rattle.std.specs.List.{range_with_len}
-use Rattle.std.proofs.lemmas.List.{length-append, get_or_append_left, get_or-append_right}
-use Rattle.std.proofs.lemmas.List.FromFn.{get_or-map-range_with_len, length-map-range_with_len, fill_by_all}
 use Rattle.std.proofs.lemmas.Bool.{cases_lt, cond-true, cond-false, and_from, and_left, and_right, le-leb, lt-ltb, lt-leb, le-ltb}
-use Rattle.machine_theory.specs.Memory.{Granule, no_granule, granule_at, each_granule, byte_after, bytes_after, written}
+use Rattle.std.{proofs.lemmas.List.{length-append, get_or_append_left, get_or-append_right}, specs.List.{range_with_len}}
+use Rattle.std.proofs.lemmas.List.FromFn.{get_or-map-range_with_len, length-map-range_with_len, fill_by_all}
 use Rattle.machine_theory.proofs.MemoryLaws.{length-each_granule, granule_at-each_granule}
+use Rattle.machine_theory.specs.Memory.{Granule, no_granule, granule_at, each_granule, byte_after, bytes_after, written}
 
 -- two changes that agree on each granule of the memory
 pub each_granule_agree : (f g : ℕ → Granule → Granule) (memory : List Granule) →

@@ -1,13 +1,9 @@
 -- A changed memory is a memory.
-use Rattle.std.proofs.Common.{ℕ, ◌*◌, ◌+◌, ◌<◌, List, length, get_or, arith, All, slice_index}
+use Rattle.std.proofs.{Common.{ℕ, ◌*◌, ◌+◌, ◌<◌, List, length, get_or, arith, All, slice_index}, lemmas.Bool.{cond_both}}
+use Rattle.std.proofs.lemmas.List.{Elements.{All-map}, FromFn.{get_or-range_with_len, length-range_with_len}}
 use Rattle.std.specs.List.{range_with_len}
-use Rattle.std.proofs.lemmas.List.FromFn.{get_or-range_with_len, length-range_with_len}
-use Rattle.std.proofs.lemmas.List.Elements.{All-map}
-use Rattle.std.proofs.lemmas.Bool.{cond_both}
+use Rattle.machine_theory.proofs.{ByteLaws.{byte_below}, ChangeLaws.{length-bytes_after}, MemoryLaws.{length-each_granule}}
 use Rattle.machine_theory.specs.Memory.{Granule, IsGranule, IsMemory, granule_at, each_granule, byte_after, bytes_after, written}
-use Rattle.machine_theory.proofs.MemoryLaws.{length-each_granule}
-use Rattle.machine_theory.proofs.ChangeLaws.{length-bytes_after}
-use Rattle.machine_theory.proofs.ByteLaws.{byte_below}
 
 -- a change that makes granules of granules
 IsGranule-each : (change : ℕ → Granule → Granule) (memory : List Granule) → ((g : ℕ) (x : Granule) → IsGranule x → IsGranule (change g x)) →

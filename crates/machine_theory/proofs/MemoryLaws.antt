@@ -1,8 +1,7 @@
 -- What a change of a memory leaves: how long it is, and its tags.
-use Rattle.std.proofs.Common.{◌≡◌, ℕ, ◌+◌, ◌<◌, ◌≤◌, List, length, refl, ap, arith, ◌⊎◌}
-use Rattle.std.proofs.lemmas.List.{get_or_past}
-use Rattle.std.proofs.lemmas.List.FromFn.{get_or-map-range_with_len, length-map-range_with_len}
+use Rattle.std.proofs.{Common.{◌≡◌, ℕ, ◌+◌, ◌<◌, ◌≤◌, List, length, refl, ap, arith, ◌⊎◌}, lemmas.List.{get_or_past}}
 use Rattle.std.proofs.lemmas.Bool.{cond-true, cond-false, cases_lt, and_from, and_left, and_right, lt-ltb, le-leb, le-ltb, lt-leb}
+use Rattle.std.proofs.lemmas.List.FromFn.{get_or-map-range_with_len, length-map-range_with_len}
 use Rattle.machine_theory.specs.Memory.{Granule, no_granule, granule_at, tag_at, each_granule, tagged, written, bytes_after}
 
 pub length-each_granule : (change : ℕ → Granule → Granule) (memory : List Granule) → length (each_granule change memory) ≡ length memory

@@ -1,7 +1,6 @@
 -- Draws of bits: one by one, four at once, and as parts of one sequence.
 use Rattle.std.proofs.Common.{◌≡◌, ℕ, zero, suc, ◌+◌, ◌-◌, ◌*◌, ◌/◌, ◌%◌, ◌^◌, ◌<◌, sym, ap, ◌∙◌, subst, inl, inr, arith}
-use Rattle.std.specs.Int.{bit_at}
-use Rattle.std.proofs.lemmas.Bool.{agree_below_at, cases_lt, eq-eqb, eqb-true}
+use Rattle.std.{proofs.lemmas.Bool.{agree_below_at, cases_lt, eq-eqb, eqb-true}, specs.Int.{bit_at}}
 use Rattle.std.proofs.lemmas.Nat.Bits.{bit_at_cat_low, bit_at_cat_high, bit_at-suc, bit_at_lowest}
 use Rattle.machine_theory.specs.Seed.{Begins, next_bit, next_offset, next_seed, seed_after}
 

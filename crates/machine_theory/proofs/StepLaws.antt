@@ -1,14 +1,11 @@
 -- A tag is chosen by steps from one allowed tag to the next.
-use Rattle.std.proofs.Common.{◌≡◌, ℕ, zero, suc, ◌+◌, ◌-◌, ◌%◌, ◌<◌, Bool, true, false, not, cond, List, [], ◌∷◌, ◌++◌, map, length, get_or, take, drop, refl, sym, ap, ◌∙◌, inl, inr, arith}
-use Rattle.std.specs.List.{filter, range_with_len}
-use Rattle.std.proofs.Math.Nat.{mod-add-mod, mod-eq_of_lt, mod_self}
-use Rattle.std.proofs.lemmas.List.{get_or-drop, get_or-take, get_or-append_right, get_or_append_left, length-drop, length-take, length-append, append-nil, get_or_past}
-use Rattle.std.proofs.lemmas.List.Elements.{filter-append}
-use Rattle.std.proofs.lemmas.List.FromFn.{get_or-map-range_with_len, fill_by_all}
-use Rattle.std.proofs.lemmas.Bool.{cases_lt, cases_Bool, cond-true, cond-false, ne_eqb, eqb-true, eqb-false}
-use Rattle.std.proofs.lemmas.Nat.{mod_below}
-use Rattle.machine_theory.proofs.TagLaws.{allowed_some}
-use Rattle.machine_theory.specs.Tags.{is_excluded, tags_after, allowed_after, next_allowed, choose_tag}
+use Rattle.std.proofs.Common.{◌≡◌, ℕ, zero, suc, ◌+◌, ◌-◌, ◌%◌, ◌<◌, Bool, true, false, not, cond, List, [], ◌∷◌, ◌++◌, map, length, get_or}
+use Rattle.std.proofs.{Common.{take, drop, refl, sym, ap, ◌∙◌, inl, inr, arith}, Math.Nat.{mod-add-mod, mod-eq_of_lt, mod_self}}
+use Rattle.std.proofs.lemmas.{Bool.{cases_lt, cases_Bool, cond-true, cond-false, ne_eqb, eqb-true, eqb-false}, Nat.{mod_below}}
+use Rattle.std.proofs.lemmas.List.{get_or-drop, get_or-take, get_or-append_right, get_or_append_left, length-drop, length-take}
+use Rattle.std.proofs.lemmas.{List.{length-append, append-nil, get_or_past}, List.Elements.{filter-append}}
+use Rattle.std.{proofs.lemmas.List.FromFn.{get_or-map-range_with_len, fill_by_all}, specs.List.{filter, range_with_len}}
+use Rattle.machine_theory.{proofs.TagLaws.{allowed_some}, specs.Tags.{is_excluded, tags_after, allowed_after, next_allowed, choose_tag}}
 
 tags_after_from_zero : (tag : ℕ) → tags_after tag ≡ map (λ k. (tag + (1 + k)) % 16) (range_with_len 0 16)
 tags_after_from_zero tag = refl

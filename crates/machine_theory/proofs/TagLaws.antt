@@ -1,17 +1,12 @@
 -- A chosen tag is an allowed one.
-use Rattle.std.proofs.lemmas.Grind.{common_steps}
-use Rattle.std.proofs.Common.{◌≡◌, ◌≢◌, ℕ, zero, suc, ◌+◌, ◌-◌, ◌*◌, ◌%◌, ◌^◌, ◌<◌, Bool, true, false, not, cond, List, [], ◌∷◌, length, get_or, refl, sym, ap, ◌∙◌, subst, inl, inr, arith, ◌⊎◌, ◌==◌, ◌||◌, bit_or}
-use Rattle.std.specs.List.{filter, range_with_len, All}
-use Rattle.std.specs.Int.{bit_at}
-use Rattle.std.proofs.lemmas.List.Elements.{All-filter, filter_passes, All-map}
-use Rattle.std.proofs.lemmas.List.FromFn.{get_or-map-range_with_len, length-map-range_with_len}
+use Rattle.std.proofs.Common.{◌≡◌, ◌≢◌, ℕ, zero, suc, ◌+◌, ◌-◌, ◌*◌, ◌%◌, ◌^◌, ◌<◌, Bool, true, false, not, cond, List, [], ◌∷◌, length}
+use Rattle.std.proofs.{Common.{get_or, refl, sym, ap, ◌∙◌, subst, inl, inr, arith, ◌⊎◌, ◌==◌, ◌||◌, bit_or}, lemmas.Grind.{common_steps}}
 use Rattle.std.proofs.lemmas.Bool.{cond_both, cond-true, cond-false, eqb-true, eqb-false, not-true, agree_below_at, or_parts, cases_eq}
-use Rattle.std.proofs.lemmas.Nat.{mod_below}
+use Rattle.std.{proofs.lemmas.List.Elements.{All-filter, filter_passes, All-map}, proofs.lemmas.Nat.{mod_below}, specs.Int.{bit_at}}
+use Rattle.std.{proofs.lemmas.List.FromFn.{get_or-map-range_with_len, length-map-range_with_len}, specs.List.{filter, range_with_len, All}}
 use Rattle.std.proofs.lemmas.Nat.Bits.{bit_at_or, bit_at-pow_same, bit_at-pow_other, bit_at-lt}
+use Rattle.machine_theory.specs.{Address.{logical_tag, with_tag}, Instructions.{drawn_tag, addg, subg}, Seed.{next_offset}}
 use Rattle.machine_theory.specs.Tags.{is_excluded, tags_after, allowed_after, choose_tag}
-use Rattle.machine_theory.specs.Seed.{next_offset}
-use Rattle.machine_theory.specs.Address.{logical_tag, with_tag}
-use Rattle.machine_theory.specs.Instructions.{drawn_tag, addg, subg}
 
 -- a filter that passes an element keeps at least one
 filter_keeps : {X : Type 0} (p : X → Bool) (xs : List X) (i : ℕ) (d : X) → i < length xs → p (get_or xs i d) ≡ true →

@@ -1,13 +1,9 @@
 -- Worked examples, computed.
-use Rattle.std.proofs.Common.{◌≡◌, ℕ, ◌+◌, ◌-◌, ◌*◌, ◌^◌, List, [], ◌∷◌, map, refl, replicate, Some, Ok}
-use Rattle.std.specs.List.{range_with_len}
-use Rattle.machine_theory.specs.Address.{logical_tag, region_start}
-use Rattle.machine_theory.specs.Tags.{choose_tag, allowed_after}
-use Rattle.machine_theory.specs.Seed.{next_offset, next_seed, seed_after}
-use Rattle.machine_theory.specs.Memory.{Granule, new_granule, each_granule, tagged}
-use Rattle.machine_theory.specs.Machine.{Machine}
-use Rattle.machine_theory.specs.declared.fault.Fault.TheVariants.{Unmapped, Alignment}
+use Rattle.std.{proofs.Common.{◌≡◌, ℕ, ◌+◌, ◌-◌, ◌*◌, ◌^◌, List, [], ◌∷◌, map, refl, replicate, Some, Ok}, specs.List.{range_with_len}}
+use Rattle.machine_theory.specs.{Address.{logical_tag, region_start}, Machine.{Machine}, Seed.{next_offset, next_seed, seed_after}}
 use Rattle.machine_theory.specs.Instructions.{irg_tag, after_irg, drawn_tag, addg, subg, gmi, ldg, tag_store_fault, stg}
+use Rattle.machine_theory.specs.{Memory.{Granule, new_granule, each_granule, tagged}, Tags.{choose_tag, allowed_after}}
+use Rattle.machine_theory.specs.declared.fault.Fault.TheVariants.{Unmapped, Alignment}
 
 -- a memory of 64 granules
 memory : List Granule

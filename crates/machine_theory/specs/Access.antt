@@ -1,12 +1,11 @@
 -- Accesses, checked (Arm ARM DDI 0487, Memory Tagging Extension: Tag Checked accesses, synchronous exceptions) and unchecked.
 -- Which accesses are mapped, that this is tested first, and which granule a tag fault names are this project's own.
-use Rattle.machine_theory.specs.declared.fault.Fault.{Fault}
-use Rattle.machine_theory.specs.declared.fault.Fault.TheVariants.{Unmapped, TagCheck}
+use Rattle.machine_theory.specs.{Address.{logical_tag, place_of, region_start, byte_of, granule_of, Touches}, declared.fault.Fault.{Fault}}
+use Rattle.machine_theory.specs.{Memory.{Granule, tag_at, bytes_at, written}, declared.fault.Fault.TheVariants.{Unmapped, TagCheck}}
 use Rattle.machine_theory.specs.declared.sizes.TheConstants.{GRANULE_BYTES}
-use Rattle.std.specs.Prelude.{◌≡◌, ◌≢◌, ℕ, ◌+◌, ◌-◌, ◌*◌, ◌^◌, ◌<◌, ◌≤◌, Bool, not, ◌&&◌, ◌==◌, nat_lt, nat_le, if◌then◌else◌, List, find, length, Option, Some, None, option_map, Result, Ok, Err}
 use Rattle.std.specs.List.{range_with_len}
-use Rattle.machine_theory.specs.Address.{logical_tag, place_of, region_start, byte_of, granule_of, Touches}
-use Rattle.machine_theory.specs.Memory.{Granule, tag_at, bytes_at, written}
+use Rattle.std.specs.Prelude.{◌&&◌, ◌==◌, nat_lt, nat_le, if◌then◌else◌, List, find, length, Option, Some, None, option_map, Result, Ok}
+use Rattle.std.specs.Prelude.{Err, ◌≡◌, ◌≢◌, ℕ, ◌+◌, ◌-◌, ◌*◌, ◌^◌, ◌<◌, ◌≤◌, Bool, not}
 
 -- whether each byte of the access lies in the region of this many granules, and bits 63 to 60 of the address are 0
 abbrev pub is_mapped : ℕ → ℕ → ℕ → Bool

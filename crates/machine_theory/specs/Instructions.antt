@@ -1,16 +1,12 @@
 -- The tag instructions, each named as in the Arm ARM DDI 0487, Memory Tagging Extension.
 -- GCR_EL1.Exclude is always 1: a chosen tag is never 0, unless all other tags are excluded. Unmapped, and its order after Alignment, are
 -- this project's own.
-use Rattle.machine_theory.specs.declared.fault.Fault.{Fault}
-use Rattle.machine_theory.specs.declared.fault.Fault.TheVariants.{Unmapped, Alignment}
+use Rattle.machine_theory.specs.{Access.{is_mapped}, Address.{logical_tag, place_of, with_tag, aligned, granule_of}, Machine.{Machine}}
+use Rattle.machine_theory.specs.{Memory.{Granule, tag_at, tagged, written}, Seed.{next_offset, next_seed}, Tags.{choose_tag}}
+use Rattle.machine_theory.specs.declared.fault.{Fault.{Fault}, Fault.TheVariants.{Unmapped, Alignment}}
 use Rattle.machine_theory.specs.declared.sizes.TheConstants.{GRANULE_BYTES}
-use Rattle.std.specs.Prelude.{ℕ, ◌+◌, ◌-◌, ◌*◌, ◌%◌, ◌^◌, ◌==◌, if◌then◌else◌, List, length, replicate, bit_or, Result, Ok, Err, Option, Some, None}
-use Rattle.machine_theory.specs.Address.{logical_tag, place_of, with_tag, aligned, granule_of}
-use Rattle.machine_theory.specs.Tags.{choose_tag}
-use Rattle.machine_theory.specs.Seed.{next_offset, next_seed}
-use Rattle.machine_theory.specs.Memory.{Granule, tag_at, tagged, written}
-use Rattle.machine_theory.specs.Access.{is_mapped}
-use Rattle.machine_theory.specs.Machine.{Machine}
+use Rattle.std.specs.Prelude.{ℕ, ◌+◌, ◌-◌, ◌*◌, ◌%◌, ◌^◌, ◌==◌, if◌then◌else◌, List, length, replicate, bit_or, Result, Ok, Err, Option}
+use Rattle.std.specs.Prelude.{Some, None}
 
 -- GCR_EL1.Exclude: tag 0
 abbrev pub gcr_exclude : ℕ

@@ -1,8 +1,8 @@
 -- Tagged memory (Arm ARM DDI 0487, Memory Tagging Extension: an Allocation Tag of four bits for each granule of sixteen bytes).
 -- Granules and bytes are numbered from the region's start: granule g holds the bytes 16 g to 16 g + 15.
-use Rattle.std.specs.Prelude.{◌≡◌, ℕ, ◌+◌, ◌-◌, ◌*◌, ◌/◌, ◌%◌, ◌<◌, ◌≤◌, Bool, ◌&&◌, nat_lt, nat_le, if◌then◌else◌, List, [], map, length, replicate, slice_index, slice_index_or, All}
-use Rattle.std.specs.Int.{w64, from_le_bytes}
-use Rattle.std.specs.List.{range_with_len}
+use Rattle.std.specs.{Int.{w64, from_le_bytes}, List.{range_with_len}}
+use Rattle.std.specs.Prelude.{nat_le, if◌then◌else◌, List, [], map, length, replicate, slice_index, slice_index_or, All, ◌≡◌, ℕ, ◌+◌, ◌-◌}
+use Rattle.std.specs.Prelude.{◌*◌, ◌/◌, ◌%◌, ◌<◌, ◌≤◌, Bool, ◌&&◌, nat_lt}
 use Rattle.machine_theory.specs.declared.sizes.TheConstants.{FEWEST_GRANULES, GRANULE_BYTES, MOST_GRANULES}
 
 -- a granule: its Allocation Tag and its bytes

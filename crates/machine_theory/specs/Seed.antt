@@ -1,8 +1,6 @@
 -- The seed register RGSR_EL1.SEED.
 -- This project's own, after AArch64.NextRandomTagBit and AArch64.RandomTag for RRND = 0 (Arm ARM DDI 0487, Memory Tagging Extension).
-use Rattle.std.specs.Prelude.{◌≡◌, ℕ, suc, ◌+◌, ◌*◌, ◌/◌, ◌%◌, ◌^◌, ◌<◌}
-use Rattle.std.proofs.Common.{zero}
-use Rattle.std.specs.Int.{bit_at}
+use Rattle.std.{proofs.Common.{zero}, specs.Int.{bit_at}, specs.Prelude.{◌≡◌, ℕ, suc, ◌+◌, ◌*◌, ◌/◌, ◌%◌, ◌^◌, ◌<◌}}
 
 -- The sequence of random bits that a seed begins: its own sixteen, lowest first, and then by the recurrence.
 pub record Begins (seed : ℕ) (x : ℕ → ℕ) : Type 0 where

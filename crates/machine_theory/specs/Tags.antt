@@ -1,8 +1,7 @@
 -- Which tag is chosen where some are excluded.
 -- This project's own, after AArch64.ChooseNonExcludedTag (Arm ARM DDI 0487, Memory Tagging Extension), which steps from tag to tag.
+use Rattle.std.specs.{Int.{bit_at}, List.{range_with_len}}
 use Rattle.std.specs.Prelude.{ℕ, ◌+◌, ◌-◌, ◌%◌, Bool, not, ◌==◌, if◌then◌else◌, List, map, filter, length, slice_index}
-use Rattle.std.specs.Int.{bit_at}
-use Rattle.std.specs.List.{range_with_len}
 
 -- whether the mask excludes the tag: bit t excludes tag t
 abbrev pub is_excluded : ℕ → ℕ → Bool

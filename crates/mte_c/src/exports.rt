@@ -55,15 +55,6 @@ pub extern "C" fn mte_c_append(alloc: Global, piece: &[u8], text: &mut HandedTex
     }
 }
 
-/// Lets an answer be the beginning of an input: the next call and the next piece go on with it.
-#[unsafe(no_mangle)]
-pub extern "C" fn mte_c_continue(alloc: Global, text: &mut HandedText)
-    ensures bytes { bytes_of text.new ≡ bytes_of text.old }
-    ensures input { is_answer_of text.new ≡ false }
-{
-    text.make_input(alloc);
-}
-
 /// Copies the bytes of a text from this place on into the room, as many as there are and as fit. Returns how many.
 #[unsafe(no_mangle)]
 pub extern "C" fn mte_c_read(

@@ -4,11 +4,9 @@ use Rattle.replay_theory.specs.Losses.{requested_sizes}
 use Rattle.trace_event.specs.declared.event.Event.{Event}
 use Rattle.line_text.specs.Lines.{ended}
 use Rattle.profile_count.specs.Requests.{profile_of_sizes}
-use Rattle.trace_reader.specs.Reading.{Reading, fed}
-use Rattle.trace_reader.specs.TraceLine.{event_line}
+use Rattle.trace_reader.specs.{Reading.{Reading, fed}, TraceLine.{event_line}}
 use Rattle.tuner_theory.specs.Profiles.{Profile as Counted}
-use Rattle.mte_engine.specs.Traces.{CountsFront, KeepsCounts}
-use Rattle.mte_engine.proofs.TracePieces.{counts_more}
+use Rattle.mte_engine.{proofs.TracePieces.{counts_more}, specs.Traces.{CountsFront, KeepsCounts}}
 
 -- one more line was read, and its event was counted
 pub one_line_more : (bytes text rest after : List ℕ) (reader reader' : Reading) (profile profile' : Counted) (event : Event)

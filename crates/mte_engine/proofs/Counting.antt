@@ -1,9 +1,7 @@
 -- Events that are taken out of a list and counted, one by one.
-use Rattle.std.proofs.Common.{◌≡◌, ℕ, suc, ◌≤◌, List, [], ◌∷◌, ◌++◌, length, drop, Some, None, refl, sym, ap, ◌∙◌, arith, append_assoc, slice_get, Option}
-use Rattle.std.specs.List.{cons_option}
-use Rattle.std.proofs.lemmas.List.Elements.{filter_map-append}
-use Rattle.replay_theory.specs.Losses.{requested_sizes}
-use Rattle.replay_theory.specs.Totals.{request_size}
+use Rattle.std.proofs.Common.{◌≡◌, ℕ, suc, ◌≤◌, List, [], ◌∷◌, ◌++◌, length, drop, Some, None, refl, sym, ap, ◌∙◌, arith, append_assoc}
+use Rattle.std.{proofs.Common.{slice_get, Option}, proofs.lemmas.List.Elements.{filter_map-append}, specs.List.{cons_option}}
+use Rattle.replay_theory.specs.{Losses.{requested_sizes}, Totals.{request_size}}
 use Rattle.trace_event.specs.declared.event.Event.{Event}
 
 pub first_of : {A : Type 0} (xs : List A) (x : A) → slice_get xs 0 ≡ Some x → xs ≡ x ∷ drop 1 xs

@@ -1,21 +1,14 @@
 -- What is kept of an input that is a timeline or another text.
-use Rattle.std.proofs.Common.{◌≡◌, ℕ, Bool, true, false, MatchBool, List, [], ◌∷◌, ◌++◌, Result, Err, refl, sym, ap, ◌∙◌, arith, drop, slice_index_or}
-use Rattle.std.proofs.lemmas.List.Elements.{All-nil}
-use Rattle.history_count.specs.HistoryText.{history_of, history_of_lines}
-use Rattle.history_count.specs.declared.fault.HistoryFault.TheVariants.{BadSnapshots}
-use Rattle.history_count.specs.Timelines.Pieces.{IsReadingOf, Reading}
-use Rattle.history_count.specs.Timelines.TimelineText.{head_line, timeline_of}
+use Rattle.std.proofs.Common.{◌≡◌, ℕ, Bool, true, false, MatchBool, List, [], ◌∷◌, ◌++◌, Result, Err, refl, sym, ap, ◌∙◌, arith, drop}
+use Rattle.std.proofs.{Common.{slice_index_or}, lemmas.List.Elements.{All-nil}}
 use Rattle.history_count.proofs.TimelineLemmas.LawLemmas.{head_is_in_front, nothing_is_read}
-use Rattle.line_text.specs.Lines.{IsLine, ended, lines, words}
-use Rattle.line_text.proofs.LawLemmas.{cut_lines_are_read, line_in_front_is_read}
+use Rattle.history_count.specs.{HistoryText.{history_of, history_of_lines}, Timelines.Pieces.{IsReadingOf, Reading}}
+use Rattle.history_count.specs.{Timelines.TimelineText.{head_line, timeline_of}, declared.fault.HistoryFault.TheVariants.{BadSnapshots}}
+use Rattle.line_text.{proofs.LawLemmas.{cut_lines_are_read, line_in_front_is_read}, specs.Lines.{IsLine, ended, lines, words}}
 use Rattle.tuner_theory.specs.declared.size_event.SizeEvent.{SizeEvent}
-use Rattle.mte_engine.specs.CountsInput.{GivesCounts, IsLineAndRest, KeepsLineAnd, KeepsTimelineOr}
-use Rattle.mte_engine.specs.Outcome.{Answer, GivesFault}
-use Rattle.mte_engine.specs.Parts.{GivesPart, timeline_part}
-use Rattle.mte_engine.specs.Timelines.{begins_timeline}
-use Rattle.mte_engine.specs.declared.fault.AnswerError.{AnswerError}
-use Rattle.mte_engine.specs.declared.fault.AnswerError.TheVariants.{OutOfMemory, Input}
-use Rattle.mte_engine.specs.declared.fault.InputFault.{InputFault}
+use Rattle.mte_engine.specs.{CountsInput.{GivesCounts, IsLineAndRest, KeepsLineAnd, KeepsTimelineOr}, Outcome.{Answer, GivesFault}}
+use Rattle.mte_engine.specs.{Parts.{GivesPart, timeline_part}, Timelines.{begins_timeline}, declared.fault.AnswerError.{AnswerError}}
+use Rattle.mte_engine.specs.declared.fault.{AnswerError.TheVariants.{OutOfMemory, Input}, InputFault.{InputFault}}
 
 -- ---- while it is read
 

@@ -1,46 +1,31 @@
 -- An input that is refused for its table or for its profile has its first fault in the line of the refusal.
-use Rattle.std.proofs.Common.{◌≡◌, ℕ, suc, ◌+◌, ◌-◌, ◌<◌, ◌≤◌, List, [], ◌∷◌, ◌++◌, take, drop, codes, All, length, Option, Some, None, Result, Ok, Err, refl, sym, ap, ◌∙◌, append_assoc, arith}
-use Rattle.std.specs.Fmt.{decimal}
-use Rattle.std.proofs.lemmas.Fmt.{decimal_digit}
-use Rattle.std.proofs.lemmas.List.{drop-take, length-drop, take-take}
-use Rattle.std.proofs.lemmas.Option.{same_Some}
-use Rattle.std.proofs.lemmas.List.Elements.{All-take, All-drop, All-head, All-tail}
-use Rattle.line_text.specs.FirstFault.{◌>>=◌, IsFirstFault}
-use Rattle.line_text.specs.Lines.{lines, text_of, IsLine}
+use Rattle.std.proofs.Common.{◌≡◌, ℕ, suc, ◌+◌, ◌-◌, ◌<◌, ◌≤◌, List, [], ◌∷◌, ◌++◌, take, drop, codes, All, length, Option, Some, None}
+use Rattle.std.proofs.{Common.{Result, Ok, Err, refl, sym, ap, ◌∙◌, append_assoc, arith}, lemmas.Fmt.{decimal_digit}}
+use Rattle.std.proofs.lemmas.{List.{drop-take, length-drop, take-take}, List.Elements.{All-take, All-drop, All-head, All-tail}}
+use Rattle.std.{proofs.lemmas.Option.{same_Some}, specs.Fmt.{decimal}}
 use Rattle.line_text.proofs.LawLemmas.{line_in_front_is_read, lines_are_lines, written_lines_are_read}
-use Rattle.class_table.specs.ClassLine.{BeginsWithTable, class_line, table_of_line}
-use Rattle.class_table.specs.declared.fault.TableError.{TableError}
-use Rattle.class_table.specs.declared.fault.TableError.TheVariants.{BadLine}
-use Rattle.class_table.proofs.LawLemmas.{class_line_is_full, first_fault_is_refused as table_fault_is_refused, missing_line_is_first_fault, no_classes_are_legal, read_line_is_spelled, table_line_is_read}
-use Rattle.profile_count.specs.Counts.{nothing_counted}
+use Rattle.line_text.specs.{FirstFault.{◌>>=◌, IsFirstFault}, Lines.{lines, text_of, IsLine}}
+use Rattle.class_table.proofs.LawLemmas.{class_line_is_full, first_fault_is_refused as table_fault_is_refused, missing_line_is_first_fault}
+use Rattle.class_table.proofs.LawLemmas.{no_classes_are_legal, read_line_is_spelled, table_line_is_read}
+use Rattle.class_table.specs.{ClassLine.{BeginsWithTable, class_line, table_of_line}, FaultText.{shown_table_error}}
+use Rattle.class_table.specs.declared.fault.{TableError.{TableError}, TableError.TheVariants.{BadLine}}
+use Rattle.profile_count.proofs.LawLemmas.{first_fault_is_refused as profile_fault_is_refused, lines_before_it_spell, profile_is_spelled}
+use Rattle.profile_count.{proofs.LawLemmas.{refused_line_is_there, spelled_profile_is_read}, specs.Counts.{nothing_counted}}
+use Rattle.profile_count.specs.{FaultText.{shown_profile_fault}, declared.fault.ProfileFault.{ProfileFault}}
 use Rattle.profile_count.specs.ProfileText.{IsRefusedAt, SpellsProfile, profile_from, profile_of, profile_of_lines}
-use Rattle.profile_count.specs.declared.fault.ProfileFault.{ProfileFault}
-use Rattle.profile_count.proofs.LawLemmas.{first_fault_is_refused as profile_fault_is_refused, lines_before_it_spell, profile_is_spelled, refused_line_is_there, spelled_profile_is_read}
-use Rattle.potential_check.specs.Leading.{leading_lines, lines_after}
+use Rattle.potential_check.{proofs.LawLemmas.{read_is_spelled}, specs.Leading.{leading_lines, lines_after}}
 use Rattle.potential_check.specs.SheetText.{SpellsSheet, sheet_of_lines}
-use Rattle.potential_check.proofs.LawLemmas.{read_is_spelled}
 use Rattle.trace_event.specs.declared.event.Event.{Event}
 use Rattle.heap_theory.specs.declared.config.Config.{Config}
-use Rattle.trace_reader.specs.TraceText.{trace_from}
-use Rattle.trace_reader.specs.declared.fault.TraceFault.{TraceFault}
-use Rattle.tuner_theory.specs.Sheets.{Sheet}
-use Rattle.tuner_theory.specs.Profiles.{Profile as Counted}
-use Rattle.mte_engine.specs.Check.{CheckAnswers}
-use Rattle.mte_engine.specs.FaultLines.{IsAtFirstFault, SpellsLeadingAnd, SpellsSheetAndProfile, SpellsTableAnd, line_of_fault}
-use Rattle.mte_engine.specs.Outcome.{Answer}
-use Rattle.mte_engine.specs.Parts.{profile_part, table_and}
-use Rattle.mte_engine.specs.Replay.{replay_answer, replay_of_lines, report_on}
-use Rattle.mte_engine.specs.FaultText.{in_line, shown_input_fault}
-use Rattle.mte_engine.specs.Traces.{events_unless}
-use Rattle.mte_engine.specs.declared.engine.Status.TheVariants.{Done}
-use Rattle.mte_engine.specs.declared.fault.InputFault.{InputFault}
-use Rattle.mte_engine.specs.declared.fault.InputFault.TheVariants.{TooLong, Table, BadSheet, BadFit, Profile, History, Timeline, Trace}
-use Rattle.class_table.specs.FaultText.{shown_table_error}
-use Rattle.history_count.specs.FaultText.{shown_history_fault}
-use Rattle.profile_count.specs.FaultText.{shown_profile_fault}
-use Rattle.history_count.specs.Timelines.FaultText.{shown_timeline_fault}
-use Rattle.trace_reader.specs.FaultText.{shown_trace_fault}
+use Rattle.trace_reader.specs.{FaultText.{shown_trace_fault}, TraceText.{trace_from}, declared.fault.TraceFault.{TraceFault}}
+use Rattle.tuner_theory.specs.{Profiles.{Profile as Counted}, Sheets.{Sheet}}
 use Rattle.mte_engine.proofs.SheetLinesSettled.{after_alike, leading_lines-cut, leading_lines-lines, leading_lines-settled}
+use Rattle.mte_engine.specs.{Check.{CheckAnswers}, FaultText.{in_line, shown_input_fault}, Outcome.{Answer}, Traces.{events_unless}}
+use Rattle.mte_engine.specs.FaultLines.{IsAtFirstFault, SpellsLeadingAnd, SpellsSheetAndProfile, SpellsTableAnd, line_of_fault}
+use Rattle.mte_engine.specs.{Parts.{profile_part, table_and}, Replay.{replay_answer, replay_of_lines, report_on}}
+use Rattle.mte_engine.specs.declared.{engine.Status.TheVariants.{Done}, fault.InputFault.{InputFault}}
+use Rattle.mte_engine.specs.declared.fault.InputFault.TheVariants.{TooLong, Table, BadSheet, BadFit, Profile, History, Timeline, Trace}
+use Rattle.history_count.specs.{FaultText.{shown_history_fault}, Timelines.FaultText.{shown_timeline_fault}}
 
 -- ---- how a fault is shown
 

@@ -1,22 +1,16 @@
 -- From a tuned sheet to the headline, by the laws of the crates below.
 use Rattle.std.proofs.Common.{◌≡◌, ℕ, false, List, ◌++◌, refl, sym, ◌∙◌}
 use Rattle.class_table.specs.Tables.{rounding_loss}
+use Rattle.replay_theory.{proofs.AccessAnswers.{accesses_are_answered}, proofs.Losses.{LosesAtMostItsWaste-run}, specs.Report.{report}}
 use Rattle.replay_theory.specs.Losses.{ServesEach, counted_sizes, requested_sizes}
-use Rattle.replay_theory.specs.Report.{report}
-use Rattle.replay_theory.proofs.AccessAnswers.{accesses_are_answered}
-use Rattle.replay_theory.proofs.Losses.{LosesAtMostItsWaste-run}
 use Rattle.profile_count.proofs.LawLemmas.{serves_each_request, waste_is_the_sum_of_losses}
-use Rattle.heap_theory.specs.Config.{layout_for}
-use Rattle.tuner_theory.specs.Best.{IsCandidate}
-use Rattle.mte_engine.specs.Run.{IsTunedRun, new_replay}
-use Rattle.mte_engine.specs.Traces.{profile_of_events}
-use Rattle.mte_engine.specs.Replay.{report_on}
+use Rattle.heap_theory.specs.{Config.{layout_for}, declared.config.Config.{Config}}
+use Rattle.tuner_theory.specs.{Best.{IsCandidate}, Sheets.{Sheet}}
+use Rattle.mte_engine.specs.{Replay.{report_on}, Run.{IsTunedRun, new_replay}, Traces.{profile_of_events}}
 use Rattle.mte_engine.specs.declared.engine.Status.TheVariants.{Done}
 use Rattle.class_tuner.specs.Tuned.{IsTuned}
 use Rattle.trace_event.specs.declared.event.Event.{Event}
 use Rattle.potential_check.specs.SheetText.{sheet_text}
-use Rattle.heap_theory.specs.declared.config.Config.{Config}
-use Rattle.tuner_theory.specs.Sheets.{Sheet}
 
 pub headline : (limit step : ℕ) (config : Config) (events : List Event) (sheet : Sheet)
     → IsTuned (profile_of_events events).counts step limit false sheet

@@ -1,28 +1,22 @@
 -- An input that is refused for its history, or for the table before it, has its first fault in the line of the refusal.
-use Rattle.std.proofs.Common.{◌≡◌, ℕ, suc, ◌+◌, ◌-◌, ◌≤◌, Bool, true, false, List, [], ◌∷◌, ◌++◌, take, drop, length, codes, All, slice_index_or, if◌then◌else◌, Option, Result, Ok, Err, inl, inr, refl, sym, ap, ◌∙◌, subst, arith}
-use Rattle.std.specs.Option.{ok_or}
-use Rattle.std.proofs.lemmas.Bool.{cases_lt}
+use Rattle.std.proofs.Common.{◌≡◌, ℕ, suc, ◌+◌, ◌-◌, ◌≤◌, Bool, true, false, List, [], ◌∷◌, ◌++◌, take, drop, length, codes, All}
+use Rattle.std.proofs.Common.{slice_index_or, if◌then◌else◌, Option, Result, Ok, Err, inl, inr, refl, sym, ap, ◌∙◌, subst, arith}
+use Rattle.std.{proofs.lemmas.Bool.{cases_lt}, proofs.lemmas.List.Elements.{All-append, All-drop, All-take}, specs.Option.{ok_or}}
 use Rattle.std.proofs.lemmas.List.{append-nil, drop-append-le, drop_all, length-take, take-append-le, take-take, take_all}
-use Rattle.std.proofs.lemmas.List.Elements.{All-append, All-drop, All-take}
-use Rattle.line_text.specs.FirstFault.{◌>>=◌, IsFirstFault}
-use Rattle.line_text.specs.Lines.{lines, text_of, words, IsLine}
-use Rattle.line_text.specs.Numbers.{number_of}
-use Rattle.line_text.proofs.LawLemmas.{lines_are_lines, written_lines_are_read}
-use Rattle.history_count.specs.Histories.{History as CountedHistory, nothing_counted}
+use Rattle.line_text.{proofs.LawLemmas.{lines_are_lines, written_lines_are_read}, specs.FirstFault.{◌>>=◌, IsFirstFault}}
+use Rattle.line_text.specs.{Lines.{lines, text_of, words, IsLine}, Numbers.{number_of}}
+use Rattle.history_count.proofs.LawLemmas.{first_fault_is_refused, history_is_spelled, lines_before_it_spell, refused_line_is_there}
+use Rattle.history_count.{proofs.LawLemmas.{spelled_history_is_read}, specs.Histories.{History as CountedHistory, nothing_counted}}
 use Rattle.history_count.specs.HistoryText.{IsRefusedAt, SpellsHistory, history_from, history_of, history_of_lines}
 use Rattle.history_count.specs.declared.fault.HistoryFault.{HistoryFault}
-use Rattle.history_count.proofs.LawLemmas.{first_fault_is_refused, history_is_spelled, lines_before_it_spell, refused_line_is_there, spelled_history_is_read}
-use Rattle.potential_check.specs.SheetText.{SpellsFit, cost_in, cost_number, fit_of_lines, forced_at, forced_number, head_of_lines, is_named, limit_in, line_at, read_by, step_at, table_in}
+use Rattle.potential_check.{proofs.LawLemmas.{read_is_spelled}, specs.Leading.{head_size, is_row_line, leading_lines, lines_after}}
+use Rattle.potential_check.specs.SheetText.{SpellsFit, cost_in, cost_number, fit_of_lines, forced_at, forced_number, head_of_lines}
+use Rattle.potential_check.specs.SheetText.{is_named, limit_in, line_at, read_by, step_at, table_in}
 use Rattle.potential_check.specs.declared.cost.Cost.TheVariants.{Footprint}
-use Rattle.potential_check.specs.Leading.{head_size, is_row_line, leading_lines, lines_after}
-use Rattle.potential_check.proofs.LawLemmas.{read_is_spelled}
 use Rattle.tuner_theory.specs.Sheets.{Sheet}
-use Rattle.mte_engine.specs.CheckFit.{CheckFitAnswers}
-use Rattle.mte_engine.specs.FaultLines.{SpellsFitAndHistory}
-use Rattle.mte_engine.specs.Parts.{history_part}
-use Rattle.mte_engine.specs.declared.fault.InputFault.TheVariants.{History}
-use Rattle.mte_engine.proofs.FaultLines.{IsPart, after_leading, none_later, whole_lines}
+use Rattle.mte_engine.{proofs.FaultLines.{IsPart, after_leading, none_later, whole_lines}, specs.CheckFit.{CheckFitAnswers}}
 use Rattle.mte_engine.proofs.SheetLinesSettled.{leading_lines-lines, leading_lines-one_more, leading_lines-settled}
+use Rattle.mte_engine.specs.{FaultLines.{SpellsFitAndHistory}, Parts.{history_part}, declared.fault.InputFault.TheVariants.{History}}
 
 -- the history of one snapshot that counts nothing
 shortest : List ℕ

@@ -1,6 +1,5 @@
 -- The first of the elements that are left of a list.
-use Rattle.std.proofs.Common.{◌≡◌, ℕ, suc, ◌+◌, List, ◌∷◌, drop, Some, refl, ◌∙◌, arith, slice_get}
-use Rattle.std.proofs.Math.Seq.{drop-cons}
+use Rattle.std.proofs.{Common.{◌≡◌, ℕ, suc, ◌+◌, List, ◌∷◌, drop, Some, refl, ◌∙◌, arith, slice_get}, Math.Seq.{drop-cons}}
 use Rattle.std.proofs.lemmas.Option.{get_or_from_slice_get, slice_get_within}
 
 pub in_front : {X : Type 0} (xs : List X) (i : ℕ) (x : X) → slice_get xs i ≡ Some x → drop i xs ≡ x ∷ drop (i + 1) xs

@@ -1,12 +1,9 @@
 -- Where the source knows its bytes, an answer to what it gave is one to all that was to come.
-use Rattle.std.proofs.Common.{◌≡◌, ℕ, ◌≤◌, Bool, true, false, ltb, List, ◌++◌, length, Option, Some, None, Result, sym, ap, ◌∙◌, refl, arith, append-nil, subst}
-use Rattle.std.proofs.lemmas.Bool.{lt-ltb, ltb-false, ltb-true}
-use Rattle.std.proofs.lemmas.List.{length-append}
+use Rattle.std.proofs.Common.{◌≡◌, ℕ, ◌≤◌, Bool, true, false, ltb, List, ◌++◌, length, Option, Some, None, Result, sym, ap, ◌∙◌, refl}
+use Rattle.std.proofs.{Common.{arith, append-nil, subst}, lemmas.Bool.{lt-ltb, ltb-false, ltb-true}, lemmas.List.{length-append}}
 use Rattle.std.specs.Io.KnownBytes.{Consumes, IsAtEnd}
-use Rattle.byte_streams.specs.Streams.{SourceState}
-use Rattle.byte_streams.specs.Transfer.{HasEnded, most_input}
-use Rattle.mte_engine.specs.Outcome.{Answer, AnswersGiven, AnswersInput}
-use Rattle.mte_engine.specs.declared.fault.InputFault.{InputFault}
+use Rattle.byte_streams.specs.{Streams.{SourceState}, Transfer.{HasEnded, most_input}}
+use Rattle.mte_engine.specs.{Outcome.{Answer, AnswersGiven, AnswersInput}, declared.fault.InputFault.{InputFault}}
 
 all_read : (all input : List ℕ) (after : Option (List ℕ)) → Consumes (Some all) after input → IsAtEnd after → all ≡ input
 all_read all input None bytes end = absurd bytes

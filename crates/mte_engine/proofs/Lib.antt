@@ -9,12 +9,9 @@ pub mod KnownInput
 pub mod LawLemmas
 pub mod LineAndTrace
 pub mod OneAnswer
-pub mod Outcomes
 pub mod PeaksParts
 pub mod Reporting
 pub mod RowLines
-pub mod RunAnswers
 pub mod SheetLinesSettled
-pub mod TimelineFaultLines
 pub mod TracePieces
 pub mod TwoParts

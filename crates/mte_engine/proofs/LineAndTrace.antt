@@ -1,23 +1,16 @@
 -- From a class line and a trace to the answer of `replay`.
-use Rattle.std.proofs.Common.{◌≡◌, ℕ, Bool, true, false, List, [], ◌∷◌, ◌++◌, drop, Result, Ok, Err, refl, sym, ap, ◌∙◌, arith, slice_index_or, subst}
-use Rattle.std.proofs.lemmas.List.Elements.{All-nil}
-use Rattle.line_text.specs.Lines.{lines, words, IsLine}
-use Rattle.line_text.proofs.LawLemmas.{cut_lines_are_read, line_in_front_is_read}
+use Rattle.std.proofs.Common.{◌≡◌, ℕ, Bool, true, false, List, [], ◌∷◌, ◌++◌, drop, Result, Ok, Err, refl, sym, ap, ◌∙◌, arith}
+use Rattle.std.proofs.{Common.{slice_index_or, subst}, lemmas.List.Elements.{All-nil}}
+use Rattle.line_text.{proofs.LawLemmas.{cut_lines_are_read, line_in_front_is_read}, specs.Lines.{lines, words, IsLine}}
 use Rattle.class_table.specs.ClassLine.{table_of_line}
 use Rattle.heap_theory.specs.declared.config.Config.{Config}
-use Rattle.trace_reader.specs.Reading.{Reading, finished, whole_reading}
+use Rattle.trace_reader.{proofs.LawLemmas.{one_piece_is_the_text}, specs.Reading.{Reading, finished, whole_reading}}
 use Rattle.trace_reader.specs.TraceText.{trace_of}
-use Rattle.trace_reader.proofs.LawLemmas.{one_piece_is_the_text}
-use Rattle.mte_engine.specs.Outcome.{Answer, GivesAnswer, GivesFault}
-use Rattle.mte_engine.specs.Parts.{GivesPart, class_part, table_part}
+use Rattle.mte_engine.{proofs.TracePieces.{nothing_fed, trace_ends, trace_refused}, specs.Outcome.{Answer, GivesAnswer, GivesFault}}
+use Rattle.mte_engine.specs.{Parts.{GivesPart, class_part, table_part}, Traces.{HasEnded, IsLineAndTrace, KeepsEvents, KeepsLineAndEvents}}
 use Rattle.mte_engine.specs.Replay.{ReplayAnswers, replay_answer, replay_of_lines, replay_of_parts, replay_over, report_on}
-use Rattle.mte_engine.specs.Traces.{HasEnded, IsLineAndTrace, KeepsEvents, KeepsLineAndEvents}
-use Rattle.mte_engine.specs.declared.engine.Status.{Status}
-use Rattle.mte_engine.specs.declared.engine.Status.TheVariants.{Done}
-use Rattle.mte_engine.specs.declared.fault.AnswerError.{AnswerError}
-use Rattle.mte_engine.specs.declared.fault.AnswerError.TheVariants.{OutOfMemory, Input}
-use Rattle.mte_engine.specs.declared.fault.InputFault.{InputFault}
-use Rattle.mte_engine.proofs.TracePieces.{nothing_fed, trace_ends, trace_refused}
+use Rattle.mte_engine.specs.declared.{engine.Status.{Status}, engine.Status.TheVariants.{Done}, fault.AnswerError.{AnswerError}}
+use Rattle.mte_engine.specs.declared.fault.{AnswerError.TheVariants.{OutOfMemory, Input}, InputFault.{InputFault}}
 
 -- an empty line spells no table, so an input without lines is answered as one of an empty line
 answer_by_lines : (config : Config) (ls : List (List ℕ)) →

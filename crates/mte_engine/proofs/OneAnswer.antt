@@ -2,29 +2,19 @@
 use Rattle.std.proofs.Common.{◌≡◌, ℕ, Bool, true, false, List, ◌++◌, MatchBool, Result, Ok, Err, ap, sym, subst, inl, inr, refl, ◌∙◌}
 use Rattle.class_tuner.proofs.LawLemmas.{least-or_between, one-between, one-least, one_fit, one_sheet}
 use Rattle.heap_theory.specs.declared.config.Config.{Config}
-use Rattle.history_count.specs.Histories.{History}
-use Rattle.history_count.specs.HistoryText.{history_of}
-use Rattle.history_count.specs.Timelines.TimelineText.{timeline_of}
+use Rattle.history_count.specs.{Histories.{History}, HistoryText.{history_of}, Timelines.TimelineText.{timeline_of}}
 use Rattle.line_text.specs.Lines.{lines}
 use Rattle.potential_check.specs.SheetText.{fit_text, sheet_text}
 use Rattle.profile_count.specs.ProfileText.{profile_of}
 use Rattle.replay_theory.specs.Report.{report}
 use Rattle.trace_event.specs.declared.event.Event.{Event}
 use Rattle.trace_reader.specs.TraceText.{trace_of}
-use Rattle.tuner_theory.specs.Profiles.{Profile as Counted}
-use Rattle.tuner_theory.specs.Sheets.{Sheet}
-use Rattle.tuner_theory.specs.declared.size_event.SizeEvent.{SizeEvent}
-use Rattle.mte_engine.specs.Fit.{FitAnswers, IsFitText}
-use Rattle.mte_engine.specs.FitOver.{FitEitherAnswers, FitOverAnswers, IsFoundText}
-use Rattle.mte_engine.specs.Parts.{AnswersPart, history_part, profile_part, timeline_part}
-use Rattle.mte_engine.specs.Replay.{report_on}
-use Rattle.mte_engine.specs.Run.{IsTunedRun, RunAnswers}
-use Rattle.mte_engine.specs.Timelines.{begins_timeline}
-use Rattle.mte_engine.specs.Traces.{profile_of_events, trace_part}
-use Rattle.mte_engine.specs.Tune.{IsTunedText, TuneAnswers}
+use Rattle.tuner_theory.specs.{Profiles.{Profile as Counted}, Sheets.{Sheet}, declared.size_event.SizeEvent.{SizeEvent}}
+use Rattle.mte_engine.specs.{Fit.{FitAnswers, IsFitText}, FitOver.{FitEitherAnswers, FitOverAnswers, IsFoundText}, Outcome.{Answer}}
+use Rattle.mte_engine.specs.{Parts.{AnswersPart, history_part, profile_part, timeline_part}, Replay.{report_on}}
+use Rattle.mte_engine.specs.{Run.{IsTunedRun, RunAnswers}, Timelines.{begins_timeline}, Traces.{profile_of_events, trace_part}}
+use Rattle.mte_engine.specs.{Tune.{IsTunedText, TuneAnswers}, declared.engine.Status.TheVariants.{Done}}
 use Rattle.mte_engine.specs.declared.fault.InputFault.{InputFault}
-use Rattle.mte_engine.specs.Outcome.{Answer}
-use Rattle.mte_engine.specs.declared.engine.Status.TheVariants.{Done}
 
 -- what is read is one, and what is said of it is one
 one_answer : {A : Type 0} (part : Result A InputFault) (says : A → Answer → Type 0) → ((x : A) (a b : Answer) → says x a → says x b → a ≡ b)

@@ -4,13 +4,10 @@ use Rattle.class_table.specs.ClassLine.{table_of_line}
 use Rattle.history_count.specs.Timelines.TimelineText.{timeline_of_lines}
 use Rattle.line_text.specs.Lines.{lines, words}
 use Rattle.tuner_theory.specs.declared.size_event.SizeEvent.{SizeEvent}
-use Rattle.mte_engine.specs.CountsInput.{IsLineAndRest}
-use Rattle.mte_engine.specs.Outcome.{Answer, GivesAnswer, GivesFault}
-use Rattle.mte_engine.specs.Parts.{AnswersPart, GivesPart, class_part, table_part, timeline_part}
-use Rattle.mte_engine.specs.Peaks.{ArePeaks, PeaksAnswers, PeaksParts}
-use Rattle.mte_engine.specs.declared.engine.Status.{Status}
+use Rattle.mte_engine.{proofs.TwoParts.{first_refused, then_answered}, specs.CountsInput.{IsLineAndRest}}
+use Rattle.mte_engine.specs.{Outcome.{Answer, GivesAnswer, GivesFault}, Peaks.{ArePeaks, PeaksAnswers, PeaksParts}}
+use Rattle.mte_engine.specs.{Parts.{AnswersPart, GivesPart, class_part, table_part, timeline_part}, declared.engine.Status.{Status}}
 use Rattle.mte_engine.specs.declared.fault.AnswerError.{AnswerError}
-use Rattle.mte_engine.proofs.TwoParts.{first_refused, then_answered}
 
 abbrev says : List ℕ × List SizeEvent → Answer → Type 0
 says parts answer = ArePeaks parts.0 parts.1 answer

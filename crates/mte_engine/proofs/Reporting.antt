@@ -1,13 +1,10 @@
 -- The report that is still to come, as events are replayed and their lines are appended to a buffer.
-use Rattle.std.proofs.Common.{◌≡◌, ◌≤◌, ℕ, ◌+◌, ◌-◌, List, [], ◌∷◌, ◌++◌, length, take, drop, refl, sym, ap, ◌∙◌, append_assoc, append-nil, arith}
-use Rattle.std.proofs.lemmas.List.{drop-take}
-use Rattle.std.proofs.Math.Seq.{take-append_seam}
-use Rattle.replay_theory.specs.Report.{report, report_line, totals_text}
-use Rattle.replay_theory.specs.Replay.{answer_of}
-use Rattle.replay_theory.specs.Totals.{totals_after}
+use Rattle.std.proofs.Common.{◌≡◌, ◌≤◌, ℕ, ◌+◌, ◌-◌, List, [], ◌∷◌, ◌++◌, length, take, drop, refl, sym, ap, ◌∙◌, append_assoc, append-nil}
+use Rattle.std.proofs.{Common.{arith}, Math.Seq.{take-append_seam}, lemmas.List.{drop-take}}
+use Rattle.replay_theory.specs.{Replay.{answer_of}, Report.{report, report_line, totals_text}, Totals.{totals_after}}
 use Rattle.trace_event.specs.declared.event.Event.{Event}
-use Rattle.replay_core.specs.ReplayState.{Stored, first_stored, lines_of, stored_after, stored_of}
 use Rattle.replay_core.proofs.LawLemmas.{lines_of_none, lines_of_one_more, report_is_lines_and_totals, stored_of_none, stored_of_one_more}
+use Rattle.replay_core.specs.ReplayState.{Stored, first_stored, lines_of, stored_after, stored_of}
 use Rattle.class_table.specs.Layout.{Partition}
 use Rattle.mte_engine.specs.ReportFrom.{report_from}
 

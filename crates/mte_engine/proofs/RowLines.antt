@@ -1,15 +1,11 @@
 -- The lines of the rows of a sheet or a fit, one after the other.
 use Rattle.std.proofs.Common.{◌≡◌, ℕ, ◌+◌, ◌≤◌, Bool, List, [], ◌++◌, codes, drop, length, Some, append_assoc, arith, slice_get}
-use Rattle.std.proofs.lemmas.List.Elements.{All-weaker}
-use Rattle.class_table.specs.NamedLines.{named_line}
-use Rattle.class_table.specs.declared.sizes.TheConstants.{MOST_NEEDS}
+use Rattle.std.proofs.lemmas.{Grind.{common_steps}, List.Elements.{All-weaker}}
+use Rattle.class_table.specs.{NamedLines.{named_line}, declared.sizes.TheConstants.{MOST_NEEDS}}
 use Rattle.line_text.specs.Lines.{ended}
-use Rattle.potential_check.specs.declared.cost.Cost.{Cost}
-use Rattle.std.proofs.lemmas.Grind.{common_steps}
-use Rattle.potential_check.specs.SheetText.{text_by}
+use Rattle.potential_check.specs.{SheetText.{text_by}, declared.cost.Cost.{Cost}}
 use Rattle.tuner_theory.specs.Rows.{HasShape}
-use Rattle.mte_engine.specs.RowLines.{AreShort, row_lines}
-use Rattle.mte_engine.proofs.InFront.{in_front}
+use Rattle.mte_engine.{proofs.InFront.{in_front}, specs.RowLines.{AreShort, row_lines}}
 
 -- the line of one row more was written
 pub line_written : (before after : List ℕ) (rows : List (List ℕ)) (i : ℕ) (row : List ℕ) → slice_get rows i ≡ Some row

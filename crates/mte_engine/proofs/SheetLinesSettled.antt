@@ -1,14 +1,11 @@
 -- Which lines of a text are its sheet depends only on these lines and the one after them.
-use Rattle.std.proofs.Common.{◌≡◌, ℕ, zero, suc, ◌+◌, ◌-◌, ◌<◌, ◌≤◌, Bool, true, false, All, List, [], ◌∷◌, ◌++◌, length, take, drop, get_or, codes, refl, sym, ap, ◌∙◌, arith, length-append}
-use Rattle.std.specs.List.{prefix_len, take_while}
-use Rattle.std.proofs.lemmas.Bool.{false≢true}
-use Rattle.std.proofs.lemmas.List.{drop-append-le, drop-take, get_or_append_left, get_or-take, length-drop, length-take, take-append-le, take-take}
-use Rattle.std.proofs.lemmas.List.Folds.{length-prefix_len}
-use Rattle.std.proofs.lemmas.List.Elements.{All-append, All-drop, All-take}
-use Rattle.std.proofs.lemmas.List.Sums.{prefix_len-le-length, take_while-cons}
+use Rattle.std.proofs.Common.{◌≡◌, ℕ, zero, suc, ◌+◌, ◌-◌, ◌<◌, ◌≤◌, Bool, true, false, All, List, [], ◌∷◌, ◌++◌, length, take, drop}
+use Rattle.std.proofs.{Common.{get_or, codes, refl, sym, ap, ◌∙◌, arith, length-append}, lemmas.Bool.{false≢true}}
+use Rattle.std.proofs.lemmas.List.{take-take, drop-append-le, drop-take, get_or_append_left, get_or-take, length-drop, length-take}
+use Rattle.std.proofs.lemmas.{List.{take-append-le}, List.Elements.{All-append, All-drop, All-take}, List.Folds.{length-prefix_len}}
+use Rattle.std.{proofs.lemmas.List.Sums.{prefix_len-le-length, take_while-cons}, specs.List.{prefix_len, take_while}}
 use Rattle.line_text.specs.Lines.{IsLine}
-use Rattle.potential_check.specs.Leading.{head_size, head_size_from, is_row_line, leading_lines}
-use Rattle.potential_check.specs.SheetText.{is_named}
+use Rattle.potential_check.specs.{Leading.{head_size, head_size_from, is_row_line, leading_lines}, SheetText.{is_named}}
 
 -- ---- lists that begin alike
 

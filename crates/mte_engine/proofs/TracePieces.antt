@@ -1,29 +1,20 @@
 -- What the engines over traces keep, piece by piece and at the end, by the laws of a trace in pieces.
-use Rattle.std.proofs.Common.{◌≡◌, ℕ, ◌+◌, ◌≤◌, List, [], ◌∷◌, ◌++◌, length, Option, Some, None, Ok, Err, refl, sym, ap, ◌∙◌, arith, append-nil}
-use Rattle.std.proofs.lemmas.List.{length-append}
-use Rattle.std.proofs.lemmas.List.Elements.{filter_map-append}
-use Rattle.replay_theory.specs.Losses.{requested_sizes}
-use Rattle.replay_theory.specs.Totals.{request_size}
+use Rattle.std.proofs.Common.{◌≡◌, ℕ, ◌+◌, ◌≤◌, List, [], ◌∷◌, ◌++◌, length, Option, Some, None, Ok, Err, refl, sym, ap, ◌∙◌, arith}
+use Rattle.std.proofs.{Common.{append-nil}, lemmas.List.{length-append}, lemmas.List.Elements.{filter_map-append}}
+use Rattle.replay_theory.specs.{Losses.{requested_sizes}, Totals.{request_size}}
 use Rattle.trace_event.specs.declared.event.Event.{Event}
-use Rattle.profile_count.specs.Counts.{nothing_counted}
-use Rattle.profile_count.specs.ProfileText.{profile_text}
+use Rattle.profile_count.{proofs.LawLemmas.{added_requests_are_counted}, specs.Counts.{nothing_counted}, specs.ProfileText.{profile_text}}
 use Rattle.profile_count.specs.Requests.{profile_of_sizes}
-use Rattle.profile_count.proofs.LawLemmas.{added_requests_are_counted}
+use Rattle.trace_reader.proofs.LawLemmas.{events_are_few, fed_after_events, finished_after_events, one_piece_is_the_text, pieces_are_joined}
+use Rattle.trace_reader.{proofs.LawLemmas.{pieces_have_few_events}, specs.Reading.State.{Failed, Finished}}
 use Rattle.trace_reader.specs.Reading.{Reading, State, added, cut, ended_state, fed, finished, nothing_read, whole_reading}
-use Rattle.trace_reader.specs.Reading.State.{Failed, Finished}
-use Rattle.trace_reader.specs.TraceText.{Trace, trace_from, trace_of}
-use Rattle.trace_reader.specs.declared.fault.TraceError.TheVariants.{Line}
+use Rattle.trace_reader.specs.{TraceText.{Trace, trace_from, trace_of}, declared.fault.TraceError.TheVariants.{Line}}
 use Rattle.trace_reader.specs.declared.fault.TraceFault.{TraceFault}
-use Rattle.trace_reader.proofs.LawLemmas.{events_are_few, fed_after_events, finished_after_events, one_piece_is_the_text, pieces_are_joined, pieces_have_few_events}
 use Rattle.tuner_theory.specs.Profiles.{Profile as Counted}
-use Rattle.mte_engine.specs.Outcome.{GivesFault}
-use Rattle.mte_engine.specs.Profile.{ProfileAnswers, profile_answer}
-use Rattle.mte_engine.specs.Traces.{HasEnded, KeepsCounts, profile_of_events, trace_part}
-use Rattle.mte_engine.specs.declared.engine.Status.TheVariants.{Done}
-use Rattle.mte_engine.specs.declared.fault.AnswerError.{AnswerError}
-use Rattle.mte_engine.specs.declared.fault.AnswerError.TheVariants.{OutOfMemory, Input}
+use Rattle.mte_engine.{proofs.Counting.{length-requested_sizes}, specs.Outcome.{GivesFault}, specs.Profile.{ProfileAnswers, profile_answer}}
+use Rattle.mte_engine.specs.{Traces.{HasEnded, KeepsCounts, profile_of_events, trace_part}, declared.engine.Status.TheVariants.{Done}}
+use Rattle.mte_engine.specs.declared.fault.{AnswerError.{AnswerError}, AnswerError.TheVariants.{OutOfMemory, Input}}
 use Rattle.mte_engine.specs.declared.fault.InputFault.{InputFault}
-use Rattle.mte_engine.proofs.Counting.{length-requested_sizes}
 
 -- nothing was taken yet
 pub nothing_fed : fed nothing_read [] ≡ nothing_read

@@ -1,22 +1,14 @@
 -- From the two parts of an input, in one text or in two, to the answer.
 use Rattle.std.proofs.Common.{◌≡◌, ℕ, Bool, true, false, MatchBool, List, [], ◌∷◌, drop, take, Result, Ok, Err, refl, slice_index_or}
-use Rattle.history_count.specs.Histories.{History}
-use Rattle.history_count.specs.HistoryText.{history_of_lines}
-use Rattle.history_count.specs.Timelines.TimelineText.{timeline_of_lines}
+use Rattle.history_count.specs.{Histories.{History}, HistoryText.{history_of_lines}, Timelines.TimelineText.{timeline_of_lines}}
 use Rattle.line_text.specs.Lines.{lines, words}
-use Rattle.class_table.specs.ClassLine.{table_of_line}
-use Rattle.class_table.specs.declared.fault.TableError.TheVariants.{BadLine}
+use Rattle.class_table.specs.{ClassLine.{table_of_line}, declared.fault.TableError.TheVariants.{BadLine}}
 use Rattle.tuner_theory.specs.declared.size_event.SizeEvent.{SizeEvent}
-use Rattle.mte_engine.specs.CountsInput.{IsLineAndRest}
-use Rattle.mte_engine.specs.Footprint.{MeasuresParts, measured}
+use Rattle.mte_engine.specs.{CountsInput.{IsLineAndRest}, Footprint.{MeasuresParts, measured}, Outcome.{Answer, GivesAnswer, GivesFault}}
 use Rattle.mte_engine.specs.FootprintOver.{FootprintEitherAnswers, IsMeasuredOver, MeasuresCounts, MeasuresEitherParts, MeasuresOverParts}
-use Rattle.mte_engine.specs.Outcome.{Answer, GivesAnswer, GivesFault}
 use Rattle.mte_engine.specs.Parts.{AnswersPart, EndsPart, GivesPart, alone, both_parts, class_part, history_part, table_part, timeline_part}
-use Rattle.mte_engine.specs.Timelines.{begins_timeline}
-use Rattle.mte_engine.specs.declared.engine.Status.{Status}
-use Rattle.mte_engine.specs.declared.fault.AnswerError.{AnswerError}
-use Rattle.mte_engine.specs.declared.fault.AnswerError.TheVariants.{OutOfMemory, Input}
-use Rattle.mte_engine.specs.declared.fault.InputFault.{InputFault}
+use Rattle.mte_engine.specs.{Timelines.{begins_timeline}, declared.engine.Status.{Status}, declared.fault.AnswerError.{AnswerError}}
+use Rattle.mte_engine.specs.declared.fault.{AnswerError.TheVariants.{OutOfMemory, Input}, InputFault.{InputFault}}
 use Rattle.mte_engine.specs.declared.fault.InputFault.TheVariants.{Table}
 
 -- ---- a part that no line follows in its text

@@ -1,22 +1,13 @@
 -- The answers of each call's engine, to one text and to two.
 use Rattle.std.specs.Prelude.{ℕ, ◌==◌, List, Result}
-use Rattle.mte_engine.specs.Check.{CheckAnswers}
-use Rattle.mte_engine.specs.CheckFitOver.{CheckFitEitherAnswers}
-use Rattle.mte_engine.specs.FitOver.{FitEitherAnswers}
-use Rattle.mte_engine.specs.FootprintOver.{FootprintEitherAnswers}
-use Rattle.mte_engine.specs.Outcome.{Answer}
-use Rattle.mte_engine.specs.Peaks.{PeaksAnswers}
-use Rattle.mte_engine.specs.Profile.{ProfileAnswers}
-use Rattle.mte_engine.specs.Replay.{ReplayAnswers, ReplayOnAnswers}
-use Rattle.mte_engine.specs.Run.{RunAnswers}
-use Rattle.mte_engine.specs.Score.{ScoreAnswers}
-use Rattle.mte_engine.specs.Tune.{TuneAnswers}
-use Rattle.mte_engine.specs.TwoTexts.{answers_beside_blocks, answers_beside_profile}
-use Rattle.mte_engine.specs.declared.fault.InputFault.{InputFault}
-use Rattle.mte_engine.specs.declared.two_texts.BlocksCommand.TheVariants as blocks
-use Rattle.mte_engine.specs.declared.two_texts.ProfileCommand.TheVariants as profile
+use Rattle.mte_engine.specs.{Check.{CheckAnswers}, CheckFitOver.{CheckFitEitherAnswers}, FitOver.{FitEitherAnswers}, Outcome.{Answer}}
+use Rattle.mte_engine.specs.{FootprintOver.{FootprintEitherAnswers}, Peaks.{PeaksAnswers}, Profile.{ProfileAnswers}, Run.{RunAnswers}}
+use Rattle.mte_engine.specs.{Replay.{ReplayAnswers, ReplayOnAnswers}, Score.{ScoreAnswers}, Tune.{TuneAnswers}}
+use Rattle.mte_engine.specs.{TwoTexts.{answers_beside_blocks, answers_beside_profile}, declared.fault.InputFault.{InputFault}}
 use Rattle.tool_call.specs.declared.call.Call.{Call}
 use Rattle.tool_call.specs.declared.call.Call.TheVariants.{Score, Tune, Check, Footprint, Fit, CheckFit, Peaks, Profile, Replay, Run}
+use Rattle.mte_engine.specs.declared.two_texts.BlocksCommand.TheVariants as blocks
+use Rattle.mte_engine.specs.declared.two_texts.ProfileCommand.TheVariants as profile
 
 abbrev pub answers_of : Call → List ℕ → Result Answer InputFault → Type 0
 answers_of Score = ScoreAnswers

@@ -1,21 +1,13 @@
 -- The answers of `check`: the verdict on the sheet at the start of its input, for the profile after it.
 use Rattle.std.specs.Prelude.{◌≡◌, ℕ, List, [], ◌++◌, codes, length, Result}
 use Rattle.line_text.specs.Lines.{lines, ended}
-use Rattle.potential_check.specs.declared.cost.Cost.TheVariants.{Waste}
-use Rattle.potential_check.specs.Leading.{leading_lines, lines_after}
+use Rattle.potential_check.specs.{Leading.{leading_lines, lines_after}, declared.cost.Cost.TheVariants.{Waste}}
 use Rattle.profile_count.specs.ProfileText.{profile_of_lines}
-use Rattle.tuner_theory.specs.Best.{IsBest}
-use Rattle.tuner_theory.specs.Served.{served}
-use Rattle.tuner_theory.specs.Sheets.{IsVerdict, Sheet}
-use Rattle.tuner_theory.specs.RefusalText.{shown_refusal}
-use Rattle.tuner_theory.specs.Profiles.{Profile as Counted}
-use Rattle.tuner_theory.specs.declared.verdict.Refusal.{Refusal}
-use Rattle.tuner_theory.specs.declared.verdict.Verdict.{Verdict}
+use Rattle.tuner_theory.specs.{Best.{IsBest}, Profiles.{Profile as Counted}, RefusalText.{shown_refusal}, Served.{served}}
+use Rattle.tuner_theory.specs.{Sheets.{IsVerdict, Sheet}, declared.verdict.Refusal.{Refusal}, declared.verdict.Verdict.{Verdict}}
 use Rattle.tuner_theory.specs.declared.verdict.Verdict.TheVariants.{Optimal, Refused}
-use Rattle.mte_engine.specs.Outcome.{Answer}
-use Rattle.mte_engine.specs.Parts.{AnswersPart, both_parts, profile_part, whole_sheet_part}
-use Rattle.mte_engine.specs.declared.engine.Status.TheVariants.{Done, No}
-use Rattle.mte_engine.specs.declared.fault.InputFault.{InputFault}
+use Rattle.mte_engine.specs.{Outcome.{Answer}, Parts.{AnswersPart, both_parts, profile_part, whole_sheet_part}}
+use Rattle.mte_engine.specs.declared.{engine.Status.TheVariants.{Done, No}, fault.InputFault.{InputFault}}
 
 -- `optimal`, or `refused` and what is shown of the refusal, with the status of a no.
 abbrev pub verdict_text_by : (Refusal → List ℕ) → Verdict → Answer

@@ -1,18 +1,11 @@
 -- The answers of `check-fit`: the verdict on the fit at the start of its input, for the history after it.
 use Rattle.std.specs.Prelude.{◌≡◌, ℕ, List, [], length, Result}
-use Rattle.history_count.specs.Histories.{History}
-use Rattle.history_count.specs.HistoryText.{history_of_lines}
+use Rattle.history_count.specs.{Histories.{History}, HistoryText.{history_of_lines}}
 use Rattle.line_text.specs.Lines.{lines}
-use Rattle.potential_check.specs.declared.cost.Cost.TheVariants.{Footprint}
-use Rattle.potential_check.specs.Leading.{leading_lines, lines_after}
-use Rattle.tuner_theory.specs.Sheets.{IsFitVerdict, Sheet}
-use Rattle.tuner_theory.specs.Footprint.{IsLeastFootprint}
-use Rattle.tuner_theory.specs.RefusalText.{shown_fit_refusal}
-use Rattle.tuner_theory.specs.declared.verdict.Verdict.{Verdict}
-use Rattle.tuner_theory.specs.declared.verdict.Verdict.TheVariants.{Optimal}
-use Rattle.mte_engine.specs.Check.{verdict_text_by}
-use Rattle.mte_engine.specs.Outcome.{Answer}
-use Rattle.mte_engine.specs.Parts.{AnswersPart, both_parts, history_part, whole_sheet_part}
+use Rattle.potential_check.specs.{Leading.{leading_lines, lines_after}, declared.cost.Cost.TheVariants.{Footprint}}
+use Rattle.tuner_theory.specs.{Footprint.{IsLeastFootprint}, RefusalText.{shown_fit_refusal}, Sheets.{IsFitVerdict, Sheet}}
+use Rattle.tuner_theory.specs.declared.verdict.{Verdict.{Verdict}, Verdict.TheVariants.{Optimal}}
+use Rattle.mte_engine.specs.{Check.{verdict_text_by}, Outcome.{Answer}, Parts.{AnswersPart, both_parts, history_part, whole_sheet_part}}
 use Rattle.mte_engine.specs.declared.fault.InputFault.{InputFault}
 
 -- The verdict on a fit for a history. `optimal` is written only where no table in question takes less.

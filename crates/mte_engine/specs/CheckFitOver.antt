@@ -1,24 +1,17 @@
 -- The answers of `check-fit` to an input with a timeline: the verdict on the fit at the start of its input, with the moments that it names,
 -- for the timeline after it.
-use Rattle.std.specs.Prelude.{◌≡◌, ℕ, ◌+◌, Bool, false, List, [], ◌∷◌, ◌++◌, codes, drop, length, take, MatchBool, Option, Some, None, Result, Ok, Err}
+use Rattle.std.specs.Prelude.{◌≡◌, ℕ, ◌+◌, Bool, false, List, [], ◌∷◌, ◌++◌, codes, drop, length, take, MatchBool, Option, Some, None}
+use Rattle.std.specs.Prelude.{Result, Ok, Err}
 use Rattle.line_text.specs.Lines.{ended, lines}
-use Rattle.potential_check.specs.SheetText.{fit_of_lines}
-use Rattle.potential_check.specs.declared.cost.Cost.TheVariants.{Footprint}
-use Rattle.potential_check.specs.Leading.{leading_lines, lines_after}
-use Rattle.potential_check.specs.Footprints.Timelines.MomentsLine.{moments_of, names_moments}
-use Rattle.potential_check.specs.Footprints.Timelines.RefusalText.{shown_over_refusal}
-use Rattle.potential_check.specs.Footprints.Timelines.Verdicts.{IsOverVerdict}
+use Rattle.potential_check.specs.Footprints.Timelines.{MomentsLine.{moments_of, names_moments}, RefusalText.{shown_over_refusal}}
+use Rattle.potential_check.specs.{Footprints.Timelines.Verdicts.{IsOverVerdict}, Leading.{leading_lines, lines_after}}
+use Rattle.potential_check.specs.{SheetText.{fit_of_lines}, declared.cost.Cost.TheVariants.{Footprint}}
 use Rattle.potential_check.specs.declared.footprints.timelines.verdict.OverVerdict.{OverVerdict}
 use Rattle.potential_check.specs.declared.footprints.timelines.verdict.OverVerdict.TheVariants.{Optimal, Refused}
 use Rattle.history_count.specs.Timelines.TimelineText.{timeline_of_lines}
-use Rattle.tuner_theory.specs.Sheets.{Sheet}
-use Rattle.tuner_theory.specs.Timelines.{IsLeastOver}
-use Rattle.tuner_theory.specs.declared.size_event.SizeEvent.{SizeEvent}
-use Rattle.mte_engine.specs.CheckFit.{CheckFitAnswers, ChecksFitParts}
-use Rattle.mte_engine.specs.Outcome.{Answer}
-use Rattle.mte_engine.specs.Parts.{AnswersPart, alone, both_parts, sheet_part, timeline_part}
-use Rattle.mte_engine.specs.declared.engine.Status.TheVariants.{Done, No}
-use Rattle.mte_engine.specs.declared.fault.InputFault.{InputFault}
+use Rattle.tuner_theory.specs.{Sheets.{Sheet}, Timelines.{IsLeastOver}, declared.size_event.SizeEvent.{SizeEvent}}
+use Rattle.mte_engine.specs.{CheckFit.{CheckFitAnswers, ChecksFitParts}, Outcome.{Answer}, declared.engine.Status.TheVariants.{Done, No}}
+use Rattle.mte_engine.specs.{Parts.{AnswersPart, alone, both_parts, sheet_part, timeline_part}, declared.fault.InputFault.{InputFault}}
 use Rattle.mte_engine.specs.declared.fault.InputFault.TheVariants.{BadFit}
 
 abbrev pub over_verdict_text : OverVerdict → Answer

@@ -1,15 +1,10 @@
 -- An input that is a timeline or another text: what is kept of it, and what it is in the end.
 use Rattle.std.specs.Prelude.{◌≡◌, ℕ, Bool, true, false, List, [], ◌∷◌, ◌++◌, drop, Result, Ok, Err, slice_index_or, ⊤}
-use Rattle.history_count.specs.Timelines.Pieces.{IsReadingOf, Reading, nothing_read}
-use Rattle.history_count.specs.Timelines.TimelineText.{head_line, timeline_of}
+use Rattle.history_count.specs.Timelines.{Pieces.{IsReadingOf, Reading, nothing_read}, TimelineText.{head_line, timeline_of}}
 use Rattle.line_text.specs.Lines.{IsLine, ended, lines}
-use Rattle.mte_engine.specs.Parts.{timeline_part}
-use Rattle.mte_engine.specs.Timelines.{begins_timeline}
-use Rattle.mte_engine.specs.declared.counts_input.CountsInput.{CountsInput}
-use Rattle.mte_engine.specs.declared.counts_input.Counts.{Counts}
-use Rattle.mte_engine.specs.declared.counts_input.Counts.TheVariants.{Timeline, Text}
-use Rattle.mte_engine.specs.declared.fault.AnswerError.{AnswerError}
-use Rattle.mte_engine.specs.declared.fault.AnswerError.TheVariants.{OutOfMemory, Input}
+use Rattle.mte_engine.specs.{Parts.{timeline_part}, Timelines.{begins_timeline}, declared.counts_input.Counts.{Counts}}
+use Rattle.mte_engine.specs.declared.counts_input.{Counts.TheVariants.{Timeline, Text}, CountsInput.{CountsInput}}
+use Rattle.mte_engine.specs.declared.fault.{AnswerError.{AnswerError}, AnswerError.TheVariants.{OutOfMemory, Input}}
 
 -- What is kept of the bytes taken so far: the bytes; or what was read of the timeline that they begin.
 abbrev pub KeepsTimelineOr : Bool → Reading → List ℕ → List ℕ → Type 0

@@ -1,17 +1,11 @@
 -- In which line of an input a fault is. Lines are counted from 1.
 use Rattle.std.specs.Prelude.{◌≡◌, ℕ, List, Option, Some, None, drop}
-use Rattle.line_text.specs.FirstFault.{IsFirstFault}
-use Rattle.line_text.specs.Lines.{lines, text_of}
+use Rattle.line_text.specs.{FirstFault.{IsFirstFault}, Lines.{lines, text_of}}
 use Rattle.class_table.specs.ClassLine.{BeginsWithTable}
-use Rattle.history_count.specs.Histories.{History as CountedHistory}
-use Rattle.history_count.specs.HistoryText.{SpellsHistory}
-use Rattle.potential_check.specs.Leading.{leading_lines, lines_after}
-use Rattle.potential_check.specs.SheetText.{SpellsFit, SpellsSheet}
+use Rattle.history_count.specs.{Histories.{History as CountedHistory}, HistoryText.{SpellsHistory}, Timelines.TimelineText.{SpellsTimeline}}
+use Rattle.potential_check.specs.{Leading.{leading_lines, lines_after}, SheetText.{SpellsFit, SpellsSheet}}
 use Rattle.profile_count.specs.ProfileText.{SpellsProfile}
-use Rattle.history_count.specs.Timelines.TimelineText.{SpellsTimeline}
-use Rattle.tuner_theory.specs.Sheets.{Sheet}
-use Rattle.tuner_theory.specs.Profiles.{Profile as Counted}
-use Rattle.tuner_theory.specs.declared.size_event.SizeEvent.{SizeEvent}
+use Rattle.tuner_theory.specs.{Profiles.{Profile as Counted}, Sheets.{Sheet}, declared.size_event.SizeEvent.{SizeEvent}}
 use Rattle.mte_engine.specs.declared.fault.InputFault.{InputFault}
 use Rattle.mte_engine.specs.declared.fault.InputFault.TheVariants.{TooLong, Table, BadSheet, BadFit, Profile, History, Timeline, Trace}
 

@@ -1,14 +1,11 @@
 -- How a fault is shown: by its code and its name, and by its line where it has one.
-use Rattle.std.specs.Prelude.{ℕ, List, ◌++◌, codes}
-use Rattle.std.specs.Fmt.{decimal}
+use Rattle.std.specs.{Fmt.{decimal}, Prelude.{ℕ, List, ◌++◌, codes}}
 use Rattle.class_table.specs.FaultText.{shown_table_error}
-use Rattle.history_count.specs.FaultText.{shown_history_fault}
+use Rattle.history_count.specs.{FaultText.{shown_history_fault}, Timelines.FaultText.{shown_timeline_fault}}
 use Rattle.profile_count.specs.FaultText.{shown_profile_fault}
-use Rattle.history_count.specs.Timelines.FaultText.{shown_timeline_fault}
 use Rattle.trace_reader.specs.FaultText.{shown_trace_fault}
-use Rattle.mte_engine.specs.declared.fault.InputFault.{InputFault}
+use Rattle.mte_engine.specs.declared.fault.{InputFault.{InputFault}, ToolFault.{ToolFault}}
 use Rattle.mte_engine.specs.declared.fault.InputFault.TheVariants.{TooLong, Table, BadSheet, BadFit, Profile, History, Timeline, Trace}
-use Rattle.mte_engine.specs.declared.fault.ToolFault.{ToolFault}
 use Rattle.mte_engine.specs.declared.fault.ToolFault.TheVariants.{OutOfMemory, Input, ReadFault, WriteFault}
 
 -- A fault in a line of the input.

@@ -1,13 +1,10 @@
 -- The answers of `fit`: the table of least footprint over a history, with its certificate.
 use Rattle.std.specs.Prelude.{◌≡◌, ℕ, Bool, List, Result, Ok, Err}
 use Rattle.class_tuner.specs.Fits.Fitted.{IsFitOf}
-use Rattle.history_count.specs.Histories.{History}
-use Rattle.history_count.specs.HistoryText.{history_of}
+use Rattle.history_count.specs.{Histories.{History}, HistoryText.{history_of}}
 use Rattle.potential_check.specs.SheetText.{fit_text}
 use Rattle.tuner_theory.specs.Sheets.{Sheet}
-use Rattle.mte_engine.specs.Outcome.{Answer}
-use Rattle.mte_engine.specs.Parts.{history_part}
-use Rattle.mte_engine.specs.declared.engine.Status.TheVariants.{Done}
+use Rattle.mte_engine.specs.{Outcome.{Answer}, Parts.{history_part}, declared.engine.Status.TheVariants.{Done}}
 use Rattle.mte_engine.specs.declared.fault.InputFault.{InputFault}
 
 -- The text of the fit of a history, a limit and a step, and whether the largest class is forced.

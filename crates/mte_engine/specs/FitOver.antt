@@ -1,20 +1,13 @@
 -- The answers of `fit` to a timeline: the table of least footprint over every moment, with its certificate; or a table and a bound.
 use Rattle.std.specs.Prelude.{◌≡◌, ◌⊎◌, ◌≤◌, ℕ, Bool, List, [], ◌∷◌, ◌++◌, codes, MatchBool, Result, Ok, Err}
-use Rattle.class_table.specs.ClassLine.{class_line}
-use Rattle.class_table.specs.NamedLines.{named_line}
+use Rattle.class_table.specs.{ClassLine.{class_line}, NamedLines.{named_line}}
 use Rattle.line_text.specs.Lines.{ended, lines, text_of}
-use Rattle.potential_check.specs.SheetText.{fit_text}
-use Rattle.potential_check.specs.Footprints.Timelines.MomentsLine.{moments_line}
+use Rattle.potential_check.specs.{Footprints.Timelines.MomentsLine.{moments_line}, SheetText.{fit_text}}
 use Rattle.history_count.specs.Timelines.TimelineText.{timeline_of}
 use Rattle.class_tuner.specs.Fits.Timelines.Found.{IsBetween, IsLeastFit}
-use Rattle.tuner_theory.specs.Sheets.{Sheet}
-use Rattle.tuner_theory.specs.declared.size_event.SizeEvent.{SizeEvent}
-use Rattle.mte_engine.specs.Fit.{FitAnswers}
-use Rattle.mte_engine.specs.Outcome.{Answer}
-use Rattle.mte_engine.specs.Parts.{timeline_part}
-use Rattle.mte_engine.specs.Timelines.{begins_timeline}
-use Rattle.mte_engine.specs.declared.engine.Status.TheVariants.{Done, No}
-use Rattle.mte_engine.specs.declared.fault.InputFault.{InputFault}
+use Rattle.tuner_theory.specs.{Sheets.{Sheet}, declared.size_event.SizeEvent.{SizeEvent}}
+use Rattle.mte_engine.specs.{Fit.{FitAnswers}, Outcome.{Answer}, Parts.{timeline_part}, Timelines.{begins_timeline}}
+use Rattle.mte_engine.specs.declared.{engine.Status.TheVariants.{Done, No}, fault.InputFault.{InputFault}}
 
 -- The text of a fit, and the line of its moments.
 abbrev pub least_text : Sheet → List ℕ → List ℕ

@@ -1,14 +1,10 @@
 -- The answers of `footprint`: what a table takes over a history, or the least counted size that the table doesn't serve.
 use Rattle.std.specs.Prelude.{◌≡◌, ℕ, List, codes, drop, take, Result}
-use Rattle.history_count.specs.Histories.{History}
-use Rattle.history_count.specs.HistoryText.{history_of_lines}
+use Rattle.history_count.specs.{Histories.{History}, HistoryText.{history_of_lines}}
 use Rattle.line_text.specs.Lines.{lines}
 use Rattle.profile_count.specs.Counts.{unserved_of}
-use Rattle.tuner_theory.specs.Footprint.{footprint_of}
-use Rattle.tuner_theory.specs.Histories.{peaks}
-use Rattle.mte_engine.specs.Outcome.{Answer}
-use Rattle.mte_engine.specs.Parts.{AnswersPart, both_parts, class_part, history_part}
-use Rattle.mte_engine.specs.Score.{named_or_unserved}
+use Rattle.tuner_theory.specs.{Footprint.{footprint_of}, Histories.{peaks}}
+use Rattle.mte_engine.specs.{Outcome.{Answer}, Parts.{AnswersPart, both_parts, class_part, history_part}, Score.{named_or_unserved}}
 use Rattle.mte_engine.specs.declared.fault.InputFault.{InputFault}
 
 abbrev pub measured : List ℕ → History → Answer

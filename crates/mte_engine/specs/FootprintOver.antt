@@ -3,19 +3,13 @@
 use Rattle.std.specs.Prelude.{◌≡◌, ◌⊎◌, ℕ, List, [], ◌∷◌, codes, drop, take, MatchBool, Result}
 use Rattle.class_table.specs.NamedLines.{named_line}
 use Rattle.line_text.specs.Lines.{ended, lines}
-use Rattle.history_count.specs.HistoryText.{history_of_lines}
-use Rattle.history_count.specs.Timelines.Requests.{IsLeastUnserved}
+use Rattle.history_count.specs.{HistoryText.{history_of_lines}, Timelines.Requests.{IsLeastUnserved}}
 use Rattle.history_count.specs.Timelines.TimelineText.{timeline_of_lines}
-use Rattle.tuner_theory.specs.Histories.{peaks}
-use Rattle.tuner_theory.specs.Timelines.{footprint_over, moments}
-use Rattle.tuner_theory.specs.Waste.{Serves}
+use Rattle.tuner_theory.specs.{Histories.{peaks}, Timelines.{footprint_over, moments}, Waste.{Serves}}
 use Rattle.tuner_theory.specs.declared.size_event.SizeEvent.{SizeEvent}
-use Rattle.mte_engine.specs.Footprint.{MeasuresParts, measured}
-use Rattle.mte_engine.specs.Outcome.{Answer}
+use Rattle.mte_engine.specs.{Footprint.{MeasuresParts, measured}, Outcome.{Answer}, Timelines.{begins_timeline}}
 use Rattle.mte_engine.specs.Parts.{AnswersPart, both_parts, class_part, history_part, timeline_part}
-use Rattle.mte_engine.specs.Timelines.{begins_timeline}
-use Rattle.mte_engine.specs.declared.engine.Status.TheVariants.{Done, No}
-use Rattle.mte_engine.specs.declared.fault.InputFault.{InputFault}
+use Rattle.mte_engine.specs.declared.{engine.Status.TheVariants.{Done, No}, fault.InputFault.{InputFault}}
 
 -- `footprint F` where the table serves each requested size; else `not serving N`, with the status of a no.
 pub record IsTakenText (table : List ℕ) (events : List SizeEvent) (answer : Answer) : Type 0 where

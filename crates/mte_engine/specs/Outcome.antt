@@ -1,15 +1,11 @@
 -- What an engine writes for an input, and how a call of it ends.
 use Rattle.std.specs.Prelude.{◌≡◌, ◌↔◌, ◌<◌, ◌≤◌, ℕ, List, ◌++◌, length, Result, Ok, Err, nat_lt, MatchBool, ⊤}
-use Rattle.byte_streams.specs.Transfer.{HasEnded, HasGiven, HasTaken, IsReadFewTimes, most_input}
-use Rattle.byte_streams.specs.Streams.{SinkState, SourceState}
-use Rattle.mte_engine.specs.declared.engine.Status.{Status}
-use Rattle.mte_engine.specs.declared.fault.AnswerError.{AnswerError}
-use Rattle.mte_engine.specs.declared.fault.AnswerError.TheVariants.{OutOfMemory as NoMemoryToAnswer, Input as Refused}
-use Rattle.mte_engine.specs.declared.fault.InputFault.{InputFault}
-use Rattle.mte_engine.specs.declared.fault.InputFault.TheVariants.{TooLong}
+use Rattle.byte_streams.specs.{Streams.{SinkState, SourceState}, Transfer.{HasEnded, HasGiven, HasTaken, IsReadFewTimes, most_input}}
 use Rattle.byte_streams.specs.declared.fault.ReadError.{ReadError}
 use Rattle.byte_streams.specs.declared.fault.ReadError.TheVariants.{OutOfMemory as NoMemoryToRead, TooLong as IsTooLong, Failed}
-use Rattle.mte_engine.specs.declared.fault.ToolFault.{ToolFault}
+use Rattle.mte_engine.specs.declared.{engine.Status.{Status}, fault.AnswerError.{AnswerError}, fault.InputFault.{InputFault}}
+use Rattle.mte_engine.specs.declared.fault.AnswerError.TheVariants.{OutOfMemory as NoMemoryToAnswer, Input as Refused}
+use Rattle.mte_engine.specs.declared.fault.{InputFault.TheVariants.{TooLong}, ToolFault.{ToolFault}}
 use Rattle.mte_engine.specs.declared.fault.ToolFault.TheVariants.{OutOfMemory, Input, ReadFault, WriteFault}
 
 -- ---- answers

@@ -1,24 +1,16 @@
 -- The parts of an input but a trace, which Traces.antt has. A fault has the number of its line in the whole input, counted from 1.
 use Rattle.std.specs.Prelude.{◌≡◌, ◌≢◌, ℕ, ◌+◌, ◌<◌, ◌^◌, List, [], ◌∷◌, drop, length, take, Result, Ok, Err, ⊤}
 use Rattle.line_text.specs.FirstFault.{◌>>=◌}
-use Rattle.class_table.specs.ClassLine.{table_of_line}
-use Rattle.class_table.specs.declared.fault.TableError.{TableError}
+use Rattle.class_table.specs.{ClassLine.{table_of_line}, declared.fault.TableError.{TableError}}
 use Rattle.class_table.specs.declared.fault.TableError.TheVariants.{BadLine}
-use Rattle.potential_check.specs.SheetText.{read_by}
-use Rattle.potential_check.specs.declared.cost.Cost.{Cost}
-use Rattle.potential_check.specs.declared.cost.Cost.TheVariants.{Waste, Footprint}
-use Rattle.history_count.specs.Histories.{History as CountedHistory}
-use Rattle.history_count.specs.declared.fault.HistoryFault.{HistoryFault}
-use Rattle.profile_count.specs.declared.fault.ProfileFault.{ProfileFault}
+use Rattle.potential_check.specs.{SheetText.{read_by}, declared.cost.Cost.{Cost}, declared.cost.Cost.TheVariants.{Waste, Footprint}}
+use Rattle.history_count.specs.{Histories.{History as CountedHistory}, declared.fault.HistoryFault.{HistoryFault}}
 use Rattle.history_count.specs.declared.timelines.fault.TimelineFault.{TimelineFault}
-use Rattle.tuner_theory.specs.Sheets.{Sheet}
-use Rattle.tuner_theory.specs.Profiles.{Profile as Counted}
-use Rattle.tuner_theory.specs.declared.size_event.SizeEvent.{SizeEvent}
-use Rattle.mte_engine.specs.Outcome.{Answer}
-use Rattle.mte_engine.specs.declared.fault.InputFault.{InputFault}
-use Rattle.mte_engine.specs.declared.fault.InputFault.TheVariants.{Table, BadSheet, BadFit, Profile, History, Timeline}
-use Rattle.mte_engine.specs.declared.fault.AnswerError.{AnswerError}
+use Rattle.profile_count.specs.declared.fault.ProfileFault.{ProfileFault}
+use Rattle.tuner_theory.specs.{Profiles.{Profile as Counted}, Sheets.{Sheet}, declared.size_event.SizeEvent.{SizeEvent}}
+use Rattle.mte_engine.specs.{Outcome.{Answer}, declared.fault.AnswerError.{AnswerError}, declared.fault.InputFault.{InputFault}}
 use Rattle.mte_engine.specs.declared.fault.AnswerError.TheVariants.{OutOfMemory, Input}
+use Rattle.mte_engine.specs.declared.fault.InputFault.TheVariants.{Table, BadSheet, BadFit, Profile, History, Timeline}
 
 -- The lines before a part are few enough for the number of each line in it to fit 64 bits.
 abbrev pub AreFewLines : ℕ → Type 0

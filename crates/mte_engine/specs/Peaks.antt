@@ -2,18 +2,11 @@
 use Rattle.std.specs.Prelude.{◌≡◌, ◌⊎◌, ℕ, List, [], ◌∷◌, codes, drop, take, Result}
 use Rattle.class_table.specs.NamedLines.{named_line}
 use Rattle.line_text.specs.Lines.{lines, text_of}
-use Rattle.history_count.specs.Timelines.LiveBlocks.{AreFirsts, most_blocks}
-use Rattle.history_count.specs.Timelines.TablePeaks.{live_bytes, most_freed}
+use Rattle.history_count.specs.Timelines.{LiveBlocks.{AreFirsts, most_blocks}, TablePeaks.{live_bytes, most_freed}}
 use Rattle.history_count.specs.Timelines.TimelineText.{timeline_of_lines}
-use Rattle.tuner_theory.specs.Histories.{most, peaks}
-use Rattle.tuner_theory.specs.Timelines.{moments}
-use Rattle.tuner_theory.specs.Waste.{Serves}
-use Rattle.tuner_theory.specs.declared.size_event.SizeEvent.{SizeEvent}
-use Rattle.mte_engine.specs.FootprintOver.{IsUnservedText}
-use Rattle.mte_engine.specs.Outcome.{Answer}
-use Rattle.mte_engine.specs.Parts.{AnswersPart, both_parts, class_part, timeline_part}
-use Rattle.mte_engine.specs.declared.engine.Status.TheVariants.{Done}
-use Rattle.mte_engine.specs.declared.fault.InputFault.{InputFault}
+use Rattle.tuner_theory.specs.{Histories.{most, peaks}, Timelines.{moments}, Waste.{Serves}, declared.size_event.SizeEvent.{SizeEvent}}
+use Rattle.mte_engine.specs.{FootprintOver.{IsUnservedText}, Outcome.{Answer}, Parts.{AnswersPart, both_parts, class_part, timeline_part}}
+use Rattle.mte_engine.specs.declared.{engine.Status.TheVariants.{Done}, fault.InputFault.{InputFault}}
 
 -- For each class the most of its live blocks, and the first moment of so many; of all together the most live bytes, and the most freed blocks.
 abbrev pub peak_lines : List ℕ → List ℕ → ℕ → ℕ → List (List ℕ)

@@ -4,9 +4,7 @@ use Rattle.line_text.specs.FirstFault.{◌>>=◌}
 use Rattle.trace_event.specs.declared.event.Event.{Event}
 use Rattle.profile_count.specs.ProfileText.{profile_text}
 use Rattle.trace_reader.specs.TraceText.{trace_of}
-use Rattle.mte_engine.specs.Outcome.{Answer}
-use Rattle.mte_engine.specs.Traces.{profile_of_events, trace_part}
-use Rattle.mte_engine.specs.declared.engine.Status.TheVariants.{Done}
+use Rattle.mte_engine.specs.{Outcome.{Answer}, Traces.{profile_of_events, trace_part}, declared.engine.Status.TheVariants.{Done}}
 use Rattle.mte_engine.specs.declared.fault.InputFault.{InputFault}
 
 abbrev pub profiled : List Event → Answer

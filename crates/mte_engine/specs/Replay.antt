@@ -1,16 +1,11 @@
 -- The answers of `replay`: the report on a trace, replayed on the heap over a class table.
 use Rattle.std.specs.Prelude.{◌≡◌, ℕ, List, drop, take, Result, Ok}
-use Rattle.line_text.specs.FirstFault.{◌>>=◌}
-use Rattle.line_text.specs.Lines.{lines}
+use Rattle.line_text.specs.{FirstFault.{◌>>=◌}, Lines.{lines}}
 use Rattle.replay_theory.specs.Report.{report}
 use Rattle.trace_event.specs.declared.event.Event.{Event}
-use Rattle.heap_theory.specs.Config.{layout_for}
-use Rattle.heap_theory.specs.declared.config.Config.{Config}
+use Rattle.heap_theory.specs.{Config.{layout_for}, declared.config.Config.{Config}}
 use Rattle.trace_reader.specs.TraceText.{trace_from}
-use Rattle.mte_engine.specs.Outcome.{Answer}
-use Rattle.mte_engine.specs.Parts.{class_part}
-use Rattle.mte_engine.specs.Traces.{trace_part}
-use Rattle.mte_engine.specs.declared.engine.Status.TheVariants.{Done}
+use Rattle.mte_engine.specs.{Outcome.{Answer}, Parts.{class_part}, Traces.{trace_part}, declared.engine.Status.TheVariants.{Done}}
 use Rattle.mte_engine.specs.declared.fault.InputFault.{InputFault}
 
 -- The report on the events of a trace, on the heap that is set up so for this table.

@@ -1,7 +1,6 @@
 -- What is still to be reported in a replay.
 use Rattle.std.specs.Prelude.{ℕ, ◌+◌, ◌≤◌, ◌^◌, Bool, true, false, List, [], ◌∷◌, ◌++◌, length}
-use Rattle.replay_theory.specs.Report.{report_line, totals_text}
-use Rattle.replay_theory.specs.Replay.{answer_of}
+use Rattle.replay_theory.specs.{Replay.{answer_of}, Report.{report_line, totals_text}}
 use Rattle.trace_event.specs.declared.event.Event.{Event}
 use Rattle.replay_core.specs.ReplayState.{Stored, stored_after}
 

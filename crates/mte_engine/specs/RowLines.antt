@@ -1,7 +1,6 @@
 -- The lines of the rows of a sheet or a fit.
 use Rattle.std.specs.Prelude.{ℕ, ◌≤◌, List, All, codes, length, map}
-use Rattle.class_table.specs.NamedLines.{named_line}
-use Rattle.class_table.specs.declared.sizes.TheConstants.{MOST_NEEDS}
+use Rattle.class_table.specs.{NamedLines.{named_line}, declared.sizes.TheConstants.{MOST_NEEDS}}
 use Rattle.line_text.specs.Lines.{text_of}
 
 -- No row has more numbers than there may be needs.

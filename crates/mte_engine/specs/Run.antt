@@ -3,20 +3,15 @@
 use Rattle.std.specs.Prelude.{◌≡◌, ℕ, false, ◌≤◌, List, ◌++◌, length, zip, Result, Ok, Err}
 use Rattle.class_table.specs.Tables.{IsLegalTable, rounding_loss}
 use Rattle.class_tuner.specs.Tuned.{IsTuned}
-use Rattle.replay_theory.specs.AccessLaws.{AccessesAreAnswered}
-use Rattle.replay_theory.specs.Losses.{ServesEach, counted_sizes, refused_reallocs}
-use Rattle.replay_theory.specs.Report.{report_lines, totals_text}
-use Rattle.replay_theory.specs.Replay.{Replay, answers, first_replay, Answer as HeapAnswer}
+use Rattle.replay_theory.specs.{AccessLaws.{AccessesAreAnswered}, Losses.{ServesEach, counted_sizes, refused_reallocs}}
+use Rattle.replay_theory.specs.{Replay.{Replay, answers, first_replay, Answer as HeapAnswer}, Report.{report_lines, totals_text}}
 use Rattle.replay_theory.specs.Totals.{Totals, totals_of}
 use Rattle.trace_event.specs.declared.event.Event.{Event}
 use Rattle.potential_check.specs.SheetText.{sheet_text}
-use Rattle.heap_theory.specs.Config.{layout_for}
-use Rattle.heap_theory.specs.declared.config.Config.{Config}
+use Rattle.heap_theory.specs.{Config.{layout_for}, declared.config.Config.{Config}}
 use Rattle.trace_reader.specs.TraceText.{trace_of}
 use Rattle.tuner_theory.specs.Sheets.{Sheet}
-use Rattle.mte_engine.specs.Outcome.{Answer}
-use Rattle.mte_engine.specs.Traces.{profile_of_events, trace_part}
-use Rattle.mte_engine.specs.declared.engine.Status.TheVariants.{Done}
+use Rattle.mte_engine.specs.{Outcome.{Answer}, Traces.{profile_of_events, trace_part}, declared.engine.Status.TheVariants.{Done}}
 use Rattle.mte_engine.specs.declared.fault.InputFault.{InputFault}
 
 -- ---- the tables in question

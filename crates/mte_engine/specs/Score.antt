@@ -2,14 +2,10 @@
 use Rattle.std.specs.Prelude.{◌≡◌, ℕ, List, [], ◌∷◌, codes, drop, take, Option, Some, None, Result}
 use Rattle.line_text.specs.Lines.{lines, ended}
 use Rattle.class_table.specs.NamedLines.{named_line}
-use Rattle.profile_count.specs.Counts.{unserved_of}
-use Rattle.profile_count.specs.ProfileText.{profile_of_lines}
-use Rattle.tuner_theory.specs.Profiles.{Profile as Counted}
-use Rattle.tuner_theory.specs.Waste.{waste_of}
-use Rattle.mte_engine.specs.Outcome.{Answer}
-use Rattle.mte_engine.specs.Parts.{AnswersPart, both_parts, class_part, profile_part}
-use Rattle.mte_engine.specs.declared.engine.Status.TheVariants.{Done, No}
-use Rattle.mte_engine.specs.declared.fault.InputFault.{InputFault}
+use Rattle.profile_count.specs.{Counts.{unserved_of}, ProfileText.{profile_of_lines}}
+use Rattle.tuner_theory.specs.{Profiles.{Profile as Counted}, Waste.{waste_of}}
+use Rattle.mte_engine.specs.{Outcome.{Answer}, Parts.{AnswersPart, both_parts, class_part, profile_part}}
+use Rattle.mte_engine.specs.declared.{engine.Status.TheVariants.{Done, No}, fault.InputFault.{InputFault}}
 
 -- The line of a name and a number, or `not serving N` with the status of a no, where N is the least counted size without a class.
 abbrev pub named_or_unserved : List ℕ → Option ℕ → ℕ → Answer

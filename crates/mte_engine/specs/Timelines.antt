@@ -1,6 +1,5 @@
 -- Whether an input has a timeline.
-use Rattle.std.specs.Prelude.{ℕ, Bool, false, List, [], ◌∷◌}
-use Rattle.std.specs.Str.{bytes_eq}
+use Rattle.std.specs.{Prelude.{ℕ, Bool, false, List, [], ◌∷◌}, Str.{bytes_eq}}
 use Rattle.history_count.specs.Timelines.TimelineText.{head_line}
 
 -- The first of these lines is that of a timeline.

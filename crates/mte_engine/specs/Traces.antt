@@ -1,19 +1,16 @@
 -- The trace in an input, and what the engines over traces keep of it while they read.
-use Rattle.std.specs.Prelude.{◌≡◌, ℕ, ◌+◌, Bool, true, false, List, [], ◌∷◌, ◌++◌, Option, Some, None, Result, Ok, Err, ⊤, drop, slice_index_or}
+use Rattle.std.specs.Prelude.{◌≡◌, ℕ, ◌+◌, Bool, true, false, List, [], ◌∷◌, ◌++◌, Option, Some, None, Result, Ok, Err, ⊤, drop}
+use Rattle.std.specs.Prelude.{slice_index_or}
 use Rattle.line_text.specs.Lines.{lines, IsLine}
 use Rattle.replay_theory.specs.Losses.{requested_sizes}
 use Rattle.trace_event.specs.declared.event.Event.{Event}
 use Rattle.profile_count.specs.Requests.{profile_of_sizes}
-use Rattle.trace_reader.specs.Reading.{Reading, State, fed, nothing_read}
-use Rattle.trace_reader.specs.Reading.State.{Failed, Finished}
-use Rattle.trace_reader.specs.TraceText.{Trace as TraceRead}
-use Rattle.trace_reader.specs.declared.fault.TraceError.TheVariants.{Line}
+use Rattle.trace_reader.specs.{Reading.{Reading, State, fed, nothing_read}, Reading.State.{Failed, Finished}}
+use Rattle.trace_reader.specs.{TraceText.{Trace as TraceRead}, declared.fault.TraceError.TheVariants.{Line}}
 use Rattle.trace_reader.specs.declared.fault.TraceFault.{TraceFault}
 use Rattle.tuner_theory.specs.Profiles.{Profile as Counted}
-use Rattle.mte_engine.specs.declared.fault.AnswerError.{AnswerError}
-use Rattle.mte_engine.specs.declared.fault.AnswerError.TheVariants.{OutOfMemory, Input}
-use Rattle.mte_engine.specs.declared.fault.InputFault.{InputFault}
-use Rattle.mte_engine.specs.declared.fault.InputFault.TheVariants.{Trace}
+use Rattle.mte_engine.specs.declared.fault.{AnswerError.{AnswerError}, AnswerError.TheVariants.{OutOfMemory, Input}}
+use Rattle.mte_engine.specs.declared.fault.{InputFault.{InputFault}, InputFault.TheVariants.{Trace}}
 
 -- ---- the part of an input
 

@@ -1,15 +1,12 @@
 -- The options and the answers of `tune`: the sheet that is tuned for a profile.
 use Rattle.std.specs.Prelude.{◌≡◌, ℕ, Bool, List, Result, Ok, Err}
-pub use Rattle.tool_call.specs.Options.{AreTuneOptions}
 use Rattle.class_tuner.specs.Tuned.{IsTuned}
 use Rattle.potential_check.specs.SheetText.{sheet_text}
 use Rattle.profile_count.specs.ProfileText.{profile_of}
-use Rattle.tuner_theory.specs.Sheets.{Sheet}
-use Rattle.tuner_theory.specs.Profiles.{Profile as Counted}
-use Rattle.mte_engine.specs.Outcome.{Answer}
-use Rattle.mte_engine.specs.Parts.{profile_part}
-use Rattle.mte_engine.specs.declared.engine.Status.TheVariants.{Done}
+use Rattle.tuner_theory.specs.{Profiles.{Profile as Counted}, Sheets.{Sheet}}
+use Rattle.mte_engine.specs.{Outcome.{Answer}, Parts.{profile_part}, declared.engine.Status.TheVariants.{Done}}
 use Rattle.mte_engine.specs.declared.fault.InputFault.{InputFault}
+pub use Rattle.tool_call.specs.Options.{AreTuneOptions}
 
 -- The text of the sheet that is tuned for a profile, a limit and a step, and whether the largest class is forced.
 pub record IsTunedText (limit step : ℕ) (forced : Bool) (profile : Counted) (answer : Answer) : Type 0 where

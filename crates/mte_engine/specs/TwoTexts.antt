@@ -3,17 +3,10 @@
 use Rattle.std.specs.Prelude.{ℕ, List, Result}
 use Rattle.line_text.specs.Lines.{lines}
 use Rattle.potential_check.specs.Leading.{leading_lines, lines_after}
-use Rattle.mte_engine.specs.Check.{ChecksParts}
-use Rattle.mte_engine.specs.CheckFitOver.{ChecksEitherParts}
-use Rattle.mte_engine.specs.FootprintOver.{MeasuresEitherParts}
-use Rattle.mte_engine.specs.Outcome.{Answer}
-use Rattle.mte_engine.specs.Peaks.{PeaksParts}
-use Rattle.mte_engine.specs.Score.{ScoresParts}
-use Rattle.mte_engine.specs.declared.fault.InputFault.{InputFault}
-use Rattle.mte_engine.specs.declared.two_texts.BlocksCommand.{BlocksCommand}
-use Rattle.mte_engine.specs.declared.two_texts.BlocksCommand.TheVariants.{Footprint, CheckFit, Peaks}
-use Rattle.mte_engine.specs.declared.two_texts.ProfileCommand.{ProfileCommand}
-use Rattle.mte_engine.specs.declared.two_texts.ProfileCommand.TheVariants.{Score, Check}
+use Rattle.mte_engine.specs.{Check.{ChecksParts}, CheckFitOver.{ChecksEitherParts}, FootprintOver.{MeasuresEitherParts}, Outcome.{Answer}}
+use Rattle.mte_engine.specs.{Peaks.{PeaksParts}, Score.{ScoresParts}, declared.fault.InputFault.{InputFault}}
+use Rattle.mte_engine.specs.declared.two_texts.{BlocksCommand.{BlocksCommand}, BlocksCommand.TheVariants.{Footprint, CheckFit, Peaks}}
+use Rattle.mte_engine.specs.declared.two_texts.{ProfileCommand.{ProfileCommand}, ProfileCommand.TheVariants.{Score, Check}}
 
 abbrev pub answers_beside_profile : ProfileCommand → List ℕ → List ℕ → Result Answer InputFault → Type 0
 answers_beside_profile Score first text = ScoresParts (lines first) 0 (lines text)

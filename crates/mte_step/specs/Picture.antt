@@ -1,9 +1,8 @@
 -- Pictures of a heap.
 use Rattle.std.specs.Prelude.{◌≡◌, ℕ, ◌+◌, ◌<◌, ◌≤◌, ◌^◌, Bool, true, false, List, [], ◌∷◌, length, slice_index}
 use Rattle.machine_theory.specs.Memory.{tag_at}
-use Rattle.heap_theory.specs.GranuleKinds.{kind_number, place_kind}
+use Rattle.heap_theory.specs.{GranuleKinds.{kind_number, place_kind}, State.{Heap}}
 use Rattle.replay_theory.specs.Replay.{Replay, replay_after}
-use Rattle.heap_theory.specs.State.{Heap}
 use Rattle.trace_event.specs.declared.event.Event.{Event}
 use Rattle.replay_core.specs.ReplayState.{Stored}
 

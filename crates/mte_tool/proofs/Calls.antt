@@ -1,16 +1,11 @@
 -- The call that words mean is one that its engine takes.
 use Rattle.std.proofs.Common.{arith, List, Option, Some, None, subst, sym}
 use Rattle.clap.specs.Words.{Row, Text}
-use Rattle.command_words.specs.Calls.{IsCall}
-use Rattle.command_words.specs.Options.{HasConfig, HasLimits, HasOptions}
-use Rattle.heap_theory.specs.Config.{IsConfig}
-use Rattle.heap_theory.specs.declared.config.Config.{Config}
-use Rattle.tool_call.specs.Options.{AreTuneOptions, IsValid, call_of, config_of, limits_of}
-use Rattle.tool_call.specs.declared.call.Call.{Call}
-use Rattle.tool_call.specs.declared.call.CommandName.{CommandName}
+use Rattle.command_words.specs.{Calls.{IsCall}, Options.{HasConfig, HasLimits, HasOptions}}
+use Rattle.heap_theory.specs.{Config.{IsConfig}, declared.config.Config.{Config}}
+use Rattle.tool_call.specs.{Options.{AreTuneOptions, IsValid, call_of, config_of, limits_of}, declared.call.Call.{Call}}
+use Rattle.tool_call.specs.declared.{call.CommandName.{CommandName}, options.Limits.{Limits}, options.Options.{Options}}
 use Rattle.tool_call.specs.declared.call.CommandName.TheVariants.{Score, Tune, Check, Footprint, Fit, CheckFit, Peaks, Profile, Replay, Run}
-use Rattle.tool_call.specs.declared.options.Limits.{Limits}
-use Rattle.tool_call.specs.declared.options.Options.{Options}
 
 valid_limits : (rows : List Row) (limits : Limits) → HasLimits rows limits → AreTuneOptions limits.limit limits.step
 valid_limits rows limits has = record { some = has.0.1; few = has.0.2; is_step = has.1.1 }

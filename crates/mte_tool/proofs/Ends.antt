@@ -1,23 +1,14 @@
 -- How the program ends, by what its parts have done.
-use Rattle.std.proofs.Common.{◌≡◌, ◌∙◌, ◌≤◌, ◌<◌, ◌+◌, ◌⊎◌, ◌↔◌, inl, inr, ℕ, Bool, MatchBool, true, false, List, [], ◌++◌, Result, Ok, Err, length, ap, arith, refl, subst, sym}
-use Rattle.byte_streams.specs.Streams.{SinkState, SourceState}
-use Rattle.byte_streams.specs.Transfer.{HasTaken, most_input}
-use Rattle.clap.specs.Words.{kind_of}
-use Rattle.clap.specs.declared.error.Error.{Error}
-use Rattle.command_words.specs.declared.refusal.Refusal.{Refusal}
-use Rattle.command_words.specs.declared.refusal.Refusal.TheVariants.{OutOfMemory as NoMemory, Words, Options}
-use Rattle.mte_engine.specs.Calls.{answers_of}
-use Rattle.mte_engine.specs.Outcome.{Answer, AnswersGiven, AnswersInput, Runs}
-use Rattle.mte_engine.specs.declared.engine.Status.{Status}
-use Rattle.mte_engine.specs.declared.engine.Status.TheVariants.{Done}
-use Rattle.mte_engine.specs.declared.fault.InputFault.{InputFault}
-use Rattle.mte_engine.specs.declared.fault.ToolFault.{ToolFault}
+use Rattle.std.proofs.Common.{◌≡◌, ◌∙◌, ◌≤◌, ◌<◌, ◌+◌, ◌⊎◌, ◌↔◌, inl, inr, ℕ, Bool, MatchBool, true, false, List, [], ◌++◌, Result, Ok, Err}
+use Rattle.std.proofs.Common.{length, ap, arith, refl, subst, sym}
+use Rattle.byte_streams.specs.{Streams.{SinkState, SourceState}, Transfer.{HasTaken, most_input}}
+use Rattle.clap.specs.{Words.{kind_of}, declared.error.Error.{Error}}
+use Rattle.command_words.specs.declared.refusal.{Refusal.{Refusal}, Refusal.TheVariants.{OutOfMemory as NoMemory, Words, Options}}
+use Rattle.mte_engine.specs.{Calls.{answers_of}, Outcome.{Answer, AnswersGiven, AnswersInput, Runs}, declared.engine.Status.{Status}}
+use Rattle.mte_engine.specs.declared.{engine.Status.TheVariants.{Done}, fault.InputFault.{InputFault}, fault.ToolFault.{ToolFault}}
 use Rattle.mte_engine.specs.declared.fault.ToolFault.TheVariants.{OutOfMemory, Input, ReadFault, WriteFault}
-use Rattle.mte_tool.specs.Exit.{is_shown}
-use Rattle.mte_tool.specs.RefusedRun.{EndsWithout, IsShown, IsToldEnd}
-use Rattle.mte_tool.specs.Told.{IsFaultText, Tells}
+use Rattle.mte_tool.specs.{Exit.{is_shown}, RefusedRun.{EndsWithout, IsShown, IsToldEnd}, Told.{IsFaultText, Tells}, declared.end.End.{End}}
 use Rattle.mte_tool.specs.WholeRun.{AnswersAll, AreNew, Ends, HasRun, WasTold, WasToldFault}
-use Rattle.mte_tool.specs.declared.end.End.{End}
 use Rattle.mte_tool.specs.declared.end.End.TheVariants.{Shown, Refused, Ended}
 use Rattle.tool_call.specs.declared.call.Call.{Call}
 

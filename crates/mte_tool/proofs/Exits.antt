@@ -1,40 +1,24 @@
 -- What the exit status of a whole run tells.
-use Rattle.std.proofs.Common.{◌≡◌, ◌∙◌, ◌≤◌, ℕ, Bool, true, false, List, Option, Result, Ok, Err, MatchBool, length, nat_lt, ap, arith, codes, refl, subst, sym}
-use Rattle.byte_streams.specs.Streams.{SinkState, SourceState}
-use Rattle.byte_streams.specs.Transfer.{most_input}
-use Rattle.clap.specs.Kinds.{IsAmong, Kinds}
-use Rattle.clap.specs.Words.{Text, fault_of, kind_of}
-use Rattle.clap.specs.declared.error.kind.ErrorKind.{ErrorKind}
-use Rattle.command_words.specs.AcceptedWords.{program}
-use Rattle.command_words.specs.Words.{AreRefused, Mean}
-use Rattle.command_words.specs.declared.refusal.Refusal.{Refusal}
+use Rattle.std.proofs.Common.{◌≡◌, ◌∙◌, ◌≤◌, ℕ, Bool, true, false, List, Option, Result, Ok, Err, MatchBool, length, nat_lt, ap, arith}
+use Rattle.std.proofs.Common.{codes, refl, subst, sym}
+use Rattle.byte_streams.specs.{Streams.{SinkState, SourceState}, Transfer.{most_input}}
+use Rattle.clap.specs.{Kinds.{IsAmong, Kinds}, Words.{Text, fault_of, kind_of}, declared.error.kind.ErrorKind.{ErrorKind}}
+use Rattle.command_words.specs.{AcceptedWords.{program}, Words.{AreRefused, Mean}, declared.refusal.Refusal.{Refusal}}
 use Rattle.command_words.specs.declared.refusal.Refusal.TheVariants.{OutOfMemory as NoMemory, Words, Options}
 use Rattle.line_text.specs.Lines.{ended, lines}
-use Rattle.mte_engine.specs.Calls.{answers_of}
-use Rattle.mte_engine.specs.Check.{CheckAnswers, verdict_text, verdict_text_by}
-use Rattle.mte_engine.specs.CheckFit.{CheckFitAnswers}
-use Rattle.mte_engine.specs.CheckFitOver.{CheckFitEitherAnswers, CheckFitOverAnswers, begins_moments, over_verdict_text}
-use Rattle.mte_engine.specs.Outcome.{Answer}
-use Rattle.mte_engine.specs.declared.engine.Status.{Status}
-use Rattle.mte_engine.specs.declared.engine.Status.TheVariants.{Done, No}
-use Rattle.mte_engine.specs.declared.fault.InputFault.{InputFault}
+use Rattle.mte_engine.specs.{Calls.{answers_of}, Check.{CheckAnswers, verdict_text, verdict_text_by}, CheckFit.{CheckFitAnswers}}
+use Rattle.mte_engine.specs.{CheckFitOver.{CheckFitEitherAnswers, CheckFitOverAnswers, begins_moments, over_verdict_text}, Outcome.{Answer}}
+use Rattle.mte_engine.specs.declared.{engine.Status.{Status}, engine.Status.TheVariants.{Done, No}, fault.InputFault.{InputFault}}
 use Rattle.mte_engine.specs.declared.fault.InputFault.TheVariants.{TooLong}
 use Rattle.mte_engine.specs.declared.fault.ToolFault.TheVariants.{OutOfMemory, Input, ReadFault, WriteFault}
-use Rattle.mte_tool.specs.Exit.{AsksForText, is_shown, status_of}
+use Rattle.mte_tool.{proofs.OneCall.{one_call}, specs.Exit.{AsksForText, is_shown, status_of}, specs.WholeRun.{AnswersAll, Ends}}
 use Rattle.mte_tool.specs.ExitLaw.{AnswerLaw, CheckFitLaw, CheckLaw, IsLeastInHistory, IsLeastInTimeline, IsOptimal, IsOptimalFit, ShownLaw}
-use Rattle.mte_tool.specs.WholeRun.{AnswersAll, Ends}
-use Rattle.mte_tool.specs.declared.end.End.{End}
-use Rattle.mte_tool.specs.declared.end.End.TheVariants.{Shown, Refused, Ended}
-use Rattle.tool_call.specs.declared.call.Call.{Call}
-use Rattle.potential_check.specs.Leading.{lines_after}
-use Rattle.potential_check.specs.declared.footprints.timelines.verdict.OverVerdict.{OverVerdict}
+use Rattle.mte_tool.specs.declared.end.{End.{End}, End.TheVariants.{Shown, Refused, Ended}}
+use Rattle.tool_call.specs.declared.call.{Call.{Call}, Call.TheVariants.{Check, CheckFit}}
+use Rattle.potential_check.specs.{Leading.{lines_after}, declared.footprints.timelines.verdict.OverVerdict.{OverVerdict}}
+use Rattle.tuner_theory.specs.{RefusalText.{shown_fit_refusal, shown_refusal}, declared.verdict.Refusal.{Refusal as Unmet}}
+use Rattle.tuner_theory.specs.declared.verdict.{Verdict.{Verdict}, Verdict.TheVariants.{Optimal, Refused as IsRefused}}
 use Rattle.potential_check.specs.declared.footprints.timelines.verdict.OverVerdict.TheVariants as over
-use Rattle.tool_call.specs.declared.call.Call.TheVariants.{Check, CheckFit}
-use Rattle.tuner_theory.specs.RefusalText.{shown_fit_refusal, shown_refusal}
-use Rattle.tuner_theory.specs.declared.verdict.Refusal.{Refusal as Unmet}
-use Rattle.tuner_theory.specs.declared.verdict.Verdict.{Verdict}
-use Rattle.tuner_theory.specs.declared.verdict.Verdict.TheVariants.{Optimal, Refused as IsRefused}
-use Rattle.mte_tool.proofs.OneCall.{one_call}
 
 -- words that mean a call ask for no text
 no_text_asked : (words : List Text) (call : Call) (why : Refusal) → Mean words call → AreRefused words why → AsksForText why → ⊥

@@ -2,19 +2,13 @@
 use Rattle.std.proofs.Common.{◌≡◌, ◌∙◌, ℕ, List, Option, Some, None, ap, refl, subst, sym}
 use Rattle.std.specs.Str.Parse.{without_leading_plus, digits_value}
 use Rattle.clap.specs.Words.{Row, Text, subcommand_of}
-use Rattle.command_words.specs.AcceptedWords.{program}
-use Rattle.command_words.specs.Calls.{IsCall, Names}
+use Rattle.command_words.{proofs.LawLemmas.{same_command}, specs.AcceptedWords.{program}, specs.Calls.{IsCall, Names}, specs.Words.{Mean}}
 use Rattle.command_words.specs.Options.{HasConfig, HasLimits, HasNumber, HasOptions}
-use Rattle.command_words.specs.Words.{Mean}
-use Rattle.command_words.proofs.LawLemmas.{same_command}
 use Rattle.heap_theory.specs.declared.config.Config.{Config}
-use Rattle.tool_call.specs.Options.{call_of, config_of, limits_of}
-use Rattle.tool_call.specs.declared.call.Call.{Call}
-use Rattle.tool_call.specs.declared.call.Call.TheVariants as call
-use Rattle.tool_call.specs.declared.call.CommandName.{CommandName}
+use Rattle.tool_call.specs.{Options.{call_of, config_of, limits_of}, declared.call.Call.{Call}, declared.call.CommandName.{CommandName}}
 use Rattle.tool_call.specs.declared.call.CommandName.TheVariants.{Score, Tune, Check, Footprint, Fit, CheckFit, Peaks, Profile, Replay, Run}
-use Rattle.tool_call.specs.declared.options.Limits.{Limits}
-use Rattle.tool_call.specs.declared.options.Options.{Options}
+use Rattle.tool_call.specs.declared.options.{Limits.{Limits}, Options.{Options}}
+use Rattle.tool_call.specs.declared.call.Call.TheVariants as call
 
 the_text : Option Text → Text → Text
 the_text (Some text) other = text

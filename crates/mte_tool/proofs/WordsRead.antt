@@ -2,16 +2,11 @@
 use Rattle.std.proofs.Common.{◌≡◌, List, Result, Ok, Err, IfOk, MatchResult, subst, sym}
 use Rattle.byte_streams.specs.Streams.{SinkState, SourceState}
 use Rattle.clap.specs.Words.{Text}
-use Rattle.command_words.specs.Words.{AreRefused, Mean}
-use Rattle.command_words.specs.declared.refusal.Refusal.{Refusal}
-use Rattle.mte_engine.specs.Calls.{answers_of}
-use Rattle.mte_engine.specs.Outcome.{Runs}
-use Rattle.mte_tool.specs.Calls.{MatchEnd}
-use Rattle.mte_tool.specs.declared.running.CallEnd.{CallEnd}
+use Rattle.command_words.specs.{Words.{AreRefused, Mean}, declared.refusal.Refusal.{Refusal}}
+use Rattle.mte_engine.specs.{Calls.{answers_of}, Outcome.{Runs}}
+use Rattle.mte_tool.{proofs.Calls.{call_is_valid}, specs.Calls.{MatchEnd}, specs.declared.running.CallEnd.{CallEnd}}
 use Rattle.mte_tool.specs.declared.running.CallEnd.TheVariants.{Done, Failed, Refused}
-use Rattle.mte_tool.proofs.Calls.{call_is_valid}
-use Rattle.tool_call.specs.Options.{IsValid}
-use Rattle.tool_call.specs.declared.call.Call.{Call}
+use Rattle.tool_call.specs.{Options.{IsValid}, declared.call.Call.{Call}}
 
 pub valid_read : (words : List Text) (read : Result Call Refusal) → MatchResult read (Mean words) (AreRefused words)
     → IfOk read (λ call. IsValid call)

@@ -1,10 +1,8 @@
 -- How the words of a command line come out.
 use Rattle.std.specs.Prelude.{Result, Ok, Err}
 use Rattle.command_words.specs.declared.refusal.Refusal.{Refusal}
-use Rattle.mte_engine.specs.declared.engine.Status.{Status}
-use Rattle.mte_engine.specs.declared.fault.ToolFault.{ToolFault}
-use Rattle.mte_tool.specs.declared.running.CallEnd.{CallEnd}
-use Rattle.mte_tool.specs.declared.running.CallEnd.TheVariants.{Done, Failed, Refused}
+use Rattle.mte_engine.specs.declared.{engine.Status.{Status}, fault.ToolFault.{ToolFault}}
+use Rattle.mte_tool.specs.declared.running.{CallEnd.{CallEnd}, CallEnd.TheVariants.{Done, Failed, Refused}}
 
 -- A call ran and ended so, or the words were refused so.
 abbrev pub MatchEnd : CallEnd → (Result Status ToolFault → Type 0) → (Refusal → Type 0) → Type 0

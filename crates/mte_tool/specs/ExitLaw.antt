@@ -1,37 +1,21 @@
 -- What the exit status of a whole run tells.
 use Rattle.std.specs.Prelude.{◌≡◌, ◌≤◌, ◌+◌, ℕ, List, [], MatchBool, Result, codes, drop, length, take, true, Ok}
 use Rattle.byte_streams.specs.Streams.{SinkState, SourceState}
-use Rattle.clap.specs.Kinds.{IsAmong}
-use Rattle.clap.specs.Words.{Text, fault_of}
-use Rattle.clap.specs.declared.error.kind.ErrorKind.{ErrorKind}
-use Rattle.command_words.specs.AcceptedWords.{program}
-use Rattle.command_words.specs.Words.{AreRefused, Mean}
-use Rattle.history_count.specs.Histories.{History}
-use Rattle.history_count.specs.HistoryText.{history_of_lines}
-use Rattle.history_count.specs.Timelines.TimelineText.{timeline_of_lines}
+use Rattle.clap.specs.{Kinds.{IsAmong}, Words.{Text, fault_of}, declared.error.kind.ErrorKind.{ErrorKind}}
+use Rattle.command_words.specs.{AcceptedWords.{program}, Words.{AreRefused, Mean}}
+use Rattle.history_count.specs.{Histories.{History}, HistoryText.{history_of_lines}, Timelines.TimelineText.{timeline_of_lines}}
 use Rattle.line_text.specs.Lines.{ended, lines}
-use Rattle.mte_engine.specs.Calls.{answers_of}
-use Rattle.mte_engine.specs.CheckFitOver.{begins_moments, whole_moments_part}
+use Rattle.mte_engine.specs.{Calls.{answers_of}, CheckFitOver.{begins_moments, whole_moments_part}, declared.engine.Status.{Status}}
 use Rattle.mte_engine.specs.Parts.{both_parts, history_part, profile_part, sheet_part, timeline_part, whole_sheet_part}
-use Rattle.mte_engine.specs.declared.engine.Status.{Status}
 use Rattle.mte_engine.specs.declared.fault.InputFault.{InputFault}
-use Rattle.mte_tool.specs.Exit.{is_shown, status_of}
-use Rattle.mte_tool.specs.WholeRun.{AnswersAll, HasRun}
-use Rattle.mte_tool.specs.declared.end.End.{End}
+use Rattle.mte_tool.specs.{Exit.{is_shown, status_of}, WholeRun.{AnswersAll, HasRun}, declared.end.End.{End}}
 use Rattle.mte_tool.specs.declared.end.End.TheVariants.{Shown, Ended}
-use Rattle.tool_call.specs.declared.call.Call.{Call}
-use Rattle.potential_check.specs.Leading.{leading_lines, lines_after}
-use Rattle.potential_check.specs.SheetText.{fit_of_lines}
+use Rattle.tool_call.specs.declared.call.{Call.{Call}, Call.TheVariants.{Check, CheckFit}}
+use Rattle.potential_check.specs.{Leading.{leading_lines, lines_after}, SheetText.{fit_of_lines}}
 use Rattle.potential_check.specs.declared.cost.Cost.TheVariants.{Waste, Footprint}
 use Rattle.profile_count.specs.ProfileText.{profile_of_lines}
-use Rattle.tool_call.specs.declared.call.Call.TheVariants.{Check, CheckFit}
-use Rattle.tuner_theory.specs.Best.{IsBest}
-use Rattle.tuner_theory.specs.Footprint.{IsLeastFootprint}
-use Rattle.tuner_theory.specs.Profiles.{Profile}
-use Rattle.tuner_theory.specs.Served.{served}
-use Rattle.tuner_theory.specs.Sheets.{Sheet}
-use Rattle.tuner_theory.specs.Timelines.{IsLeastOver}
-use Rattle.tuner_theory.specs.declared.size_event.SizeEvent.{SizeEvent}
+use Rattle.tuner_theory.specs.{Best.{IsBest}, Footprint.{IsLeastFootprint}, Profiles.{Profile}, Served.{served}, Sheets.{Sheet}}
+use Rattle.tuner_theory.specs.{Timelines.{IsLeastOver}, declared.size_event.SizeEvent.{SizeEvent}}
 
 -- The program ran on these words, and ended so.
 abbrev pub Ran : List Text → SourceState → SinkState → SinkState → End → Type 0

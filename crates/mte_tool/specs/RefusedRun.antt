@@ -1,17 +1,12 @@
 -- How the program ends where no call runs, and what it writes then.
 use Rattle.std.specs.Prelude.{◌≡◌, ◌⊎◌, ◌+◌, ℕ, List, ◌++◌, MatchBool, Err, codes}
-use Rattle.byte_streams.specs.Streams.{SinkState}
-use Rattle.byte_streams.specs.Transfer.{HasTaken}
+use Rattle.byte_streams.specs.{Streams.{SinkState}, Transfer.{HasTaken}}
 use Rattle.clap.specs.Words.{kind_of}
-use Rattle.command_words.specs.FaultText.{shown_option_fault}
-use Rattle.command_words.specs.declared.refusal.Refusal.{Refusal}
+use Rattle.command_words.specs.{FaultText.{shown_option_fault}, declared.refusal.Refusal.{Refusal}}
 use Rattle.command_words.specs.declared.refusal.Refusal.TheVariants.{OutOfMemory as NoMemory, Words, Options}
 use Rattle.line_text.specs.Lines.{ended}
-use Rattle.mte_engine.specs.declared.fault.ToolFault.{ToolFault}
-use Rattle.mte_engine.specs.declared.fault.ToolFault.TheVariants.{OutOfMemory, WriteFault}
-use Rattle.mte_tool.specs.Exit.{is_shown}
-use Rattle.mte_tool.specs.Told.{IsFaultText, Tells}
-use Rattle.mte_tool.specs.declared.end.End.{End}
+use Rattle.mte_engine.specs.declared.fault.{ToolFault.{ToolFault}, ToolFault.TheVariants.{OutOfMemory, WriteFault}}
+use Rattle.mte_tool.specs.{Exit.{is_shown}, Told.{IsFaultText, Tells}, declared.end.End.{End}}
 use Rattle.mte_tool.specs.declared.end.End.TheVariants.{Shown, Refused, Ended}
 
 -- The end is this fault, and the error stream was told so.

@@ -2,8 +2,7 @@
 use Rattle.std.specs.Prelude.{◌≡◌, ◌⊎◌, ◌+◌, ◌<◌, ℕ, List, ◌++◌, codes}
 use Rattle.byte_streams.specs.Streams.{SinkState}
 use Rattle.line_text.specs.Lines.{ended}
-use Rattle.mte_engine.specs.FaultText.{shown_fault}
-use Rattle.mte_engine.specs.declared.fault.ToolFault.{ToolFault}
+use Rattle.mte_engine.specs.{FaultText.{shown_fault}, declared.fault.ToolFault.{ToolFault}}
 use Rattle.mte_engine.specs.declared.fault.ToolFault.TheVariants.{OutOfMemory}
 use Rattle.mte_tool.specs.declared.lines.Piece.{Piece}
 

@@ -1,17 +1,11 @@
 -- What the program has read, written and told in all, through the streams that it began with, and how it ended.
 use Rattle.std.specs.Prelude.{◌≡◌, ◌≤◌, ◌<◌, ◌⊎◌, ◌↔◌, ℕ, true, List, [], ◌++◌, length, Result, Ok, Err}
-use Rattle.byte_streams.specs.Streams.{SinkState, SourceState}
-use Rattle.byte_streams.specs.Transfer.{most_input}
-use Rattle.mte_engine.specs.declared.engine.Status.{Status}
-use Rattle.mte_engine.specs.declared.fault.InputFault.{InputFault}
-use Rattle.mte_engine.specs.declared.fault.ToolFault.{ToolFault}
+use Rattle.byte_streams.specs.{Streams.{SinkState, SourceState}, Transfer.{most_input}}
+use Rattle.mte_engine.specs.{Calls.{answers_of}, Outcome.{Answer, AnswersInput}, declared.engine.Status.{Status}}
+use Rattle.mte_engine.specs.declared.fault.{InputFault.{InputFault}, ToolFault.{ToolFault}}
 use Rattle.mte_engine.specs.declared.fault.ToolFault.TheVariants.{OutOfMemory, Input, ReadFault, WriteFault}
-use Rattle.mte_engine.specs.Calls.{answers_of}
-use Rattle.mte_engine.specs.Outcome.{Answer, AnswersInput}
 use Rattle.command_words.specs.declared.refusal.Refusal.{Refusal}
-use Rattle.mte_tool.specs.Exit.{AsksForText, IsMistake}
-use Rattle.mte_tool.specs.Told.{IsFaultText}
-use Rattle.mte_tool.specs.declared.end.End.{End}
+use Rattle.mte_tool.specs.{Exit.{AsksForText, IsMistake}, Told.{IsFaultText}, declared.end.End.{End}}
 use Rattle.mte_tool.specs.declared.end.End.TheVariants.{Shown, Refused, Ended}
 use Rattle.tool_call.specs.declared.call.Call.{Call}
 

@@ -1,9 +1,7 @@
 -- Appending lines to a text, and words to a line.
-use Rattle.std.proofs.Common.{◌≡◌, ℕ, ◌+◌, List, [], ◌∷◌, ◌++◌, map, take, get_or, Some, refl, sym, ap, ◌∙◌, append-nil, append_assoc, arith, slice_get}
-use Rattle.std.specs.Fmt.{decimal}
-use Rattle.std.proofs.lemmas.List.{map-append, take_more}
-use Rattle.std.proofs.lemmas.List.Concat.{flat_map-append}
-use Rattle.std.proofs.lemmas.Option.{get_or_from_slice_get, slice_get_within}
+use Rattle.std.proofs.Common.{◌≡◌, ℕ, ◌+◌, List, [], ◌∷◌, ◌++◌, map, take, get_or, Some, refl, sym, ap, ◌∙◌, append-nil, append_assoc}
+use Rattle.std.proofs.{Common.{arith, slice_get}, lemmas.List.{map-append, take_more}, lemmas.List.Concat.{flat_map-append}}
+use Rattle.std.{proofs.lemmas.Option.{get_or_from_slice_get, slice_get_within}, specs.Fmt.{decimal}}
 use Rattle.line_text.specs.Lines.{ended, text_of}
 use Rattle.class_table.specs.NamedLines.{named_line}
 use Rattle.potential_check.specs.Spaced.{spaced}

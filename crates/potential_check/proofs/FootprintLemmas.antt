@@ -3,7 +3,5 @@ pub mod CallCounts
 pub mod RowConditions
 pub mod Snapshots
 pub mod UpTo
-pub mod Verdicts
-pub mod Narrow
 pub mod Bounds
 pub mod TimelineLemmas

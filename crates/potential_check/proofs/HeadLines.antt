@@ -1,10 +1,8 @@
 -- Reading the head of a sheet, one line after the other.
 use Rattle.std.proofs.Common.{◌≡◌, ℕ, Bool, List, Option, Some, None, Result, Ok, Err, Bor, refl, MatchOption, arith}
-use Rattle.std.specs.Iterator.{YieldsFirstBy}
-use Rattle.std.specs.Option.{ok_or}
-use Rattle.potential_check.specs.SheetText.{Gives, cost_in, cost_number, forced_at, forced_number, head_of_lines, limit_in, line_at, step_at, table_in}
-use Rattle.potential_check.specs.declared.cost.Cost.{Cost}
-use Rattle.potential_check.specs.declared.fault.Fault.{Fault}
+use Rattle.std.specs.{Iterator.{YieldsFirstBy}, Option.{ok_or}}
+use Rattle.potential_check.specs.SheetText.{Gives, cost_in, cost_number, forced_at, forced_number, head_of_lines, limit_in, line_at}
+use Rattle.potential_check.specs.{SheetText.{step_at, table_in}, declared.cost.Cost.{Cost}, declared.fault.Fault.{Fault}}
 use Rattle.potential_check.specs.declared.fault.Fault.TheVariants.{Line}
 
 -- ---- the next line

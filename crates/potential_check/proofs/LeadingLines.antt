@@ -1,21 +1,14 @@
 -- Lines that are read as a sheet or a fit in front of others, and what is read where there are no others.
-use Rattle.std.proofs.Common.{◌≡◌, ℕ, zero, suc, ◌+◌, ◌≤◌, add-one, Bool, true, false, List, [], ◌∷◌, length, drop, Some, None, Result, Ok, Err, refl, ◌∙◌, arith, codes}
-use Rattle.std.specs.List.{take_while}
-use Rattle.std.proofs.lemmas.List.Sums.{take_while-cons}
-use Rattle.line_text.specs.FirstFault.{◌>>=◌}
-use Rattle.line_text.specs.Lines.{lines}
-use Rattle.potential_check.specs.Leading.{GivesLeading, IsLeadingOf, is_row_line, leading_lines, lines_after}
-use Rattle.class_table.specs.declared.table.TheConstants.{MOST_CLASSES}
-use Rattle.potential_check.specs.SheetText.{Gives, cost_number, forced_in, forced_number, head_of_lines, is_named, read_by, row_in, rows_from, step_in, with_rows}
-use Rattle.potential_check.specs.declared.cost.Cost.{Cost}
-use Rattle.potential_check.specs.declared.fault.Fault.{Fault}
-use Rattle.potential_check.specs.declared.fault.Fault.TheVariants.{OutOfMemory, Line}
-use Rattle.potential_check.specs.declared.leading_sheet.LeadingSheet.{LeadingSheet}
-use Rattle.potential_check.specs.declared.reading.Head.{Head}
+use Rattle.std.proofs.Common.{◌≡◌, ℕ, zero, suc, ◌+◌, ◌≤◌, add-one, Bool, true, false, List, [], ◌∷◌, length, drop, Some, None, Result, Ok}
+use Rattle.std.{proofs.Common.{Err, refl, ◌∙◌, arith, codes}, proofs.lemmas.List.Sums.{take_while-cons}, specs.List.{take_while}}
+use Rattle.line_text.specs.{FirstFault.{◌>>=◌}, Lines.{lines}}
+use Rattle.potential_check.{proofs.ReadIsSpelled.{head_and}, proofs.SheetLines.{line-forced_in}, specs.Certificates.SheetView.{sheet_of}}
+use Rattle.potential_check.specs.{Leading.{GivesLeading, IsLeadingOf, is_row_line, leading_lines, lines_after}, declared.cost.Cost.{Cost}}
+use Rattle.potential_check.specs.SheetText.{Gives, cost_number, forced_in, forced_number, head_of_lines, is_named, read_by, row_in}
+use Rattle.potential_check.specs.{SheetText.{rows_from, step_in, with_rows}, declared.fault.Fault.{Fault}, declared.reading.Head.{Head}}
 use Rattle.potential_check.specs.declared.certificates.certificate.Certificate.{Certificate as Held}
-use Rattle.potential_check.specs.Certificates.SheetView.{sheet_of}
-use Rattle.potential_check.proofs.ReadIsSpelled.{head_and}
-use Rattle.potential_check.proofs.SheetLines.{line-forced_in}
+use Rattle.potential_check.specs.declared.{fault.Fault.TheVariants.{OutOfMemory, Line}, leading_sheet.LeadingSheet.{LeadingSheet}}
+use Rattle.class_table.specs.declared.table.TheConstants.{MOST_CLASSES}
 use Rattle.tuner_theory.specs.Sheets.{Sheet}
 
 -- ---- rows

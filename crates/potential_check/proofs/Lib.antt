@@ -1,11 +1,7 @@
 pub mod Appended
-pub mod Conditions
-pub mod EdgeHalves
-pub mod EdgeSides
 pub mod HeadLines
 pub mod LawLemmas
 pub mod LeadingLines
-pub mod OneNumber
 pub mod ReadIsSpelled
 pub mod RowConditions
 pub mod RowLines

@@ -1,17 +1,13 @@
 -- What is read as a sheet or a fit is its text, line by line.
-use Rattle.std.proofs.Common.{◌≡◌, ℕ, zero, suc, ◌≤◌, Bool, List, [], ◌∷◌, ◌++◌, length, map, Option, Some, Result, Ok, refl, subst, arith, codes, ne_eqb, All}
-use Rattle.std.specs.Option.{ok_or}
-use Rattle.std.proofs.lemmas.Option.{some_pair_parts}
-use Rattle.line_text.specs.FirstFault.{◌>>=◌}
-use Rattle.class_table.specs.Steps.{IsStep}
-use Rattle.line_text.specs.Lines.{IsTextOf, lines}
-use Rattle.line_text.proofs.LawLemmas.{text_laws as laws}
-use Rattle.class_table.specs.declared.table.TheConstants.{MOST_CLASSES}
-use Rattle.potential_check.specs.SheetText.{IsRow, IsWithinLimits, SpellsBy, cost_in, cost_number, forced_at, forced_lines, forced_number, head_of_lines, limit_in, line_at, lines_by, read_by, rows_from, step_at, step_lines, table_in, with_rows}
-use Rattle.potential_check.specs.declared.cost.Cost.{Cost}
-use Rattle.class_table.specs.NamedLines.{named_line}
-use Rattle.potential_check.specs.declared.reading.Head.{Head}
-use Rattle.potential_check.proofs.SheetLines.{forced_line-is, line-cost_in, line-forced_in, line-limit_in, line-row_in, line-step_in, line-table_in}
+use Rattle.std.proofs.Common.{◌≡◌, ℕ, zero, suc, ◌≤◌, Bool, List, [], ◌∷◌, ◌++◌, length, map, Option, Some, Result, Ok, refl, subst, arith}
+use Rattle.std.{proofs.Common.{codes, ne_eqb, All}, proofs.lemmas.Option.{some_pair_parts}, specs.Option.{ok_or}}
+use Rattle.line_text.{proofs.LawLemmas.{text_laws as laws}, specs.FirstFault.{◌>>=◌}, specs.Lines.{IsTextOf, lines}}
+use Rattle.class_table.specs.{NamedLines.{named_line}, Steps.{IsStep}, declared.table.TheConstants.{MOST_CLASSES}}
+use Rattle.potential_check.proofs.SheetLines.{forced_line-is, line-cost_in, line-forced_in, line-limit_in, line-row_in, line-step_in}
+use Rattle.potential_check.{proofs.SheetLines.{line-table_in}, specs.declared.cost.Cost.{Cost}, specs.declared.reading.Head.{Head}}
+use Rattle.potential_check.specs.SheetText.{with_rows, IsRow, IsWithinLimits, SpellsBy, cost_in, cost_number, forced_at, forced_lines}
+use Rattle.potential_check.specs.SheetText.{forced_number, head_of_lines, limit_in, line_at, lines_by, read_by, rows_from, step_at}
+use Rattle.potential_check.specs.SheetText.{step_lines, table_in}
 use Rattle.tuner_theory.specs.Sheets.{Sheet}
 
 -- ---- what a step of the reading gave

@@ -1,17 +1,11 @@
 -- What is looked at row by row is what a sheet has to meet, and what it meets is the verdict.
-use Rattle.std.proofs.Common.{◌≡◌, ℕ, zero, suc, ◌+◌, ◌-◌, ◌<◌, ◌≤◌, ◌^◌, List, length, slice_index, Some, arith, ap, inl, inr, sym, ◌∙◌, ◌↔◌, All, slice_get, slice_index_or}
+use Rattle.std.proofs.Common.{◌≡◌, ℕ, zero, suc, ◌+◌, ◌-◌, ◌<◌, ◌≤◌, ◌^◌, List, length, slice_index, Some, arith, ap, inl, inr, sym, ◌∙◌}
+use Rattle.std.proofs.{Common.{◌↔◌, All, slice_get, slice_index_or}, lemmas.Bool.{cases_lt}, lemmas.List.{get_or_default, get_or_past}}
+use Rattle.std.proofs.lemmas.{List.Sorted.{all_adjacent_more}, Option.{get_or_from_slice_get, slice_get_within}}
 use Rattle.std.specs.List.{AllAdjacentBelow}
-use Rattle.std.proofs.lemmas.Bool.{cases_lt}
-use Rattle.std.proofs.lemmas.List.{get_or_default, get_or_past}
-use Rattle.std.proofs.lemmas.List.Sorted.{all_adjacent_more}
-use Rattle.std.proofs.lemmas.Option.{get_or_from_slice_get, slice_get_within}
-use Rattle.potential_check.specs.RowConditions.{EdgesHold, IsBoundedRow, StageDropHolds}
-use Rattle.potential_check.specs.Certificates.Spanned.{IsSpanned, Spanned}
-use Rattle.tuner_theory.proofs.LawLemmas.{spans_fit}
-use Rattle.tuner_theory.specs.Rows.{number_at}
-use Rattle.tuner_theory.specs.Sheets.{Meets, Sheet}
-use Rattle.tuner_theory.specs.Spans.{places, span_waste}
-use Rattle.tuner_theory.specs.declared.verdict.Refusal.TheVariants.{Shape, LastClass, StageDrop, Edge}
+use Rattle.potential_check.specs.{Certificates.Spanned.{IsSpanned, Spanned}, RowConditions.{EdgesHold, IsBoundedRow, StageDropHolds}}
+use Rattle.tuner_theory.{proofs.LawLemmas.{spans_fit}, specs.Rows.{number_at}, specs.Sheets.{Meets, Sheet}}
+use Rattle.tuner_theory.specs.{Spans.{places, span_waste}, declared.verdict.Refusal.TheVariants.{Shape, LastClass, StageDrop, Edge}}
 
 -- row k, counted from 1, is the one at m, counted from 0
 number-is : (rows : List (List ℕ)) (k m i : ℕ) (d : List ℕ) → k ≡ m + 1 → m < length rows →

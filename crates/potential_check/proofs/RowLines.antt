@@ -1,10 +1,9 @@
 -- Reading the rows of a sheet, line by line.
-use Rattle.std.proofs.Common.{◌≡◌, ℕ, ◌+◌, ◌-◌, ◌<◌, ◌≤◌, List, [], ◌∷◌, ◌++◌, length, Result, Ok, Err, Some, None, codes, true, refl, ◌∙◌, arith, length-append, append_assoc, append-nil}
-use Rattle.class_table.specs.declared.table.TheConstants.{MOST_CLASSES}
+use Rattle.std.proofs.Common.{◌≡◌, ℕ, ◌+◌, ◌-◌, ◌<◌, ◌≤◌, List, [], ◌∷◌, ◌++◌, length, Result, Ok, Err, Some, None, codes, true, refl, ◌∙◌}
+use Rattle.std.proofs.Common.{arith, length-append, append_assoc, append-nil}
+use Rattle.class_table.specs.{NamedLines.{words_after}, declared.table.TheConstants.{MOST_CLASSES}}
 use Rattle.line_text.specs.Lines.{words}
-use Rattle.potential_check.specs.Leading.{is_row_line}
-use Rattle.class_table.specs.NamedLines.{words_after}
-use Rattle.potential_check.specs.SheetText.{row_in, row_of_words, rows_from}
+use Rattle.potential_check.specs.{Leading.{is_row_line}, SheetText.{row_in, row_of_words, rows_from}}
 
 -- A line with this name is a row line, and it is the row that its other words spell.
 pub named_row : (line : List ℕ) (rest : List (List ℕ)) → words_after (codes "row") (words line) ≡ Some rest →

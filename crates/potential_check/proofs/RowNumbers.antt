@@ -1,13 +1,9 @@
 -- Reading the numbers of a line, word by word.
-use Rattle.std.proofs.Common.{◌≡◌, ℕ, ◌<◌, ◌≤◌, Bool, true, List, [], ◌∷◌, ◌++◌, length, Option, Some, None, option_map, drop, refl, slice_get, arith, leb, length-append, append_assoc, append-nil, option_and_then}
-use Rattle.std.specs.List.{list_all}
-use Rattle.std.proofs.lemmas.Bool.{and_left, and_right, lt-leb, le-leb}
-use Rattle.std.proofs.lemmas.List.Folds.{list_all-append}
-use Rattle.class_table.specs.declared.sizes.TheConstants.{MOST_NEEDS}
-use Rattle.class_table.specs.NamedLines.{numbers_of}
-use Rattle.line_text.specs.Numbers.{number_of, classified}
-use Rattle.line_text.specs.declared.number.Number.{Number}
-use Rattle.line_text.specs.declared.number.Number.TheVariants.{Value}
+use Rattle.std.proofs.Common.{◌≡◌, ℕ, ◌<◌, ◌≤◌, Bool, true, List, [], ◌∷◌, ◌++◌, length, Option, Some, None, option_map, drop, refl}
+use Rattle.std.{proofs.Common.{slice_get, arith, leb, length-append, append_assoc, append-nil, option_and_then}, specs.List.{list_all}}
+use Rattle.std.proofs.lemmas.{Bool.{and_left, and_right, lt-leb, le-leb}, List.Folds.{list_all-append}}
+use Rattle.class_table.specs.{NamedLines.{numbers_of}, declared.sizes.TheConstants.{MOST_NEEDS}}
+use Rattle.line_text.specs.{Numbers.{number_of, classified}, declared.number.Number.{Number}, declared.number.Number.TheVariants.{Value}}
 use Rattle.potential_check.specs.SheetText.{fits, is_row, only_one, passing, row_of_words}
 
 -- ---- what a word is

@@ -1,22 +1,16 @@
 -- The number of a fault, of a sheet or a fit, is that of its first fault.
-use Rattle.std.proofs.Common.{◌≡◌, ℕ, zero, suc, ◌+◌, ◌^◌, ◌<◌, ◌⊎◌, inl, inr, Bool, true, false, List, [], ◌∷◌, Option, Some, None, Result, Ok, Err, refl, sym, ap, ◌∙◌, arith, codes, All, if◌then◌else◌}
-use Rattle.std.specs.Option.{ok_or, option_map}
-use Rattle.std.proofs.lemmas.Bool.{false≢true}
-use Rattle.std.proofs.lemmas.List.Elements.{All-cons, All-nil}
-use Rattle.class_table.specs.ClassLine.{class_line}
+use Rattle.std.proofs.Common.{◌≡◌, ℕ, zero, suc, ◌+◌, ◌^◌, ◌<◌, ◌⊎◌, inl, inr, Bool, true, false, List, [], ◌∷◌, Option, Some, None, Result}
+use Rattle.std.proofs.{Common.{Ok, Err, refl, sym, ap, ◌∙◌, arith, codes, All, if◌then◌else◌}, lemmas.Bool.{false≢true}}
+use Rattle.std.{proofs.lemmas.List.Elements.{All-cons, All-nil}, specs.Option.{ok_or, option_map}}
 use Rattle.class_table.proofs.LawLemmas.{IsName, class_line_is_full, named_line_is_line, no_classes_are_legal}
+use Rattle.class_table.specs.{ClassLine.{class_line}, NamedLines.{named_line}, declared.table.TheConstants.{MOST_CLASSES}}
+use Rattle.line_text.{proofs.LawLemmas.{IsLineByLine, one_first_fault, refusal_is_first_fault}, specs.FirstFault.{◌>>=◌, IsFirstFault}}
 use Rattle.line_text.specs.Lines.{IsLine, lines}
-use Rattle.line_text.specs.FirstFault.{◌>>=◌, IsFirstFault}
-use Rattle.line_text.proofs.LawLemmas.{IsLineByLine, one_first_fault, refusal_is_first_fault}
-use Rattle.class_table.specs.declared.table.TheConstants.{MOST_CLASSES}
-use Rattle.potential_check.specs.SheetText.{SpellsBy, cost_in, cost_number, forced_at, forced_in, forced_number, head_of_lines, is_named, limit_in, line_at, read_by, row_in, rows_from, step_at, step_in, table_in, with_rows, word_of}
-use Rattle.potential_check.specs.declared.cost.Cost.{Cost}
-use Rattle.potential_check.specs.declared.reading.Head.{Head}
-use Rattle.class_table.specs.NamedLines.{named_line}
-use Rattle.potential_check.proofs.LeadingLines.{forced-written, forced_number-written}
-use Rattle.potential_check.proofs.ReadIsSpelled.{read_is_spelled}
+use Rattle.potential_check.proofs.{LeadingLines.{forced-written, forced_number-written}, ReadIsSpelled.{read_is_spelled}}
 use Rattle.potential_check.proofs.SheetLines.{cost-not_forced, cost-not_step, cost_in-line, limit_in-line, names, one_small, table_in-line}
-use Rattle.potential_check.proofs.SpelledIsRead.{spelled_is_read}
+use Rattle.potential_check.{proofs.SpelledIsRead.{spelled_is_read}, specs.declared.cost.Cost.{Cost}, specs.declared.reading.Head.{Head}}
+use Rattle.potential_check.specs.SheetText.{SpellsBy, cost_in, cost_number, forced_at, forced_in, forced_number, head_of_lines, is_named}
+use Rattle.potential_check.specs.SheetText.{limit_in, line_at, read_by, row_in, rows_from, step_at, step_in, table_in, with_rows, word_of}
 use Rattle.tuner_theory.specs.Sheets.{Sheet}
 
 -- ---- one reading of all lines, which goes from place to place

@@ -1,23 +1,45 @@
 -- Each line of a sheet or a fit: it is read as what it spells, and no other line is.
-use Rattle.std.proofs.Common.{◌≡◌, ◌≢◌, ℕ, ◌<◌, ◌≤◌, ◌^◌, Bool, true, false, List, [], ◌∷◌, length, Option, Some, refl, sym, ap, ◌∙◌, arith, codes, leb}
-use Rattle.std.specs.List.{list_all}
-use Rattle.std.specs.Option.{option_map}
-use Rattle.std.proofs.lemmas.Bool.{and_from, and_parts, eqb-true, leb-true, le-leb, lt-ltb, ltb-true}
-use Rattle.std.proofs.lemmas.Bool.Decides.{nat_tests}
-use Rattle.std.proofs.lemmas.List.Elements.{All-nil, All-cons, All-head, All-tail, All-weaker}
-use Rattle.std.proofs.lemmas.List.Sums.{AllPass-from_list_all}
-use Rattle.class_table.specs.ClassLine.{class_line}
-use Rattle.class_table.specs.Steps.{IsStep}
-use Rattle.class_table.specs.Tables.{IsLegalTable}
+use Rattle.std.proofs.Common.{◌≡◌, ◌≢◌, ℕ, ◌<◌, ◌≤◌, ◌^◌, Bool, true, false, List, [], ◌∷◌, length, Option, Some, refl, sym, ap, ◌∙◌, arith}
+use Rattle.std.proofs.{Common.{codes, leb, option_and_then}, lemmas.Bool.Decides.{nat_tests}, lemmas.List.Sums.{AllPass-from_list_all}}
+use Rattle.std.{proofs.lemmas.Bool.{and_from, and_parts, eqb-true, leb-true, le-leb, lt-ltb, ltb-true}, specs.List.{list_all}}
+use Rattle.std.{proofs.lemmas.List.Elements.{All-nil, All-cons, All-head, All-tail, All-weaker}, specs.Option.{option_map}}
+use Rattle.class_table.proofs.LawLemmas.{AreSmall, IsName, line_of_read_numbers, named_numbers_are_read, read_line_is_spelled}
+use Rattle.class_table.{proofs.LawLemmas.{table_line_is_read, words_of_named_line}, specs.ClassLine.{class_line}, specs.Steps.{IsStep}}
+use Rattle.class_table.specs.{NamedLines.{named_line, numbers_in}, Tables.{IsLegalTable}, declared.table.TheConstants.{MOST_CLASSES}}
 use Rattle.class_table.specs.declared.sizes.TheConstants.{LARGEST_CLASS, MOST_NEEDS}
-use Rattle.class_table.specs.declared.table.TheConstants.{MOST_CLASSES}
-use Rattle.class_table.proofs.LawLemmas.{AreSmall, IsName, line_of_read_numbers, named_numbers_are_read, read_line_is_spelled, table_line_is_read, words_of_named_line}
-use Rattle.class_table.specs.NamedLines.{named_line, numbers_in}
-use Rattle.potential_check.specs.SheetText.{IsRow, cost_in, fits, forced_in, forced_lines, is_forced, is_limit, is_named, is_row, is_written_step, limit_in, number_in, passing, row_in, step_in, table_in, word_of}
-use Rattle.potential_check.specs.declared.cost.Cost.{Cost}
+use Rattle.potential_check.{proofs.RowNumbers.{passing-some}, specs.declared.cost.Cost.{Cost}}
+use Rattle.potential_check.specs.SheetText.{IsRow, cost_in, fits, forced_in, forced_lines, is_forced, is_limit, is_named, is_row}
+use Rattle.potential_check.specs.SheetText.{is_written_step, limit_in, number_in, passing, row_in, step_in, table_in, word_of, only_one}
 use Rattle.potential_check.specs.declared.cost.Cost.TheVariants.{Waste, Footprint}
-use Rattle.potential_check.proofs.OneNumber.{line-number_in, number_in-named_line}
-use Rattle.potential_check.proofs.RowNumbers.{passing-some}
+
+-- The line of a name and one number: it is read as this number, and no other line is.
+
+-- ---- from the number to the line
+
+-- The number of a line, by the line's numbers
+pub number_in-numbers : (name : List ℕ) (test : ℕ → Bool) (line : List ℕ) →
+    number_in name test line ≡ passing test (option_and_then only_one (numbers_in name line))
+number_in-numbers name test line = grind arith
+
+pub number_in-named_line : (name : List ℕ) (test : ℕ → Bool) (n : ℕ) → IsName name → n < 2 ^ 64 → test n ≡ true →
+    number_in name test (named_line name (n ∷ [])) ≡ Some n
+number_in-named_line name test n is_name small passes =
+    number_in-numbers name test (named_line name (n ∷ []))
+    ∙ rw (named_numbers_are_read name (n ∷ []) is_name (All-cons (λ n. n < 2 ^ 64) n [] small (All-nil (λ n. n < 2 ^ 64))), passes) refl
+
+-- ---- from a line to its number
+
+-- a single number
+one_number : (o : Option (List ℕ)) (n : ℕ) → option_and_then only_one o ≡ Some n → o ≡ Some (n ∷ [])
+one_number o n is = grind arith
+
+pub line-number_in : (name : List ℕ) (test : ℕ → Bool) (line : List ℕ) (n : ℕ) → number_in name test line ≡ Some n →
+    ((m : ℕ) → test m ≡ true → m < 2 ^ 64)
+    → (line ≡ named_line name (n ∷ [])) × (test n ≡ true)
+line-number_in name test line n e small =
+    let passed = passing-some test (option_and_then only_one (numbers_in name line)) n (sym (number_in-numbers name test line) ∙ e) in
+    let one = one_number (numbers_in name line) n passed.0 in
+    (line_of_read_numbers name line (n ∷ []) one (All-cons (λ n. n < 2 ^ 64) n [] (small n passed.1) (All-nil (λ n. n < 2 ^ 64))), passed.1)
 
 -- ---- the names
 

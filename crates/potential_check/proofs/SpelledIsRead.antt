@@ -1,18 +1,16 @@
 -- The text of a sheet or a fit is read as that, line by line.
-use Rattle.std.proofs.Common.{◌≡◌, ℕ, zero, suc, ◌<◌, ◌≤◌, ◌^◌, Bool, true, false, List, [], ◌∷◌, ◌++◌, length, map, Some, Ok, refl, sym, subst, arith, codes, ne_eqb, inl, inr, All}
-use Rattle.std.proofs.lemmas.Bool.{cases_eq}
+use Rattle.std.proofs.Common.{◌≡◌, ℕ, zero, suc, ◌<◌, ◌≤◌, ◌^◌, Bool, true, false, List, [], ◌∷◌, ◌++◌, length, map, Some, Ok, refl, sym}
+use Rattle.std.proofs.{Common.{subst, arith, codes, ne_eqb, inl, inr, All}, lemmas.Bool.{cases_eq}}
 use Rattle.std.proofs.lemmas.List.Elements.{All-nil, All-cons, All-head, All-tail, All-append}
-use Rattle.class_table.specs.ClassLine.{class_line}
-use Rattle.class_table.specs.Steps.{IsStep}
-use Rattle.class_table.proofs.LawLemmas.{class_line_is_full, named_line_is_full, words_of_named_line}
-use Rattle.line_text.specs.Lines.{IsFullLine, lines}
-use Rattle.line_text.proofs.LawLemmas.{text_laws as laws}
+use Rattle.class_table.{proofs.LawLemmas.{class_line_is_full, named_line_is_full, words_of_named_line}, specs.ClassLine.{class_line}}
+use Rattle.class_table.specs.{NamedLines.{named_line}, Steps.{IsStep}, declared.sizes.TheConstants.{LARGEST_CLASS}}
 use Rattle.class_table.specs.declared.table.TheConstants.{MOST_CLASSES}
-use Rattle.class_table.specs.declared.sizes.TheConstants.{LARGEST_CLASS}
-use Rattle.potential_check.specs.SheetText.{IsRow, IsWithinLimits, SpellsBy, cost_number, forced_at, forced_lines, head_of_lines, is_named, lines_by, read_by, rows_from, step_at, step_lines, word_of}
-use Rattle.potential_check.specs.declared.cost.Cost.{Cost}
-use Rattle.class_table.specs.NamedLines.{named_line}
-use Rattle.potential_check.proofs.SheetLines.{cost-not_forced, cost-not_step, cost_in-line, forced-named, forced_in-line, forced_line, forced_line-is, limit_in-line, names, one_small, row_in-line, step_in-line, step_small, table_in-line}
+use Rattle.line_text.{proofs.LawLemmas.{text_laws as laws}, specs.Lines.{IsFullLine, lines}}
+use Rattle.potential_check.proofs.SheetLines.{cost-not_forced, cost-not_step, cost_in-line, forced-named, forced_in-line, forced_line}
+use Rattle.potential_check.proofs.SheetLines.{forced_line-is, limit_in-line, names, one_small, row_in-line, step_in-line, step_small}
+use Rattle.potential_check.{proofs.SheetLines.{table_in-line}, specs.declared.cost.Cost.{Cost}}
+use Rattle.potential_check.specs.SheetText.{lines_by, read_by, rows_from, step_at, step_lines, word_of, IsRow, IsWithinLimits, SpellsBy}
+use Rattle.potential_check.specs.SheetText.{cost_number, forced_at, forced_lines, head_of_lines, is_named}
 use Rattle.tuner_theory.specs.Sheets.{Sheet}
 
 -- ---- the lines are lines, and not empty

@@ -1,11 +1,8 @@
 -- The edges of the places from one on, as a walk down the ends has seen to them.
-use Rattle.std.proofs.Common.{◌≡◌, ℕ, ◌+◌, ◌<◌, ◌≤◌, List, length, slice_index, arith, inl, inr}
-use Rattle.std.proofs.lemmas.Bool.{cases_lt}
+use Rattle.std.proofs.{Common.{◌≡◌, ℕ, ◌+◌, ◌<◌, ◌≤◌, List, length, slice_index, arith, inl, inr}, lemmas.Bool.{cases_lt}}
 use Rattle.std.proofs.lemmas.List.{get_or_past}
-use Rattle.potential_check.specs.RowConditions.{EdgesHold, HasTightEnd, IsTightEnd, edge_bound}
-use Rattle.potential_check.specs.Certificates.Spanned.{Spanned}
-use Rattle.tuner_theory.specs.Spans.{places}
-use Rattle.tuner_theory.proofs.LawLemmas.{places_cross}
+use Rattle.potential_check.specs.{Certificates.Spanned.{Spanned}, RowConditions.{EdgesHold, HasTightEnd, IsTightEnd, edge_bound}}
+use Rattle.tuner_theory.{proofs.LawLemmas.{places_cross}, specs.Spans.{places}}
 use Rattle.class_table.specs.Steps.{IsStep}
 
 -- the numbers from place i on are within their edges to the ends from `end` on

@@ -1,9 +1,7 @@
 -- What the walk over a row's edges has at hand of a place and of an end.
 use Rattle.std.specs.Prelude.{◌≡◌, ℕ, ◌+◌, ◌-◌, ◌*◌, ◌≤◌, ◌^◌, List, slice_index}
 use Rattle.class_table.specs.declared.sizes.TheConstants.{GRANULE_BYTES}
-use Rattle.potential_check.specs.Certificates.Spanned.{IsSpanned, Spanned}
-use Rattle.potential_check.specs.declared.edge_walk.End.{End}
-use Rattle.potential_check.specs.declared.edge_walk.Start.{Start}
+use Rattle.potential_check.specs.{Certificates.Spanned.{IsSpanned, Spanned}, declared.edge_walk.End.{End}, declared.edge_walk.Start.{Start}}
 use Rattle.tuner_theory.specs.Spans.{bytes_up_to, counted_up_to, need_at, places}
 
 -- A place of this row, with the number there and the sums up to it.

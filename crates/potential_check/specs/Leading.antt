@@ -1,14 +1,11 @@
 -- A certificate before other lines, as a checker's input has it before the profile or the history.
-use Rattle.std.specs.Prelude.{◌≡◌, ◌≤◌, ℕ, ◌+◌, Bool, if◌then◌else◌, List, [], ◌++◌, length, take, drop, codes, slice_index_or, Result, Ok, Err}
 use Rattle.std.specs.List.{take_while}
+use Rattle.std.specs.Prelude.{Err, ◌≡◌, ◌≤◌, ℕ, ◌+◌, Bool, if◌then◌else◌, List, [], ◌++◌, length, take, drop, codes, slice_index_or, Result}
+use Rattle.std.specs.Prelude.{Ok}
 use Rattle.line_text.specs.Lines.{lines}
-use Rattle.potential_check.specs.Certificates.SheetView.{sheet_of}
-use Rattle.potential_check.specs.SheetText.{is_named, most_head_lines, read_by}
-use Rattle.potential_check.specs.declared.cost.Cost.{Cost}
-use Rattle.potential_check.specs.declared.cost.Cost.TheVariants.{Waste, Footprint}
-use Rattle.potential_check.specs.declared.fault.Fault.{Fault}
-use Rattle.potential_check.specs.declared.fault.Fault.TheVariants.{OutOfMemory, Line}
-use Rattle.potential_check.specs.declared.fault.SheetError.{SheetError}
+use Rattle.potential_check.specs.{Certificates.SheetView.{sheet_of}, SheetText.{is_named, most_head_lines, read_by}}
+use Rattle.potential_check.specs.declared.{cost.Cost.{Cost}, cost.Cost.TheVariants.{Waste, Footprint}, fault.Fault.{Fault}}
+use Rattle.potential_check.specs.declared.fault.{Fault.TheVariants.{OutOfMemory, Line}, SheetError.{SheetError}}
 use Rattle.potential_check.specs.declared.fault.SheetError.TheVariants.{OutOfMemory as NoMemory, BadSheet, BadFit}
 use Rattle.potential_check.specs.declared.leading_sheet.LeadingSheet.{LeadingSheet}
 use Rattle.class_table.specs.declared.table.TheConstants.{MOST_CLASSES}

@@ -1,8 +1,7 @@
 -- What the tests of a certificate's rows say by a measure.
 use Rattle.std.specs.Prelude.{◌↔◌, IsTrue}
 use Rattle.potential_check.specs.declared.measured.RowTests.{RowTests}
-use Rattle.tuner_theory.specs.Measures.{Measure}
-use Rattle.tuner_theory.specs.Sheets.{MeetsOn, Sheet}
+use Rattle.tuner_theory.specs.{Measures.{Measure}, Sheets.{MeetsOn, Sheet}}
 use Rattle.tuner_theory.specs.declared.verdict.Refusal.TheVariants.{LastClass, StageDrop, Edge}
 
 -- Each test says whether its condition is met. The edges need not be looked at where another test failed.

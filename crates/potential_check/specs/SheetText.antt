@@ -1,26 +1,17 @@
 -- A sheet's text: a class line, `limit K`, `step S` where the step is not 1, `forced 1024` where the largest class is forced, `waste W`, and a
 -- line `row ..` for each row.
 -- A fit has `footprint F` in place of `waste W`. What is below names the cost.
-use Rattle.std.specs.Prelude.{◌≡◌, ℕ, zero, suc, ◌<◌, ◌+◌, ◌≤◌, ◌^◌, Bool, true, false, ◌||◌, ◌&&◌, List, [], ◌∷◌, ◌++◌, length, map, All, codes, Option, Some, None, is_some, option_and_then, Result, Ok, Err, nat_lt, nat_le, ◌==◌, if◌then◌else◌}
-use Rattle.std.specs.List.{list_all}
-use Rattle.std.specs.Option.{ok_or, option_map}
-use Rattle.std.specs.Result.{result_ok}
-use Rattle.line_text.specs.FirstFault.{◌>>=◌}
-use Rattle.class_table.specs.ClassLine.{class_line, table_of_line}
-use Rattle.class_table.specs.NamedLines.{named_line, numbers_of, words_after}
-use Rattle.class_table.specs.Steps.{IsStep}
-use Rattle.class_table.specs.Tables.{IsLegalTable}
-use Rattle.line_text.specs.Lines.{IsTextOf, lines, words, text_of}
-use Rattle.potential_check.specs.declared.cost.Cost.{Cost}
-use Rattle.potential_check.specs.declared.cost.Cost.TheVariants.{Waste, Footprint}
-use Rattle.potential_check.specs.declared.fault.Fault.{Fault}
-use Rattle.potential_check.specs.declared.fault.Fault.TheVariants.{OutOfMemory, Line}
-use Rattle.potential_check.specs.declared.fault.SheetError.{SheetError}
-use Rattle.potential_check.specs.declared.fault.SheetError.TheVariants.{OutOfMemory as NoMemory, BadSheet, BadFit}
-use Rattle.potential_check.specs.declared.reading.Head.{Head}
-use Rattle.tuner_theory.specs.Sheets.{Sheet}
-use Rattle.class_table.specs.declared.sizes.TheConstants.{LARGEST_CLASS, MOST_NEEDS}
+use Rattle.std.specs.{List.{list_all}, Option.{ok_or, option_map}, Result.{result_ok}}
+use Rattle.std.specs.Prelude.{◌≡◌, ℕ, zero, suc, ◌<◌, ◌+◌, ◌≤◌, ◌^◌, Bool, true, false, ◌||◌, ◌&&◌, List, [], ◌∷◌, ◌++◌, length, map, All}
+use Rattle.std.specs.Prelude.{codes, Option, Some, None, is_some, option_and_then, Result, Ok, Err, nat_lt, nat_le, ◌==◌, if◌then◌else◌}
+use Rattle.line_text.specs.{FirstFault.{◌>>=◌}, Lines.{IsTextOf, lines, words, text_of}}
+use Rattle.class_table.specs.{ClassLine.{class_line, table_of_line}, NamedLines.{named_line, numbers_of, words_after}, Steps.{IsStep}}
+use Rattle.class_table.specs.{Tables.{IsLegalTable}, declared.sizes.TheConstants.{LARGEST_CLASS, MOST_NEEDS}}
 use Rattle.class_table.specs.declared.table.TheConstants.{MOST_CLASSES}
+use Rattle.potential_check.specs.declared.{cost.Cost.{Cost}, cost.Cost.TheVariants.{Waste, Footprint}, fault.Fault.{Fault}}
+use Rattle.potential_check.specs.declared.{fault.Fault.TheVariants.{OutOfMemory, Line}, fault.SheetError.{SheetError}, reading.Head.{Head}}
+use Rattle.potential_check.specs.declared.fault.SheetError.TheVariants.{OutOfMemory as NoMemory, BadSheet, BadFit}
+use Rattle.tuner_theory.specs.Sheets.{Sheet}
 
 -- ---- the spelling
 

@@ -1,7 +1,5 @@
 -- Numbers in a line.
-use Rattle.std.specs.Prelude.{ℕ, List, ◌∷◌}
-use Rattle.std.specs.Fmt.{decimal}
-use Rattle.std.specs.List.{flat_map}
+use Rattle.std.specs.{Fmt.{decimal}, List.{flat_map}, Prelude.{ℕ, List, ◌∷◌}}
 
 -- Numbers, each after a space.
 abbrev pub spaced : List ℕ → List ℕ

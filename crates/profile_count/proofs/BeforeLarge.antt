@@ -1,12 +1,9 @@
 -- A reading of which no `large` line was read: nothing is counted from the next size on.
-use Rattle.std.proofs.Common.{◌≡◌, ◌≢◌, ℕ, ◌≤◌, List, get_or, set, ◌∙◌, arith}
-use Rattle.std.proofs.lemmas.List.{get_or-set_other, length-set}
+use Rattle.std.proofs.{Common.{◌≡◌, ◌≢◌, ℕ, ◌≤◌, List, get_or, set, ◌∙◌, arith}, lemmas.List.{get_or-set_other, length-set}}
 use Rattle.std.proofs.lemmas.List.Elements.{All-set}
 use Rattle.tuner_theory.specs.Profiles.{AreCounts, greatest_count}
-use Rattle.profile_count.specs.Counts.{nothing_counted}
-use Rattle.profile_count.specs.ProfileText.{Reading, IsNext, with_entry}
-use Rattle.profile_count.specs.declared.entry.Entry.TheVariants.{Size}
-use Rattle.profile_count.proofs.Zeros.{zeros_are_counts, each_is_zero}
+use Rattle.profile_count.{proofs.Zeros.{zeros_are_counts, each_is_zero}, specs.Counts.{nothing_counted}}
+use Rattle.profile_count.specs.{ProfileText.{Reading, IsNext, with_entry}, declared.entry.Entry.TheVariants.{Size}}
 
 pub record IsOpen (reading : Reading) : Type 0 where
   pub counts : AreCounts reading.profile.counts

@@ -1,14 +1,13 @@
 -- The profile of requests, and one request more.
-use Rattle.std.proofs.Common.{◌≡◌, ◌≢◌, ℕ, ◌+◌, ◌<◌, ◌≤◌, List, [], ◌∷◌, ◌++◌, length, get_or, set, cond, eqb, ltb, refl, sym, ap, ◌∙◌, arith, inl, inr, ne_eqb, append_assoc, append-nil}
+use Rattle.std.proofs.Common.{◌≡◌, ◌≢◌, ℕ, ◌+◌, ◌<◌, ◌≤◌, List, [], ◌∷◌, ◌++◌, length, get_or, set, cond, eqb, ltb, refl, sym, ap, ◌∙◌}
+use Rattle.std.proofs.{Common.{arith, inl, inr, ne_eqb, append_assoc, append-nil}, lemmas.List.Sums.{count_by-le-length, sum_by_push}}
 use Rattle.std.proofs.lemmas.Bool.{cases_eq, eq-eqb, leb-true, leb-false, le-ltb, lt-ltb}
 use Rattle.std.proofs.lemmas.List.{get_or-set_same, get_or-set_other, length-set}
 use Rattle.std.proofs.lemmas.List.FromFn.{fill_by_all, get_or-map-range_with_len, length-map-range_with_len}
-use Rattle.std.proofs.lemmas.List.Sums.{count_by-le-length, sum_by_push}
 use Rattle.class_table.specs.Sizes.{largest_counted}
 use Rattle.tuner_theory.specs.Profiles.{Profile}
-use Rattle.profile_count.specs.Counts.{count_for, nothing_counted, with_one_more, zeros}
+use Rattle.profile_count.{proofs.Zeros.{zeros_are_counts, each_is_zero}, specs.Counts.{count_for, nothing_counted, with_one_more, zeros}}
 use Rattle.profile_count.specs.Requests.{CountsRequests, large_requests, profile_of_sizes, requests_below, requests_of, with_more}
-use Rattle.profile_count.proofs.Zeros.{zeros_are_counts, each_is_zero}
 
 -- ---- the counts of the sizes below a bound
 

@@ -1,18 +1,13 @@
 -- The line of an entry: the entry is read from it, and from no other line.
-use Rattle.std.proofs.Common.{◌≡◌, ℕ, ◌≤◌, ◌<◌, Bool, true, false, List, [], ◌∷◌, length, Option, Some, None, Ok, refl, sym, ap, ◌∙◌, arith, codes, ltb, length-append}
-use Rattle.std.specs.Fmt.{decimal}
+use Rattle.std.proofs.Common.{◌≡◌, ℕ, ◌≤◌, ◌<◌, Bool, true, false, List, [], ◌∷◌, length, Option, Some, None, Ok, refl, sym, ap, ◌∙◌, arith}
+use Rattle.std.proofs.{Common.{codes, ltb, length-append}, lemmas.Bool.{le-ltb, ltb-false, le-leb, false_from_ne_true}}
+use Rattle.std.{proofs.lemmas.List.Elements.{All-nil, All-cons}, proofs.lemmas.Slice.Eq.{bytes_eq-Decides}, specs.Fmt.{decimal}}
 use Rattle.std.specs.Str.{bytes_eq}
-use Rattle.std.proofs.lemmas.Bool.{le-ltb, ltb-false, le-leb, false_from_ne_true}
-use Rattle.std.proofs.lemmas.List.Elements.{All-nil, All-cons}
-use Rattle.std.proofs.lemmas.Slice.Eq.{bytes_eq-Decides}
-use Rattle.line_text.specs.Lines.{words, line_of, IsLine, IsWord}
-use Rattle.line_text.specs.Numbers.{number_of}
+use Rattle.line_text.{proofs.LawLemmas.{text_laws as laws}, specs.Lines.{words, line_of, IsLine, IsWord}, specs.Numbers.{number_of}}
 use Rattle.tuner_theory.specs.Profiles.{greatest_count}
-use Rattle.line_text.proofs.LawLemmas.{text_laws as laws}
 use Rattle.class_table.proofs.LawLemmas.{IsName, plain_name}
 use Rattle.profile_count.specs.ProfileText.{IsNext, entry_of, counted, size_entry, numbers_entry, large_entry}
-use Rattle.profile_count.specs.declared.entry.Entry.{Entry}
-use Rattle.profile_count.specs.declared.entry.Entry.TheVariants.{Size, Large}
+use Rattle.profile_count.specs.declared.entry.{Entry.{Entry}, Entry.TheVariants.{Size, Large}}
 
 abbrev pub entry_words : Entry → List (List ℕ)
 entry_words (Size size count) = decimal size ∷ decimal count ∷ []

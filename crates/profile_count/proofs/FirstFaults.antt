@@ -1,18 +1,13 @@
 -- The line at which a text is refused as a profile is its first fault.
-use Rattle.std.proofs.Common.{◌≡◌, ℕ, ◌+◌, ◌-◌, ◌≤◌, ◌⊎◌, List, [], ◌∷◌, length, take, Result, Ok, Err, ◌↔◌, refl, sym, ap, ◌∙◌, arith, inl, inr, append-nil}
-use Rattle.std.proofs.lemmas.Bool.{cases_lt}
-use Rattle.std.proofs.lemmas.List.Elements.{All-nil, All-take}
-use Rattle.line_text.specs.FirstFault.{IsFirstFault}
-use Rattle.line_text.specs.Lines.{lines, words, text_of, IsLine}
+use Rattle.std.proofs.Common.{◌≡◌, ℕ, ◌+◌, ◌-◌, ◌≤◌, ◌⊎◌, List, [], ◌∷◌, length, take, Result, Ok, Err, ◌↔◌, refl, sym, ap, ◌∙◌, arith, inl}
+use Rattle.std.proofs.{Common.{inr, append-nil}, lemmas.Bool.{cases_lt}, lemmas.List.Elements.{All-nil, All-take}}
+use Rattle.line_text.proofs.LawLemmas.{IsLineByLine, first_fault_is_a_refusal, refusal_has_its_place, refusal_is_first_fault}
+use Rattle.line_text.{proofs.LawLemmas.{text_laws as laws}, specs.FirstFault.{IsFirstFault}, specs.Lines.{lines, words, text_of, IsLine}}
 use Rattle.tuner_theory.specs.Profiles.{Profile}
-use Rattle.line_text.proofs.LawLemmas.{IsLineByLine, first_fault_is_a_refusal, refusal_has_its_place, refusal_is_first_fault, text_laws as laws}
+use Rattle.profile_count.proofs.{BeforeLarge.{nothing_read}, LineByLine.{line_read, line_faulty, no_line}}
+use Rattle.profile_count.proofs.{ReadIsSpelled.{profile_is_spelled}, SpelledIsRead.{spelled_profile_is_read}}
 use Rattle.profile_count.specs.ProfileText.{IsRefusedAt, Reading, SpellsProfile, entry_of, profile_from, profile_of, with_entry}
-use Rattle.profile_count.specs.declared.entry.Entry.{Entry}
-use Rattle.profile_count.specs.declared.fault.ProfileFault.{ProfileFault}
-use Rattle.profile_count.proofs.LineByLine.{line_read, line_faulty, no_line}
-use Rattle.profile_count.proofs.BeforeLarge.{nothing_read}
-use Rattle.profile_count.proofs.ReadIsSpelled.{profile_is_spelled}
-use Rattle.profile_count.proofs.SpelledIsRead.{spelled_profile_is_read}
+use Rattle.profile_count.specs.declared.{entry.Entry.{Entry}, fault.ProfileFault.{ProfileFault}}
 
 abbrev Taken : Reading → List ℕ → Type 0
 Taken s line = (next : Reading) × ((n : ℕ) (ls : List (List ℕ)) → profile_from n s (line ∷ ls) ≡ profile_from (n + 1) next ls)

@@ -1,13 +1,11 @@
 -- The first class that serves a size, as sizes ascend.
-use Rattle.std.proofs.Common.{◌≡◌, ℕ, zero, suc, ◌+◌, ◌-◌, ◌*◌, ◌<◌, ◌≤◌, true, false, not, List, [], ◌∷◌, length, get_or, Some, None, refl, sym, ap, ◌∙◌, arith, inl, inr, IsSome, slice_get}
-use Rattle.std.specs.List.{position_or_len}
+use Rattle.std.proofs.Common.{◌≡◌, ℕ, zero, suc, ◌+◌, ◌-◌, ◌*◌, ◌<◌, ◌≤◌, true, false, not, List, [], ◌∷◌, length, get_or, Some, None, refl}
+use Rattle.std.proofs.{Common.{sym, ap, ◌∙◌, arith, inl, inr, IsSome, slice_get}, lemmas.List.Folds.{find_at}}
 use Rattle.std.proofs.lemmas.Bool.{cases_Bool, cases_lt, not_from_true, leb-false, le-leb, lt-leb, both_ways}
-use Rattle.std.proofs.lemmas.List.Kept.{AllPairs-from_increasing}
-use Rattle.std.proofs.lemmas.List.Sums.{position_or_len_is, prefix_len_passes}
-use Rattle.std.proofs.lemmas.List.Folds.{find_at}
+use Rattle.std.proofs.lemmas.List.{Kept.{AllPairs-from_increasing}, Sums.{position_or_len_is, prefix_len_passes}}
 use Rattle.std.proofs.lemmas.Option.{get_or_from_slice_get, slice_get_past, slice_get_within, slice_get-get_or}
-use Rattle.class_table.specs.Sizes.{serves}
-use Rattle.class_table.specs.Tables.{IsLegalTable, class_for}
+use Rattle.std.specs.List.{position_or_len}
+use Rattle.class_table.specs.{Sizes.{serves}, Tables.{IsLegalTable, class_for}}
 
 -- a place that the walk has come to, whose class serves n, is the first such
 pub reached : (n i : ℕ) (classes : List ℕ) → i ≤ position_or_len (serves n) classes → i < length classes →

@@ -4,7 +4,6 @@ pub mod EntryLines
 pub mod FirstFaults
 pub mod FirstServing
 pub mod LineByLine
-pub mod NextEntry
 pub mod BeforeLarge
 pub mod ReadIsSpelled
 pub mod RequestLosses

@@ -2,8 +2,7 @@
 use Rattle.std.proofs.Common.{◌≡◌, ℕ, ◌+◌, List, [], ◌∷◌, Option, Some, None, Result, Ok, Err, drop, slice_get, refl, add-one, arith}
 use Rattle.std.specs.Option.{option_map}
 use Rattle.line_text.specs.Lines.{words}
-use Rattle.profile_count.specs.ProfileText.{Reading, entry_of, with_entry, profile_from}
-use Rattle.profile_count.specs.declared.entry.Entry.{Entry}
+use Rattle.profile_count.specs.{ProfileText.{Reading, entry_of, with_entry, profile_from}, declared.entry.Entry.{Entry}}
 use Rattle.profile_count.specs.declared.fault.ProfileFault.{ProfileFault}
 
 pub line_read : (number : ℕ) (r : Reading) (rest new : List (List ℕ)) (line : List ℕ) (entry : Entry) → rest ≡ line ∷ new →

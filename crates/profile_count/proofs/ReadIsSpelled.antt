@@ -1,18 +1,13 @@
 -- From a text that is read as a profile to its spelling: line by line, the rest spells what is counted from there on.
 use Rattle.std.proofs.Common.{◌≡◌, ℕ, suc, ◌<◌, List, [], ◌∷◌, ◌++◌, length, get_or, drop, Result, Ok, Err, refl, subst, ◌∙◌, arith, ne_eqb}
-use Rattle.std.proofs.Math.Seq.{drop-cons}
-use Rattle.std.proofs.lemmas.List.{get_or-drop, get_or-set_same}
-use Rattle.line_text.specs.Lines.{lines, words, IsTextOf}
+use Rattle.std.proofs.{Math.Seq.{drop-cons}, lemmas.List.{get_or-drop, get_or-set_same}}
+use Rattle.line_text.{proofs.LawLemmas.{text_laws as laws}, specs.Lines.{lines, words, IsTextOf}}
 use Rattle.tuner_theory.specs.Profiles.{Profile, IsProfile}
-use Rattle.line_text.proofs.LawLemmas.{text_laws as laws}
-use Rattle.profile_count.specs.Counts.{with_large}
-use Rattle.profile_count.specs.ProfileText.{Reading, SpellsProfile, IsNext, large_lines, entry_of, with_entry, profile_from, profile_of}
-use Rattle.profile_count.specs.declared.entry.Entry.{Entry}
-use Rattle.profile_count.specs.declared.entry.Entry.TheVariants.{Size, Large}
-use Rattle.profile_count.specs.declared.fault.ProfileFault.{ProfileFault}
-use Rattle.profile_count.proofs.EntryLines.{entry_line, entry_line-read}
 use Rattle.profile_count.proofs.BeforeLarge.{IsOpen, nothing_read, is_open-nothing_read, other_count, is_open-size_read}
+use Rattle.profile_count.{proofs.EntryLines.{entry_line, entry_line-read}, specs.Counts.{with_large}, specs.declared.entry.Entry.{Entry}}
 use Rattle.profile_count.proofs.SizeLines.{size_lines_from, size_lines-none, size_lines-counted, size_lines-passed}
+use Rattle.profile_count.specs.ProfileText.{Reading, SpellsProfile, IsNext, large_lines, entry_of, with_entry, profile_from, profile_of}
+use Rattle.profile_count.specs.declared.{entry.Entry.TheVariants.{Size, Large}, fault.ProfileFault.{ProfileFault}}
 
 -- After a reading, lines spell a profile: what it counts from the next size on, and its large requests. Below that size it counts what was
 -- read.

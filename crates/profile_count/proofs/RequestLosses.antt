@@ -1,17 +1,13 @@
 -- What a class table wastes on the profile of requests is what the requests lose one by one.
-use Rattle.std.proofs.Common.{◌≡◌, ◌↔◌, ℕ, zero, suc, ◌+◌, ◌*◌, ◌<◌, ◌≤◌, Bool, true, false, List, [], ◌∷◌, length, get_or, cond, not, eqb, leb, ltb, Option, Some, None, refl, sym, ap, ◌∙◌, arith, inl, inr, ne_eqb}
-use Rattle.std.specs.Prelude.{All, IsSome, filter, sum_by, unwrap_or}
-use Rattle.std.specs.Option.{option_map_or}
-use Rattle.std.proofs.lemmas.Bool.{cases_eq, cases_lt, eq-eqb, leb-true, le-leb, ltb-true, ltb-false}
+use Rattle.std.proofs.Common.{◌≡◌, ◌↔◌, ℕ, zero, suc, ◌+◌, ◌*◌, ◌<◌, ◌≤◌, Bool, true, false, List, [], ◌∷◌, length, get_or, cond, not, eqb}
+use Rattle.std.{proofs.Common.{leb, ltb, Option, Some, None, refl, sym, ap, ◌∙◌, arith, inl, inr, ne_eqb}, specs.Option.{option_map_or}}
+use Rattle.std.proofs.lemmas.{Bool.{cases_eq, cases_lt, eq-eqb, leb-true, le-leb, ltb-true, ltb-false}, List.Filters.{sum_by-filter_both}}
 use Rattle.std.proofs.lemmas.List.Elements.{All-from_get_or, All-head, All-tail, filter_agree, filter_passes}
-use Rattle.std.proofs.lemmas.List.Filters.{sum_by-filter_both}
-use Rattle.std.proofs.lemmas.List.Sums.{get_or-le-sum_by, sum_by-cons}
-use Rattle.class_table.specs.Sizes.{counted_of, largest_counted, loss_of}
-use Rattle.class_table.specs.Tables.{class_for, loss_of_size, ServesSizes, rounding_loss}
-use Rattle.tuner_theory.specs.Waste.{Serves, sum_below, waste_at, waste_of}
-use Rattle.tuner_theory.proofs.Sums.{sum_none, sum_same, sum_split}
-use Rattle.profile_count.specs.Requests.{profile_of_sizes, requests_below, requests_of}
+use Rattle.std.{proofs.lemmas.List.Sums.{get_or-le-sum_by, sum_by-cons}, specs.Prelude.{All, IsSome, filter, sum_by, unwrap_or}}
+use Rattle.class_table.specs.{Sizes.{counted_of, largest_counted, loss_of}, Tables.{class_for, loss_of_size, ServesSizes, rounding_loss}}
+use Rattle.tuner_theory.{proofs.Sums.{sum_none, sum_same, sum_split}, specs.Waste.{Serves, sum_below, waste_at, waste_of}}
 use Rattle.profile_count.proofs.CountedRequests.{get_or-requests_below, length-requests_below}
+use Rattle.profile_count.specs.Requests.{profile_of_sizes, requests_below, requests_of}
 
 -- ---- a sum over sizes as a sum over requests
 

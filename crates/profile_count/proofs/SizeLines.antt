@@ -1,7 +1,6 @@
 -- The lines of the sizes, of which only counted ones have one.
-use Rattle.std.proofs.Common.{◌≡◌, ◌≢◌, ℕ, zero, suc, ◌+◌, ◌-◌, ◌<◌, ◌≤◌, List, [], ◌∷◌, ◌++◌, length, get_or, drop, refl, arith, ne_eqb, add-one, add-zero}
-use Rattle.std.proofs.Math.Seq.{drop-cons}
-use Rattle.std.proofs.lemmas.List.{drop_all}
+use Rattle.std.proofs.Common.{◌≡◌, ◌≢◌, ℕ, zero, suc, ◌+◌, ◌-◌, ◌<◌, ◌≤◌, List, [], ◌∷◌, ◌++◌, length, get_or, drop, refl, arith, ne_eqb}
+use Rattle.std.proofs.{Common.{add-one, add-zero}, Math.Seq.{drop-cons}, lemmas.List.{drop_all}}
 use Rattle.line_text.specs.Lines.{ended, text_of}
 use Rattle.profile_count.specs.ProfileText.{size_line, size_lines}
 

@@ -1,19 +1,15 @@
 -- From the spelling of a profile to the profile that is read: size by size, the counts so far are the profile's.
-use Rattle.std.proofs.Common.{◌≡◌, ℕ, zero, suc, ◌+◌, ◌<◌, ◌≤◌, List, [], ◌∷◌, ◌++◌, length, get_or, set, drop, Ok, refl, sym, ap, ◌∙◌, arith, ne_eqb, length-drop, All}
-use Rattle.std.proofs.Math.Seq.{drop-cons}
-use Rattle.std.proofs.lemmas.Grind.{same_number_lists}
-use Rattle.std.proofs.lemmas.List.{get_or-set_same}
-use Rattle.std.proofs.lemmas.List.Elements.{All-nil, All-cons, All-head, All-tail, All-append}
+use Rattle.std.proofs.Common.{◌≡◌, ℕ, zero, suc, ◌+◌, ◌<◌, ◌≤◌, List, [], ◌∷◌, ◌++◌, length, get_or, set, drop, Ok, refl, sym, ap, ◌∙◌}
+use Rattle.std.proofs.{Common.{arith, ne_eqb, length-drop, All}, Math.Seq.{drop-cons}, lemmas.Grind.{same_number_lists}}
+use Rattle.std.proofs.lemmas.{List.{get_or-set_same}, List.Elements.{All-nil, All-cons, All-head, All-tail, All-append}}
 use Rattle.class_table.specs.Sizes.{largest_counted}
-use Rattle.line_text.specs.Lines.{IsFullLine, lines}
+use Rattle.line_text.{proofs.LawLemmas.{text_laws as laws}, specs.Lines.{IsFullLine, lines}}
 use Rattle.tuner_theory.specs.Profiles.{Profile, IsProfile, greatest_count}
-use Rattle.line_text.proofs.LawLemmas.{text_laws as laws}
-use Rattle.profile_count.specs.ProfileText.{Reading, SpellsProfile, IsNext, size_lines, large_lines, profile_lines, with_entry, profile_from, profile_of}
-use Rattle.profile_count.specs.declared.entry.Entry.{Entry}
-use Rattle.profile_count.specs.declared.entry.Entry.TheVariants.{Size, Large}
-use Rattle.profile_count.proofs.EntryLines.{entry_line, entry_line-is_line, entry_line-some, entry_of-line}
-use Rattle.profile_count.proofs.LineByLine.{line_read, no_line}
 use Rattle.profile_count.proofs.BeforeLarge.{IsOpen, nothing_read, is_open-nothing_read, other_count, is_open-size_read}
+use Rattle.profile_count.proofs.EntryLines.{entry_line, entry_line-is_line, entry_line-some, entry_of-line}
+use Rattle.profile_count.{proofs.LineByLine.{line_read, no_line}, specs.declared.entry.Entry.{Entry}}
+use Rattle.profile_count.specs.ProfileText.{large_lines, profile_lines, with_entry, profile_from, profile_of, Reading, SpellsProfile}
+use Rattle.profile_count.specs.{ProfileText.{IsNext, size_lines}, declared.entry.Entry.TheVariants.{Size, Large}}
 
 -- ---- lists that agree below a place
 

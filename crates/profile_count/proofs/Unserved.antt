@@ -1,11 +1,9 @@
 -- The least counted size that has no class.
-use Rattle.std.proofs.Common.{◌≡◌, ℕ, zero, suc, ◌+◌, ◌<◌, ◌≤◌, Bool, true, false, ◌&&◌, List, [], ◌∷◌, length, get_or, drop, ltb, cond, is_none, Option, Some, None, refl, sym, ap, ◌∙◌, arith, add-one, inl, inr, IsSome, IfSome, IfNone}
-use Rattle.std.proofs.Math.Seq.{drop-cons}
-use Rattle.std.proofs.lemmas.Bool.{cases_lt, lt-ltb, le-ltb, ltb-true, and_parts}
-use Rattle.std.proofs.lemmas.List.{drop_all}
+use Rattle.std.proofs.Common.{◌≡◌, ℕ, zero, suc, ◌+◌, ◌<◌, ◌≤◌, Bool, true, false, ◌&&◌, List, [], ◌∷◌, length, get_or, drop, ltb, cond}
+use Rattle.std.proofs.Common.{is_none, Option, Some, None, refl, sym, ap, ◌∙◌, arith, add-one, inl, inr, IsSome, IfSome, IfNone}
+use Rattle.std.proofs.{Math.Seq.{drop-cons}, lemmas.Bool.{cases_lt, lt-ltb, le-ltb, ltb-true, and_parts}, lemmas.List.{drop_all}}
 use Rattle.class_table.specs.Tables.{class_for}
-use Rattle.tuner_theory.specs.Profiles.{IsCounted}
-use Rattle.tuner_theory.specs.Waste.{Serves}
+use Rattle.tuner_theory.specs.{Profiles.{IsCounted}, Waste.{Serves}}
 use Rattle.profile_count.specs.Counts.{unserved_from, unserved_of}
 
 -- ---- one size after the other

@@ -1,12 +1,8 @@
 -- The waste, size by size.
 use Rattle.std.proofs.Common.{◌≡◌, ℕ, zero, suc, ◌-◌, ◌*◌, ◌≤◌, List, get_or, Option, Some, None, unwrap_or, ap, ◌∙◌, arith, inl, inr}
-use Rattle.std.proofs.Math.Nat.{mul-le-mul}
-use Rattle.std.proofs.lemmas.Bool.{cases_lt}
-use Rattle.class_table.specs.Sizes.{largest_counted, loss_of}
-use Rattle.class_table.specs.Tables.{class_for}
-use Rattle.tuner_theory.specs.Profiles.{greatest_count}
-use Rattle.tuner_theory.specs.Waste.{sum_below, waste_at}
-use Rattle.tuner_theory.proofs.Sums.{sum_below-more}
+use Rattle.std.proofs.{Math.Nat.{mul-le-mul}, lemmas.Bool.{cases_lt}}
+use Rattle.class_table.specs.{Sizes.{largest_counted, loss_of}, Tables.{class_for}}
+use Rattle.tuner_theory.{proofs.Sums.{sum_below-more}, specs.Profiles.{greatest_count}, specs.Waste.{sum_below, waste_at}}
 
 -- the losses of one size are small
 pub small_term : (count loss : ℕ) → count ≤ greatest_count → loss ≤ largest_counted → count * loss ≤ largest_counted * greatest_count

@@ -1,8 +1,6 @@
 -- A profile that counts nothing.
-use Rattle.std.proofs.Common.{◌≡◌, ℕ, ◌+◌, ◌≤◌, List, length, get_or, ap, ◌∙◌, arith}
-use Rattle.std.proofs.lemmas.Bool.{cases_lt}
-use Rattle.std.proofs.lemmas.List.{length-replicate, get_or-replicate, get_or_past}
-use Rattle.std.proofs.lemmas.List.Elements.{All-from_get_or}
+use Rattle.std.proofs.{Common.{◌≡◌, ℕ, ◌+◌, ◌≤◌, List, length, get_or, ap, ◌∙◌, arith}, lemmas.Bool.{cases_lt}}
+use Rattle.std.proofs.lemmas.{List.{length-replicate, get_or-replicate, get_or_past}, List.Elements.{All-from_get_or}}
 use Rattle.class_table.specs.Sizes.{largest_counted}
 use Rattle.profile_count.specs.Counts.{zeros}
 use Rattle.tuner_theory.specs.Profiles.{AreCounts, greatest_count}

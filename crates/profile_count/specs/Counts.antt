@@ -1,7 +1,7 @@
 -- Counts of sizes, one request more, and the least counted size that a table does not serve.
-use Rattle.std.specs.Prelude.{◌≡◌, ◌<◌, ◌≤◌, ℕ, suc, ◌+◌, ◌&&◌, List, [], ◌∷◌, Option, Some, None, nat_lt, nat_le, is_none, if◌then◌else◌, length, replicate, slice_index, slice_set}
-use Rattle.class_table.specs.Sizes.{largest_counted}
-use Rattle.class_table.specs.Tables.{class_for}
+use Rattle.std.specs.Prelude.{◌≡◌, ◌<◌, ◌≤◌, ℕ, suc, ◌+◌, ◌&&◌, List, [], ◌∷◌, Option, Some, None, nat_lt, nat_le, is_none, if◌then◌else◌}
+use Rattle.std.specs.Prelude.{length, replicate, slice_index, slice_set}
+use Rattle.class_table.specs.{Sizes.{largest_counted}, Tables.{class_for}}
 use Rattle.tuner_theory.specs.Profiles.{Profile}
 
 -- So many zeros. It is opaque, since there are many.

@@ -1,18 +1,13 @@
 -- A profile's text: a line `SIZE COUNT` for each counted size, ascending, and then a line `large COUNT` where large requests were counted.
-use Rattle.std.specs.Prelude.{◌≡◌, ◌≤◌, ℕ, suc, ◌&&◌, Bool, List, [], ◌∷◌, ◌++◌, codes, Option, Some, None, Result, Ok, Err, nat_lt, nat_le, ◌==◌, if◌then◌else◌}
-use Rattle.std.specs.Fmt.{decimal}
-use Rattle.std.specs.Str.{bytes_eq}
-use Rattle.class_table.specs.NamedLines.{named_line}
-use Rattle.class_table.specs.Sizes.{largest_counted}
-use Rattle.line_text.specs.Lines.{IsTextOf, lines, words, line_of, text_of}
-use Rattle.line_text.specs.Numbers.{number_of}
+use Rattle.std.specs.{Fmt.{decimal}, Str.{bytes_eq}}
+use Rattle.std.specs.Prelude.{Some, None, Result, Ok, Err, nat_lt, nat_le, ◌==◌, if◌then◌else◌, ◌≡◌, ◌≤◌, ℕ, suc, ◌&&◌, Bool, List, [], ◌∷◌}
+use Rattle.std.specs.Prelude.{◌++◌, codes, Option}
+use Rattle.class_table.specs.{NamedLines.{named_line}, Sizes.{largest_counted}}
+use Rattle.line_text.specs.{Lines.{IsTextOf, lines, words, line_of, text_of}, Numbers.{number_of}}
 use Rattle.tuner_theory.specs.Profiles.{Profile, IsProfile, greatest_count}
-use Rattle.profile_count.specs.Counts.{nothing_counted, with_count, with_large}
-use Rattle.profile_count.specs.declared.entry.Entry.{Entry}
-use Rattle.profile_count.specs.declared.entry.Entry.TheVariants.{Size, Large}
-use Rattle.profile_count.specs.declared.fault.ProfileError.{ProfileError}
-use Rattle.profile_count.specs.declared.fault.ProfileError.TheVariants.{OutOfMemory, Line}
-use Rattle.profile_count.specs.declared.fault.ProfileFault.{ProfileFault}
+use Rattle.profile_count.specs.{Counts.{nothing_counted, with_count, with_large}, declared.entry.Entry.{Entry}}
+use Rattle.profile_count.specs.declared.{entry.Entry.TheVariants.{Size, Large}, fault.ProfileError.{ProfileError}}
+use Rattle.profile_count.specs.declared.fault.{ProfileError.TheVariants.{OutOfMemory, Line}, ProfileFault.{ProfileFault}}
 use Rattle.profile_count.specs.declared.fault.ProfileFault.TheVariants.{BadLine, NotAscending, CountOutOfRange}
 
 -- ---- the spelling

@@ -1,6 +1,5 @@
 -- The profile of requests, each given by its size in bytes.
-use Rattle.std.specs.Prelude.{◌≡◌, ℕ, ◌+◌, ◌≤◌, ◌==◌, nat_lt, List, length, map, fold, count_by, slice_index}
-use Rattle.std.specs.List.{range_with_len}
+use Rattle.std.specs.{List.{range_with_len}, Prelude.{◌≡◌, ℕ, ◌+◌, ◌≤◌, ◌==◌, nat_lt, List, length, map, fold, count_by, slice_index}}
 use Rattle.class_table.specs.Sizes.{largest_counted}
 use Rattle.tuner_theory.specs.Profiles.{Profile}
 use Rattle.profile_count.specs.Counts.{with_one_more}

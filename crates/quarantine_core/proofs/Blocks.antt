@@ -1,11 +1,9 @@
 -- How many bytes the blocks of different slots can have together.
-use Rattle.std.proofs.Common.{◌≢◌, ℕ, ◌*◌, ◌<◌, ◌≤◌, ◌^◌, List, length, get_or, arith, AllPairs, Contains}
+use Rattle.std.proofs.{Common.{◌≢◌, ℕ, ◌*◌, ◌<◌, ◌≤◌, ◌^◌, List, length, get_or, arith, AllPairs, Contains}, lemmas.List.Sums.{sum_by-le}}
 use Rattle.std.proofs.lemmas.List.Elements.{Contains-get_or}
-use Rattle.std.proofs.lemmas.List.Sums.{sum_by-le}
-use Rattle.class_table.specs.Layout.{Partition, IsPartition, block_bytes, slot_count, slot_of}
 use Rattle.class_table.proofs.LawLemmas.{slots_have_at_most_1024_granules}
-use Rattle.heap_theory.specs.QueueAndLists.{bytes_of}
-use Rattle.heap_theory.proofs.ListSearch.{few_below}
+use Rattle.class_table.specs.Layout.{Partition, IsPartition, block_bytes, slot_count, slot_of}
+use Rattle.heap_theory.{proofs.ListSearch.{few_below}, specs.QueueAndLists.{bytes_of}}
 
 -- a slot's block has at most 1,024 granules
 pub small_block : (layout : Partition) (s : ℕ) → IsPartition layout → s < slot_count layout → block_bytes (slot_of layout s) ≤ 16384

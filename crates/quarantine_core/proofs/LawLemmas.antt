@@ -2,8 +2,7 @@
 use Rattle.std.proofs.Common.{◌≡◌, ℕ, List}
 use Rattle.class_table.specs.Layout.{Partition}
 use Rattle.heap_theory.specs.Region.{Region, next_in}
-use Rattle.quarantine_core.specs.Queue.{Queue, AreQueued}
-use Rattle.quarantine_core.proofs.TheoryLemmas.{one_list}
+use Rattle.quarantine_core.{proofs.TheoryLemmas.{one_list}, specs.Queue.{Queue, AreQueued}}
 
 -- the links show one queue
 pub one_queue_is_shown : (value : Queue) (layout : Partition) (region : Region) (a b : List ℕ) → AreQueued value layout region a →

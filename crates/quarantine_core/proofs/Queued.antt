@@ -1,16 +1,11 @@
 -- What putting a slot after a queue, and taking one off its front, make of it.
-use Rattle.std.proofs.Common.{◌≡◌, ◌≢◌, ℕ, suc, ◌+◌, ◌-◌, ◌<◌, ◌≤◌, List, [], ◌∷◌, ◌++◌, length, drop, refl, sym, ap, ◌∙◌, subst, ⊎_elim, arith, Contains}
-use Rattle.std.proofs.lemmas.Bool.{cases_lt}
-use Rattle.std.proofs.lemmas.List.Elements.{Contains-push_cases}
+use Rattle.std.proofs.Common.{◌≡◌, ◌≢◌, ℕ, suc, ◌+◌, ◌-◌, ◌<◌, ◌≤◌, List, [], ◌∷◌, ◌++◌, length, drop, refl, sym, ap, ◌∙◌, subst, ⊎_elim}
+use Rattle.std.proofs.{Common.{arith, Contains}, lemmas.Bool.{cases_lt}, lemmas.List.Elements.{Contains-push_cases}}
 use Rattle.std.proofs.lemmas.List.Sums.{sum_by-cons, sum_by_push}
 use Rattle.class_table.specs.Layout.{Partition, block_bytes, slot_count, slot_of}
-use Rattle.heap_theory.specs.QueueAndLists.{bytes_of}
-use Rattle.heap_theory.specs.Links.{IsLinked, last_link}
-use Rattle.heap_theory.specs.Region.{Region, next_in, with_slot_link}
-use Rattle.heap_theory.proofs.ListSearch.{Contains-cases, Contains-tail, AllPairs-first}
-use Rattle.heap_theory.proofs.Regions.{other_link, own_link}
-use Rattle.quarantine_core.specs.Queue.{Queue, AreQueued}
-use Rattle.quarantine_core.proofs.TheoryLemmas.{each_once, last_ends, links_stay, put_after, put_is_last}
+use Rattle.heap_theory.proofs.{ListSearch.{Contains-cases, Contains-tail, AllPairs-first}, Regions.{other_link, own_link}}
+use Rattle.heap_theory.specs.{Links.{IsLinked, last_link}, QueueAndLists.{bytes_of}, Region.{Region, next_in, with_slot_link}}
+use Rattle.quarantine_core.{proofs.TheoryLemmas.{each_once, last_ends, links_stay, put_after, put_is_last}, specs.Queue.{Queue, AreQueued}}
 
 -- ---- a slot is put in
 

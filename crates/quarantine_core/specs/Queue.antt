@@ -3,9 +3,7 @@ use Rattle.std.specs.Prelude.{◌≡◌, ℕ, suc, ◌+◌, ◌-◌, ◌<◌, �
 use Rattle.machine_theory.specs.Memory.{Granule}
 use Rattle.chunk_header.specs.Links.{SetsLink}
 use Rattle.class_table.specs.Layout.{Partition, block_bytes, slot_count, slot_of}
-use Rattle.heap_theory.specs.QueueAndLists.{bytes_of}
-use Rattle.heap_theory.specs.Links.{IsLinked, last_link}
-use Rattle.heap_theory.specs.Region.{Region, next_in, region_of}
+use Rattle.heap_theory.specs.{Links.{IsLinked, last_link}, QueueAndLists.{bytes_of}, Region.{Region, next_in, region_of}}
 
 -- What a quarantine keeps beside its slots' links: the links to the slot that was put in first and to the one that was put in last, or 0;
 -- the header granule of the latter; the bytes of the blocks in it, and how many it may hold.

@@ -1,28 +1,21 @@
 -- The two calls of the heap, `allocate` and `deallocate`, by a handle that lies in a local. Assumes `Logic`.
-use Rattle.raw_region.proofs.Names.{◌≡◌, ℕ, ◌<◌, ◌^◌, List, [], ◌∷◌, refl, ap, w64, Fml, Ura, full_share, id⊢, ent, sep, emp, Logic, sem, SProp, Lft, Share, ftrue, fsep, fat, froom, flft, Val, vint, vptr, vunit, fact, fact_i, Goal, Soaks, Item, Seq, Step, step, ‵, raw, ◌⊛◌, some, later, ◌$◌, ◌∵◌, !, qed, done, move, keep, drop, use0, use1, use2, split, join, fjoin, fpick, fsplit, fpack, feq_i, feq_l, pick, await, rewrite, hidden_shr, part_at, cell_at, peeks, owned, nothing, only, shows, Is, unit, usize, uint_Makes, block_ptr, triple_of, Ty}
-use base.Fml.{flent, Incl-refl}
+use Rattle.raw_region.proofs.Names.{◌≡◌, ℕ, ◌<◌, ◌^◌, List, [], ◌∷◌, refl, ap, w64, Fml, Ura, full_share, id⊢, ent, sep, emp, Logic, sem}
+use Rattle.raw_region.proofs.Names.{SProp, Lft, Share, ftrue, fsep, fat, froom, flft, Val, vint, vptr, vunit, fact, fact_i, Goal, Soaks}
+use Rattle.raw_region.proofs.Names.{Item, Seq, Step, step, ‵, raw, ◌⊛◌, some, later, ◌$◌, ◌∵◌, !, qed, done, move, keep, drop, use0, use1}
+use Rattle.raw_region.proofs.Names.{use2, split, join, fjoin, fpick, fsplit, fpack, feq_i, feq_l, pick, await, rewrite, hidden_shr, part_at}
+use Rattle.raw_region.proofs.Names.{cell_at, peeks, owned, nothing, only, shows, Is, unit, usize, uint_Makes, block_ptr, triple_of, Ty}
+use base.{Fml.{flent, Incl-refl}, Logic.{ex, ex_i, guard, via}}
+use contract.{BorrowLft.{⊑_static}, Monad.{Fun}}
+use denote.{Bor.{Bor}, Memory.{part_of}, Triple.Statement.{Contract}}
+use mir.{Syntax.{given as no_dict}, Val.{vstruct, vcons, vnil}}
+use prog.{Memory.{Memory, size, align, capped}, Routine.{Routine}}
+use types.{Kit.{mean, check, updating, now as at_once}, Tokens.{bor_new, lent_back, lft_new, lft_end}}
+use Rattle.std.{proofs.Handle.{heap_val, heap_Tells}, proofs.alloc.Calls.{Al, Answer, Answered}, specs.Allocator.{block_if_ok}}
+use Rattle.std.specs.{Global.{Global}, contracts.alloc.Global.{the_row, the_type}, contracts.impls.GlobalAllocator.TheImpl.{ghosts}}
 use base.Share
-use base.Logic.{ex, ex_i, guard, via}
-use contract.BorrowLft.{⊑_static}
-use contract.Monad.{Fun}
-use denote.Bor.{Bor}
-use denote.Memory.{part_of}
 use denote.Struct.Laws as LL
-use denote.Triple.Statement.{Contract}
-use mir.Syntax.{given as no_dict}
-use mir.Val.{vstruct, vcons, vnil}
-use prog.Memory.{Memory, size, align, capped}
-use prog.Routine.{Routine}
-use types.Kit.{mean, check, updating, now as at_once}
-use types.Tokens.{bor_new, lent_back, lft_new, lft_end}
-use Rattle.std.proofs.Handle.{heap_val, heap_Tells}
 use Rattle.std.proofs.alloc.Calls as std
-use Rattle.std.proofs.alloc.Calls.{Al, Answer, Answered}
 use Rattle.std.proofs.alloc.Global.TheLaws as laws
-use Rattle.std.specs.Allocator.{block_if_ok}
-use Rattle.std.specs.Global.{Global}
-use Rattle.std.specs.contracts.alloc.Global.{the_row, the_type}
-use Rattle.std.specs.contracts.impls.GlobalAllocator.TheImpl.{ghosts}
 use Rattle.std.specs.contracts.impls.GlobalAllocator.allocate as AL
 use Rattle.std.specs.contracts.impls.GlobalAllocator.deallocate as DE
 

@@ -1,21 +1,16 @@
 -- A region is its fields, its bytes and the right to free their block: seen after a `&`, opened after a `&mut`, and taken apart. Assumes
 -- `Logic`.
-use Rattle.raw_region.proofs.Names.{raw, fact, heard, ftrue, usize, ◌<◌, ◌^◌, w64, vint, vptr, vunit, emp, nothing, fpack, length, row, full_share, peeks, shows, lies_at, Fml, fsep, fjoin, ◌∙◌, sym, ap, subst, Val, Step, step, feq_i, part_at, ◌≡◌, ℕ, ◌+◌, List, [], ◌∷◌, refl, Ura, id⊢, Lft, fhide, Logic, sem, sep, Goal, Item, Seq, ‵, ◌$◌, ◌∵◌, !, qed, done, move, drop, use1, fsplit, fpick, rewrite, Array, u8, elements_shared, hidden_shr, unhide, hide, RattleType, Ptr, RawPtr, block_ptr, in_a_block, ent, never}
+use Rattle.raw_region.proofs.Names.{raw, fact, heard, ftrue, usize, ◌<◌, ◌^◌, w64, vint, vptr, vunit, emp, nothing, fpack, length, row}
+use Rattle.raw_region.proofs.Names.{full_share, peeks, shows, lies_at, Fml, fsep, fjoin, ◌∙◌, sym, ap, subst, Val, Step, step, feq_i}
+use Rattle.raw_region.proofs.Names.{part_at, ◌≡◌, ℕ, ◌+◌, List, [], ◌∷◌, refl, Ura, id⊢, Lft, fhide, Logic, sem, sep, Goal, Item, Seq, ‵}
+use Rattle.raw_region.proofs.Names.{◌$◌, ◌∵◌, !, qed, done, move, drop, use1, fsplit, fpick, rewrite, Array, u8, elements_shared}
+use Rattle.raw_region.proofs.Names.{hidden_shr, unhide, hide, RattleType, Ptr, RawPtr, block_ptr, in_a_block, ent, never}
+use Rattle.raw_region.{proofs.region.RawRegion.TheInside.TheLaws.{lowers}, specs.declared.region.RawRegion.TheInside.{Inside}}
 use base.Fml.{feq}
-use denote.Opens.{shr_dup}
-use denote.Plain.{uint_row_laws}
-use denote.RawPtr.{block_of, count_of, InBlock, ptr_row_laws}
-use denote.RawPtr.Bytes.{bytes_apart, bytes_whole}
-use denote.Shadow.{makes_shadow}
-use denote.Struct.Lending.{in_block_says}
-use denote.Struct.Owning.{shape, to}
-use denote.Struct.Struct.{Struct}
+use denote.{Opens.{shr_dup}, Plain.{uint_row_laws}, RawPtr.{block_of, count_of, InBlock, ptr_row_laws}, Shadow.{makes_shadow}}
+use denote.{RawPtr.Bytes.{bytes_apart, bytes_whole}, Struct.Lending.{in_block_says}, Struct.Owning.{shape, to}, Struct.Struct.{Struct}}
 use mir.Val.{vstruct, vcons, vnil}
-use Rattle.std.proofs.Handle.{heap_val}
-use Rattle.std.specs.Allocator.{array_of}
-use Rattle.std.specs.contracts.impls.GlobalAllocator.TheImpl.{ghosts}
-use Rattle.raw_region.proofs.region.RawRegion.TheInside.TheLaws.{lowers}
-use Rattle.raw_region.specs.declared.region.RawRegion.TheInside.{Inside}
+use Rattle.std.{proofs.Handle.{heap_val}, specs.Allocator.{array_of}, specs.contracts.impls.GlobalAllocator.TheImpl.{ghosts}}
 use Rattle.raw_region.specs.contracts.region.RawRegion as seen
 use Rattle.raw_region.specs.contracts.region.RawRegion.TheInside as inside
 

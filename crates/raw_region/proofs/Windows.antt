@@ -1,11 +1,9 @@
 -- Runs within a window of bytes that is read or written at once.
 use Rattle.std.proofs.Common.{◌≡◌, ℕ, ◌+◌, ◌-◌, ◌≤◌, ◌++◌, List, length, take, drop, replicate, sym, ap, ◌∙◌, arith, slice_range}
-use Rattle.std.proofs.lemmas.List.{take-take, take-append-drop, take-append-le, take-replicate, drop-drop, length-append, length-drop, length-take-le, length-replicate, append_assoc}
-use Rattle.std.proofs.lemmas.Simd.{length-chunk, put_chunk_is, put_chunk_whole}
-use Rattle.std.proofs.Math.Seq.{take-append-add}
-use Rattle.std.specs.Simd.Lanes.{chunk, put_chunk}
-use Rattle.raw_region.specs.Bytes.{with_bytes}
-use Rattle.raw_region.proofs.Written.{drop-with_bytes, length-with_bytes, slice_range-add}
+use Rattle.std.proofs.{Math.Seq.{take-append-add}, lemmas.Simd.{length-chunk, put_chunk_is, put_chunk_whole}}
+use Rattle.std.proofs.lemmas.List.{take-take, take-append-drop, take-append-le, take-replicate, drop-drop, length-append, length-drop}
+use Rattle.std.{proofs.lemmas.List.{length-take-le, length-replicate, append_assoc}, specs.Simd.Lanes.{chunk, put_chunk}}
+use Rattle.raw_region.{proofs.Written.{drop-with_bytes, length-with_bytes, slice_range-add}, specs.Bytes.{with_bytes}}
 
 -- the first bytes of a window are those of the run
 pub window_read : (bytes to : List ℕ) (i count : ℕ) → length to ≡ 64 → i + 64 ≤ length bytes → count ≤ 64

@@ -1,8 +1,8 @@
 -- A run that is written changes only its bytes.
-use Rattle.std.specs.Int.{w64, from_le_bytes}
-use Rattle.std.proofs.Common.{◌≡◌, ℕ, ◌+◌, ◌-◌, ◌<◌, ◌≤◌, ◌++◌, List, length, take, drop, replicate, sym, ap, subst, ◌∙◌, arith, inl, inr, slice_range, slice_index, ◌⊎◌, get_or}
-use Rattle.std.proofs.lemmas.List.{take-append-drop, length-append, length-drop, length-take-le, drop-drop, append_assoc, take-append-le, get_or-take, get_or-drop, drop-take, length-replicate}
-use Rattle.std.proofs.Math.Seq.{drop-append-add, take-append_seam}
+use Rattle.std.proofs.Common.{◌≡◌, ℕ, ◌+◌, ◌-◌, ◌<◌, ◌≤◌, ◌++◌, List, length, take, drop, replicate, sym, ap, subst, ◌∙◌, arith, inl, inr}
+use Rattle.std.proofs.{Common.{slice_range, slice_index, ◌⊎◌, get_or}, Math.Seq.{drop-append-add, take-append_seam}}
+use Rattle.std.proofs.lemmas.List.{take-append-drop, length-append, length-drop, length-take-le, drop-drop, append_assoc, take-append-le}
+use Rattle.std.{proofs.lemmas.List.{get_or-take, get_or-drop, drop-take, length-replicate}, specs.Int.{w64, from_le_bytes}}
 use native.Mathlib.Nat.{add-zero}
 use Rattle.raw_region.specs.Bytes.{word_at, with_bytes, ChangesOnly}
 

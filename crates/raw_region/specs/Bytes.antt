@@ -1,6 +1,6 @@
 -- A list of bytes: the word at a place, and a run that is written.
-use Rattle.std.specs.Prelude.{◌≡◌, ℕ, ◌+◌, ◌<◌, ◌≤◌, ◌⊎◌, List, ◌++◌, length, take, drop, slice_index, slice_range}
 use Rattle.std.specs.Int.{w64, from_le_bytes}
+use Rattle.std.specs.Prelude.{◌≡◌, ℕ, ◌+◌, ◌<◌, ◌≤◌, ◌⊎◌, List, ◌++◌, length, take, drop, slice_index, slice_range}
 
 -- the eight bytes from place i on as a number, the lowest byte first
 unfoldable pub word_at : List ℕ → ℕ → ℕ

@@ -1,10 +1,6 @@
 -- What a region owns and lends: its bytes from p on, and the right to free their block, which it does not lend.
-use Rattle.std.specs.Prelude.{ℕ, List}
-use Rattle.std.specs.Allocator.{array_of}
-use Rattle.std.specs.Borrow.{full_share, fsep, lent_at, u8, Array, Fml}
-use Rattle.std.specs.Global.{Global}
-use Rattle.std.specs.Ptr.{lies_at, Ptr}
-use Rattle.std.specs.contracts.impls.GlobalAllocator.TheImpl.{ghosts}
+use Rattle.std.specs.{Allocator.{array_of}, Borrow.{full_share, fsep, lent_at, u8, Array, Fml}, Global.{Global}, Prelude.{ℕ, List}}
+use Rattle.std.specs.{Ptr.{lies_at, Ptr}, contracts.impls.GlobalAllocator.TheImpl.{ghosts}}
 use base.Fml.{Lft}
 
 abbrev pub region_owns : Global → Ptr → ℕ → List ℕ → Fml

@@ -4,7 +4,7 @@ ghost use Rattle.std.specs.Borrow.{sem};
 ghost use Rattle.std.specs.Int.{w64, to_le_bytes};
 ghost use Rattle.std.specs.Prelude.{◌≡◌, ◌+◌, ◌-◌, ◌<◌, ◌≤◌, ◌^◌, ℕ, All, IfOk, List, length, replicate, slice_index, slice_range, slice_set, take};
 
-use crate::short_fill::{fill_run, fill_then_clear};
+use crate::short_fill::{fill_few, fill_run, fill_then_clear};
 use crate::zeros::write_zeros;
 use std::alloc::{AllocError, Allocator, Global};
 use std::marker::Model;
@@ -122,6 +122,17 @@ impl RawRegion {
         ensures others { ChangesOnly self.old self.new from to }
     {
         fill_run(self.as_mut_slice(), from, to, b);
+    }
+
+    /// Writes `b` to the `count` places from `i` on, 0 to 64, which must end within the length. Where the region goes on for 128 bytes no branch
+    /// depends on `count`.
+    pub fn fill_few(&mut self, i: usize, count: usize, b: u8)
+        requires place { i + count ≤ length self.old }
+        requires count { count ≤ 64 }
+        ensures bytes { self.new ≡ with_bytes self.old i (replicate count b) }
+        ensures others { ChangesOnly self.old self.new i (i + count) }
+    {
+        fill_few(self.as_mut_slice(), i, i + count, b);
     }
 
     /// Writes `b` to each place from `from` to `middle - 1`, and 0 to each from there to `to - 1`. `to` must be at most the length.

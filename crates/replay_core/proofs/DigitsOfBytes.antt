@@ -1,7 +1,6 @@
 -- The digits of the first bytes are the first digits.
 use Rattle.std.proofs.Common.{◌≡◌, ℕ, zero, suc, ◌+◌, ◌*◌, ◌≤◌, List, [], ◌∷◌, ◌++◌, ◌∙◌, length, take, refl, ap, arith}
-use Rattle.std.specs.List.{flat_map}
-use Rattle.std.proofs.lemmas.List.{take-take}
+use Rattle.std.{proofs.lemmas.List.{take-take}, specs.List.{flat_map}}
 use Rattle.line_text.specs.Hexadecimal.{hex}
 use Rattle.replay_core.proofs.Written.{written_to}
 

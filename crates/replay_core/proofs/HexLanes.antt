@@ -1,10 +1,9 @@
 -- The digits of sixteen bytes, looked up lane by lane.
-use Rattle.std.proofs.Common.{◌≡◌, ℕ, suc, ◌+◌, ◌*◌, ◌/◌, ◌%◌, ◌^◌, ◌<◌, ◌≤◌, List, [], ◌∷◌, ◌++◌, map, length, get_or, replicate, bit_and, refl, ap, ◌∙◌, subst, zero-add, arith, w8, Fits}
-use Rattle.std.specs.Char.{digit_char}
-use Rattle.std.specs.List.{flat_map, range_with_len}
-use Rattle.std.proofs.lemmas.List.FromFn.{get_or-map-range_with_len}
-use Rattle.std.proofs.lemmas.Nat.{and_le_r, and_mask}
-use Rattle.std.proofs.lemmas.Simd.{Each1-all, Each1-weaker, Each1-zip2, Each2-splat, below_from_Fits, length-zip2, zip2_splat, swz_l, SwzOk, SwzOk-from_below, get_or-swz_l_below, pick_l_whole}
+use Rattle.std.proofs.Common.{◌≡◌, ℕ, suc, ◌+◌, ◌*◌, ◌/◌, ◌%◌, ◌^◌, ◌<◌, ◌≤◌, List, [], ◌∷◌, ◌++◌, map, length, get_or, replicate, bit_and}
+use Rattle.std.proofs.{Common.{refl, ap, ◌∙◌, subst, zero-add, arith, w8, Fits}, lemmas.List.FromFn.{get_or-map-range_with_len}}
+use Rattle.std.{proofs.lemmas.Nat.{and_le_r, and_mask}, specs.Char.{digit_char}, specs.List.{flat_map, range_with_len}}
+use Rattle.std.proofs.lemmas.Simd.{pick_l_whole, Each1-all, Each1-weaker, Each1-zip2, Each2-splat, below_from_Fits, length-zip2, zip2_splat}
+use Rattle.std.proofs.lemmas.Simd.{swz_l, SwzOk, SwzOk-from_below, get_or-swz_l_below}
 use lib.Lanes.{zip2, pick_l, Each1}
 use Rattle.line_text.specs.Hexadecimal.{hex}
 use Rattle.replay_core.specs.declared.put.TheConstants.{DIGITS}

@@ -1,7 +1,6 @@
 pub mod LawLemmas
 pub mod TheoryLemmas
 pub mod Accesses
-pub mod CountedTotals
 mod DigitsOfBytes
 mod HexLanes
 pub mod Reached

@@ -1,16 +1,12 @@
 -- A replay that is what is stored of some run is so again after one more event.
 use Rattle.std.proofs.Common.{◌≡◌, ℕ, List, [], ◌∷◌, ◌++◌, sym, ap, ◌∙◌, subst}
 use Rattle.trace_event.specs.declared.event.Event.{Event}
-use Rattle.replay_theory.specs.Run.{Run, run_after}
-use Rattle.replay_theory.specs.Hardening.{AreNullOrTagged}
+use Rattle.replay_theory.specs.{Hardening.{AreNullOrTagged}, Run.{Run, run_after}, Totals.{Totals, totals_after}}
 use Rattle.replay_theory.specs.Replay.{Replay, Answer, heap_after, variables_after, replay_after, answer_of, replay_of, first_replay}
-use Rattle.heap_theory.specs.Sound.{IsSoundHeap}
-use Rattle.heap_theory.specs.State.{Heap}
-use Rattle.replay_theory.specs.Totals.{Totals, totals_after}
-use Rattle.replay_core.proofs.TheoryLemmas as laws
+use Rattle.heap_theory.specs.{Sound.{IsSoundHeap}, State.{Heap}}
+use Rattle.replay_core.{proofs.StoredMore.{stored_of_one_more}, specs.ReplayState.{Stored, IsStored, stored_after, stored_of}}
 use Rattle.replay_core.specs.TheoryValues.{over}
-use Rattle.replay_core.specs.ReplayState.{Stored, IsStored, stored_after, stored_of}
-use Rattle.replay_core.proofs.StoredMore.{stored_of_one_more}
+use Rattle.replay_core.proofs.TheoryLemmas as laws
 
 replay_is : (stored : Stored) (i : IsStored stored) → stored.replay ≡ replay_of (first_replay i.layout i.seed i.quarantine) i.events
 unfolding stored_of

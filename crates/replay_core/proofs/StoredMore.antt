@@ -2,12 +2,10 @@
 use Rattle.std.proofs.Common.{◌≡◌, ℕ, ◌+◌, List, [], ◌∷◌, ◌++◌, length, refl, sym, ap, ◌∙◌, arith, zip}
 use Rattle.class_table.specs.Layout.{Partition}
 use Rattle.trace_event.specs.declared.event.Event.{Event}
-use Rattle.replay_theory.specs.Report.{report, report_line, report_lines, totals_text}
-use Rattle.replay_theory.specs.Replay.{Replay, Answer, answer_of, first_replay, answers, replay_of}
-use Rattle.replay_theory.specs.Totals.{totals_of, totals_after}
-use Rattle.replay_core.proofs.TheoryLemmas as laws
+use Rattle.replay_theory.{proofs.LayoutStays.{layout_of_run}, specs.Replay.{Replay, Answer, answer_of, first_replay, answers, replay_of}}
+use Rattle.replay_theory.specs.{Report.{report, report_line, report_lines, totals_text}, Totals.{totals_of, totals_after}}
 use Rattle.replay_core.specs.ReplayState.{first_stored, lines_of, stored_after, stored_of}
-use Rattle.replay_theory.proofs.LayoutStays.{layout_of_run}
+use Rattle.replay_core.proofs.TheoryLemmas as laws
 
 stored_replay : (layout : Partition) (seed quarantine : ℕ) (events : List Event) →
     replay_of (first_replay layout seed quarantine) events ≡ (stored_of layout seed quarantine events).replay

@@ -1,11 +1,8 @@
 -- The table of two digits, and numbers that are written two digits at a time.
-use Rattle.std.proofs.Common.{◌≡◌, ℕ, ◌+◌, ◌/◌, ◌%◌, ◌<◌, ◌≤◌, ◌^◌, [], ◌∷◌, ◌++◌, map, get_or, refl, ap, ◌∙◌, zero-add, append_assoc, arith}
-use Rattle.std.specs.Fmt.{decimal}
-use Rattle.std.specs.List.{range_with_len}
-use Rattle.std.proofs.lemmas.Fmt.{decimal_digit, decimal_step}
-use Rattle.std.proofs.lemmas.List.FromFn.{get_or-map-range_with_len}
-use Rattle.replay_core.specs.TwoDigits.{two_digits}
-use Rattle.replay_core.specs.declared.put.TheConstants.{TENS}
+use Rattle.std.proofs.Common.{◌≡◌, ℕ, ◌+◌, ◌/◌, ◌%◌, ◌<◌, ◌≤◌, ◌^◌, [], ◌∷◌, ◌++◌, map, get_or, refl, ap, ◌∙◌, zero-add, append_assoc}
+use Rattle.std.proofs.{Common.{arith}, lemmas.Fmt.{decimal_digit, decimal_step}, lemmas.List.FromFn.{get_or-map-range_with_len}}
+use Rattle.std.specs.{Fmt.{decimal}, List.{range_with_len}}
+use Rattle.replay_core.specs.{TwoDigits.{two_digits}, declared.put.TheConstants.{TENS}}
 
 tens_are : TENS ≡ map two_digits (range_with_len 0 100)
 tens_are = refl

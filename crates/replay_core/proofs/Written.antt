@@ -1,7 +1,6 @@
 -- Texts that are written part by part.
 use Rattle.std.proofs.Common.{◌≡◌, ℕ, ◌+◌, ◌≤◌, List, [], ◌∷◌, ◌++◌, ◌∙◌, length, take, ap, sym, codes, append_assoc, arith}
-use Rattle.std.proofs.lemmas.List.{take-take}
-use Rattle.std.proofs.Math.Seq.{take-append-add}
+use Rattle.std.proofs.{Math.Seq.{take-append-add}, lemmas.List.{take-take}}
 use Rattle.line_text.specs.Lines.{ended, line_of, text_of}
 
 pub tag_fault_line : (number granule memory pointer kind : List ℕ) (x0 x1 x2 x3 x4 x5 x6 x7 x8 x9 x10 : List ℕ) →

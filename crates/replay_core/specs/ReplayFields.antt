@@ -1,11 +1,8 @@
 -- The fields of a replay, and what a contract sees of them.
 use Rattle.std.specs.Prelude.{◌≡◌, ◌≤◌, length}
 use Rattle.class_table.specs.Tables.{IsLegalTable}
-use Rattle.replay_core.specs.TotalsBounds.{AreBounded}
-use Rattle.replay_core.specs.declared.replay.Replay.TheInside.{Inside}
-use Rattle.replay_core.specs.TheoryValues.{over, totals_in}
-use Rattle.replay_core.specs.ReplayState.{Stored, IsStored}
-use Rattle.replay_core.specs.declared.replay.TheConstants.{VARIABLES}
+use Rattle.replay_core.specs.{ReplayState.{Stored, IsStored}, TheoryValues.{over, totals_in}, TotalsBounds.{AreBounded}}
+use Rattle.replay_core.specs.declared.replay.{Replay.TheInside.{Inside}, TheConstants.{VARIABLES}}
 
 abbrev pub stored : Inside → Stored
 stored replay = record { replay = over replay.heap.state replay.variables.items; totals = totals_in replay.totals }

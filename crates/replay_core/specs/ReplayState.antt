@@ -3,8 +3,7 @@
 use Rattle.std.specs.Prelude.{◌≡◌, ℕ, List, zip}
 use Rattle.class_table.specs.Layout.{Partition, IsPartition}
 use Rattle.trace_event.specs.declared.event.Event.{Event}
-use Rattle.replay_theory.specs.Report.{report_lines}
-use Rattle.replay_theory.specs.Replay.{Replay, replay_after, answer_of, first_replay, answers, replay_of}
+use Rattle.replay_theory.specs.{Replay.{Replay, replay_after, answer_of, first_replay, answers, replay_of}, Report.{report_lines}}
 use Rattle.replay_theory.specs.Totals.{Totals, no_totals, totals_of, totals_after}
 
 pub record Stored : Type 0 where

@@ -1,17 +1,13 @@
 -- The types of the code, as the definitions see them.
-use Rattle.std.specs.Prelude.{◌≡◌, ℕ, ◌≤◌, List, length, take, true, Option, None, Result, is_some, ⊤}
-use Rattle.std.specs.Result.{result_map_both}
-use Rattle.replay_theory.specs.Hardening.{AreNullOrTagged}
-use Rattle.replay_theory.specs.Replay.{Replay, Answer}
+use Rattle.std.specs.{Prelude.{◌≡◌, ℕ, ◌≤◌, List, length, take, true, Option, None, Result, is_some, ⊤}, Result.{result_map_both}}
+use Rattle.replay_theory.specs.{Hardening.{AreNullOrTagged}, Replay.{Replay, Answer}, Totals.{Totals, loss_of_request}}
 use Rattle.replay_theory.specs.Replay.Answer.{Silent, Loaded, NotMapped, TagFault, NoPointer, NotFreed}
-use Rattle.heap_theory.specs.declared.refusal.NullCause.{NullCause}
-use Rattle.heap_theory.specs.State.{Heap}
-use Rattle.replay_theory.specs.Totals.{Totals, loss_of_request}
-use Rattle.replay_core.specs.declared.answer.Answer.{Answer as TheAnswer}
-use Rattle.replay_core.specs.declared.answer.Answer.TheVariants.{Silent as ItIsSilent, Served as ItIsServed, NotResized as ItIsNotResized, Loaded as ItLoaded, NotMapped as ItIsNotMapped, TagFault as ItIsATagFault, NoPointer as ItHasNoPointer, NotFreed as ItIsNotFreed}
-use Rattle.replay_core.specs.declared.totals.Totals.{Totals as TheTotals}
-use Rattle.replay_core.specs.declared.access.TheConstants.{LONGEST_ACCESS}
-use Rattle.replay_core.specs.declared.replay.TheConstants.{VARIABLES}
+use Rattle.heap_theory.specs.{State.{Heap}, declared.refusal.NullCause.{NullCause}}
+use Rattle.replay_core.specs.declared.{access.TheConstants.{LONGEST_ACCESS}, answer.Answer.{Answer as TheAnswer}}
+use Rattle.replay_core.specs.declared.answer.Answer.TheVariants.{Silent as ItIsSilent, Served as ItIsServed, NotResized as ItIsNotResized}
+use Rattle.replay_core.specs.declared.answer.Answer.TheVariants.{Loaded as ItLoaded, NotMapped as ItIsNotMapped, TagFault as ItIsATagFault}
+use Rattle.replay_core.specs.declared.answer.Answer.TheVariants.{NoPointer as ItHasNoPointer, NotFreed as ItIsNotFreed}
+use Rattle.replay_core.specs.declared.{replay.TheConstants.{VARIABLES}, totals.Totals.{Totals as TheTotals}}
 
 -- A result, with the buffer that holds the bytes of a load.
 abbrev pub shown : List ℕ → TheAnswer → Answer

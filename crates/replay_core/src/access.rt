@@ -46,8 +46,7 @@ pub(crate) fn store(heap: &mut Heap, address: u64, len: u8, byte: u8) -> Answer
     ensures frees { heap.new.frees ≡ heap.old.frees }
     ensures tells { (classes : List ℕ) → TellsRequest classes None result }
 {
-    let bytes = [byte; LONGEST_ACCESS];
-    match heap.store(address, &bytes[..usize::from(len)]) {
+    match heap.store_run(address, usize::from(len), byte) {
         Ok(()) => Answer::Silent,
         Err(fault) => fault_answer(heap, fault),
     }

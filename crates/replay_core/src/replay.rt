@@ -12,7 +12,7 @@ use crate::answer::Answer;
 use crate::append::append;
 use crate::event_numbers::EventNumbers;
 use crate::perform::perform;
-use crate::report_line::write_line;
+use crate::report_line::{write_data, write_line};
 use crate::totals::Totals;
 use arrayvec::ArrayVec;
 use class_table::{ClassTable, MOST_CLASSES};
@@ -117,10 +117,21 @@ impl Replay {
         ensures run { (run : Run) → run.replay ≡ self.old.replay → (run_after run event.now).replay ≡ self.new.replay }
     {
         let answer = perform(&mut self.heap, &mut self.variables, event, &mut self.loaded);
-        // most events have no line: their path ends here, and the compiler tests the answer once
-        if let Answer::Silent = answer {
+        // The answers of most events have a path each that ends here: the compiler then tests the answer once, where the event was performed.
+        if let Answer::Silent | Answer::Served { .. } = answer {
             self.totals.count(&self.heap, event, &answer);
             return at;
+        }
+        if let Answer::Loaded { len } = answer {
+            self.totals.count(&self.heap, event, &answer);
+            return write_data(
+                text,
+                at,
+                &mut self.numbers,
+                self.totals.events,
+                &self.loaded,
+                usize::from(len),
+            );
         }
         self.totals.count(&self.heap, event, &answer);
         write_line(

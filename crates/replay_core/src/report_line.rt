@@ -62,8 +62,8 @@ pub(crate) fn write_line(
     }
 }
 
-// The line of a load that succeeds, of the first `len` bytes.
-fn write_data(
+/// The line of a load that succeeds, of the first `len` bytes.
+pub(crate) fn write_data(
     text: &mut [u8],
     at: usize,
     numbers: &mut EventNumbers,

@@ -1,27 +1,19 @@
 -- When each answer of an access is given.
-use Rattle.std.proofs.Common.{◌≡◌, ◌≢◌, ℕ, ◌<◌, ◌∷◌, ◌++◌, [], true, not, List, length, refl, sym, ap, ◌∙◌, subst, inl, inr, arith, Some, None, Option, Result, Ok, Err, ◌↔◌, ◌==◌, replicate, slice_get, option_map, IsSome, ℤ}
-use Rattle.std.specs.List.{find}
-use Rattle.std.proofs.lemmas.Bool.{both_ways, cases_Bool, cases_eq, cond-true, cond-false, false≢true}
-use Rattle.std.proofs.lemmas.List.{length-replicate}
-use Rattle.machine_theory.specs.declared.fault.Fault.{Fault}
+use Rattle.std.proofs.Common.{◌≡◌, ◌≢◌, ℕ, ◌<◌, ◌∷◌, ◌++◌, [], true, not, List, length, refl, sym, ap, ◌∙◌, subst, inl, inr, arith, Some}
+use Rattle.std.{proofs.Common.{None, Option, Result, Ok, Err, ◌↔◌, ◌==◌, replicate, slice_get, option_map, IsSome, ℤ}, specs.List.{find}}
+use Rattle.std.proofs.lemmas.{Bool.{both_ways, cases_Bool, cases_eq, cond-true, cond-false, false≢true}, List.{length-replicate}}
+use Rattle.machine_theory.specs.{Access.{IsMapped, IsTagFault, access_fault, is_mapped, stored, tag_fault, touched}, Memory.{tag_at}}
+use Rattle.machine_theory.specs.{Address.{logical_tag, moved_by, Touches}, declared.fault.Fault.{Fault}}
 use Rattle.machine_theory.specs.declared.fault.Fault.TheVariants.{Unmapped, TagCheck}
-use Rattle.machine_theory.specs.Access.{IsMapped, IsTagFault, access_fault, is_mapped, stored, tag_fault, touched}
-use Rattle.machine_theory.specs.Address.{logical_tag, moved_by, Touches}
-use Rattle.machine_theory.specs.Memory.{tag_at}
-use Rattle.replay_theory.proofs.TheoryLemmas as laws
-use Rattle.trace_event.specs.declared.event.Event.{Event}
-use Rattle.trace_event.specs.declared.event.Event.TheVariants.{Malloc, Calloc, Realloc, Free, Load, Store, Addg, Subg}
-use Rattle.heap_theory.specs.declared.refusal.FreeError.{FreeError}
-use Rattle.heap_theory.specs.declared.refusal.NullCause.{NullCause}
-use Rattle.heap_theory.specs.declared.refusal.ReallocError.{ReallocError}
-use Rattle.heap_theory.specs.declared.refusal.ReallocError.TheVariants.{Null, Refused}
-use Rattle.heap_theory.specs.declared.place_kind.PlaceKind.{PlaceKind}
+use Rattle.trace_event.specs.declared.event.{Event.{Event}, Event.TheVariants.{Malloc, Calloc, Realloc, Free, Load, Store, Addg, Subg}}
+use Rattle.heap_theory.specs.{Calls.{malloc_step, calloc_step, free_step, realloc_step, store_step}, GranuleKinds.{place_kind}}
+use Rattle.heap_theory.specs.{State.{Heap}, declared.place_kind.PlaceKind.{PlaceKind}, declared.refusal.FreeError.{FreeError}}
+use Rattle.heap_theory.specs.declared.refusal.{NullCause.{NullCause}, ReallocError.{ReallocError}, ReallocError.TheVariants.{Null, Refused}}
 use Rattle.replay_theory.specs.AccessLaws.{IsAnswerTo, IsAnswered, AccessesAreAnswered}
-use Rattle.heap_theory.specs.GranuleKinds.{place_kind}
-use Rattle.replay_theory.specs.Replay.{Replay, Answer, IsFaultAnswer, is_tag_fault, variable, heap_after, replay_after, access_answer, malloc_answer, free_answer, realloc_answer, answer_of, answers, replay_of}
-use Rattle.heap_theory.specs.Calls.{malloc_step, calloc_step, free_step, realloc_step, store_step}
+use Rattle.replay_theory.specs.Replay.{Replay, Answer, IsFaultAnswer, is_tag_fault, variable, heap_after, replay_after, access_answer}
+use Rattle.replay_theory.specs.Replay.{malloc_answer, free_answer, realloc_answer, answer_of, answers, replay_of}
 use Rattle.replay_theory.specs.Replay.Answer.{Silent, Loaded, NotMapped, TagFault, NoPointer, NotFreed}
-use Rattle.heap_theory.specs.State.{Heap}
+use Rattle.replay_theory.proofs.TheoryLemmas as laws
 
 -- ---- which answers are faults
 

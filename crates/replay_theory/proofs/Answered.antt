@@ -1,11 +1,9 @@
 -- What accesses and events answer, in a trace of one event more.
 use Rattle.std.proofs.Common.{◌≡◌, ℕ, ◌+◌, ◌∷◌, ◌++◌, [], List, length, refl, sym, ap, ◌∙◌, arith, append_assoc, append-nil, fold}
-use Rattle.std.proofs.lemmas.List.{length-append}
-use Rattle.std.proofs.lemmas.List.Sums.{fold_push, sum_by_push}
+use Rattle.std.proofs.lemmas.{List.{length-append}, List.Sums.{fold_push, sum_by_push}}
 use Rattle.trace_event.specs.declared.event.Event.{Event}
-use Rattle.replay_theory.specs.Run.{Run, run_after, first_run, run}
-use Rattle.replay_theory.specs.Report.{report_line, report_lines}
 use Rattle.replay_theory.specs.Replay.{Replay, Answer, replay_after, answer_of, answers, replay_of, first_replay}
+use Rattle.replay_theory.specs.{Report.{report_line, report_lines}, Run.{Run, run_after, first_run, run}}
 use Rattle.replay_theory.specs.Totals.{totals_of, totals_after, no_totals}
 use Rattle.class_table.specs.Layout.{Partition}
 

@@ -1,18 +1,13 @@
 -- ADDG and SUBG by 0 and 0 leave an address as it is, if its tag is not 0.
-use Rattle.std.proofs.Common.{◌≡◌, ◌≢◌, ℕ, zero, suc, ◌^◌, ◌<◌, List, false, length, get_or, set, sym, subst, inr, arith, Some, None, Option}
-use Rattle.std.proofs.lemmas.Bool.{cond-false, eqb-true, false_from_ne_true}
-use Rattle.std.proofs.lemmas.List.{get_or-set_same}
-use Rattle.machine_theory.specs.Address.{logical_tag, with_tag}
-use Rattle.machine_theory.specs.Instructions.{addg, subg}
-use Rattle.machine_theory.specs.Tags.{allowed_after, choose_tag, is_excluded}
-use Rattle.replay_theory.proofs.TheoryLemmas as laws
-use Rattle.heap_theory.specs.Sound.{IsSoundHeap}
-use Rattle.replay_theory.specs.SoundRun.{ForGeneration, IsAddressOf, IsSoundRun, IsSoundVariable}
-use Rattle.replay_theory.specs.Hardening.{HasGeneration, PointersAreCopied}
-use Rattle.replay_theory.specs.Replay.{variable, heap_after, variables_after, replay_after}
+use Rattle.std.proofs.Common.{◌≡◌, ◌≢◌, ℕ, zero, suc, ◌^◌, ◌<◌, List, false, length, get_or, set, sym, subst, inr, arith, Some, None}
+use Rattle.std.proofs.{Common.{Option}, lemmas.Bool.{cond-false, eqb-true, false_from_ne_true}, lemmas.List.{get_or-set_same}}
+use Rattle.machine_theory.specs.{Address.{logical_tag, with_tag}, Instructions.{addg, subg}, Tags.{allowed_after, choose_tag, is_excluded}}
+use Rattle.heap_theory.specs.{Sound.{IsSoundHeap}, State.{Heap}}
+use Rattle.replay_theory.specs.{Hardening.{HasGeneration, PointersAreCopied}, Replay.{variable, heap_after, variables_after, replay_after}}
 use Rattle.replay_theory.specs.Run.{Run, Generation, generation_of, generations_after, moved_generation, run_after}
+use Rattle.replay_theory.specs.SoundRun.{ForGeneration, IsAddressOf, IsSoundRun, IsSoundVariable}
 use Rattle.trace_event.specs.declared.event.Event.TheVariants.{Addg, Subg}
-use Rattle.heap_theory.specs.State.{Heap}
+use Rattle.replay_theory.proofs.TheoryLemmas as laws
 
 tag_stays : (tag : ℕ) → tag < 16 → tag ≢ 0 → choose_tag tag 0 1 ≡ tag
 unfolding choose_tag

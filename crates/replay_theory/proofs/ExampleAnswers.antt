@@ -1,17 +1,13 @@
 -- What a trace over 64 granules with seed 1 answers, worked out.
 use Rattle.std.specs.Prelude.{ℕ, List, zip}
-use Rattle.machine_theory.specs.Access.{access_fault}
-use Rattle.machine_theory.specs.Instructions.{drawn_tag, addg, subg}
-use Rattle.machine_theory.specs.Memory.{each_granule, tagged, bytes_at, written}
-use Rattle.machine_theory.specs.Seed.{next_offset, next_seed}
-use Rattle.machine_theory.specs.Tags.{choose_tag, allowed_after}
+use Rattle.machine_theory.specs.{Access.{access_fault}, Instructions.{drawn_tag, addg, subg}, Seed.{next_offset, next_seed}}
+use Rattle.machine_theory.specs.{Memory.{each_granule, tagged, bytes_at, written}, Tags.{choose_tag, allowed_after}}
 use Rattle.class_table.specs.Layout.{slots_of_classes, slots_of, slot_over}
 use Rattle.trace_event.specs.declared.event.Event.{Event}
-use Rattle.heap_theory.specs.Calls.{given_out, freed, resized, with_payload, moved, malloc_step, calloc_step, free_step, realloc_step, store_step}
-use Rattle.heap_theory.specs.Lookups.{slot_for, slot_for_request, chunk_at}
-use Rattle.heap_theory.specs.GranuleKinds.{place_kind}
-use Rattle.replay_theory.specs.Replay.{Answer, heap_after, variables_after, replay_after, answer_of, first_replay, answers, replay_of}
+use Rattle.heap_theory.specs.Calls.{given_out, freed, resized, with_payload, moved, malloc_step, calloc_step, free_step, realloc_step}
+use Rattle.heap_theory.specs.{Calls.{store_step}, GranuleKinds.{place_kind}, Lookups.{slot_for, slot_for_request, chunk_at}}
 use Rattle.heap_theory.specs.State.{Heap, first_memory, first_heap}
+use Rattle.replay_theory.specs.Replay.{Answer, heap_after, variables_after, replay_after, answer_of, first_replay, answers, replay_of}
 use Rattle.replay_theory.specs.Totals.{Totals, totals_of}
 
 -- the answers

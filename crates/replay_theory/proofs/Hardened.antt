@@ -1,21 +1,16 @@
 -- What hardens the heap, in a sound run.
 use Rattle.std.proofs.Common.{◌≡◌, ◌≢◌, ℕ, ◌+◌, ◌-◌, ◌*◌, ◌%◌, ◌^◌, ◌<◌, ◌≤◌, true, length, refl, sym, ap, ◌∙◌, subst, inl, inr, arith, ℤ}
 use Rattle.std.proofs.lemmas.Bool.{false≢true}
-use Rattle.machine_theory.specs.Address.{logical_tag, place_of, with_tag, region_start, Touches}
-use Rattle.machine_theory.specs.Memory.{tag_at}
+use Rattle.machine_theory.specs.{Address.{logical_tag, place_of, with_tag, region_start, Touches}, Memory.{tag_at}}
 use Rattle.class_table.specs.Layout.{end_of}
-use Rattle.replay_theory.proofs.TheoryLemmas as laws
-use Rattle.replay_theory.specs.Run.{Run}
-use Rattle.replay_theory.specs.Hardening.{IsAccess, Faults, HasGeneration, WasFreed, NullOrTagged, BookkeepingOutOfReach, InsideSucceeds, NeighboursFault, FreedFaults, ChunkTagsNotZero, ChunkTagsDiffer, LiveVariablesAreAccepted}
-use Rattle.heap_theory.specs.GranuleKinds.{IsChunkGranule}
-use Rattle.replay_theory.specs.Replay.{variable}
-use Rattle.heap_theory.specs.Sound.{IsTagOf, IsChunkTag, IsTaggedSlot}
-use Rattle.replay_theory.specs.SoundRun.{IsAddressOf, IsSoundRun, ForGeneration}
-use Rattle.heap_theory.specs.State.{State, IsLive, is_dead, slot_in, state_at, last_tag, chunk_granules_of, payload_place}
-use Rattle.heap_theory.specs.State.State.{Fresh, Live, Dead}
+use Rattle.replay_theory.specs.Hardening.{IsAccess, Faults, HasGeneration, WasFreed, NullOrTagged, BookkeepingOutOfReach, InsideSucceeds}
+use Rattle.replay_theory.specs.Hardening.{NeighboursFault, FreedFaults, ChunkTagsNotZero, ChunkTagsDiffer, LiveVariablesAreAccepted}
+use Rattle.replay_theory.specs.{Replay.{variable}, Run.{Run}, SoundRun.{IsAddressOf, IsSoundRun, ForGeneration}}
 use Rattle.heap_theory.proofs.GranuleTags.{bookkeeping_tag, payload_tag, covered_tag, chunks_tagged, parities_differ}
-use Rattle.heap_theory.proofs.HeapKept.{in_region}
-use Rattle.heap_theory.proofs.OwnPointers.{free_accepts, realloc_accepts}
+use Rattle.heap_theory.proofs.{HeapKept.{in_region}, OwnPointers.{free_accepts, realloc_accepts}}
+use Rattle.heap_theory.specs.{GranuleKinds.{IsChunkGranule}, Sound.{IsTagOf, IsChunkTag, IsTaggedSlot}, State.State.{Fresh, Live, Dead}}
+use Rattle.heap_theory.specs.State.{State, IsLive, is_dead, slot_in, state_at, last_tag, chunk_granules_of, payload_place}
+use Rattle.replay_theory.proofs.TheoryLemmas as laws
 
 -- a place with a tag is an address below 2 ^ 60
 with_tag-below : (place tag : ℕ) → place < 2 ^ 56 → tag < 16 → with_tag place tag < 2 ^ 60

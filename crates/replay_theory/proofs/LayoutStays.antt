@@ -3,12 +3,11 @@ use Rattle.std.proofs.Common.{◌≡◌, ℕ, Bool, true, false, cond, List, [],
 use Rattle.machine_theory.specs.declared.fault.Fault.{Fault}
 use Rattle.class_table.specs.Layout.{Partition}
 use Rattle.trace_event.specs.declared.event.Event.{Event}
-use Rattle.heap_theory.specs.declared.refusal.FreeError.{FreeError}
+use Rattle.heap_theory.specs.Calls.{Step, given_out, freed, resized, with_payload, moved, malloc_with, malloc_step, calloc_with}
+use Rattle.heap_theory.specs.Calls.{calloc_step, free_with, free_step, move_with, realloc_with, realloc_step, store_with, store_step}
+use Rattle.heap_theory.specs.{Lookups.{Chunk}, State.{Heap, first_heap}, declared.refusal.FreeError.{FreeError}}
 use Rattle.heap_theory.specs.declared.refusal.NullCause.{NullCause}
-use Rattle.heap_theory.specs.Calls.{Step, given_out, freed, resized, with_payload, moved, malloc_with, malloc_step, calloc_with, calloc_step, free_with, free_step, move_with, realloc_with, realloc_step, store_with, store_step}
-use Rattle.heap_theory.specs.Lookups.{Chunk}
 use Rattle.replay_theory.specs.Replay.{Replay, heap_after, replay_after, first_replay, replay_of}
-use Rattle.heap_theory.specs.State.{Heap, first_heap}
 
 malloc_layout : (h : Heap) (n : ℕ) (o : Result ℕ NullCause) → (malloc_with h n o).heap.layout ≡ h.layout
 unfolding given_out

@@ -1,17 +1,11 @@
 -- What an event does to a slot.
-use Rattle.std.proofs.Common.{◌≡◌, ℕ, ◌-◌, ◌<◌, true, get_or, arith, Option}
-use Rattle.std.proofs.lemmas.Bool.{cases_eq, ltb-true, false≢true}
+use Rattle.std.proofs.{Common.{◌≡◌, ℕ, ◌-◌, ◌<◌, true, get_or, arith, Option}, lemmas.Bool.{cases_eq, ltb-true, false≢true}}
 use Rattle.std.proofs.lemmas.List.{get_or-set_same, get_or-set_other}
 use Rattle.trace_event.specs.declared.event.Event.{Event}
-use Rattle.heap_theory.specs.Lookups.{IsReusable}
-use Rattle.replay_theory.specs.Run.{Run, times_of, slot_given, times_with, run_after}
-use Rattle.replay_theory.specs.Hardening.{ReuseIsDelayed, LifeStep, LivesOn}
-use Rattle.replay_theory.specs.Replay.{heap_after, replay_after}
-use Rattle.replay_theory.specs.SoundRun.{IsSoundRun}
-use Rattle.heap_theory.specs.State.{State, Heap, IsLive, state_at, is_fresh}
-use Rattle.heap_theory.specs.State.State.{Fresh, Dead}
-use Rattle.heap_theory.proofs.CallsKept.{KeepsGiven, HeapChange, state_at-given_out_other}
-use Rattle.replay_theory.proofs.RunKept.{IsKept-event}
+use Rattle.heap_theory.{proofs.CallsKept.{KeepsGiven, HeapChange, state_at-given_out_other}, specs.Lookups.{IsReusable}}
+use Rattle.heap_theory.specs.{State.{State, Heap, IsLive, state_at, is_fresh}, State.State.{Fresh, Dead}}
+use Rattle.replay_theory.{proofs.RunKept.{IsKept-event}, specs.Hardening.{ReuseIsDelayed, LifeStep, LivesOn}, specs.SoundRun.{IsSoundRun}}
+use Rattle.replay_theory.specs.{Replay.{heap_after, replay_after}, Run.{Run, times_of, slot_given, times_with, run_after}}
 
 -- ---- reuse is delayed
 

@@ -1,28 +1,21 @@
 -- What each event of a served run loses, and so what the run does.
-use Rattle.std.proofs.Common.{◌≡◌, ℕ, ◌+◌, ◌<◌, ◌≤◌, Bool, true, false, cond, List, [], ◌∷◌, refl, ap, ◌∙◌, subst, arith, Result, Ok, Err, Option, Some, None, ◌==◌, ◌&&◌, nat_le, nat_lt, is_some, zip, count_by, IsSome}
-use Rattle.std.specs.List.{AllByRecursion as ByRecursion, cons_option}
-use Rattle.std.specs.Option.{ok_or}
-use Rattle.std.proofs.lemmas.Bool.{true≢false, cond_both, le-leb, leb-false, lt-leb}
-use Rattle.std.proofs.lemmas.List.Elements.{recursion_from_All}
-use Rattle.std.proofs.lemmas.List.Sums.{sum_by-cons}
+use Rattle.std.proofs.Common.{◌≡◌, ℕ, ◌+◌, ◌<◌, ◌≤◌, Bool, true, false, cond, List, [], ◌∷◌, refl, ap, ◌∙◌, subst, arith, Result, Ok, Err}
+use Rattle.std.{proofs.Common.{Option, Some, None, ◌==◌, ◌&&◌, nat_le, nat_lt, is_some, zip, count_by, IsSome}, specs.Option.{ok_or}}
+use Rattle.std.proofs.lemmas.{Bool.{true≢false, cond_both, le-leb, leb-false, lt-leb}, List.Elements.{recursion_from_All}}
+use Rattle.std.{proofs.lemmas.List.Sums.{sum_by-cons}, specs.List.{AllByRecursion as ByRecursion, cons_option}}
 use Rattle.machine_theory.specs.declared.fault.Fault.{Fault}
-use Rattle.class_table.specs.Sizes.{counted_of, largest_counted}
-use Rattle.class_table.specs.Tables.{class_for, loss_of_size, rounding_loss}
-use Rattle.trace_event.specs.declared.event.Event.{Event}
-use Rattle.trace_event.specs.declared.event.Event.TheVariants.{Malloc, Calloc, Realloc, Free}
-use Rattle.heap_theory.specs.declared.refusal.FreeError.{FreeError}
-use Rattle.heap_theory.specs.declared.refusal.NullCause.{NullCause}
-use Rattle.heap_theory.specs.declared.refusal.NullCause.TheVariants.{Large, NoClass, Exhausted}
-use Rattle.heap_theory.specs.declared.refusal.ReallocError.{ReallocError}
-use Rattle.heap_theory.specs.Calls.{Step, malloc_with, malloc_step, calloc_with, calloc_step, as_realloc, free_with, free_step, is_class_of, resized, move_with, realloc_with, realloc_step}
+use Rattle.class_table.specs.{Layout.{Partition}, Sizes.{counted_of, largest_counted}, Tables.{class_for, loss_of_size, rounding_loss}}
+use Rattle.trace_event.specs.declared.event.{Event.{Event}, Event.TheVariants.{Malloc, Calloc, Realloc, Free}}
+use Rattle.heap_theory.specs.Calls.{Step, malloc_with, malloc_step, calloc_with, calloc_step, as_realloc, free_with, free_step, is_class_of}
+use Rattle.heap_theory.specs.{Calls.{resized, move_with, realloc_with, realloc_step}, State.{Heap, slot_in, first_heap}}
 use Rattle.heap_theory.specs.Lookups.{Chunk, class_for_request, slot_for_request, slot_in_class, slot_for, chunk_at}
-use Rattle.replay_theory.specs.Losses.{requested_sizes, counted_sizes, LosesAtMostItsWaste, ServesEach}
-use Rattle.replay_theory.specs.Replay.{Replay, Answer, is_no_class, is_exhausted, is_refused, is_silent, variable, answer_of, answers, replay_after, first_replay, malloc_answer, free_answer, realloc_answer, access_answer}
+use Rattle.heap_theory.specs.declared.refusal.{FreeError.{FreeError}, NullCause.{NullCause}, ReallocError.{ReallocError}}
+use Rattle.heap_theory.specs.declared.refusal.NullCause.TheVariants.{Large, NoClass, Exhausted}
+use Rattle.replay_theory.{proofs.LayoutStays.{layout_after}, specs.Losses.{requested_sizes, counted_sizes, LosesAtMostItsWaste, ServesEach}}
+use Rattle.replay_theory.specs.Replay.{Replay, Answer, is_no_class, is_exhausted, is_refused, is_silent, variable, answer_of, answers}
+use Rattle.replay_theory.specs.Replay.{replay_after, first_replay, malloc_answer, free_answer, realloc_answer, access_answer}
 use Rattle.replay_theory.specs.Replay.Answer.{Silent, NoPointer, NotFreed}
-use Rattle.heap_theory.specs.State.{Heap, slot_in, first_heap}
 use Rattle.replay_theory.specs.Totals.{one_if, request_size, loss_of_request, loss_of_event, totals_of}
-use Rattle.replay_theory.proofs.LayoutStays.{layout_after}
-use Rattle.class_table.specs.Layout.{Partition}
 
 -- ---- one event
 

@@ -1,15 +1,11 @@
 -- Traces with `realloc` over 64 granules with seed 1, and the headers of a trace, worked out.
 use Rattle.std.proofs.Common.{◌≡◌, List, [], ◌∷◌, ◌++◌, refl, pos, replicate}
-use Rattle.trace_event.specs.declared.event.Event.{Event}
-use Rattle.trace_event.specs.declared.event.Event.TheVariants.{Malloc, Realloc, Free, Load, Store, Addg}
-use Rattle.heap_theory.specs.declared.refusal.FreeError.TheVariants.{NotLive}
+use Rattle.trace_event.specs.declared.event.{Event.{Event}, Event.TheVariants.{Malloc, Realloc, Free, Load, Store, Addg}}
+use Rattle.heap_theory.specs.{Header.{first_word, header_for}, Header.Standing.{Quarantined, Freed}}
+use Rattle.heap_theory.specs.declared.{place_kind.PlaceKind.TheVariants.{Tail, Dead as DeadChunk}, refusal.FreeError.TheVariants.{NotLive}}
 use Rattle.heap_theory.specs.declared.refusal.NullCause.TheVariants.{NoClass, Exhausted}
-use Rattle.heap_theory.specs.declared.place_kind.PlaceKind.TheVariants.{Tail, Dead as DeadChunk}
-use Rattle.heap_theory.specs.Header.{first_word, header_for}
-use Rattle.heap_theory.specs.Header.Standing.{Quarantined, Freed}
-use Rattle.replay_theory.specs.Replay.Answer.{Silent, Loaded, TagFault, NoPointer, NotFreed}
+use Rattle.replay_theory.{proofs.ExampleAnswers.{shown, heap_of}, specs.Replay.Answer.{Silent, Loaded, TagFault, NoPointer, NotFreed}}
 use Rattle.replay_theory.specs.Totals.{no_totals}
-use Rattle.replay_theory.proofs.ExampleAnswers.{shown, heap_of}
 use Rattle.class_table.specs.Layout.{slots_of_classes, slots_of}
 
 in_place_moved_and_moved_back :

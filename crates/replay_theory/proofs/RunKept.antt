@@ -2,21 +2,18 @@
 use Rattle.std.proofs.Common.{◌≡◌, ℕ, List, [], ◌∷◌, length, get_or, set, refl, sym, ◌∙◌, subst, inl, arith, None, Option, fold, replicate}
 use Rattle.std.proofs.lemmas.Bool.{cases_eq, cases_lt}
 use Rattle.std.proofs.lemmas.List.{get_or-set_same, get_or-set_other, length-set, get_or_past, length-replicate}
-use Rattle.machine_theory.specs.Address.{moved_by}
-use Rattle.machine_theory.specs.Instructions.{addg, subg}
+use Rattle.machine_theory.specs.{Address.{moved_by}, Instructions.{addg, subg}}
 use Rattle.class_table.specs.Layout.{Partition, IsPartition, slot_count}
-use Rattle.replay_theory.proofs.TheoryLemmas as laws
-use Rattle.trace_event.specs.declared.event.Event.{Event}
-use Rattle.trace_event.specs.declared.event.Event.TheVariants.{Malloc, Calloc, Realloc, Free, Store, Addg, Subg}
-use Rattle.replay_theory.specs.Run.{Run, Generation, generation_of, slot_given, times_with, generations_after, run_after, first_run, run}
-use Rattle.replay_theory.specs.Replay.{Replay, variable, heap_after, variables_after, replay_after, first_replay}
-use Rattle.heap_theory.specs.Sound.{IsSoundHeap}
-use Rattle.replay_theory.specs.SoundRun.{IsSoundVariable, IsSoundRun}
-use Rattle.heap_theory.specs.State.{Heap, first_heap}
-use Rattle.heap_theory.proofs.CallsKept.{HeapChange, IsKept, IsKept-refl, IsKept-malloc, IsKept-calloc, IsKept-free, IsKept-realloc, IsKept-store, layout-given_out, quarantine-given_out}
+use Rattle.trace_event.specs.declared.event.{Event.{Event}, Event.TheVariants.{Malloc, Calloc, Realloc, Free, Store, Addg, Subg}}
 use Rattle.replay_theory.proofs.CopiedPointers.{IsSoundVariable-moved, addg-address, subg-address}
-use Rattle.heap_theory.proofs.FirstHeap.{IsSoundHeap-first, get_or-replicate_any}
-use Rattle.replay_theory.proofs.VariablesKept.{IsSoundVariable-other, IsSoundVariable-malloc, IsSoundVariable-calloc, IsSoundVariable-realloc}
+use Rattle.replay_theory.proofs.VariablesKept.{IsSoundVariable-other, IsSoundVariable-malloc, IsSoundVariable-calloc}
+use Rattle.replay_theory.{proofs.VariablesKept.{IsSoundVariable-realloc}, specs.SoundRun.{IsSoundVariable, IsSoundRun}}
+use Rattle.replay_theory.specs.Replay.{Replay, variable, heap_after, variables_after, replay_after, first_replay}
+use Rattle.replay_theory.specs.Run.{Run, Generation, generation_of, slot_given, times_with, generations_after, run_after, first_run, run}
+use Rattle.heap_theory.proofs.CallsKept.{HeapChange, IsKept, IsKept-refl, IsKept-malloc, IsKept-calloc, IsKept-free, IsKept-realloc}
+use Rattle.heap_theory.{proofs.CallsKept.{IsKept-store, layout-given_out, quarantine-given_out}, specs.Sound.{IsSoundHeap}}
+use Rattle.heap_theory.{proofs.FirstHeap.{IsSoundHeap-first, get_or-replicate_any}, specs.State.{Heap, first_heap}}
+use Rattle.replay_theory.proofs.TheoryLemmas as laws
 
 -- one variable is set, with its generation, and the others stay
 set_both : {X Y : Type 0} (P : X → Y → Type 0) (xs : List X) (ys : List Y) (v : ℕ) (x a : X) (y b : Y) → length ys ≡ length xs → P x y →

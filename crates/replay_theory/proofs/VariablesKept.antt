@@ -1,24 +1,19 @@
 -- What is true of a variable stays true, and is true of the address that a call gives.
-use Rattle.std.proofs.Common.{◌≡◌, ℕ, suc, ◌*◌, ◌<◌, Bool, true, false, cond, List, length, get_or, set, refl, sym, ap, ◌∙◌, subst, inl, inr, arith, Some, None, Option, Result, Ok, Err, ◌==◌, slice_set, replicate}
-use Rattle.std.specs.Result.{result_ok, result_unwrap_or}
-use Rattle.std.proofs.lemmas.Bool.{cases_eq}
-use Rattle.std.proofs.lemmas.List.{get_or-set_same, get_or-set_other}
+use Rattle.std.proofs.Common.{◌≡◌, ℕ, suc, ◌*◌, ◌<◌, Bool, true, false, cond, List, length, get_or, set, refl, sym, ap, ◌∙◌, subst, inl}
+use Rattle.std.proofs.{Common.{inr, arith, Some, None, Option, Result, Ok, Err, ◌==◌, slice_set, replicate}, lemmas.Bool.{cases_eq}}
+use Rattle.std.{proofs.lemmas.List.{get_or-set_same, get_or-set_other}, specs.Result.{result_ok, result_unwrap_or}}
 use Rattle.machine_theory.specs.Address.{logical_tag, with_tag}
-use Rattle.class_table.specs.Layout.{Partition, slot_count}
-use Rattle.heap_theory.specs.declared.refusal.FreeError.{FreeError}
-use Rattle.heap_theory.specs.declared.refusal.ReallocError.{ReallocError}
-use Rattle.heap_theory.specs.Calls.{Step, next_tag, given_out, resized, with_payload, moved, malloc_with, malloc_step, calloc_with, calloc_step, stays_in_class, slot_if_moved, move_with, as_realloc, realloc_with, realloc_step}
-use Rattle.heap_theory.specs.Lookups.{Chunk, IsReusable, MayBeGiven, slot_for_request, chunk_at}
-use Rattle.replay_theory.specs.Run.{Run, Generation, times_of, generation_of, times_with, begun_or}
-use Rattle.replay_theory.specs.Replay.{variable}
-use Rattle.heap_theory.specs.Sound.{IsTagOf}
-use Rattle.replay_theory.specs.SoundRun.{IsAddressOf, IsSoundVariable, IsSoundRun}
-use Rattle.class_table.specs.Sizes.{chunk_granules}
+use Rattle.class_table.specs.{Layout.{Partition, slot_count}, Sizes.{chunk_granules}}
+use Rattle.heap_theory.proofs.CallsKept.{KeepsGiven, KeepsGiven-refl, KeepsGiven-with_payload, KeepsGiven-resized, KeepsGiven-moved}
+use Rattle.heap_theory.proofs.{CallsKept.{HeapChange, state_at-given_out, state_at-given_out_other, layout-given_out}, HeapKept.{in_states}}
+use Rattle.heap_theory.proofs.{Lookups.{slot_for_request-cases, chunk_at-is}, Tags.{IsTagOf-next_tag, next_tag-differs}}
+use Rattle.heap_theory.specs.Calls.{Step, next_tag, given_out, resized, with_payload, moved, malloc_with, malloc_step, calloc_with}
+use Rattle.heap_theory.specs.Calls.{calloc_step, stays_in_class, slot_if_moved, move_with, as_realloc, realloc_with, realloc_step}
+use Rattle.heap_theory.specs.{Lookups.{Chunk, IsReusable, MayBeGiven, slot_for_request, chunk_at}, Sound.{IsTagOf}}
 use Rattle.heap_theory.specs.State.{Heap, slot_in, state_at, last_tag, is_fresh, payload_place, pointer_to}
-use Rattle.heap_theory.proofs.CallsKept.{KeepsGiven, KeepsGiven-refl, KeepsGiven-with_payload, KeepsGiven-resized, KeepsGiven-moved, HeapChange, state_at-given_out, state_at-given_out_other, layout-given_out}
-use Rattle.heap_theory.proofs.Lookups.{slot_for_request-cases, chunk_at-is}
-use Rattle.heap_theory.proofs.HeapKept.{in_states}
-use Rattle.heap_theory.proofs.Tags.{IsTagOf-next_tag, next_tag-differs}
+use Rattle.heap_theory.specs.declared.refusal.{FreeError.{FreeError}, ReallocError.{ReallocError}}
+use Rattle.replay_theory.specs.{Replay.{variable}, Run.{Run, Generation, times_of, generation_of, times_with, begun_or}}
+use Rattle.replay_theory.specs.SoundRun.{IsAddressOf, IsSoundVariable, IsSoundRun}
 
 -- ---- addresses
 

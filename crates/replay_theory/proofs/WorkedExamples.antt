@@ -1,12 +1,11 @@
 -- Traces over 64 granules with seed 1, worked out: their answers and totals.
 use Rattle.std.proofs.Common.{◌≡◌, [], ◌∷◌, ◌++◌, refl, pos, negsuc, replicate}
 use Rattle.trace_event.specs.declared.event.Event.TheVariants.{Malloc, Calloc, Free, Load, Store, Addg, Subg}
+use Rattle.heap_theory.specs.declared.place_kind.PlaceKind.TheVariants.{Slack, Header, Tail, Dead, Other}
 use Rattle.heap_theory.specs.declared.refusal.FreeError.TheVariants.{Misplaced, NotLive, WrongTag}
 use Rattle.heap_theory.specs.declared.refusal.NullCause.TheVariants.{Large, NoClass, Exhausted}
-use Rattle.heap_theory.specs.declared.place_kind.PlaceKind.TheVariants.{Slack, Header, Tail, Dead, Other}
-use Rattle.replay_theory.specs.Replay.Answer.{Silent, Loaded, NotMapped, TagFault, NoPointer, NotFreed}
+use Rattle.replay_theory.{proofs.ExampleAnswers.{shown}, specs.Replay.Answer.{Silent, Loaded, NotMapped, TagFault, NoPointer, NotFreed}}
 use Rattle.replay_theory.specs.Totals.{no_totals}
-use Rattle.replay_theory.proofs.ExampleAnswers.{shown}
 
 empty_table_serves_nothing : shown [] 0 (Malloc 1 16 ∷ []) ≡ (
   NoPointer NoClass ∷ [],

@@ -1,15 +1,10 @@
 -- When each result of an access comes, exactly.
 use Rattle.std.specs.Prelude.{◌≡◌, ◌≢◌, ◌↔◌, ℕ, ◌<◌, List, ◌∷◌, ◌++◌, length, slice_get, Option, Some, None, IsTrue, MatchOption}
-use Rattle.machine_theory.specs.Access.{IsMapped, IsTagFault, loaded}
-use Rattle.machine_theory.specs.Address.{logical_tag, moved_by, Touches}
-use Rattle.machine_theory.specs.Memory.{tag_at}
-use Rattle.trace_event.specs.declared.event.Event.{Event}
-use Rattle.trace_event.specs.declared.event.Event.TheVariants.{Load, Store}
-use Rattle.heap_theory.specs.declared.place_kind.PlaceKind.{PlaceKind}
-use Rattle.heap_theory.specs.GranuleKinds.{place_kind}
+use Rattle.machine_theory.specs.{Access.{IsMapped, IsTagFault, loaded}, Address.{logical_tag, moved_by, Touches}, Memory.{tag_at}}
+use Rattle.trace_event.specs.declared.event.{Event.{Event}, Event.TheVariants.{Load, Store}}
+use Rattle.heap_theory.specs.{GranuleKinds.{place_kind}, State.{Heap}, declared.place_kind.PlaceKind.{PlaceKind}}
 use Rattle.replay_theory.specs.Replay.{Replay, Answer, IsFaultAnswer, variable, answers, replay_of, is_tag_fault}
 use Rattle.replay_theory.specs.Replay.Answer.{Silent, Loaded, NotMapped, TagFault}
-use Rattle.heap_theory.specs.State.{Heap}
 
 -- The result of an access of `len` bytes at an address: unmapped, a tag fault, or `done` if it succeeds.
 pub record IsAnswerTo (heap : Heap) (address len : ℕ) (done answer : Answer) : Type 0 where

@@ -1,19 +1,14 @@
 -- What hardens the heap, said of a run. An access touches each granule that holds one of its bytes, whether the whole access is mapped or
 -- not.
 use Rattle.std.specs.Prelude.{◌≡◌, ◌⊎◌, ℕ, suc, ◌+◌, ◌-◌, ◌<◌, ◌≤◌, ℤ, nat_abs, List, length, slice_index, Some, None, IsSome, IsTrue}
-use Rattle.machine_theory.specs.Access.{access_fault}
-use Rattle.machine_theory.specs.Address.{place_of, moved_by, Holds, Touches}
-use Rattle.class_table.specs.Layout.{Covers}
-use Rattle.trace_event.specs.declared.event.Event.{Event}
-use Rattle.replay_theory.specs.Run.{Run, times_of, generation_of, run_after}
-use Rattle.heap_theory.specs.GranuleKinds.{IsBookkeeping, IsChunkGranule, IsPayloadGranule, place_kind}
-use Rattle.heap_theory.specs.HeapTags.{ChunksAreTagged, HaveOtherParity, IsNullOrTagged, ParitiesDiffer}
-use Rattle.heap_theory.specs.OwnPointers.{IsOwnPointer, FreeAccepts, ReallocAccepts}
-use Rattle.replay_theory.specs.Replay.{variable}
-use Rattle.heap_theory.specs.State.{State, IsLive, is_dead, slot_in, state_at}
-use Rattle.heap_theory.specs.State.State.{Fresh, Live, Dead}
+use Rattle.machine_theory.specs.{Access.{access_fault}, Address.{place_of, moved_by, Holds, Touches}}
 use Rattle.machine_theory.specs.declared.sizes.TheConstants.{LONGEST_ACCESS}
-use Rattle.trace_event.specs.declared.event.TheConstants.Event.{FARTHEST_ACCESS}
+use Rattle.class_table.specs.Layout.{Covers}
+use Rattle.trace_event.specs.declared.event.{Event.{Event}, TheConstants.Event.{FARTHEST_ACCESS}}
+use Rattle.replay_theory.specs.{Replay.{variable}, Run.{Run, times_of, generation_of, run_after}}
+use Rattle.heap_theory.specs.{GranuleKinds.{IsBookkeeping, IsChunkGranule, IsPayloadGranule, place_kind}, State.State.{Fresh, Live, Dead}}
+use Rattle.heap_theory.specs.HeapTags.{ChunksAreTagged, HaveOtherParity, IsNullOrTagged, ParitiesDiffer}
+use Rattle.heap_theory.specs.{OwnPointers.{IsOwnPointer, FreeAccepts, ReallocAccepts}, State.{State, IsLive, is_dead, slot_in, state_at}}
 
 -- ---- accesses
 

@@ -1,10 +1,8 @@
 -- What a run loses by rounding requests up to their classes, against what its trace requests.
 use Rattle.std.specs.Prelude.{◌≡◌, ℕ, ◌≤◌, ◌&&◌, List, count_by, filter_map}
-use Rattle.class_table.specs.Sizes.{counted_of}
-use Rattle.class_table.specs.Tables.{ServesSizes, rounding_loss}
+use Rattle.class_table.specs.{Sizes.{counted_of}, Tables.{ServesSizes, rounding_loss}}
 use Rattle.trace_event.specs.declared.event.Event.{Event}
-use Rattle.replay_theory.specs.Replay.{Answer, is_refused}
-use Rattle.replay_theory.specs.Totals.{request_size, is_request, totals_of}
+use Rattle.replay_theory.specs.{Replay.{Answer, is_refused}, Totals.{request_size, is_request, totals_of}}
 
 -- ---- what a trace requests
 

@@ -1,24 +1,15 @@
 -- The replay of a trace over 1,024 variables: what each event does, and its result.
-use Rattle.std.specs.Prelude.{ℕ, ◌+◌, Bool, true, false, ◌||◌, IsTrue, List, [], ◌∷◌, replicate, fold, slice_set, slice_index, Option, Some, None, Result, Ok, Err}
-use Rattle.std.specs.Result.{result_unwrap_or}
-use Rattle.machine_theory.specs.declared.fault.Fault.{Fault}
+use Rattle.std.specs.Prelude.{ℕ, ◌+◌, Bool, true, false, ◌||◌, IsTrue, List, [], ◌∷◌, replicate, fold, slice_set, slice_index, Option, Some}
+use Rattle.std.specs.{Prelude.{None, Result, Ok, Err}, Result.{result_unwrap_or}}
+use Rattle.machine_theory.specs.{Access.{access_fault, loaded}, Address.{moved_by}, Instructions.{addg, subg}, declared.fault.Fault.{Fault}}
 use Rattle.machine_theory.specs.declared.fault.Fault.TheVariants.{Unmapped, Alignment, TagCheck}
-use Rattle.machine_theory.specs.Access.{access_fault, loaded}
-use Rattle.machine_theory.specs.Address.{moved_by}
-use Rattle.machine_theory.specs.Instructions.{addg, subg}
 use Rattle.class_table.specs.Layout.{Partition}
-use Rattle.trace_event.specs.declared.event.Event.{Event}
-use Rattle.trace_event.specs.declared.event.Event.TheVariants.{Malloc, Calloc, Realloc, Free, Load, Store, Addg, Subg}
-use Rattle.heap_theory.specs.declared.refusal.FreeError.{FreeError}
-use Rattle.heap_theory.specs.declared.refusal.NullCause.{NullCause}
-use Rattle.heap_theory.specs.declared.refusal.NullCause.TheVariants.{Large, NoClass, Exhausted}
-use Rattle.heap_theory.specs.declared.refusal.ReallocError.{ReallocError}
-use Rattle.heap_theory.specs.declared.refusal.ReallocError.TheVariants.{Null, Refused}
-use Rattle.heap_theory.specs.declared.place_kind.PlaceKind.{PlaceKind}
-use Rattle.heap_theory.specs.Calls.{malloc_step, calloc_step, free_step, realloc_step, store_step}
-use Rattle.heap_theory.specs.GranuleKinds.{place_kind}
-use Rattle.heap_theory.specs.State.{Heap, first_heap}
+use Rattle.trace_event.specs.declared.event.{Event.{Event}, Event.TheVariants.{Malloc, Calloc, Realloc, Free, Load, Store, Addg, Subg}}
 use Rattle.trace_event.specs.declared.event.TheConstants.Event.{LAST_VARIABLE}
+use Rattle.heap_theory.specs.{Calls.{malloc_step, calloc_step, free_step, realloc_step, store_step}, GranuleKinds.{place_kind}}
+use Rattle.heap_theory.specs.{State.{Heap, first_heap}, declared.place_kind.PlaceKind.{PlaceKind}, declared.refusal.FreeError.{FreeError}}
+use Rattle.heap_theory.specs.declared.refusal.{NullCause.{NullCause}, NullCause.TheVariants.{Large, NoClass, Exhausted}}
+use Rattle.heap_theory.specs.declared.refusal.{ReallocError.{ReallocError}, ReallocError.TheVariants.{Null, Refused}}
 
 -- A replay: the heap, and the variables' values.
 pub record Replay : Type 0 where

@@ -1,21 +1,13 @@
 -- The report on a trace: a line for each event that is not silent, and nine lines of totals.
-use Rattle.std.specs.Prelude.{ℕ, ◌+◌, List, [], ◌∷◌, ◌++◌, codes, zip}
-use Rattle.std.specs.Fmt.{decimal}
-use Rattle.std.specs.List.{flat_map}
-use Rattle.line_text.specs.Hexadecimal.{hex}
-use Rattle.line_text.specs.Lines.{line_of, ended, text_of}
-use Rattle.class_table.specs.Layout.{Partition}
-use Rattle.class_table.specs.NamedLines.{named_line}
+use Rattle.std.specs.{Fmt.{decimal}, List.{flat_map}, Prelude.{ℕ, ◌+◌, List, [], ◌∷◌, ◌++◌, codes, zip}}
+use Rattle.line_text.specs.{Hexadecimal.{hex}, Lines.{line_of, ended, text_of}}
+use Rattle.class_table.specs.{Layout.{Partition}, NamedLines.{named_line}}
 use Rattle.trace_event.specs.declared.event.Event.{Event}
-use Rattle.heap_theory.specs.declared.refusal.FreeError.{FreeError}
-use Rattle.heap_theory.specs.declared.refusal.FreeError.TheVariants.{Misplaced, NotLive, WrongTag}
-use Rattle.heap_theory.specs.declared.refusal.NullCause.{NullCause}
-use Rattle.heap_theory.specs.declared.refusal.NullCause.TheVariants.{Large, NoClass, Exhausted}
-use Rattle.heap_theory.specs.declared.place_kind.PlaceKind.{PlaceKind}
-use Rattle.heap_theory.specs.declared.place_kind.PlaceKind.TheVariants.{Slack, Header, Tail, Dead, Other}
-use Rattle.replay_theory.specs.Replay.{Answer, answers, first_replay}
+use Rattle.heap_theory.specs.declared.place_kind.{PlaceKind.{PlaceKind}, PlaceKind.TheVariants.{Slack, Header, Tail, Dead, Other}}
+use Rattle.heap_theory.specs.declared.refusal.{FreeError.{FreeError}, FreeError.TheVariants.{Misplaced, NotLive, WrongTag}}
+use Rattle.heap_theory.specs.declared.refusal.{NullCause.{NullCause}, NullCause.TheVariants.{Large, NoClass, Exhausted}}
+use Rattle.replay_theory.specs.{Replay.{Answer, answers, first_replay}, Totals.{Totals, totals_of}}
 use Rattle.replay_theory.specs.Replay.Answer.{Silent, Loaded, NotMapped, TagFault, NoPointer, NotFreed}
-use Rattle.replay_theory.specs.Totals.{Totals, totals_of}
 
 abbrev pub kind_word : PlaceKind → List ℕ
 kind_word Slack = codes "slack"

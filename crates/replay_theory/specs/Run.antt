@@ -1,14 +1,12 @@
 -- A run: a replay, and beside it two facts that no code stores: how often each slot was given out, and at which of these times each
 -- variable got its address. No answer depends on them: what is stored determines each answer, and what is stored after it.
-use Rattle.std.specs.Prelude.{ℕ, ◌+◌, zero, suc, ◌==◌, if◌then◌else◌, List, replicate, fold, slice_set, slice_index, slice_index_or, Option, Some, None}
-use Rattle.std.specs.Result.{result_ok}
+use Rattle.std.specs.Prelude.{ℕ, ◌+◌, zero, suc, ◌==◌, if◌then◌else◌, List, replicate, fold, slice_set, slice_index, slice_index_or, Option}
+use Rattle.std.specs.{Prelude.{Some, None}, Result.{result_ok}}
 use Rattle.class_table.specs.Layout.{IsPartition, Partition, slot_count}
-use Rattle.trace_event.specs.declared.event.Event.{Event}
-use Rattle.trace_event.specs.declared.event.Event.TheVariants.{Malloc, Calloc, Realloc, Addg, Subg}
-use Rattle.heap_theory.specs.Calls.{slot_if_moved}
-use Rattle.heap_theory.specs.Lookups.{slot_for_request, chunk_at}
-use Rattle.replay_theory.specs.Replay.{Replay, variable, replay_after, first_replay}
+use Rattle.trace_event.specs.declared.event.{Event.{Event}, Event.TheVariants.{Malloc, Calloc, Realloc, Addg, Subg}}
 use Rattle.trace_event.specs.declared.event.TheConstants.Event.{LAST_VARIABLE}
+use Rattle.heap_theory.specs.{Calls.{slot_if_moved}, Lookups.{slot_for_request, chunk_at}}
+use Rattle.replay_theory.specs.Replay.{Replay, variable, replay_after, first_replay}
 
 -- A generation: the time-th time that the slot was given out.
 pub record Generation : Type 0 where

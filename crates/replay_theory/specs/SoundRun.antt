@@ -2,11 +2,9 @@
 use Rattle.std.specs.Prelude.{◌≡◌, ◌≢◌, ℕ, suc, ◌≤◌, false, List, length, slice_index, Option, Some, None, ⊤}
 use Rattle.machine_theory.specs.Address.{logical_tag, with_tag}
 use Rattle.class_table.specs.Layout.{slot_count}
-use Rattle.heap_theory.specs.HeapTags.{IsNullOrTagged}
-use Rattle.replay_theory.specs.Run.{Run, Generation, generation_of}
-use Rattle.replay_theory.specs.Replay.{variable}
-use Rattle.heap_theory.specs.Sound.{IsTagOf, IsSoundHeap}
+use Rattle.heap_theory.specs.{HeapTags.{IsNullOrTagged}, Sound.{IsTagOf, IsSoundHeap}}
 use Rattle.heap_theory.specs.State.{Heap, slot_in, state_at, last_tag, is_fresh, payload_place, IsSlot}
+use Rattle.replay_theory.specs.{Replay.{variable}, Run.{Run, Generation, generation_of}}
 
 -- The address is that of the slot's payload, under the tag with which the slot was given out the time-th time. This is the slot's own tag
 -- if that was the last time, and another tag if it was the last time but one.

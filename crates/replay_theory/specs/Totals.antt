@@ -1,8 +1,7 @@
 -- What is counted over a trace.
 use Rattle.std.specs.Prelude.{ℕ, ◌+◌, Bool, if◌then◌else◌, List, length, count_by, sum_by, Option, Some, None, is_some}
 use Rattle.class_table.specs.Tables.{loss_of_size}
-use Rattle.trace_event.specs.declared.event.Event.{Event}
-use Rattle.trace_event.specs.declared.event.Event.TheVariants.{Malloc, Calloc, Realloc}
+use Rattle.trace_event.specs.declared.event.{Event.{Event}, Event.TheVariants.{Malloc, Calloc, Realloc}}
 use Rattle.replay_theory.specs.Replay.{Answer, is_large, is_no_class, is_exhausted, is_tag_fault, is_unmapped, is_refused, is_silent}
 
 pub record Totals : Type 0 where

@@ -1,12 +1,9 @@
 -- The tables of the set bits of each byte, and the set bits of a number of two bytes.
-use Rattle.std.proofs.Common.{◌≡◌, ℕ, zero, suc, ◌+◌, ◌*◌, ◌/◌, ◌%◌, ◌^◌, ◌<◌, List, [], ◌∷◌, map, length, get_or, refl, sym, ap, ◌∙◌, arith, zero-add}
-use Rattle.std.specs.Int.Count.{ones}
-use Rattle.std.specs.List.{range_with_len}
-use Rattle.std.proofs.lemmas.List.FromFn.{get_or-map-range_with_len}
-use Rattle.std.proofs.lemmas.Nat.{ones_cat, pow-add}
+use Rattle.std.proofs.Common.{◌≡◌, ℕ, zero, suc, ◌+◌, ◌*◌, ◌/◌, ◌%◌, ◌^◌, ◌<◌, List, [], ◌∷◌, map, length, get_or, refl, sym, ap, ◌∙◌}
+use Rattle.std.proofs.{Common.{arith, zero-add}, lemmas.List.FromFn.{get_or-map-range_with_len}, lemmas.Nat.{ones_cat, pow-add}}
+use Rattle.std.specs.{Int.Count.{ones}, List.{range_with_len}}
 use native.Mathlib.Nat.{div-div-eq-div-mul}
-use Rattle.tag_machine.specs.MaskBits.{set_bits}
-use Rattle.tag_machine.specs.declared.mask_bits.TheConstants.{COUNTS, PLACES}
+use Rattle.tag_machine.specs.{MaskBits.{set_bits}, declared.mask_bits.TheConstants.{COUNTS, PLACES}}
 
 counts_are : COUNTS ≡ map ones (range_with_len 0 256)
 unfolding ones

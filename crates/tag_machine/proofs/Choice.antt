@@ -1,18 +1,13 @@
 -- The allowed tags after a tag, as the set bits of a mask that is turned.
-use Rattle.std.proofs.Common.{◌≡◌, ◌≢◌, ℕ, zero, suc, ◌+◌, ◌-◌, ◌*◌, ◌/◌, ◌%◌, ◌^◌, ◌<◌, ◌≤◌, max, Bool, true, false, not, cond, List, [], ◌∷◌, map, length, refl, sym, ap, ◌∙◌, inl, inr, arith, ◌⊎◌, ◌==◌, bit_or, slice_index}
-use Rattle.std.specs.Int.{bit_at, bit_not, rotate_right, w16}
-use Rattle.std.specs.List.{filter, range_with_len}
-use Rattle.std.specs.Int.Count.{ones, ones_in}
-use Rattle.std.proofs.Math.Nat.{mod-eq_of_lt}
-use Rattle.std.proofs.Math.Pow.{pow_pos}
-use Rattle.std.proofs.lemmas.List.{get_or-map, length-map}
-use Rattle.std.proofs.lemmas.Bool.{cases_Bool, cases_eq, cases_lt, cond-true, cond-false, eq-eqb, ne_eqb}
-use Rattle.std.proofs.lemmas.Nat.{mod_below, zero_from_ones}
+use Rattle.std.proofs.Common.{◌≡◌, ◌≢◌, ℕ, zero, suc, ◌+◌, ◌-◌, ◌*◌, ◌/◌, ◌%◌, ◌^◌, ◌<◌, ◌≤◌, max, Bool, true, false, not, cond, List, []}
+use Rattle.std.proofs.{Common.{◌∷◌, map, length, refl, sym, ap, ◌∙◌, inl, inr, arith, ◌⊎◌, ◌==◌, bit_or, slice_index}, Math.Pow.{pow_pos}}
+use Rattle.std.proofs.{Math.Nat.{mod-eq_of_lt}, lemmas.Bool.{cases_Bool, cases_eq, cases_lt, cond-true, cond-false, eq-eqb, ne_eqb}}
+use Rattle.std.{proofs.lemmas.List.{get_or-map, length-map}, proofs.lemmas.Nat.{mod_below, zero_from_ones}, specs.Int.Count.{ones, ones_in}}
 use Rattle.std.proofs.lemmas.Nat.Bits.{bit_at_or, bit_at_not, bit_at-zero, bit_at-lt, bit_at_above, bit_at_cat_low, bit_at_cat_high}
+use Rattle.std.specs.{Int.{bit_at, bit_not, rotate_right, w16}, List.{filter, range_with_len}}
 use Rattle.machine_theory.specs.Tags.{is_excluded, allowed_after, choose_tag}
+use Rattle.tag_machine.proofs.{DrawnTags.{bit_at_shr}, MaskBits.{filter_places, set_bits-places, length-set_bits}}
 use Rattle.tag_machine.specs.MaskBits.{set_bits}
-use Rattle.tag_machine.proofs.MaskBits.{filter_places, set_bits-places, length-set_bits}
-use Rattle.tag_machine.proofs.DrawnTags.{bit_at_shr}
 
 -- a number of sixteen bits that is shifted to the left: no bit below s, and then its own
 bit_at_shl : (n s j : ℕ) → j < 16 → bit_at ((n * 2 ^ s) % 2 ^ 16) j ≡ bit_at (n * 2 ^ s + 0) j

@@ -1,10 +1,6 @@
 -- The four new bits of a draw, taken at once.
-use Rattle.std.proofs.Common.{◌≡◌, ℕ, ◌+◌, ◌*◌, ◌/◌, ◌%◌, ◌^◌, ap, ◌∙◌, arith, pow-add}
-use Rattle.std.specs.Int.{bit_at}
-use Rattle.std.specs.Int.Bits.{bit_and, bit_xor}
-use Rattle.std.proofs.Math.Nat.{div-div-eq-div-mul}
-use Rattle.std.proofs.lemmas.Nat.{and_mask}
-use Rattle.std.proofs.lemmas.Nat.Bits.{bit_at_xor}
+use Rattle.std.proofs.{Common.{◌≡◌, ℕ, ◌+◌, ◌*◌, ◌/◌, ◌%◌, ◌^◌, ap, ◌∙◌, arith, pow-add}, Math.Nat.{div-div-eq-div-mul}}
+use Rattle.std.{proofs.lemmas.Nat.{and_mask}, proofs.lemmas.Nat.Bits.{bit_at_xor}, specs.Int.{bit_at}, specs.Int.Bits.{bit_and, bit_xor}}
 use Rattle.machine_theory.specs.Seed.{next_bit, next_offset}
 
 -- a number shifted to the right

@@ -3,4 +3,3 @@ pub mod DrawnTags
 pub mod Choice
 pub mod Touched
 pub mod BitTables
-mod ChosenTags

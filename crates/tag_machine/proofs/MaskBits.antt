@@ -1,12 +1,9 @@
 -- How the set bits of a number are counted and found.
-use Rattle.std.proofs.Common.{◌≡◌, ℕ, zero, suc, ◌+◌, ◌*◌, ◌/◌, ◌%◌, ◌^◌, ◌<◌, Bool, true, false, cond, List, [], ◌∷◌, ◌++◌, map, length, get_or, refl, sym, ap, ◌∙◌, subst, inl, inr, arith, pow-suc, append-nil, ◌==◌}
-use Rattle.std.specs.Int.{bit_at}
-use Rattle.std.specs.Int.Count.{ones, ones_in}
-use Rattle.std.specs.List.{filter, range_with_len}
-use Rattle.std.proofs.lemmas.Bool.{cases_eq}
-use Rattle.std.proofs.lemmas.Nat.{mod-pow-add, ones_cat}
+use Rattle.std.proofs.Common.{◌≡◌, ℕ, zero, suc, ◌+◌, ◌*◌, ◌/◌, ◌%◌, ◌^◌, ◌<◌, Bool, true, false, cond, List, [], ◌∷◌, ◌++◌, map, length}
+use Rattle.std.proofs.{Common.{get_or, refl, sym, ap, ◌∙◌, subst, inl, inr, arith, pow-suc, append-nil, ◌==◌}, lemmas.Bool.{cases_eq}}
+use Rattle.std.{proofs.lemmas.Nat.{mod-pow-add, ones_cat}, proofs.lemmas.Nat.Bits.{bit_at-suc, bit_at_lowest}, specs.Int.{bit_at}}
+use Rattle.std.specs.{Int.Count.{ones, ones_in}, List.{filter, range_with_len}}
 use native.Mathlib.Nat.{div-div-eq-div-mul}
-use Rattle.std.proofs.lemmas.Nat.Bits.{bit_at-suc, bit_at_lowest}
 use Rattle.tag_machine.specs.MaskBits.{set_bits}
 
 -- the places, counted from k on, of the set bits among the lowest w

@@ -1,8 +1,6 @@
 -- What a `&mut` into a machine's memory makes of the machine.
-use Rattle.std.specs.Prelude.{List}
-use Rattle.std.specs.Borrow.{Lends, MutBor, Fml}
-use Rattle.machine_theory.specs.Memory.{Granule}
-use Rattle.machine_theory.specs.Machine.{Machine as State}
+use Rattle.std.specs.{Borrow.{Lends, MutBor, Fml}, Prelude.{List}}
+use Rattle.machine_theory.specs.{Machine.{Machine as State}, Memory.{Granule}}
 use Rattle.granule_memory.specs.contracts.memory.Memory.{the_row as memory_row}
 use Rattle.tag_machine.specs.contracts.machine.Machine.{the_row}
 

@@ -1,7 +1,5 @@
 -- The set bits of a number.
-use Rattle.std.specs.Prelude.{ℕ, ◌==◌, List, filter}
-use Rattle.std.specs.Int.{bit_at}
-use Rattle.std.specs.List.{range_with_len}
+use Rattle.std.specs.{Int.{bit_at}, List.{range_with_len}, Prelude.{ℕ, ◌==◌, List, filter}}
 
 -- the places of the set bits among the lowest sixteen, in ascending order
 unfoldable pub set_bits : ℕ → List ℕ

@@ -5,7 +5,7 @@ ghost use Rattle.machine_theory.specs.Machine.{IsRegister};
 ghost use Rattle.machine_theory.specs.Seed.{next_seed};
 ghost use Rattle.tag_machine.specs.Rows.{row_mask};
 ghost use Rattle.std.specs.Borrow.{sem};
-ghost use Rattle.std.specs.Prelude.{◌≡◌, ◌≢◌, ◌↔◌, ◌<◌, ◌≤◌, IsTrue, OnErr, OnOk, length, take};
+ghost use Rattle.std.specs.Prelude.{◌≡◌, ◌≢◌, ◌↔◌, ◌<◌, ◌≤◌, IsTrue, OnErr, OnOk, length, replicate, take};
 
 use crate::addresses::{aligned, granule_of, logical_tag, with_tag};
 use crate::checks::{check_access, check_tag_store, is_mapped};
@@ -205,6 +205,20 @@ impl Machine {
     {
         let at = check_access(&self.memory, address, bytes.len() as u64)?;
         self.memory.write_bytes(at, bytes);
+        Ok(())
+    }
+
+    /// Writes `byte` `count` times, 1 to 64, from `address` on. Its errors are those of `load`.
+    pub fn store_run(&mut self, address: u64, count: usize, byte: u8) -> Result<(), Fault>
+        requires { (1 ≤ count) × (count ≤ LONGEST_ACCESS) }
+        ensures answer { result ≡ ok_unless (access_fault self.old.memory address count) }
+        ensures ok { OnOk result (self.new ≡ record self.old {
+          memory = stored self.old.memory address (replicate count byte);
+        }) }
+        ensures err { OnErr result (self.new ≡ self.old) }
+    {
+        let at = check_access(&self.memory, address, count as u64)?;
+        self.memory.fill_bytes(at, count, byte);
         Ok(())
     }
 

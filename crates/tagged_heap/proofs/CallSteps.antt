@@ -1,23 +1,15 @@
 -- What a call makes of a heap, by what is chosen for it.
-use Rattle.std.proofs.Common.{◌≡◌, ℕ, ◌<◌, List, refl, ap, ◌∙◌, inl, inr, Ok, Err, ◌≢◌, ◌+◌, ◌⊎◌, true, false, sym, subst, arith, Result, MatchResult, IfOk, IfErr, OnErr, IsTrue, if◌then◌else◌, is_some, ◌↔◌}
-use Rattle.heap_theory.specs.Calls.{given_out, with_payload, move_with, moved, payload_bytes, free_step, realloc_step}
-use Rattle.heap_theory.specs.Lookups.{slot_for_request, Chunk, IsReusable}
-use Rattle.class_table.specs.Sizes.{chunk_granules}
-use Rattle.heap_theory.specs.State.{Heap, slot_in, state_at, is_fresh, pointer_to, is_released}
+use Rattle.std.proofs.Common.{◌≡◌, ℕ, ◌<◌, List, refl, ap, ◌∙◌, inl, inr, Ok, Err, ◌≢◌, ◌+◌, ◌⊎◌, true, false, sym, subst, arith, Result}
+use Rattle.std.proofs.{Common.{MatchResult, IfOk, IfErr, OnErr, IsTrue, if◌then◌else◌, is_some, ◌↔◌}, lemmas.List.{get_or-set_other}}
 use Rattle.std.specs.Result.{result_map_both, result_ok, IsErrAnd}
-use Rattle.std.proofs.lemmas.List.{get_or-set_other}
-use Rattle.heap_theory.specs.declared.refusal.NullCause.{NullCause}
-use Rattle.heap_theory.specs.declared.refusal.ReallocError.TheVariants.{Null}
-use Rattle.heap_theory.specs.State.State.{Live}
+use Rattle.heap_theory.{proofs.OwnPointers.{free_accepts, realloc_accepts}, specs.Lookups.{slot_for_request, Chunk, IsReusable}}
+use Rattle.heap_theory.specs.{Calls.{given_out, with_payload, move_with, moved, payload_bytes, free_step, realloc_step}, State.State.{Live}}
+use Rattle.heap_theory.specs.{OwnPointers.{IsNotRefused, IsNullOrOwn}, Sound.{IsSoundHeap}, declared.refusal.FreeError.{FreeError}}
+use Rattle.heap_theory.specs.{State.{Heap, slot_in, state_at, is_fresh, pointer_to, is_released}, declared.refusal.NullCause.{NullCause}}
+use Rattle.heap_theory.specs.declared.refusal.{ReallocError.{ReallocError}, ReallocError.TheVariants.{Null}}
+use Rattle.class_table.specs.Sizes.{chunk_granules}
 use Rattle.machine_theory.specs.Memory.{Granule, bytes_at, tagged}
-use Rattle.tagged_heap.specs.HeapAtRest.{HeapAndFrees}
-use Rattle.tagged_heap.specs.Chunks.{IsChunk}
-use Rattle.tagged_heap.specs.declared.freeing.Chunk.{Chunk as Found}
-use Rattle.heap_theory.specs.declared.refusal.FreeError.{FreeError}
-use Rattle.heap_theory.specs.declared.refusal.ReallocError.{ReallocError}
-use Rattle.heap_theory.proofs.OwnPointers.{free_accepts, realloc_accepts}
-use Rattle.heap_theory.specs.OwnPointers.{IsNotRefused, IsNullOrOwn}
-use Rattle.heap_theory.specs.Sound.{IsSoundHeap}
+use Rattle.tagged_heap.specs.{Chunks.{IsChunk}, HeapAtRest.{HeapAndFrees}, declared.freeing.Chunk.{Chunk as Found}}
 
 -- ---- what a slot that is given out leaves
 

@@ -1,25 +1,17 @@
 -- A heap stays kept as the state of one slot changes, with its header and its lists.
-use Rattle.std.proofs.Common.{◌≡◌, ◌≢◌, ℕ, ◌+◌, ◌-◌, ◌^◌, ◌<◌, false, List, length, refl, sym, ap, ◌∙◌, subst, inl, inr, arith, Contains, slice_set, slice_index}
-use Rattle.std.proofs.lemmas.Bool.{cases_eq}
-use Rattle.std.proofs.lemmas.List.{get_or-set_same, get_or-set_other, length-set}
+use Rattle.std.proofs.Common.{◌≡◌, ◌≢◌, ℕ, ◌+◌, ◌-◌, ◌^◌, ◌<◌, false, List, length, refl, sym, ap, ◌∙◌, subst, inl, inr, arith, Contains}
+use Rattle.std.proofs.{Common.{slice_set, slice_index}, lemmas.Bool.{cases_eq}, lemmas.List.{get_or-set_same, get_or-set_other, length-set}}
 use Rattle.machine_theory.specs.Memory.{Granule, IsMemory}
-use Rattle.heap_theory.specs.QueueAndLists.{HasMark, AgreeWithMarks}
-use Rattle.heap_theory.specs.Calls.{chunk_tagged}
-use Rattle.heap_theory.specs.Header.{Standing, Header, FitsWords, with_header}
-use Rattle.heap_theory.specs.Links.{IsLinked, list_of}
-use Rattle.heap_theory.specs.Region.{Region, region_of, header_in, next_in}
-use Rattle.heap_theory.specs.Sound.{IsSoundHeap}
-use Rattle.class_table.specs.Sizes.{chunk_granules}
+use Rattle.heap_theory.proofs.{ChangedSlot.{changed, state_here, state_there}, Marks.{chain_dead, list_dead, not_marked}}
+use Rattle.heap_theory.proofs.{Releasing.{list_of-here, list_of-there}, SeenMemory.{length-without_headers}}
+use Rattle.heap_theory.specs.{Calls.{chunk_tagged}, Header.{Standing, Header, FitsWords, with_header}, Links.{IsLinked, list_of}}
+use Rattle.heap_theory.specs.{QueueAndLists.{HasMark, AgreeWithMarks}, Region.{Region, region_of, header_in, next_in}, Sound.{IsSoundHeap}}
 use Rattle.heap_theory.specs.State.{State, Heap, slot_in, state_at, is_fresh, payload_start, without_headers, IsSlot, is_dead}
 use Rattle.heap_theory.specs.State.State.{Live}
-use Rattle.heap_theory.proofs.ChangedSlot.{changed, state_here, state_there}
-use Rattle.heap_theory.proofs.Marks.{chain_dead, list_dead, not_marked}
-use Rattle.heap_theory.proofs.Releasing.{list_of-here, list_of-there}
-use Rattle.heap_theory.proofs.SeenMemory.{length-without_headers}
-use Rattle.tagged_heap.proofs.TheoryLemmas as laws
+use Rattle.class_table.specs.Sizes.{chunk_granules}
+use Rattle.tagged_heap.proofs.{Kept.{header_fits, within_states, agree_same}, RewrittenHeaders.{then_tagged, then_written, written_header}}
 use Rattle.tagged_heap.specs.Representation.{header_from, IsRewritten, HasHeaders, AreListed, AreFirstFresh, Parts, IsKept}
-use Rattle.tagged_heap.proofs.RewrittenHeaders.{then_tagged, then_written, written_header}
-use Rattle.tagged_heap.proofs.Kept.{header_fits, within_states, agree_same}
+use Rattle.tagged_heap.proofs.TheoryLemmas as laws
 
 -- ---- lists
 

@@ -1,17 +1,12 @@
 -- The counters of fresh slots.
-use Rattle.std.proofs.Common.{◌≡◌, ◌≢◌, ℕ, ◌+◌, ◌<◌, ◌≤◌, true, false, List, length, sym, ap, ◌∙◌, subst, inl, inr, arith, Some, None, slice_index, slice_set}
-use Rattle.std.proofs.lemmas.Bool.{cases_eq}
-use Rattle.std.proofs.lemmas.List.{get_or-set_same, get_or-set_other, length-set}
+use Rattle.std.proofs.Common.{◌≡◌, ◌≢◌, ℕ, ◌+◌, ◌<◌, ◌≤◌, true, false, List, length, sym, ap, ◌∙◌, subst, inl, inr, arith, Some, None}
+use Rattle.std.proofs.{Common.{slice_index, slice_set}, lemmas.Bool.{cases_eq}, lemmas.List.{get_or-set_same, get_or-set_other, length-set}}
 use Rattle.machine_theory.specs.Memory.{Granule}
 use Rattle.class_table.specs.Layout.{first_slot}
-use Rattle.heap_theory.specs.Lookups.{lowest_fresh}
-use Rattle.heap_theory.specs.Sound.{IsSoundHeap}
-use Rattle.heap_theory.specs.State.{State, Heap, slot_in, state_at, is_fresh, IsSlot}
+use Rattle.heap_theory.{proofs.ChangedSlot.{changed, state_here, state_there}, proofs.Marks.{one_number}, specs.Lookups.{lowest_fresh}}
+use Rattle.heap_theory.specs.{Sound.{IsSoundHeap}, State.{State, Heap, slot_in, state_at, is_fresh, IsSlot}}
+use Rattle.tagged_heap.{proofs.Shares.{in_share, share_of_slot}, specs.Representation.{AreFirstFresh}}
 use Rattle.tagged_heap.proofs.TheoryLemmas as laws
-use Rattle.tagged_heap.specs.Representation.{AreFirstFresh}
-use Rattle.heap_theory.proofs.Marks.{one_number}
-use Rattle.heap_theory.proofs.ChangedSlot.{changed, state_here, state_there}
-use Rattle.tagged_heap.proofs.Shares.{in_share, share_of_slot}
 
 module _ (h : Heap) (sound : IsSoundHeap h) (counters : List ℕ) (f : AreFirstFresh h counters) (number : ℕ)
     (within : number < length h.layout.classes) where

@@ -1,42 +1,27 @@
 -- A slot is taken for a request and given out.
-use Rattle.std.proofs.Common.{◌≡◌, ℕ, suc, ◌+◌, ◌^◌, ◌<◌, ◌≤◌, true, false, List, length, drop, refl, sym, ap, ◌∙◌, subst, inl, inr, arith, Some, None, Option, Ok, Err, Contains, slice_get, slice_index, slice_set, bit_or, nat_lt}
+use Rattle.std.proofs.Common.{◌≡◌, ℕ, suc, ◌+◌, ◌^◌, ◌<◌, ◌≤◌, true, false, List, length, drop, refl, sym, ap, ◌∙◌, subst, inl, inr, arith}
+use Rattle.std.proofs.Common.{Some, None, Option, Ok, Err, Contains, slice_get, slice_index, slice_set, bit_or, nat_lt}
+use Rattle.std.proofs.lemmas.{Bool.{cond-true, cond-false, lt-ltb, le-ltb}, Option.{slice_get-get_or}}
 use Rattle.std.specs.Option.{ok_or, option_and_then}
-use Rattle.std.proofs.lemmas.Bool.{cond-true, cond-false, lt-ltb, le-ltb}
-use Rattle.std.proofs.lemmas.Option.{slice_get-get_or}
-use Rattle.machine_theory.specs.Address.{with_tag}
-use Rattle.machine_theory.specs.Instructions.{drawn_tag}
-use Rattle.machine_theory.specs.Machine.{Machine}
-use Rattle.machine_theory.specs.Memory.{Granule, IsMemory}
+use Rattle.machine_theory.specs.{Address.{with_tag}, Instructions.{drawn_tag}, Machine.{Machine}, Memory.{Granule, IsMemory}}
 use Rattle.machine_theory.specs.Seed.{next_seed}
-use Rattle.class_table.specs.Layout.{IsClassOf, first_slot}
-use Rattle.class_table.specs.Sizes.{largest_counted}
-use Rattle.class_table.specs.Tables.{class_for, class_number_for}
-use Rattle.heap_theory.specs.declared.refusal.NullCause.{NullCause}
-use Rattle.heap_theory.specs.declared.refusal.NullCause.TheVariants.{Large, NoClass, Exhausted}
-use Rattle.heap_theory.specs.QueueAndLists.{HasMark, AgreeWithMarks}
-use Rattle.heap_theory.specs.Calls.{given_out, next_tag, parity_exclude, chunk_tagged}
+use Rattle.class_table.specs.{Layout.{IsClassOf, first_slot}, Sizes.{largest_counted}, Tables.{class_for, class_number_for}}
+use Rattle.heap_theory.proofs.{ChangedSlot.{state_here}, Linked.{IsLinked-first, IsLinked-none}, ListSearch.{Contains-head}}
+use Rattle.heap_theory.{proofs.QueueAndLists.{fresh_not_dead}, proofs.SeenMemory.{length-without_headers}, specs.Links.{IsLinked, list_of}}
+use Rattle.heap_theory.specs.{Calls.{given_out, next_tag, parity_exclude, chunk_tagged}, Header.{Header, with_header}}
 use Rattle.heap_theory.specs.Lookups.{MayBeGiven, slot_for, slot_for_request, slot_in_class, lowest_fresh}
-use Rattle.heap_theory.specs.Header.{Header, with_header}
-use Rattle.heap_theory.specs.Links.{IsLinked, list_of}
-use Rattle.heap_theory.specs.Region.{region_of, header_in, next_in}
+use Rattle.heap_theory.specs.{QueueAndLists.{HasMark, AgreeWithMarks}, Region.{region_of, header_in, next_in}}
 use Rattle.heap_theory.specs.State.{State, Heap, slot_in, state_at, last_tag, is_fresh, payload_place, pointer_to, IsSlot}
-use Rattle.heap_theory.specs.State.State.{Fresh, Live, Dead}
-use Rattle.heap_theory.proofs.Linked.{IsLinked-first, IsLinked-none}
-use Rattle.heap_theory.proofs.ListSearch.{Contains-head}
-use Rattle.heap_theory.proofs.SeenMemory.{length-without_headers}
+use Rattle.heap_theory.specs.{State.State.{Fresh, Live, Dead}, declared.refusal.NullCause.{NullCause}}
+use Rattle.heap_theory.specs.declared.refusal.NullCause.TheVariants.{Large, NoClass, Exhausted}
 use Rattle.chunk_header.specs.Links.{SetsLink}
-use Rattle.heap_theory.proofs.QueueAndLists.{fresh_not_dead}
-use Rattle.tagged_heap.proofs.TheoryLemmas as laws
-use Rattle.tagged_heap.specs.Chunks.{given_header, tag_for, HasRoom}
-use Rattle.tagged_heap.specs.ClassSlots.{IsCauseFor, HasClass, Takes}
-use Rattle.tagged_heap.specs.Representation.{header_from, IsRewritten, AreListed, AreFirstFresh, Parts, IsKept}
-use Rattle.tagged_heap.specs.HeapAtRest.{shown_heap, IsAtRest}
-use Rattle.heap_theory.proofs.ChangedSlot.{state_here}
-use Rattle.tagged_heap.proofs.Changed.{with_link, other_list, counters_changed, kept_alive, alive_memory}
-use Rattle.tagged_heap.proofs.Counters.{counters_step, counted, lowest_counted, lowest_none}
-use Rattle.tagged_heap.proofs.RewrittenHeaders.{link_set}
-use Rattle.tagged_heap.proofs.Shares.{share_of_slot}
+use Rattle.tagged_heap.proofs.{Changed.{with_link, other_list, counters_changed, kept_alive, alive_memory}, RewrittenHeaders.{link_set}}
+use Rattle.tagged_heap.proofs.{Counters.{counters_step, counted, lowest_counted, lowest_none}, Shares.{share_of_slot}}
 use Rattle.tagged_heap.proofs.Kept.{class_few, within_states, within_lists, region_is, list_slot, agree_at_rest, shown_is}
+use Rattle.tagged_heap.specs.{Chunks.{given_header, tag_for, HasRoom}, ClassSlots.{IsCauseFor, HasClass, Takes}}
+use Rattle.tagged_heap.specs.HeapAtRest.{shown_heap, IsAtRest}
+use Rattle.tagged_heap.specs.Representation.{header_from, IsRewritten, AreListed, AreFirstFresh, Parts, IsKept}
+use Rattle.tagged_heap.proofs.TheoryLemmas as laws
 
 -- ---- the request
 

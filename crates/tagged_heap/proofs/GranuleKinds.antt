@@ -2,20 +2,15 @@
 use Rattle.std.proofs.Common.{◌≡◌, ◌≢◌, ℕ, ◌+◌, ◌<◌, ◌≤◌, Bool, true, false, cond, refl, sym, ap, ◌∙◌, arith, Some, None}
 use Rattle.std.proofs.lemmas.Bool.{and_right, and_from, cond-true, cond-false, eq-eqb, ne_eqb, lt-ltb, le-ltb, le-leb}
 use Rattle.machine_theory.specs.Memory.{is_among}
-use Rattle.class_table.specs.Layout.{slot_over}
-use Rattle.heap_theory.specs.declared.place_kind.PlaceKind.{PlaceKind}
-use Rattle.heap_theory.specs.declared.place_kind.PlaceKind.TheVariants.{Slack, Header, Tail, Dead as DeadChunk, Other}
-use Rattle.heap_theory.specs.Header.{Header as TheHeader, Standing, size_of}
+use Rattle.class_table.specs.{Layout.{slot_over}, Sizes.{chunk_granules, largest_counted}}
+use Rattle.heap_theory.{proofs.HeaderWords.{size_of-most}, specs.GranuleKinds.{place_kind, kind_at, kind_of_chunk}}
+use Rattle.heap_theory.specs.{Header.{Header as TheHeader, Standing, size_of}, Region.{region_of, header_in}}
 use Rattle.heap_theory.specs.Header.Standing.{Fresh as IsFresh, Live as IsLive, Quarantined as IsQuarantined, Freed as IsFreed}
-use Rattle.heap_theory.specs.GranuleKinds.{place_kind, kind_at, kind_of_chunk}
-use Rattle.class_table.specs.Sizes.{chunk_granules, largest_counted}
 use Rattle.heap_theory.specs.State.{State, Heap, slot_in, state_at, chunk_granules_of, payload_start, IsSlot}
-use Rattle.heap_theory.proofs.HeaderWords.{size_of-most}
-use Rattle.heap_theory.specs.State.State.{Fresh, Live, Dead}
-use Rattle.tagged_heap.specs.Representation.{standing_from, Parts, IsKept}
-use Rattle.heap_theory.specs.Region.{region_of, header_in}
+use Rattle.heap_theory.specs.{State.State.{Fresh, Live, Dead}, declared.place_kind.PlaceKind.{PlaceKind}}
+use Rattle.heap_theory.specs.declared.place_kind.PlaceKind.TheVariants.{Slack, Header, Tail, Dead as DeadChunk, Other}
+use Rattle.tagged_heap.{proofs.Kept.{class_most}, specs.Representation.{standing_from, Parts, IsKept}}
 use Rattle.tagged_heap.proofs.TheoryLemmas as laws
-use Rattle.tagged_heap.proofs.Kept.{class_most}
 
 pub kind_outside : (h : Heap) (g : ℕ) → slot_over h.layout g ≡ None → Slack ≡ place_kind h g
 unfolding place_kind

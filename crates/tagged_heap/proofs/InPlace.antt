@@ -1,18 +1,12 @@
 -- The chunk of a live slot is resized in place.
 use Rattle.std.proofs.Common.{arith, ◌≡◌, ℕ, ◌<◌, List, refl, sym, ap}
-use Rattle.machine_theory.specs.Machine.{Machine}
-use Rattle.machine_theory.specs.Memory.{IsMemory}
-use Rattle.heap_theory.specs.Calls.{chunk_tagged, resized}
-use Rattle.heap_theory.specs.Header.{Header, with_header}
+use Rattle.machine_theory.specs.{Machine.{Machine}, Memory.{IsMemory}}
+use Rattle.heap_theory.specs.{Calls.{chunk_tagged, resized}, Header.{Header, with_header}, Region.{region_of, header_in}}
+use Rattle.heap_theory.specs.{State.{Heap, slot_in, state_at, is_fresh, last_tag, IsSlot}, State.State.{Live}}
 use Rattle.class_table.specs.Sizes.{chunk_granules}
-use Rattle.heap_theory.specs.State.{Heap, slot_in, state_at, is_fresh, last_tag, IsSlot}
-use Rattle.heap_theory.specs.State.State.{Live}
+use Rattle.tagged_heap.proofs.{Changed.{counters_changed, kept_alive, alive_memory}, Kept.{within_states, agree_at_rest, shown_is}}
+use Rattle.tagged_heap.specs.{HeapAtRest.{shown_heap, IsAtRest}, Representation.{header_from, Parts}}
 use Rattle.tagged_heap.proofs.TheoryLemmas as laws
-use Rattle.tagged_heap.specs.Representation.{header_from, Parts}
-use Rattle.heap_theory.specs.Region.{region_of, header_in}
-use Rattle.tagged_heap.specs.HeapAtRest.{shown_heap, IsAtRest}
-use Rattle.tagged_heap.proofs.Changed.{counters_changed, kept_alive, alive_memory}
-use Rattle.tagged_heap.proofs.Kept.{within_states, agree_at_rest, shown_is}
 
 module _ {h : Heap} {frees : ℕ} {p : Parts} {counters : List ℕ} (held : IsAtRest h frees p counters) (s size tag n : ℕ)
     (in_range : IsSlot h s) (live : state_at h s ≡ Live size tag)

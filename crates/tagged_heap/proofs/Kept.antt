@@ -1,24 +1,17 @@
 -- What is known of a heap that is kept in its parts.
-use Rattle.std.proofs.Common.{◌≡◌, ℕ, ◌+◌, ◌-◌, ◌^◌, ◌<◌, ◌≤◌, List, length, refl, sym, ap, ◌∙◌, subst, inl, inr, arith, Contains, map, slice_index}
-use Rattle.std.proofs.lemmas.Bool.{cases_lt, lt-ltb, le-ltb, cond-true, cond-false}
+use Rattle.std.proofs.Common.{◌≡◌, ℕ, ◌+◌, ◌-◌, ◌^◌, ◌<◌, ◌≤◌, List, length, refl, sym, ap, ◌∙◌, subst, inl, inr, arith, Contains, map}
+use Rattle.std.proofs.{Common.{slice_index}, lemmas.Bool.{cases_lt, lt-ltb, le-ltb, cond-true, cond-false}}
 use Rattle.std.proofs.lemmas.List.{ext_get_or, get_or-map, length-map}
-use Rattle.heap_theory.specs.QueueAndLists.{HasMark, AgreeWithMarks, AgreeWithMarksFrom, bytes_of}
-use Rattle.heap_theory.specs.Header.{Header, FitsWords, header_for, shown_state, standing_in, class_number}
-use Rattle.heap_theory.specs.Header.Standing.{Freed, Quarantined}
-use Rattle.heap_theory.specs.HeapInMemory.{IsKeptIn}
-use Rattle.heap_theory.specs.Links.{list_of}
-use Rattle.heap_theory.specs.Region.{region_of, headers_of, next_in, no_header}
-use Rattle.heap_theory.specs.Sound.{IsSoundHeap}
-use Rattle.class_table.specs.Sizes.{chunk_granules, largest_counted}
-use Rattle.heap_theory.specs.State.{State, Heap, slot_in, state_at, IsSlot}
+use Rattle.heap_theory.proofs.{Marks.{IsQueued, IsListed, chain_bytes, chain_dead, list_dead}, Regions.{length-headers_of}}
+use Rattle.heap_theory.{proofs.SeenMemory.{length-without_headers}, specs.Header.Standing.{Freed, Quarantined}, specs.Links.{list_of}}
+use Rattle.heap_theory.specs.{Header.{Header, FitsWords, header_for, shown_state, standing_in, class_number}, HeapInMemory.{IsKeptIn}}
+use Rattle.heap_theory.specs.{QueueAndLists.{HasMark, AgreeWithMarks, AgreeWithMarksFrom, bytes_of}, Sound.{IsSoundHeap}}
+use Rattle.heap_theory.specs.{Region.{region_of, headers_of, next_in, no_header}, State.{State, Heap, slot_in, state_at, IsSlot}}
 use Rattle.heap_theory.specs.State.State.{Fresh, Live, Dead}
-use Rattle.heap_theory.proofs.Regions.{length-headers_of}
-use Rattle.heap_theory.proofs.Marks.{IsQueued, IsListed, chain_bytes, chain_dead, list_dead}
-use Rattle.heap_theory.proofs.SeenMemory.{length-without_headers}
-use Rattle.tagged_heap.proofs.TheoryLemmas as laws
-use Rattle.tagged_heap.specs.Chunks.{HasRoom}
+use Rattle.class_table.specs.Sizes.{chunk_granules, largest_counted}
+use Rattle.tagged_heap.specs.{Chunks.{HasRoom}, HeapAtRest.{shown_heap, shown_states}}
 use Rattle.tagged_heap.specs.Representation.{standing_from, header_from, Parts, IsKept}
-use Rattle.tagged_heap.specs.HeapAtRest.{shown_heap, shown_states}
+use Rattle.tagged_heap.proofs.TheoryLemmas as laws
 
 -- ---- sizes
 

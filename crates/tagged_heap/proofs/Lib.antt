@@ -1,7 +1,6 @@
 pub mod TheoryLemmas
 pub mod RewrittenHeaders
 pub mod Shares
-pub mod PointerSlots
 pub mod CallSteps
 pub mod RequestClasses
 pub mod Kept
@@ -11,8 +10,8 @@ pub mod Giving
 pub mod InPlace
 pub mod ReleasingOldest
 pub mod TakingBack
-pub mod ToldSlots
 pub mod NewHeap
 pub mod PayloadWritten
+pub mod Stores
 pub mod GranuleKinds
 pub mod NamedChunks

@@ -1,16 +1,13 @@
 -- The chunk that a pointer names.
-use Rattle.std.proofs.Common.{◌≡◌, ◌≢◌, ℕ, ◌^◌, ◌<◌, Bool, true, false, cond, refl, ap, ◌∙◌, Some, None, Ok, Err, Option, arith, nat_lt, ◌==◌}
-use Rattle.std.proofs.lemmas.Bool.{cond-true, cond-false, eq-eqb, ne_eqb}
+use Rattle.std.proofs.Common.{◌≡◌, ◌≢◌, ℕ, ◌^◌, ◌<◌, Bool, true, false, cond, refl, ap, ◌∙◌, Some, None, Ok, Err, Option, arith, nat_lt}
+use Rattle.std.proofs.{Common.{◌==◌}, lemmas.Bool.{cond-true, cond-false, eq-eqb, ne_eqb}}
 use Rattle.machine_theory.specs.Address.{logical_tag, place_of}
-use Rattle.heap_theory.specs.declared.refusal.FreeError.TheVariants.{Misplaced, NotLive, WrongTag}
-use Rattle.heap_theory.specs.Lookups.{chunk_at, chunk_in, chunk_in_slot, slot_of_pointer}
-use Rattle.heap_theory.specs.Header.{Standing, Header, size_of}
-use Rattle.heap_theory.specs.Header.Standing.{Live as IsLive, Quarantined, Freed}
-use Rattle.heap_theory.specs.Sound.{IsSoundHeap}
+use Rattle.heap_theory.specs.{Header.{Standing, Header, size_of}, Header.Standing.{Live as IsLive, Quarantined, Freed}, Sound.{IsSoundHeap}}
+use Rattle.heap_theory.specs.{Lookups.{chunk_at, chunk_in, chunk_in_slot, slot_of_pointer}, State.State.{Fresh, Live, Dead}}
 use Rattle.heap_theory.specs.State.{State, Heap, slot_in, state_at, last_tag, payload_place, IsSlot}
-use Rattle.heap_theory.specs.State.State.{Fresh, Live, Dead}
-use Rattle.tagged_heap.proofs.TheoryLemmas as laws
+use Rattle.heap_theory.specs.declared.refusal.FreeError.TheVariants.{Misplaced, NotLive, WrongTag}
 use Rattle.tagged_heap.specs.Representation.{standing_from, header_from}
+use Rattle.tagged_heap.proofs.TheoryLemmas as laws
 
 -- a slot has its payload where the pointer points
 abbrev pub Names : Heap → ℕ → ℕ → Type 0

@@ -1,25 +1,16 @@
 -- A new heap is kept by fresh headers, with no slot in a list.
-use Rattle.std.proofs.Common.{◌≡◌, ℕ, ◌+◌, ◌<◌, List, [], length, map, replicate, refl, sym, ap, ◌∙◌, subst, arith, Some, slice_get, slice_index}
-use Rattle.std.specs.List.{range_with_len}
-use Rattle.std.proofs.lemmas.List.{length-replicate}
+use Rattle.std.proofs.Common.{◌≡◌, ℕ, ◌+◌, ◌<◌, List, [], length, map, replicate, refl, sym, ap, ◌∙◌, subst, arith, Some, slice_get}
+use Rattle.std.{proofs.Common.{slice_index}, proofs.lemmas.List.{length-replicate}, specs.List.{range_with_len}}
 use Rattle.std.proofs.lemmas.List.FromFn.{length-map-range_with_len, get_or-map-range_with_len}
 use Rattle.machine_theory.specs.Memory.{Granule, IsMemory, new_granule}
-use Rattle.class_table.specs.Layout.{Partition, IsPartition, slot_of, slot_count, first_slot}
+use Rattle.class_table.{proofs.LawLemmas.{first_slots_ascend}, specs.Layout.{Partition, IsPartition, slot_of, slot_count, first_slot}}
 use Rattle.class_table.specs.Tables.{IsLegalTable}
-use Rattle.class_table.proofs.LawLemmas.{first_slots_ascend}
-use Rattle.heap_theory.specs.Header.{Header, class_number}
-use Rattle.heap_theory.specs.Links.{IsLinked, list_of}
-use Rattle.heap_theory.specs.Region.{region_of, header_in, next_in}
-use Rattle.heap_theory.specs.State.{State, state_at, is_fresh, first_heap, without_headers}
-use Rattle.heap_theory.specs.State.State.{Fresh}
-use Rattle.heap_theory.proofs.ListSearch.{Contains-none}
-use Rattle.heap_theory.proofs.FirstHeap.{get_or-replicate_any}
-use Rattle.heap_theory.proofs.Marks.{one_number, number_is}
-use Rattle.tagged_heap.proofs.TheoryLemmas as laws
+use Rattle.heap_theory.proofs.{FirstHeap.{get_or-replicate_any}, ListSearch.{Contains-none}, Marks.{one_number, number_is}}
+use Rattle.heap_theory.specs.{Header.{Header, class_number}, Links.{IsLinked, list_of}, Region.{region_of, header_in, next_in}}
+use Rattle.heap_theory.specs.{State.{State, state_at, is_fresh, first_heap, without_headers}, State.State.{Fresh}}
+use Rattle.tagged_heap.{proofs.Kept.{shown_is}, proofs.Shares.{share_of_slot}, specs.HeapAtRest.{shown_heap, IsAtRest}}
 use Rattle.tagged_heap.specs.Representation.{header_from, AreFirstFresh, Parts}
-use Rattle.tagged_heap.specs.HeapAtRest.{shown_heap, IsAtRest}
-use Rattle.tagged_heap.proofs.Kept.{shown_is}
-use Rattle.tagged_heap.proofs.Shares.{share_of_slot}
+use Rattle.tagged_heap.proofs.TheoryLemmas as laws
 
 -- the number of a slot's class is one
 pub class_is_number : (layout : Partition) (s number : ℕ) → IsLegalTable 1 layout.classes → s < slot_count layout →

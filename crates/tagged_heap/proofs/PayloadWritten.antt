@@ -1,24 +1,17 @@
 -- Bytes that are written outside all headers keep a heap, and are seen as they are written.
-use Rattle.std.proofs.Common.{◌≡◌, ◌≢◌, ◌⊎◌, ℕ, ◌+◌, ◌-◌, ◌*◌, ◌/◌, ◌<◌, ◌≤◌, true, false, List, length, max, refl, sym, ap, ◌∙◌, subst, inl, inr, arith, Some, None, Option, All}
-use Rattle.std.proofs.lemmas.Bool.{cases_lt, cases_order, cond-false, false≢true}
+use Rattle.std.proofs.Common.{◌≡◌, ◌≢◌, ◌⊎◌, ℕ, ◌+◌, ◌-◌, ◌*◌, ◌/◌, ◌<◌, ◌≤◌, true, false, List, length, max, refl, sym, ap, ◌∙◌, subst}
+use Rattle.std.proofs.{Common.{inl, inr, arith, Some, None, Option, All}, lemmas.Bool.{cases_lt, cases_order, cond-false, false≢true}}
+use Rattle.machine_theory.{proofs.AccessLaws.{IsMapped-from}, proofs.ByteLaws.{bytes_at_agree}, specs.Memory.{Granule, bytes_at, written}}
+use Rattle.machine_theory.specs.{Access.{access_fault, is_mapped, loaded}, Address.{logical_tag, place_of, region_start, byte_of}}
 use Rattle.machine_theory.specs.declared.fault.Fault.{Fault}
-use Rattle.machine_theory.specs.Access.{access_fault, is_mapped, loaded}
-use Rattle.machine_theory.specs.Address.{logical_tag, place_of, region_start, byte_of}
-use Rattle.machine_theory.specs.Memory.{Granule, bytes_at, written}
-use Rattle.machine_theory.proofs.AccessLaws.{IsMapped-from}
-use Rattle.machine_theory.proofs.ByteLaws.{bytes_at_agree}
 use Rattle.class_table.specs.Layout.{Partition, AreInOrder, end_of, slot_count, slot_of}
-use Rattle.heap_theory.specs.HeapTags.{IsTaggedOrUnmapped}
-use Rattle.heap_theory.specs.Calls.{with_payload}
+use Rattle.heap_theory.proofs.{Regions.{region_of-written, start_is_header}, SeenMemory.{header_starts, length-without_headers}}
+use Rattle.heap_theory.specs.{Calls.{with_payload}, HeapTags.{IsTaggedOrUnmapped}}
 use Rattle.heap_theory.specs.Region.{Region, region_of, header_in, headers_of, next_in}
 use Rattle.heap_theory.specs.State.{Heap, state_at, payload_start, is_header_granule, without_headers}
-use Rattle.heap_theory.proofs.Regions.{region_of-written, start_is_header}
-use Rattle.heap_theory.proofs.SeenMemory.{header_starts, length-without_headers}
+use Rattle.tagged_heap.proofs.{Changed.{listed_same}, Kept.{agree_same, agree_at_rest, region_is, shown_is}}
+use Rattle.tagged_heap.specs.{HeapAtRest.{shown_heap, IsAtRest}, Representation.{header_from, Parts, IsKept}}
 use Rattle.tagged_heap.proofs.TheoryLemmas as laws
-use Rattle.tagged_heap.specs.Representation.{header_from, Parts, IsKept}
-use Rattle.tagged_heap.specs.HeapAtRest.{shown_heap, IsAtRest}
-use Rattle.tagged_heap.proofs.Changed.{listed_same}
-use Rattle.tagged_heap.proofs.Kept.{agree_same, agree_at_rest, region_is, shown_is}
 
 -- these bytes from byte i on are in no header
 abbrev pub AreOutsideHeaders : Partition → ℕ → List ℕ → Type 0

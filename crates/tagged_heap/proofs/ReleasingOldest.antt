@@ -1,25 +1,18 @@
 -- A slot is let go by the quarantine and put into its class's list.
-use Rattle.std.proofs.Common.{◌≡◌, ◌≢◌, ℕ, suc, ◌+◌, ◌<◌, ◌≤◌, ◌⊎◌, List, ◌∷◌, length, drop, refl, sym, ap, ◌∙◌, subst, inl, inr, arith, Some, Contains, slice_get, slice_index, slice_set}
+use Rattle.std.proofs.Common.{◌≡◌, ◌≢◌, ℕ, suc, ◌+◌, ◌<◌, ◌≤◌, ◌⊎◌, List, ◌∷◌, length, drop, refl, sym, ap, ◌∙◌, subst, inl, inr, arith}
+use Rattle.std.proofs.{Common.{Some, Contains, slice_get, slice_index, slice_set}, lemmas.Option.{slice_get_within}}
 use Rattle.std.proofs.lemmas.Bool.{cases_eq, cases_lt, lt-ltb, le-ltb, cond-true, cond-false}
-use Rattle.std.proofs.lemmas.Option.{slice_get_within}
 use Rattle.machine_theory.specs.Memory.{Granule, IsMemory}
 use Rattle.class_table.specs.Layout.{block_bytes}
-use Rattle.heap_theory.specs.QueueAndLists.{HasMark, IsChain, AgreeWithMarksFrom, bytes_of}
-use Rattle.heap_theory.specs.Header.{Header, class_number}
-use Rattle.heap_theory.specs.Header.Standing.{Freed, Quarantined}
-use Rattle.heap_theory.specs.Links.{IsLinked, list_of}
-use Rattle.heap_theory.specs.Region.{region_of, header_in, next_in}
-use Rattle.heap_theory.specs.State.{State, Heap, slot_in, state_at, without_headers, IsSlot}
-use Rattle.heap_theory.specs.State.State.{Fresh, Live, Dead}
-use Rattle.heap_theory.proofs.ListSearch.{Contains-cases}
-use Rattle.heap_theory.proofs.Marks.{one_mark, not_marked, chain_dead, chain_mark}
+use Rattle.heap_theory.proofs.{ListSearch.{Contains-cases}, Marks.{one_mark, not_marked, chain_dead, chain_mark}}
+use Rattle.heap_theory.specs.{Header.{Header, class_number}, Header.Standing.{Freed, Quarantined}, Links.{IsLinked, list_of}}
+use Rattle.heap_theory.specs.{QueueAndLists.{HasMark, IsChain, AgreeWithMarksFrom, bytes_of}, Region.{region_of, header_in, next_in}}
+use Rattle.heap_theory.specs.{State.{State, Heap, slot_in, state_at, without_headers, IsSlot}, State.State.{Fresh, Live, Dead}}
 use Rattle.quarantine_core.specs.Queue.{Queue, AreQueued, TakesOldest}
-use Rattle.tagged_heap.proofs.TheoryLemmas as laws
-use Rattle.tagged_heap.specs.ClassSlots.{HasFront}
+use Rattle.tagged_heap.proofs.{Changed.{with_link, with_standing, listed_same, other_list}, Kept.{class_few, list_slot}}
+use Rattle.tagged_heap.{proofs.RewrittenHeaders.{link_set}, specs.ClassSlots.{HasFront}}
 use Rattle.tagged_heap.specs.Representation.{standing_from, header_from, IsRewritten, AreListed, Parts, IsKept}
-use Rattle.tagged_heap.proofs.Changed.{with_link, with_standing, listed_same, other_list}
-use Rattle.tagged_heap.proofs.RewrittenHeaders.{link_set}
-use Rattle.tagged_heap.proofs.Kept.{class_few, list_slot}
+use Rattle.tagged_heap.proofs.TheoryLemmas as laws
 
 -- ---- how slots stand
 

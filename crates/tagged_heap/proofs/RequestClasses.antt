@@ -1,21 +1,15 @@
 -- The class of a request by its number.
-use Rattle.std.proofs.Common.{◌≡◌, ℕ, ◌*◌, ◌-◌, ◌<◌, ◌≤◌, Bool, true, List, length, eqb, ltb, nat_eq, sym, ap, ◌∙◌, inl, inr, arith, Some, Result, Ok, Err, slice_get, slice_index, option_and_then, IfOk, IfErr}
-use Rattle.std.specs.Option.{ok_or}
-use Rattle.std.specs.Result.{result_eq, result_map_both}
+use Rattle.std.proofs.Common.{◌≡◌, ℕ, ◌*◌, ◌-◌, ◌<◌, ◌≤◌, Bool, true, List, length, eqb, ltb, nat_eq, sym, ap, ◌∙◌, inl, inr, arith, Some}
+use Rattle.std.{proofs.Common.{Result, Ok, Err, slice_get, slice_index, option_and_then, IfOk, IfErr}, specs.Option.{ok_or}}
 use Rattle.std.proofs.lemmas.Bool.{cases_eq, cond-true, cond-false, eq-eqb, eqb-true, ne_eqb, lt-ltb, le-ltb, leb-true}
-use Rattle.std.proofs.lemmas.List.Quantifiers.{position-Some}
-use Rattle.std.proofs.lemmas.Option.{slice_get-get_or, slice_get_within, get_or_from_slice_get}
-use Rattle.class_table.specs.Layout.{Slot}
-use Rattle.class_table.specs.Sizes.{serves, chunk_granules, largest_counted}
+use Rattle.std.proofs.lemmas.{List.Quantifiers.{position-Some}, Option.{slice_get-get_or, slice_get_within, get_or_from_slice_get}}
+use Rattle.std.specs.Result.{result_eq, result_map_both}
+use Rattle.class_table.specs.{Layout.{Slot}, Sizes.{serves, chunk_granules, largest_counted}}
 use Rattle.class_table.specs.Tables.{IsLegalTable, class_for, class_number_for}
-use Rattle.heap_theory.specs.declared.refusal.NullCause.{NullCause}
-use Rattle.heap_theory.specs.declared.refusal.NullCause.TheVariants.{Large, NoClass, Exhausted}
-use Rattle.heap_theory.specs.Calls.{is_class_of}
-use Rattle.heap_theory.specs.Lookups.{class_for_request}
-use Rattle.heap_theory.specs.State.{Heap}
-use Rattle.heap_theory.proofs.Marks.{one_number}
-use Rattle.tagged_heap.proofs.TheoryLemmas as laws
+use Rattle.heap_theory.{proofs.Marks.{one_number}, specs.Calls.{is_class_of}, specs.Lookups.{class_for_request}, specs.State.{Heap}}
+use Rattle.heap_theory.specs.declared.refusal.{NullCause.{NullCause}, NullCause.TheVariants.{Large, NoClass, Exhausted}}
 use Rattle.tagged_heap.specs.ClassSlots.{IsCauseFor}
+use Rattle.tagged_heap.proofs.TheoryLemmas as laws
 
 module _ (h : Heap) (n : ℕ) where
   pub class_for_is : (r : Result ℕ NullCause) → IfOk r (λ k. (n ≤ largest_counted) × (class_number_for h.layout.classes n ≡ Some k)) →

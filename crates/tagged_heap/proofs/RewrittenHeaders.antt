@@ -1,14 +1,11 @@
 -- Headers of slots in a memory that changes.
-use Rattle.std.proofs.Common.{arith, ◌≡◌, ℕ, ◌<◌, List, length, ap, ◌∙◌, slice_set}
-use Rattle.std.proofs.lemmas.List.{get_or-set_same, get_or-set_other}
+use Rattle.std.proofs.{Common.{arith, ◌≡◌, ℕ, ◌<◌, List, length, ap, ◌∙◌, slice_set}, lemmas.List.{get_or-set_same, get_or-set_other}}
 use Rattle.machine_theory.specs.Memory.{Granule, IsMemory, tagged}
 use Rattle.class_table.specs.Layout.{Partition, IsPartition, slot_of, slot_count}
-use Rattle.chunk_header.specs.HeaderWrite.{WritesHeader}
-use Rattle.chunk_header.specs.Links.{SetsLink}
-use Rattle.heap_theory.specs.Header.{Header, FitsWords, with_header}
-use Rattle.heap_theory.specs.Region.{Region, header_in, headers_of, region_of}
-use Rattle.heap_theory.specs.State.{without_headers}
+use Rattle.chunk_header.specs.{HeaderWrite.{WritesHeader}, Links.{SetsLink}}
 use Rattle.heap_theory.proofs.Regions.{length-headers_of, region_of-header, region_of-read, region_of-tagged}
+use Rattle.heap_theory.specs.{Header.{Header, FitsWords, with_header}, Region.{Region, header_in, headers_of, region_of}}
+use Rattle.heap_theory.specs.State.{without_headers}
 use Rattle.tagged_heap.specs.Representation.{IsRewritten}
 
 -- one header of the region is another

@@ -1,8 +1,7 @@
 -- Which slots a class has.
 use Rattle.std.proofs.Common.{◌≡◌, ℕ, ◌+◌, ◌<◌, ◌≤◌, length, sym, ap, ◌∙◌, subst, slice_index}
-use Rattle.class_table.specs.Layout.{Partition, Slot, IsClassOf, slot_of, slot_count, first_slot}
-use Rattle.class_table.specs.Tables.{IsLegalTable}
 use Rattle.class_table.proofs.LawLemmas.{each_slot_has_a_class, slot_by_its_class, slots_of_classes_are_slots}
+use Rattle.class_table.specs.{Layout.{Partition, Slot, IsClassOf, slot_of, slot_count, first_slot}, Tables.{IsLegalTable}}
 use Rattle.heap_theory.proofs.Marks.{one_number}
 
 class_of : (layout : Partition) (s number : ℕ) → IsClassOf layout s number →

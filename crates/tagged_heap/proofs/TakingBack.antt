@@ -1,32 +1,22 @@
 -- The chunk of a live slot is taken back, and the slot goes into the quarantine.
-use Rattle.std.proofs.Common.{lit<, ◌≡◌, ◌≢◌, ℕ, zero, suc, ◌+◌, ◌^◌, ◌<◌, ◌≤◌, List, [], ◌∷◌, ◌++◌, length, refl, sym, ap, ◌∙◌, subst, inl, inr, arith, Contains, bit_or}
-use Rattle.std.proofs.lemmas.Bool.{cases_eq, le-ltb, cond-false}
-use Rattle.machine_theory.specs.Instructions.{drawn_tag}
-use Rattle.machine_theory.specs.Machine.{Machine}
-use Rattle.machine_theory.specs.Memory.{Granule, IsMemory, tagged}
-use Rattle.machine_theory.specs.Seed.{next_seed}
-use Rattle.class_table.specs.Layout.{block_bytes}
-use Rattle.heap_theory.specs.QueueAndLists.{HasMark}
-use Rattle.heap_theory.specs.Calls.{freed, next_tag, parity_exclude}
-use Rattle.heap_theory.specs.Header.{Header, FitsWords, with_header, size_of}
-use Rattle.heap_theory.specs.Header.Standing.{Quarantined, Freed}
-use Rattle.heap_theory.specs.Region.{region_of, header_in, next_in}
-use Rattle.heap_theory.specs.Sound.{IsSoundHeap}
-use Rattle.class_table.specs.Sizes.{chunk_granules}
-use Rattle.heap_theory.specs.State.{State, Heap, slot_in, state_at, is_fresh, last_tag, chunk_granules_of, payload_start, without_headers, IsSlot, is_dead}
-use Rattle.heap_theory.specs.State.State.{Live, Dead}
-use Rattle.heap_theory.proofs.Marks.{not_marked}
-use Rattle.heap_theory.proofs.SeenMemory.{length-without_headers}
+use Rattle.std.proofs.Common.{lit<, ◌≡◌, ◌≢◌, ℕ, zero, suc, ◌+◌, ◌^◌, ◌<◌, ◌≤◌, List, [], ◌∷◌, ◌++◌, length, refl, sym, ap, ◌∙◌, subst, inl}
+use Rattle.std.proofs.{Common.{inr, arith, Contains, bit_or}, lemmas.Bool.{cases_eq, le-ltb, cond-false}}
+use Rattle.machine_theory.specs.{Instructions.{drawn_tag}, Machine.{Machine}, Memory.{Granule, IsMemory, tagged}, Seed.{next_seed}}
+use Rattle.class_table.specs.{Layout.{block_bytes}, Sizes.{chunk_granules}}
+use Rattle.heap_theory.proofs.{ChangedSlot.{state_here}, Marks.{not_marked}, SeenMemory.{length-without_headers}}
+use Rattle.heap_theory.specs.{Calls.{freed, next_tag, parity_exclude}, Header.{Header, FitsWords, with_header, size_of}}
+use Rattle.heap_theory.specs.{Header.Standing.{Quarantined, Freed}, QueueAndLists.{HasMark}, Region.{region_of, header_in, next_in}}
+use Rattle.heap_theory.specs.{Sound.{IsSoundHeap}, State.State.{Live, Dead}}
+use Rattle.heap_theory.specs.State.{State, Heap, slot_in, state_at, is_fresh, last_tag, chunk_granules_of, payload_start, without_headers}
+use Rattle.heap_theory.specs.State.{IsSlot, is_dead}
 use Rattle.chunk_header.specs.Links.{SetsLink}
 use Rattle.quarantine_core.specs.Queue.{Queue, AreQueued, CanBePut, with_newest}
-use Rattle.tagged_heap.proofs.TheoryLemmas as laws
+use Rattle.tagged_heap.{proofs.Changed.{with_link, listed_same, headers_changed, counters_changed}, specs.HeapAtRest.{shown_heap, IsAtRest}}
+use Rattle.tagged_heap.proofs.Kept.{class_most, size_most, header_fits, region_is, within_states, bytes_from, queue_slot, list_slot}
+use Rattle.tagged_heap.proofs.{Kept.{has_room, agree_at_rest, shown_is}, RewrittenHeaders.{link_set, then_tagged, written_header}}
 use Rattle.tagged_heap.specs.Chunks.{HasRoom, retired_header, tag_for}
 use Rattle.tagged_heap.specs.Representation.{standing_from, header_from, IsRewritten, Parts, IsKept}
-use Rattle.tagged_heap.specs.HeapAtRest.{shown_heap, IsAtRest}
-use Rattle.heap_theory.proofs.ChangedSlot.{state_here}
-use Rattle.tagged_heap.proofs.Changed.{with_link, listed_same, headers_changed, counters_changed}
-use Rattle.tagged_heap.proofs.RewrittenHeaders.{link_set, then_tagged, written_header}
-use Rattle.tagged_heap.proofs.Kept.{class_most, size_most, header_fits, region_is, within_states, bytes_from, queue_slot, list_slot, has_room, agree_at_rest, shown_is}
+use Rattle.tagged_heap.proofs.TheoryLemmas as laws
 
 module _ {h : Heap} {frees : ℕ} {p : Parts} {counters : List ℕ} (held : IsAtRest h frees p counters) (s n tag : ℕ) (in_range : IsSlot h s)
     (live : state_at h s ≡ Live n tag) where

@@ -1,18 +1,11 @@
 -- What is written of the chunk of one slot.
 use Rattle.std.specs.Prelude.{◌≡◌, ℕ, ◌^◌, ◌<◌, ◌≤◌, bit_or, length, slice_get, List, Some}
-use Rattle.machine_theory.specs.Instructions.{drawn_tag}
-use Rattle.machine_theory.specs.Machine.{Machine}
-use Rattle.machine_theory.specs.Memory.{Granule, IsMemory}
-use Rattle.class_table.specs.Sizes.{largest_counted, chunk_granules}
-use Rattle.class_table.specs.Layout.{Partition, slot_count, slot_of, end_of}
-use Rattle.heap_theory.specs.Calls.{parity_exclude}
-use Rattle.heap_theory.specs.Header.{Header, class_number}
-use Rattle.heap_theory.specs.Region.{region_of, header_in}
-use Rattle.heap_theory.specs.State.{Heap, slot_in, state_at, IsSlot}
-use Rattle.heap_theory.specs.State.State.{Live as Given}
-use Rattle.heap_theory.specs.Header.Standing.{Live, Quarantined}
-use Rattle.tagged_heap.specs.declared.freeing.Chunk.{Chunk}
+use Rattle.machine_theory.specs.{Instructions.{drawn_tag}, Machine.{Machine}, Memory.{Granule, IsMemory}}
+use Rattle.class_table.specs.{Layout.{Partition, slot_count, slot_of, end_of}, Sizes.{largest_counted, chunk_granules}}
 use Rattle.class_table.specs.declared.table.TheConstants.{MOST_CLASSES}
+use Rattle.heap_theory.specs.{Calls.{parity_exclude}, Header.{Header, class_number}, Header.Standing.{Live, Quarantined}}
+use Rattle.heap_theory.specs.{Region.{region_of, header_in}, State.{Heap, slot_in, state_at, IsSlot}, State.State.{Live as Given}}
+use Rattle.tagged_heap.specs.declared.freeing.Chunk.{Chunk}
 
 -- the tag that the machine draws for a slot, by what its header says of its last one
 abbrev pub tag_for : Partition → Machine → ℕ → ℕ

@@ -1,12 +1,9 @@
 -- The slots of a class: why a request gets none, which one is taken, and where a released one is put.
 use Rattle.std.specs.Prelude.{◌≡◌, ℕ, ◌⊎◌, ◌+◌, ◌<◌, ◌≤◌, length, slice_index, slice_set, List, None, Some, Option}
 use Rattle.machine_theory.specs.Memory.{Granule, IsMemory}
-use Rattle.class_table.specs.Sizes.{largest_counted}
-use Rattle.class_table.specs.Layout.{Partition, IsClassOf, first_slot}
-use Rattle.class_table.specs.Tables.{class_number_for}
+use Rattle.class_table.specs.{Layout.{Partition, IsClassOf, first_slot}, Sizes.{largest_counted}, Tables.{class_number_for}}
 use Rattle.class_table.specs.declared.table.TheConstants.{MOST_CLASSES}
-use Rattle.heap_theory.specs.declared.refusal.NullCause.{NullCause}
-use Rattle.heap_theory.specs.declared.refusal.NullCause.TheVariants.{Large, NoClass, Exhausted}
+use Rattle.heap_theory.specs.declared.refusal.{NullCause.{NullCause}, NullCause.TheVariants.{Large, NoClass, Exhausted}}
 use Rattle.class_lists.specs.Lists.{TakesFirst}
 
 -- why a request of n bytes has no class

@@ -1,8 +1,6 @@
 -- How many chunks a call frees.
 use Rattle.std.specs.Prelude.{ℕ, ◌==◌, if◌then◌else◌, is_some}
-use Rattle.heap_theory.specs.Calls.{slot_if_moved}
-use Rattle.heap_theory.specs.Lookups.{chunk_at}
-use Rattle.heap_theory.specs.State.{Heap}
+use Rattle.heap_theory.specs.{Calls.{slot_if_moved}, Lookups.{chunk_at}, State.{Heap}}
 
 -- The chunks that a realloc of n bytes at p frees: one where it moves a chunk to another slot, else none.
 unfoldable pub frees_of_realloc : Heap → ℕ → ℕ → ℕ

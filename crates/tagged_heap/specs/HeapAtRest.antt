@@ -2,10 +2,8 @@
 use Rattle.std.specs.Prelude.{ℕ, ◌*◌, ◌^◌, ◌<◌, ◌≤◌, List, map}
 use Rattle.machine_theory.specs.Memory.{Granule}
 use Rattle.class_table.specs.Layout.{Partition}
-use Rattle.heap_theory.specs.Header.{shown_state}
-use Rattle.heap_theory.specs.State.{State, Heap, without_headers}
+use Rattle.heap_theory.specs.{Header.{shown_state}, Region.{headers_of}, State.{State, Heap, without_headers}}
 use Rattle.tagged_heap.specs.Representation.{Parts, IsKept, AreFirstFresh}
-use Rattle.heap_theory.specs.Region.{headers_of}
 
 -- A heap's state, and how many chunks were freed.
 pub record HeapAndFrees : Type 0 where

@@ -1,8 +1,7 @@
 -- The fields of a heap, what a contract sees of them, and the invariant over them: `IsHeld`, which is `IsAtRest` of what the fields show.
 use Rattle.heap_theory.specs.State.{Heap}
+use Rattle.tagged_heap.specs.{HeapAtRest.{HeapAndFrees, shown_heap, IsAtRest}, Representation.{Parts}}
 use Rattle.tagged_heap.specs.declared.heap.Heap.TheInside.{Inside}
-use Rattle.tagged_heap.specs.Representation.{Parts}
-use Rattle.tagged_heap.specs.HeapAtRest.{HeapAndFrees, shown_heap, IsAtRest}
 
 abbrev pub state_of : Inside → Heap
 state_of heap =

@@ -3,11 +3,8 @@
 use Rattle.std.specs.Prelude.{◌≡◌, ◌≢◌, ℕ, ◌+◌, ◌<◌, ◌≤◌, nat_lt, List, length, slice_index, IsFalse, IsTrue}
 use Rattle.machine_theory.specs.Memory.{Granule, IsMemory}
 use Rattle.class_table.specs.Layout.{Partition, slot_count, first_slot}
-use Rattle.heap_theory.specs.QueueAndLists.{AgreeWithMarksFrom}
-use Rattle.heap_theory.specs.Header.{Standing, Header, standing_where, header_with}
-use Rattle.heap_theory.specs.Links.{IsLinked, list_of}
-use Rattle.heap_theory.specs.Region.{Region, region_of, header_in, next_in}
-use Rattle.heap_theory.specs.Sound.{IsSoundHeap}
+use Rattle.heap_theory.specs.{Header.{Standing, Header, standing_where, header_with}, Links.{IsLinked, list_of}, Sound.{IsSoundHeap}}
+use Rattle.heap_theory.specs.{QueueAndLists.{AgreeWithMarksFrom}, Region.{Region, region_of, header_in, next_in}}
 use Rattle.heap_theory.specs.State.{State, Heap, slot_in, state_at, is_fresh, without_headers, IsSlot, is_dead, mark_of}
 use Rattle.heap_theory.specs.State.State.{Fresh as NeverGiven}
 use Rattle.quarantine_core.specs.Queue.{Queue, AreQueued}

@@ -1,7 +1,6 @@
 -- What is told of a slot.
 use Rattle.std.specs.Prelude.{ℕ}
-use Rattle.heap_theory.specs.Header.{code_of, size_of, standing_in}
-use Rattle.heap_theory.specs.State.{Heap, last_tag, slot_in, state_at}
+use Rattle.heap_theory.specs.{Header.{code_of, size_of, standing_in}, State.{Heap, last_tag, slot_in, state_at}}
 use Rattle.tagged_heap.specs.declared.slots.SlotFacts.{SlotFacts}
 
 abbrev pub facts_of : Heap → ℕ → SlotFacts

@@ -4,7 +4,7 @@ ghost use Rattle.heap_theory.specs.HeapInMemory.{HeaderWordsStay, IsKeptIn};
 ghost use Rattle.heap_theory.specs.GranuleKinds.{place_kind};
 ghost use Rattle.heap_theory.specs.Region.{region_of};
 ghost use Rattle.machine_theory.specs.Access.{IsMapped, access_fault, is_mapped, loaded, ok_unless, stored};
-ghost use Rattle.std.specs.Prelude.{◌≡◌, ◌↔◌, ◌≤◌, IsTrue, OnErr, OnOk, length, take};
+ghost use Rattle.std.specs.Prelude.{◌≡◌, ◌↔◌, ◌≤◌, IsTrue, OnErr, OnOk, length, replicate, take};
 
 use crate::heap::Heap;
 use crate::read_header::header;
@@ -66,6 +66,21 @@ impl Heap {
         ensures headers { HeaderWordsStay self.old.state self.new.state }
     {
         self.machine.store(address, bytes)
+    }
+
+    /// As `store`, of `count` bytes, 1 to 64, that are all `byte`.
+    #[tactic(auto, using(crate::proofs::TheoryLemmas::accesses_seen))]
+    pub fn store_run(&mut self, address: u64, count: usize, byte: u8) -> Result<(), Fault>
+        requires count { (1 ≤ count) × (count ≤ LONGEST_ACCESS) }
+        requires tagged { IsTaggedOrUnmapped self.old.state address count }
+        ensures answer { result ≡ ok_unless (access_fault self.old.state.memory address count) }
+        ensures ok { OnOk result (self.new ≡ record self.old {
+          state = record self.old.state { memory = stored self.old.state.memory address (replicate count byte) };
+        }) }
+        ensures err { OnErr result (self.new ≡ self.old) }
+        ensures headers { HeaderWordsStay self.old.state self.new.state }
+    {
+        self.machine.store_run(address, count, byte)
     }
 
     /// Whether all `len` bytes (1 to 64) from `address` on lie in the region, and bits 63 to 60 of the address are 0.

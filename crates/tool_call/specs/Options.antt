@@ -1,15 +1,10 @@
 -- The calls, each with the options that are its own, and their ranges.
 use Rattle.std.specs.Prelude.{ℕ, ◌≤◌, Bool, true, false, ⊤}
-use Rattle.class_table.specs.Steps.{IsStep}
-use Rattle.class_table.specs.declared.table.TheConstants.{MOST_CLASSES}
-use Rattle.heap_theory.specs.Config.{IsConfig}
-use Rattle.heap_theory.specs.declared.config.Config.{Config}
-use Rattle.tool_call.specs.declared.call.Call.{Call}
+use Rattle.class_table.specs.{Steps.{IsStep}, declared.table.TheConstants.{MOST_CLASSES}}
+use Rattle.heap_theory.specs.{Config.{IsConfig}, declared.config.Config.{Config}}
+use Rattle.tool_call.specs.declared.{call.Call.{Call}, call.CommandName.{CommandName}, options.Limits.{Limits}, options.Options.{Options}}
 use Rattle.tool_call.specs.declared.call.Call.TheVariants.{Score, Tune, Check, Footprint, Fit, CheckFit, Peaks, Profile, Replay, Run}
-use Rattle.tool_call.specs.declared.call.CommandName.{CommandName}
 use Rattle.tool_call.specs.declared.call.CommandName.TheVariants as name
-use Rattle.tool_call.specs.declared.options.Limits.{Limits}
-use Rattle.tool_call.specs.declared.options.Options.{Options}
 
 abbrev pub limits_of : Options → Limits
 limits_of options = record { limit = options.limit; step = options.step }

@@ -1,8 +1,8 @@
 -- The ranges of an event's numbers: those of each event that a trace spells, and that a replay takes.
 use Rattle.std.specs.Prelude.{ℕ, ◌<◌, ◌≤◌, ◌^◌, ℤ, nat_abs}
-use Rattle.trace_event.specs.declared.event.TheConstants.Event.{LAST_VARIABLE, LARGEST_REQUEST, LONGEST_ACCESS, FARTHEST_ACCESS, FARTHEST_MOVE, LARGEST_TAG_STEP}
-use Rattle.trace_event.specs.declared.event.Event.{Event}
-use Rattle.trace_event.specs.declared.event.Event.TheVariants.{Malloc, Calloc, Realloc, Free, Load, Store, Addg, Subg}
+use Rattle.trace_event.specs.declared.event.{Event.{Event}, Event.TheVariants.{Malloc, Calloc, Realloc, Free, Load, Store, Addg, Subg}}
+use Rattle.trace_event.specs.declared.event.TheConstants.Event.{LAST_VARIABLE, LARGEST_REQUEST, LONGEST_ACCESS, FARTHEST_ACCESS}
+use Rattle.trace_event.specs.declared.event.TheConstants.Event.{FARTHEST_MOVE, LARGEST_TAG_STEP}
 
 abbrev pub IsVariable : ℕ → Type 0
 IsVariable v = v ≤ LAST_VARIABLE

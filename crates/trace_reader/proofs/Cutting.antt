@@ -1,7 +1,6 @@
 -- Texts that are cut at their newlines.
 use Rattle.std.proofs.Common.{◌≡◌, ℕ, Bool, true, false, cond, List, [], ◌∷◌, ◌++◌, refl, sym, ap, ◌∙◌, append_assoc}
-use Rattle.std.proofs.lemmas.List.Elements.{All-head, All-tail}
-use Rattle.std.specs.List.{onto_first}
+use Rattle.std.{proofs.lemmas.List.Elements.{All-head, All-tail}, specs.List.{onto_first}}
 use Rattle.line_text.specs.Lines.{lines, is_newline, IsLine}
 use Rattle.trace_reader.specs.Reading.{Cut, cut, going_on, bytes_in_front, line_in_front}
 

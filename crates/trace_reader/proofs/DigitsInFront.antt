@@ -1,11 +1,8 @@
 -- The digits in front of a text are the spelling of their number.
-use Rattle.std.proofs.Common.{◌≡◌, ℕ, ◌+◌, ◌*◌, ◌/◌, ◌%◌, ◌^◌, ◌<◌, ◌≤◌, List, [], ◌∷◌, ◌++◌, length, get_or, take, drop, refl, sym, ap, subst, ◌∙◌, arith, add-one}
+use Rattle.std.proofs.Common.{◌≡◌, ℕ, ◌+◌, ◌*◌, ◌/◌, ◌%◌, ◌^◌, ◌<◌, ◌≤◌, List, [], ◌∷◌, ◌++◌, length, get_or, take, drop, refl, sym, ap}
+use Rattle.std.proofs.{Common.{subst, ◌∙◌, arith, add-one}, Math.Nat.{pow-le-pow_right}, Math.Seq.{split_at, take-append_seam}}
+use Rattle.std.proofs.lemmas.{Fmt.{decimal_digit, decimal_step}, Grind.{pow_more}, List.{take_more}}
 use Rattle.std.specs.Fmt.{decimal}
-use Rattle.std.proofs.Math.Seq.{split_at, take-append_seam}
-use Rattle.std.proofs.Math.Nat.{pow-le-pow_right}
-use Rattle.std.proofs.lemmas.Fmt.{decimal_digit, decimal_step}
-use Rattle.std.proofs.lemmas.Grind.{pow_more}
-use Rattle.std.proofs.lemmas.List.{take_more}
 
 -- one digit is the spelling of its value
 pub first_digit : (text : List ℕ) (d : ℕ) → 0 < length text → get_or text 0 0 ≡ 48 + d → d ≤ 9 → take 1 text ≡ decimal d

@@ -1,32 +1,33 @@
 -- Lines that end, and the end of the text.
-use Rattle.std.proofs.Common.{◌≡◌, ℕ, suc, ◌+◌, Bool, true, false, cond, eqb, eq-eqb, ltb, List, [], ◌∷◌, ◌++◌, length, Result, Ok, Err, refl, sym, ap, ◌∙◌, arith, append_assoc, append-nil, add-one, Option, Some, None}
-use Rattle.std.proofs.lemmas.Bool.{ltb-true}
-use Rattle.line_text.specs.Lines.{IsLine}
+use Rattle.std.proofs.Common.{◌≡◌, ℕ, suc, ◌+◌, Bool, true, false, cond, eqb, eq-eqb, ltb, List, [], ◌∷◌, ◌++◌, length, Result, Ok, Err}
+use Rattle.std.proofs.{Common.{refl, sym, ap, ◌∙◌, arith, append_assoc, append-nil, add-one, Option, Some, None}, lemmas.Bool.{ltb-true}}
+use Rattle.line_text.{proofs.LawLemmas.{equal_is_prefix, prefix_of_prefix}, specs.Lines.{IsLine}, specs.Prefixes.{IsPrefix}}
 use Rattle.trace_event.specs.declared.event.Event.{Event}
-use Rattle.trace_reader.specs.declared.fault.TraceError.{TraceError}
-use Rattle.trace_reader.specs.declared.fault.TraceError.TheVariants.{Line}
-use Rattle.trace_reader.specs.declared.fault.TraceFault.{TraceFault}
-use Rattle.trace_reader.specs.declared.fault.TraceFault.TheVariants.{LineTooLong}
-use Rattle.line_text.specs.Prefixes.{IsPrefix}
-use Rattle.trace_reader.specs.Reached.{HasReached, IsOnTheWay, answer_of}
-use Rattle.trace_reader.specs.Reading.{Cut, State, Reading, added, cut, fed, fed_in, finished, finished_in, going_on, is_open, judged_in, judgement_in, line_ended, reading_of_cut, state_after, whole_reading, with_judged, is_finished}
-use Rattle.trace_reader.specs.Reading.State.{Open, Failed, Finished}
-use Rattle.trace_reader.specs.declared.status.Status.{Status}
-use Rattle.trace_reader.specs.declared.status.Status.TheVariants.{Failed as HasFailed}
-use Rattle.trace_reader.specs.Status.{state_of}
-use Rattle.trace_reader.specs.TraceLine.{event_of_line}
-use Rattle.trace_reader.specs.TraceText.{Trace, no_lines, trace_from, with_line}
-use Rattle.line_text.proofs.LawLemmas.{equal_is_prefix, prefix_of_prefix}
-use Rattle.trace_reader.proofs.Cutting.{cut-ended}
-use Rattle.trace_reader.proofs.Feeding.{pieces_are_joined}
+use Rattle.trace_reader.proofs.{Cutting.{cut-ended}, Feeding.{pieces_are_joined}, Traces.{event_of_line-long, trace_from-one}}
 use Rattle.trace_reader.proofs.Reaching.{IsPrefix-fed, IsPrefix-finished, came, fed_at-line, fields, is_open_at, open_at}
-use Rattle.trace_reader.proofs.Traces.{event_of_line-long, trace_from-one}
+use Rattle.trace_reader.specs.{Reached.{HasReached, IsOnTheWay, answer_of}, Reading.State.{Open, Failed, Finished}, Status.{state_of}}
+use Rattle.trace_reader.specs.Reading.{Cut, State, Reading, added, cut, fed, fed_in, finished, finished_in, going_on, is_open, judged_in}
+use Rattle.trace_reader.specs.Reading.{judgement_in, line_ended, reading_of_cut, state_after, whole_reading, with_judged, is_finished}
+use Rattle.trace_reader.specs.{TraceLine.{event_of_line}, TraceText.{Trace, no_lines, trace_from, with_line}}
+use Rattle.trace_reader.specs.declared.fault.{TraceError.{TraceError}, TraceError.TheVariants.{Line}, TraceFault.{TraceFault}}
+use Rattle.trace_reader.specs.declared.{fault.TraceFault.TheVariants.{LineTooLong}, status.Status.{Status}}
+use Rattle.trace_reader.specs.declared.status.Status.TheVariants.{Failed as HasFailed}
 
 abbrev Answer : Type 0
 Answer = Result (Unit {0}) TraceError
 
 abbrev at : List Event → State → Reading
 at events state = record { events = events; state = state }
+
+-- what holds of each open reading
+by_open : (P : Reading → Type 0) → ((events : List Event) (lines : ℕ) (rest : List ℕ) → P (open_at events lines rest)) → (old : Reading)
+    → is_open old ≡ true → P old
+by_open P each old open_now = go old.state open_now
+  where
+    go : (state : State) → is_open (at old.events state) ≡ true → P (at old.events state)
+    go (Open lines rest) open_now = each old.events lines rest
+    go (Failed error) open_now = absurd cc
+    go Finished open_now = absurd cc
 
 -- ---- a line that was kept, and then ends
 
@@ -36,19 +37,15 @@ kept_so events lines rest bytes line v is = fed_at-line events lines rest bytes 
 
 pub is_open-kept : (old : Reading) (bytes : List ℕ) → is_open old ≡ true → IsLine bytes → Ok tt ≡ answer_of (fed old bytes).state →
     is_open (fed old bytes) ≡ true
-is_open-kept old bytes open_now line answer = go old.state open_now answer
+is_open-kept old bytes open_now line answer =
+    by_open (λ r. Ok tt ≡ answer_of (fed r bytes).state → is_open (fed r bytes) ≡ true)
+    (λ events lines rest answer. short events lines rest answer (ltb 80 (length (rest ++ bytes))) refl) old open_now answer
   where
-    short : (lines : ℕ) (rest : List ℕ) → Ok tt ≡ answer_of (fed (open_at old.events lines rest) bytes).state → (v : Bool) →
-        ltb 80 (length (rest ++ bytes)) ≡ v → is_open (fed (open_at old.events lines rest) bytes) ≡ true
-    short lines rest answer true is =
-        let f = answer ∙ ap (λ (r : Reading). answer_of r.state) (kept_so old.events lines rest bytes line true is) in absurd cc
-    short lines rest answer false is = ap is_open (kept_so old.events lines rest bytes line false is)
-
-    go : (state : State) → is_open (at old.events state) ≡ true → Ok tt ≡ answer_of (fed (at old.events state) bytes).state →
-        is_open (fed (at old.events state) bytes) ≡ true
-    go (Open lines rest) open_now answer = short lines rest answer (ltb 80 (length (rest ++ bytes))) refl
-    go (Failed error) open_now answer = absurd cc
-    go Finished open_now answer = absurd cc
+    short : (events : List Event) (lines : ℕ) (rest : List ℕ) → Ok tt ≡ answer_of (fed (open_at events lines rest) bytes).state → (v : Bool) →
+        ltb 80 (length (rest ++ bytes)) ≡ v → is_open (fed (open_at events lines rest) bytes) ≡ true
+    short events lines rest answer true is =
+        let f = answer ∙ ap (λ (r : Reading). answer_of r.state) (kept_so events lines rest bytes line true is) in absurd cc
+    short events lines rest answer false is = ap is_open (kept_so events lines rest bytes line false is)
 
 judged_either : (lines : ℕ) (rest other : List ℕ) (judged : Result Event TraceFault) →
     judged_in (Open lines rest) judged ≡ judged_in (Open lines other) judged
@@ -58,44 +55,36 @@ judged_either lines rest other (Err fault) = refl
 pub line_ended-kept : (old : Reading) (bytes : List ℕ) → is_open old ≡ true → IsLine bytes → Ok tt ≡ answer_of (fed old bytes).state →
     line_ended (fed old bytes) [] ≡ line_ended old bytes
 unfolding with_judged
-line_ended-kept old bytes open_now line answer = go old.state open_now answer
+line_ended-kept old bytes open_now line answer =
+    by_open (λ r. Ok tt ≡ answer_of (fed r bytes).state → line_ended (fed r bytes) [] ≡ line_ended r bytes)
+    (λ events lines rest answer. short events lines rest answer (ltb 80 (length (rest ++ bytes))) refl) old open_now answer
   where
-    short : (lines : ℕ) (rest : List ℕ) → Ok tt ≡ answer_of (fed (open_at old.events lines rest) bytes).state → (v : Bool) →
+    short : (events : List Event) (lines : ℕ) (rest : List ℕ) → Ok tt ≡ answer_of (fed (open_at events lines rest) bytes).state → (v : Bool) →
         ltb 80 (length (rest ++ bytes)) ≡ v
-        → line_ended (fed (open_at old.events lines rest) bytes) [] ≡ line_ended (open_at old.events lines rest) bytes
-    short lines rest answer true is =
-        let f = answer ∙ ap (λ (r : Reading). answer_of r.state) (kept_so old.events lines rest bytes line true is) in absurd cc
-    short lines rest answer false is =
-        ap (λ (r : Reading). line_ended r []) (kept_so old.events lines rest bytes line false is)
-        ∙ ap (λ (all : List ℕ). added old.events (judged_in (Open lines (rest ++ bytes)) (event_of_line (suc lines) all)))
+        → line_ended (fed (open_at events lines rest) bytes) [] ≡ line_ended (open_at events lines rest) bytes
+    short events lines rest answer true is =
+        let f = answer ∙ ap (λ (r : Reading). answer_of r.state) (kept_so events lines rest bytes line true is) in absurd cc
+    short events lines rest answer false is =
+        ap (λ (r : Reading). line_ended r []) (kept_so events lines rest bytes line false is)
+        ∙ ap (λ (all : List ℕ). added events (judged_in (Open lines (rest ++ bytes)) (event_of_line (suc lines) all)))
         (append-nil (rest ++ bytes))
-        ∙ ap (added old.events) (judged_either lines (rest ++ bytes) rest (event_of_line (suc lines) (rest ++ bytes)))
-
-    go : (state : State) → is_open (at old.events state) ≡ true → Ok tt ≡ answer_of (fed (at old.events state) bytes).state →
-        line_ended (fed (at old.events state) bytes) [] ≡ line_ended (at old.events state) bytes
-    go (Open lines rest) open_now answer = short lines rest answer (ltb 80 (length (rest ++ bytes))) refl
-    go (Failed error) open_now answer = absurd cc
-    go Finished open_now answer = absurd cc
+        ∙ ap (added events) (judged_either lines (rest ++ bytes) rest (event_of_line (suc lines) (rest ++ bytes)))
 
 pub line_ended-long : (old : Reading) (bytes : List ℕ) (error : TraceError) → is_open old ≡ true → IsLine bytes →
     Err error ≡ answer_of (fed old bytes).state → fed old bytes ≡ line_ended old bytes
 unfolding with_judged
-line_ended-long old bytes error open_now line answer = go old.state open_now answer
+line_ended-long old bytes error open_now line answer =
+    by_open (λ r. Err error ≡ answer_of (fed r bytes).state → fed r bytes ≡ line_ended r bytes)
+    (λ events lines rest answer. long events lines rest answer (ltb 80 (length (rest ++ bytes))) refl) old open_now answer
   where
-    long : (lines : ℕ) (rest : List ℕ) → Err error ≡ answer_of (fed (open_at old.events lines rest) bytes).state → (v : Bool) →
+    long : (events : List Event) (lines : ℕ) (rest : List ℕ) → Err error ≡ answer_of (fed (open_at events lines rest) bytes).state → (v : Bool) →
         ltb 80 (length (rest ++ bytes)) ≡ v
-        → fed (open_at old.events lines rest) bytes ≡ line_ended (open_at old.events lines rest) bytes
-    long lines rest answer true is =
-        kept_so old.events lines rest bytes line true is
-        ∙ rw (event_of_line-long (suc lines) (rest ++ bytes) (ltb-true 80 (length (rest ++ bytes)) is), append-nil old.events) refl
-    long lines rest answer false is =
-        let f = answer ∙ ap (λ (r : Reading). answer_of r.state) (kept_so old.events lines rest bytes line false is) in absurd cc
-
-    go : (state : State) → is_open (at old.events state) ≡ true → Err error ≡ answer_of (fed (at old.events state) bytes).state →
-        fed (at old.events state) bytes ≡ line_ended (at old.events state) bytes
-    go (Open lines rest) open_now answer = long lines rest answer (ltb 80 (length (rest ++ bytes))) refl
-    go (Failed error) open_now answer = absurd cc
-    go Finished open_now answer = absurd cc
+        → fed (open_at events lines rest) bytes ≡ line_ended (open_at events lines rest) bytes
+    long events lines rest answer true is =
+        kept_so events lines rest bytes line true is
+        ∙ rw (event_of_line-long (suc lines) (rest ++ bytes) (ltb-true 80 (length (rest ++ bytes)) is), append-nil events) refl
+    long events lines rest answer false is =
+        let f = answer ∙ ap (λ (r : Reading). answer_of r.state) (kept_so events lines rest bytes line false is) in absurd cc
 
 -- ---- a line with its newline, and what comes after it
 
@@ -116,13 +105,9 @@ fed_in-ended lines rest line is_line =
 
 pub fed-ended : (old : Reading) (line : List ℕ) → is_open old ≡ true → IsLine line → fed old (line ++ 10 ∷ []) ≡ line_ended old line
 unfolding fed with_judged
-fed-ended old line open_now is_line = go old.state open_now
-  where
-    go : (state : State) → is_open (at old.events state) ≡ true →
-        fed (at old.events state) (line ++ 10 ∷ []) ≡ line_ended (at old.events state) line
-    go (Open lines rest) open_now = ap (added old.events) (fed_in-ended lines rest line is_line)
-    go (Failed error) open_now = absurd cc
-    go Finished open_now = absurd cc
+fed-ended old line open_now is_line =
+    by_open (λ r. fed r (line ++ 10 ∷ []) ≡ line_ended r line)
+    (λ events lines rest. ap (added events) (fed_in-ended lines rest line is_line)) old open_now
 
 pub fed-after : (old : Reading) (line after : List ℕ) → is_open old ≡ true → IsLine line →
     fed old (line ++ 10 ∷ after) ≡ fed (line_ended old line) after
@@ -133,18 +118,14 @@ fed-after old line after open_now is_line =
 pub is_open-ended : (old : Reading) (line : List ℕ) → is_open old ≡ true → Ok tt ≡ answer_of (line_ended old line).state →
     is_open (line_ended old line) ≡ true
 unfolding with_judged
-is_open-ended old line open_now answer = go old.state open_now answer
+is_open-ended old line open_now answer =
+    by_open (λ r. Ok tt ≡ answer_of (line_ended r line).state → is_open (line_ended r line) ≡ true)
+    (λ events lines rest. judged lines rest (event_of_line (suc lines) (rest ++ line))) old open_now answer
   where
     judged : (lines : ℕ) (rest : List ℕ) (j : Result Event TraceFault) → Ok tt ≡ answer_of (judged_in (Open lines rest) j).state →
         is_open (judged_in (Open lines rest) j) ≡ true
     judged lines rest (Ok event) answer = refl
     judged lines rest (Err fault) answer = absurd cc
-
-    go : (state : State) → is_open (at old.events state) ≡ true → Ok tt ≡ answer_of (line_ended (at old.events state) line).state →
-        is_open (line_ended (at old.events state) line) ≡ true
-    go (Open lines rest) open_now answer = judged lines rest (event_of_line (suc lines) (rest ++ line)) answer
-    go (Failed error) open_now answer = absurd cc
-    go Finished open_now answer = absurd cc
 
 -- ---- after an error nothing changes
 

@@ -1,21 +1,17 @@
 -- From an event to its line: the event is read from it.
-use Rattle.std.proofs.Common.{◌≡◌, ℕ, suc, ◌+◌, ◌<◌, ◌≤◌, ◌^◌, true, false, leb, List, [], ◌∷◌, length, Ok, refl, ap, ◌∙◌, arith, ℤ, pos, negsuc, nat_abs, ne_eqb, length-append, codes, All}
-use Rattle.std.specs.Fmt.{decimal, signed_decimal}
+use Rattle.std.proofs.Common.{◌≡◌, ℕ, suc, ◌+◌, ◌<◌, ◌≤◌, ◌^◌, true, false, leb, List, [], ◌∷◌, length, Ok, refl, ap, ◌∙◌, arith, ℤ, pos}
+use Rattle.std.proofs.{Common.{negsuc, nat_abs, ne_eqb, length-append, codes, All}, lemmas.Bool.{le-leb, le-ltb, leb-true}}
+use Rattle.std.{proofs.lemmas.Fmt.{length-decimal-le}, proofs.lemmas.List.Elements.{All-nil, All-cons}, specs.Fmt.{decimal, signed_decimal}}
 use Rattle.std.specs.List.{list_all}
-use Rattle.std.proofs.lemmas.Bool.{le-leb, le-ltb, leb-true}
-use Rattle.std.proofs.lemmas.Fmt.{length-decimal-le}
-use Rattle.std.proofs.lemmas.List.Elements.{All-nil, All-cons}
-use Rattle.line_text.proofs.LawLemmas.{spelled_hex_is_a_word, spelled_hex_is_read, spelled_number_is_a_word, spelled_number_is_read, spelled_signed_is_a_word, spelled_signed_is_read, words_make_a_line, written_words_are_read}
-use Rattle.line_text.specs.Hexadecimal.{hex}
-use Rattle.line_text.specs.Lines.{words, line_of, is_newline, is_space, IsLine, IsWord}
-use Rattle.trace_event.specs.declared.event.Event.{Event}
+use Rattle.line_text.proofs.LawLemmas.{spelled_hex_is_a_word, spelled_hex_is_read, spelled_number_is_a_word, spelled_number_is_read}
+use Rattle.line_text.proofs.LawLemmas.{spelled_signed_is_a_word, spelled_signed_is_read, words_make_a_line, written_words_are_read}
+use Rattle.line_text.specs.{Hexadecimal.{hex}, Lines.{words, line_of, is_newline, is_space, IsLine, IsWord}}
+use Rattle.trace_event.specs.{Ranges.{IsInRange}, declared.event.Event.{Event}}
 use Rattle.trace_event.specs.declared.event.Event.TheVariants.{Malloc, Calloc, Realloc, Free, Load, Store, Addg, Subg}
-use Rattle.trace_event.specs.Ranges.{IsInRange}
-use Rattle.trace_reader.specs.OnePass.{AreRead, IsRead}
-use Rattle.trace_reader.specs.TraceLine.{number_from, offset_of, byte_of, event_line, event_of_words, event_of_line, event_words, move_of, move_words, request_of, request_words}
-use Rattle.trace_reader.proofs.LineRanges.{both_pass}
-use Rattle.trace_reader.proofs.Offsets.{fits_signed}
+use Rattle.trace_reader.{proofs.LineRanges.{both_pass}, proofs.Offsets.{fits_signed}, specs.OnePass.{AreRead, IsRead}}
 use Rattle.trace_reader.proofs.SpelledWords.{named_words, request_read, free_read, load_read, store_read, move_read}
+use Rattle.trace_reader.specs.TraceLine.{number_from, offset_of, byte_of, event_line, event_of_words, event_of_line, event_words, move_of}
+use Rattle.trace_reader.specs.TraceLine.{move_words, request_of, request_words}
 
 -- ---- words
 

@@ -1,16 +1,12 @@
 -- Pieces that are fed, one after the other.
-use Rattle.std.proofs.Common.{◌≡◌, ℕ, suc, ◌+◌, ◌<◌, Bool, true, false, cond, ltb, List, [], ◌∷◌, ◌++◌, length, Option, Some, None, refl, sym, ap, ◌∙◌, arith, append_assoc, append-nil}
-use Rattle.std.proofs.lemmas.List.{length-append}
-use Rattle.std.proofs.lemmas.Bool.{lt-ltb, ltb-true}
+use Rattle.std.proofs.Common.{◌≡◌, ℕ, suc, ◌+◌, ◌<◌, Bool, true, false, cond, ltb, List, [], ◌∷◌, ◌++◌, length, Option, Some, None, refl}
+use Rattle.std.proofs.{Common.{sym, ap, ◌∙◌, arith, append_assoc, append-nil}, lemmas.Bool.{lt-ltb, ltb-true}, lemmas.List.{length-append}}
 use Rattle.trace_event.specs.declared.event.Event.{Event}
-use Rattle.trace_reader.specs.declared.fault.TraceError.TheVariants.{Line}
-use Rattle.trace_reader.specs.declared.fault.TraceFault.{TraceFault}
-use Rattle.trace_reader.specs.declared.fault.TraceFault.TheVariants.{LineTooLong}
-use Rattle.trace_reader.specs.TraceText.{Trace, trace_from}
-use Rattle.trace_reader.specs.Reading.{Cut, State, Reading, added, cut, fed, fed_in, finished, finished_in, going_on, bytes_in_front, reading_of_cut, state_after}
-use Rattle.trace_reader.specs.Reading.State.{Open, Failed, Finished}
-use Rattle.trace_reader.proofs.Cutting.{joined, going_on-joined, cut-append}
+use Rattle.trace_reader.{proofs.Cutting.{joined, going_on-joined, cut-append}, specs.Reading.State.{Open, Failed, Finished}}
 use Rattle.trace_reader.proofs.Traces.{followed_by, trace_from-append, trace_from-long, trace_from-none}
+use Rattle.trace_reader.specs.Reading.{added, cut, fed, fed_in, finished, finished_in, going_on, bytes_in_front, reading_of_cut}
+use Rattle.trace_reader.specs.{Reading.{state_after, Cut, State, Reading}, TraceText.{Trace, trace_from}}
+use Rattle.trace_reader.specs.declared.fault.{TraceError.TheVariants.{Line}, TraceFault.{TraceFault}, TraceFault.TheVariants.{LineTooLong}}
 
 -- what a trace and the bytes after it are, after so many lines
 abbrev reading_of : ℕ → List ℕ → Trace → Reading

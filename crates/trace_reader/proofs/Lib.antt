@@ -1,5 +1,4 @@
 pub mod LawLemmas
-pub mod BadWords
 pub mod Cutting
 pub mod DigitsInFront
 pub mod Ending
@@ -14,6 +13,5 @@ pub mod SpelledLines
 pub mod SpelledWords
 pub mod TraceSpelling
 pub mod ThreeDigits
-pub mod FourDigits
 pub mod Traces
 pub mod WorkedExamples

@@ -1,13 +1,10 @@
 -- The number of an event's line is not above the most events, and a trace has no more.
-use Rattle.line_text.specs.FirstFault.{◌>>=◌}
-use Rattle.trace_reader.specs.TraceText.{trace_from, trace_of, with_line}
-use Rattle.std.proofs.Common.{◌≡◌, ℕ, ◌≤◌, Bool, true, false, cond, ◌&&◌, ltb, List, [], ◌∷◌, length, Result, Ok, Err, IfOk, refl, arith, suc, ◌+◌}
-use Rattle.std.proofs.lemmas.Bool.{ltb-false}
-use Rattle.line_text.specs.Lines.{words, lines}
+use Rattle.line_text.specs.{FirstFault.{◌>>=◌}, Lines.{words, lines}}
+use Rattle.trace_reader.specs.{TraceLine.{event_of_words, event_of_line}, TraceText.{trace_from, trace_of, with_line}}
+use Rattle.trace_reader.specs.declared.fault.{TraceFault.{TraceFault}, TraceFault.TheVariants.{LineTooLong, TooManyEvents}}
+use Rattle.std.proofs.Common.{◌≡◌, ℕ, ◌≤◌, Bool, true, false, cond, ◌&&◌, ltb, List, [], ◌∷◌, length, Result, Ok, Err, IfOk, refl, arith}
+use Rattle.std.proofs.{Common.{suc, ◌+◌}, lemmas.Bool.{ltb-false}}
 use Rattle.trace_event.specs.declared.event.Event.{Event}
-use Rattle.trace_reader.specs.declared.fault.TraceFault.{TraceFault}
-use Rattle.trace_reader.specs.declared.fault.TraceFault.TheVariants.{LineTooLong, TooManyEvents}
-use Rattle.trace_reader.specs.TraceLine.{event_of_words, event_of_line}
 
 -- ---- one value after another
 

@@ -1,19 +1,13 @@
 -- A text in pieces is the whole text.
-use Rattle.std.proofs.lemmas.List.{length-append}
-use Rattle.std.proofs.Common.{◌≡◌, ℕ, suc, ◌+◌, Bool, true, false, cond, ltb, List, [], ◌∷◌, ◌++◌, length, Option, Some, None, refl, sym, ap, ◌∙◌, arith, append_assoc, append-nil, ◌≤◌}
-use Rattle.std.proofs.lemmas.Bool.{ltb-true}
+use Rattle.std.proofs.Common.{◌≡◌, ℕ, suc, ◌+◌, Bool, true, false, cond, ltb, List, [], ◌∷◌, ◌++◌, length, Option, Some, None, refl, sym}
+use Rattle.std.proofs.{Common.{ap, ◌∙◌, arith, append_assoc, append-nil, ◌≤◌}, lemmas.Bool.{ltb-true}, lemmas.List.{length-append}}
 use Rattle.std.specs.List.{concat}
-use Rattle.trace_reader.specs.declared.fault.TraceError.TheVariants.{Line}
-use Rattle.trace_reader.specs.declared.fault.TraceFault.{TraceFault}
-use Rattle.trace_reader.specs.declared.fault.TraceFault.TheVariants.{LineTooLong}
-use Rattle.trace_reader.specs.TraceText.{Trace, trace_from, trace_of}
-use Rattle.trace_reader.specs.Reading.{Cut, Reading, added, cut, fed, fed_all, finished, finished_in, last_line, nothing_read, reading_of_cut, state_after, whole_reading}
-use Rattle.trace_reader.specs.Reading.State.{Open, Failed}
-use Rattle.trace_reader.proofs.Cutting.{going_on-nil, last_lines, lines-cut}
-use Rattle.trace_reader.proofs.Feeding.{pieces_are_joined}
-use Rattle.trace_reader.proofs.LineRanges.{events_are_few}
-use Rattle.trace_reader.proofs.Reaching.{IsPrefix-finished}
+use Rattle.trace_reader.proofs.{Cutting.{going_on-nil, last_lines, lines-cut}, Feeding.{pieces_are_joined}, LineRanges.{events_are_few}}
+use Rattle.trace_reader.{proofs.Reaching.{IsPrefix-finished}, specs.Reading.State.{Open, Failed}}
 use Rattle.trace_reader.proofs.Traces.{followed, followed_by, trace_from-append, trace_from-long, trace_from-none, trace_from-one}
+use Rattle.trace_reader.specs.Reading.{state_after, whole_reading, Cut, Reading, added, cut, fed, fed_all, finished, finished_in, last_line}
+use Rattle.trace_reader.specs.{Reading.{nothing_read, reading_of_cut}, TraceText.{Trace, trace_from, trace_of}}
+use Rattle.trace_reader.specs.declared.fault.{TraceError.TheVariants.{Line}, TraceFault.{TraceFault}, TraceFault.TheVariants.{LineTooLong}}
 
 fed_all-fed : (r : Reading) (a : List ℕ) (pieces : List (List ℕ)) → fed_all (fed r a) pieces ≡ fed r (a ++ concat pieces)
 fed_all-fed r a [] = ap (fed r) (sym (append-nil a))

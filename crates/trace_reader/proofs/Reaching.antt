@@ -1,23 +1,15 @@
 -- Readings that a call comes to.
-use Rattle.std.proofs.Common.{◌≡◌, ℕ, suc, ◌+◌, ◌<◌, ◌≤◌, true, false, List, [], ◌∷◌, ◌++◌, length, Result, Ok, Err, IsOk, OnErr, OnOk, is_err, ◌↔◌, refl, sym, ap, ◌∙◌, arith, append-nil, add-one, add-zero}
-use Rattle.std.proofs.lemmas.Bool.{lt-ltb}
+use Rattle.std.proofs.Common.{◌≡◌, ℕ, suc, ◌+◌, ◌<◌, ◌≤◌, true, false, List, [], ◌∷◌, ◌++◌, length, Result, Ok, Err, IsOk, OnErr, OnOk}
+use Rattle.std.proofs.{Common.{is_err, ◌↔◌, refl, sym, ap, ◌∙◌, arith, append-nil, add-one, add-zero}, lemmas.Bool.{lt-ltb}}
 use Rattle.std.proofs.lemmas.Bool.Decides.{nat_tests}
-use Rattle.line_text.specs.Lines.{IsLine}
-use Rattle.line_text.specs.Prefixes.{IsPrefix}
-use Rattle.line_text.proofs.LawLemmas.{equal_is_prefix}
+use Rattle.line_text.{proofs.LawLemmas.{equal_is_prefix}, specs.Lines.{IsLine}, specs.Prefixes.{IsPrefix}}
 use Rattle.trace_event.specs.declared.event.Event.{Event}
-use Rattle.trace_reader.specs.declared.fault.TraceError.{TraceError}
-use Rattle.trace_reader.specs.declared.fault.TraceError.TheVariants.{OutOfMemory, Line}
-use Rattle.trace_reader.specs.declared.fault.TraceFault.{TraceFault}
-use Rattle.trace_reader.specs.declared.fault.TraceFault.TheVariants.{LineTooLong}
-use Rattle.trace_reader.specs.declared.status.Status.{Status}
+use Rattle.trace_reader.{proofs.Cutting.{cut-line}, proofs.Traces.{trace_from-none}, specs.Reached.{HasReached, answer_of}}
+use Rattle.trace_reader.specs.Reading.{Cut, Reading, added, fed, fed_in, finished, finished_in, going_on, is_open, is_open_state}
+use Rattle.trace_reader.specs.{Reading.{reading_of_cut, with_judged, unfinished_state}, Reading.State.{Open, Failed}, Status.{state_of}}
+use Rattle.trace_reader.specs.declared.fault.{TraceError.{TraceError}, TraceError.TheVariants.{OutOfMemory, Line}, TraceFault.{TraceFault}}
+use Rattle.trace_reader.specs.declared.{fault.TraceFault.TheVariants.{LineTooLong}, status.Status.{Status}}
 use Rattle.trace_reader.specs.declared.status.Status.TheVariants.{Open as IsOpen, Failed as HasFailed, Finished as HasFinished}
-use Rattle.trace_reader.specs.Reached.{HasReached, answer_of}
-use Rattle.trace_reader.specs.Reading.{Cut, Reading, added, fed, fed_in, finished, finished_in, going_on, is_open, is_open_state, reading_of_cut, with_judged, unfinished_state}
-use Rattle.trace_reader.specs.Reading.State.{Open, Failed}
-use Rattle.trace_reader.specs.Status.{state_of}
-use Rattle.trace_reader.proofs.Cutting.{cut-line}
-use Rattle.trace_reader.proofs.Traces.{trace_from-none}
 
 abbrev Answer : Type 0
 Answer = Result (Unit {0}) TraceError

@@ -1,18 +1,13 @@
 -- Lines that are read in one pass, since they spell events.
-use Rattle.std.proofs.Common.{◌+◌, add-one, add-zero, append-nil, append_assoc, All, length, ◌≤◌, ◌≡◌, ℕ, suc, ◌<◌, true, List, [], ◌∷◌, ◌++◌, Ok, refl, sym, ap, subst, ◌∙◌, arith}
-use Rattle.std.proofs.lemmas.List.{length-append}
+use Rattle.std.proofs.Common.{◌+◌, add-one, add-zero, append-nil, append_assoc, All, length, ◌≤◌, ◌≡◌, ℕ, suc, ◌<◌, true, List, [], ◌∷◌}
+use Rattle.std.proofs.{Common.{◌++◌, Ok, refl, sym, ap, subst, ◌∙◌, arith}, lemmas.List.{length-append}}
 use Rattle.std.proofs.lemmas.List.Elements.{All-head, All-tail}
-use Rattle.trace_event.specs.declared.event.Event.{Event}
-use Rattle.trace_event.specs.Ranges.{IsInRange}
-use Rattle.trace_reader.specs.declared.status.Status.{Status}
-use Rattle.trace_reader.specs.Reached.{IsOnTheWay}
+use Rattle.trace_event.specs.{Ranges.{IsInRange}, declared.event.Event.{Event}}
+use Rattle.trace_reader.proofs.{Ending.{fed-after, fed-ended}, EventLines.{event_line-is_line, event_of_line-spelled}}
+use Rattle.trace_reader.{proofs.Reaching.{fields, is_open_at, open_at}, specs.Reached.{IsOnTheWay}, specs.Reading.State.{Open}}
 use Rattle.trace_reader.specs.Reading.{Reading, State, fed, is_at_start, is_open_state, is_start, line_ended, with_judged}
-use Rattle.trace_reader.specs.Reading.State.{Open}
-use Rattle.trace_reader.specs.TraceLine.{event_line, event_lines}
-use Rattle.trace_reader.proofs.Ending.{fed-after, fed-ended}
+use Rattle.trace_reader.specs.{TraceLine.{event_line, event_lines}, declared.status.Status.{Status}}
 use Rattle.line_text.specs.Lines.{ended}
-use Rattle.trace_reader.proofs.EventLines.{event_line-is_line, event_of_line-spelled}
-use Rattle.trace_reader.proofs.Reaching.{fields, is_open_at, open_at}
 
 start_is_open : (state : State) → is_start state ≡ true → is_open_state state ≡ true
 start_is_open x0 e = grind arith

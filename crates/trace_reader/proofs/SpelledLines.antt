@@ -1,23 +1,16 @@
 -- From a line to the event that is read from it: it is in its ranges, and the line is its line.
-use Rattle.std.proofs.Common.{◌≡◌, ℕ, ◌<◌, ◌≤◌, ◌^◌, Bool, true, false, cond, ◌&&◌, leb, ltb, List, [], ◌∷◌, length, Option, Some, None, Result, Ok, Err, IfOk, refl, sym, ap, ◌∙◌, arith, nat_abs, codes}
-use Rattle.std.specs.Fmt.{decimal, signed_decimal}
-use Rattle.std.specs.List.{list_any}
-use Rattle.std.specs.Str.{bytes_eq}
-use Rattle.std.proofs.lemmas.Bool.{leb-true}
-use Rattle.std.proofs.lemmas.Slice.Eq.{bytes_eq-Decides}
-use Rattle.line_text.proofs.LawLemmas.{hex_is_spelled, line_is_its_words, number_is_spelled, signed_is_spelled}
-use Rattle.line_text.specs.Hexadecimal.{hex, hex_of}
-use Rattle.line_text.specs.Lines.{words, line_of}
-use Rattle.line_text.specs.Numbers.{number_of}
-use Rattle.line_text.specs.Signed.{signed_of}
-use Rattle.trace_event.specs.declared.event.Event.{Event}
+use Rattle.std.proofs.Common.{◌≡◌, ℕ, ◌<◌, ◌≤◌, ◌^◌, Bool, true, false, cond, ◌&&◌, leb, ltb, List, [], ◌∷◌, length, Option, Some, None}
+use Rattle.std.proofs.{Common.{Result, Ok, Err, IfOk, refl, sym, ap, ◌∙◌, arith, nat_abs, codes}, lemmas.Bool.{leb-true}}
+use Rattle.std.{proofs.lemmas.Slice.Eq.{bytes_eq-Decides}, specs.Fmt.{decimal, signed_decimal}, specs.List.{list_any}, specs.Str.{bytes_eq}}
+use Rattle.line_text.{proofs.LawLemmas.{hex_is_spelled, line_is_its_words, number_is_spelled, signed_is_spelled}, specs.Numbers.{number_of}}
+use Rattle.line_text.specs.{Hexadecimal.{hex, hex_of}, Lines.{words, line_of}, Signed.{signed_of}}
+use Rattle.trace_event.specs.{Ranges.{IsInRange}, declared.event.Event.{Event}}
 use Rattle.trace_event.specs.declared.event.Event.TheVariants.{Malloc, Calloc, Realloc, Addg, Subg}
-use Rattle.trace_reader.specs.declared.fault.TraceFault.{TraceFault}
+use Rattle.trace_reader.proofs.{LineRanges.{IfOk-and_then, both_pass}, Offsets.{fits_signed}}
+use Rattle.trace_reader.specs.TraceLine.{ranged, number_from, variable_of, size_of, offset_of, len_of, byte_of, request_of, free_of}
+use Rattle.trace_reader.specs.TraceLine.{load_of, store_of, move_of, event_line, event_named, event_of_full_words, event_of_words}
+use Rattle.trace_reader.specs.{TraceLine.{event_of_line, event_words, is_empty_word}, declared.fault.TraceFault.{TraceFault}}
 use Rattle.trace_reader.specs.declared.fault.TraceFault.TheVariants.{BadWord, OutOfRange, LineTooLong, TooManyEvents}
-use Rattle.trace_reader.specs.TraceLine.{ranged, number_from, variable_of, size_of, offset_of, len_of, byte_of, request_of, free_of, load_of, store_of, move_of, event_line, event_named, event_of_full_words, event_of_words, event_of_line, event_words, is_empty_word}
-use Rattle.trace_reader.proofs.LineRanges.{IfOk-and_then, both_pass}
-use Rattle.trace_event.specs.Ranges.{IsInRange}
-use Rattle.trace_reader.proofs.Offsets.{fits_signed}
 
 -- ---- words
 

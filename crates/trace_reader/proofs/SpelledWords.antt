@@ -1,13 +1,10 @@
 -- What the words of an event spell, read one after the other.
 use Rattle.std.proofs.Common.{◌≡◌, ℕ, ℤ, List, [], ◌∷◌, refl, ◌∙◌, false, Result, Ok, arith, length, ne_eqb}
-use Rattle.line_text.specs.Numbers.{number_of}
-use Rattle.line_text.specs.Signed.{signed_of}
-use Rattle.line_text.specs.Hexadecimal.{hex_of}
-use Rattle.trace_event.specs.declared.event.Event.{Event}
-use Rattle.trace_event.specs.declared.event.Event.TheVariants.{Free, Load, Store}
-use Rattle.trace_reader.specs.OnePass.{AreRead, IsRead}
-use Rattle.trace_reader.specs.declared.fault.TraceFault.{TraceFault}
-use Rattle.trace_reader.specs.TraceLine.{byte_of, event_named, event_of_words, free_of, is_empty_word, load_of, move_of, number_from, offset_of, request_of, store_of}
+use Rattle.line_text.specs.{Hexadecimal.{hex_of}, Numbers.{number_of}, Signed.{signed_of}}
+use Rattle.trace_event.specs.declared.event.{Event.{Event}, Event.TheVariants.{Free, Load, Store}}
+use Rattle.trace_reader.specs.{OnePass.{AreRead, IsRead}, declared.fault.TraceFault.{TraceFault}}
+use Rattle.trace_reader.specs.TraceLine.{store_of, byte_of, event_named, event_of_words, free_of, is_empty_word, load_of, move_of}
+use Rattle.trace_reader.specs.TraceLine.{number_from, offset_of, request_of}
 
 -- ---- a word that spells something is not empty
 

@@ -1,11 +1,7 @@
 -- Three digits and a byte after them, in one word.
 use Rattle.std.proofs.Common.{◌≡◌, ℕ, ◌+◌, ◌*◌, ◌/◌, ◌%◌, ◌^◌, ◌<◌, ◌≤◌, List, [], ◌∷◌, ◌++◌, refl, sym, ap, ◌∙◌, arith}
-use Rattle.std.specs.Fmt.{decimal}
-use Rattle.std.specs.Int.{to_le_bytes, w32}
-use Rattle.std.specs.Int.Bits.{bit_and, bit_or}
-use Rattle.std.proofs.lemmas.Fmt.{decimal_digit}
-use Rattle.std.proofs.lemmas.Nat.{and_mask, and_mod, and_shr, le_or_l, le_or_r, or_mod, or_shr}
-use Rattle.std.proofs.lemmas.Nat.Bits.{and_high}
+use Rattle.std.proofs.lemmas.{Fmt.{decimal_digit}, Nat.{and_mask, and_mod, and_shr, le_or_l, le_or_r, or_mod, or_shr}, Nat.Bits.{and_high}}
+use Rattle.std.specs.{Fmt.{decimal}, Int.{to_le_bytes, w32}, Int.Bits.{bit_and, bit_or}}
 use Rattle.trace_reader.proofs.DigitsInFront.{longer}
 
 -- a byte of two words that have no bit of a mask there

@@ -1,16 +1,12 @@
 -- A trace's text is read as its events, and no other text is.
-use Rattle.std.proofs.Common.{◌≡◌, ℕ, suc, ◌+◌, ◌<◌, ◌≤◌, List, [], ◌∷◌, length, map, Option, Some, None, Result, Ok, Err, IfOk, refl, sym, ap, subst, ◌∙◌, arith, All}
-use Rattle.std.proofs.lemmas.List.Elements.{All-nil, All-cons, All-head, All-tail}
-use Rattle.line_text.proofs.LawLemmas.{full_lines_are_read, text_is_its_lines}
-use Rattle.line_text.specs.Lines.{IsTextOf, lines, IsFullLine}
-use Rattle.trace_event.specs.declared.event.Event.{Event}
-use Rattle.trace_reader.specs.declared.fault.TraceFault.{TraceFault}
-use Rattle.trace_event.specs.Ranges.{IsInRange}
-use Rattle.trace_reader.specs.TraceLine.{event_line, event_of_line}
+use Rattle.std.proofs.Common.{◌≡◌, ℕ, suc, ◌+◌, ◌<◌, ◌≤◌, List, [], ◌∷◌, length, map, Option, Some, None, Result, Ok, Err, IfOk, refl, sym}
+use Rattle.std.proofs.{Common.{ap, subst, ◌∙◌, arith, All}, lemmas.List.Elements.{All-nil, All-cons, All-head, All-tail}}
+use Rattle.line_text.{proofs.LawLemmas.{full_lines_are_read, text_is_its_lines}, specs.Lines.{IsTextOf, lines, IsFullLine}}
+use Rattle.trace_event.specs.{Ranges.{IsInRange}, declared.event.Event.{Event}}
+use Rattle.trace_reader.proofs.{EventLines.{event_line-is_line, event_line-some, event_of_line-spelled}, LineRanges.{few_events}}
+use Rattle.trace_reader.{proofs.SpelledLines.{IfOk-event_of_line, spelled_line}, specs.TraceLine.{event_line, event_of_line}}
 use Rattle.trace_reader.specs.TraceText.{SpellsTrace, Trace, no_lines, trace_from, trace_of, with_line}
-use Rattle.trace_reader.proofs.EventLines.{event_line-is_line, event_line-some, event_of_line-spelled}
-use Rattle.trace_reader.proofs.LineRanges.{few_events}
-use Rattle.trace_reader.proofs.SpelledLines.{IfOk-event_of_line, spelled_line}
+use Rattle.trace_reader.specs.declared.fault.TraceFault.{TraceFault}
 
 abbrev pub whole : List Event → Trace
 whole events = record { events = events; fault = None }

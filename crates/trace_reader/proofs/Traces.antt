@@ -1,11 +1,9 @@
 -- Traces of lines, one after the other.
-use Rattle.std.proofs.Common.{◌≡◌, ℕ, suc, ◌+◌, ◌<◌, List, [], ◌∷◌, ◌++◌, length, Option, Some, None, Result, Ok, Err, refl, sym, ap, ◌∙◌, arith, add-zero}
-use Rattle.std.proofs.lemmas.Bool.{lt-ltb}
+use Rattle.std.proofs.Common.{◌≡◌, ℕ, suc, ◌+◌, ◌<◌, List, [], ◌∷◌, ◌++◌, length, Option, Some, None, Result, Ok, Err, refl, sym, ap, ◌∙◌}
+use Rattle.std.proofs.{Common.{arith, add-zero}, lemmas.Bool.{lt-ltb}}
 use Rattle.trace_event.specs.declared.event.Event.{Event}
-use Rattle.trace_reader.specs.declared.fault.TraceFault.{TraceFault}
-use Rattle.trace_reader.specs.declared.fault.TraceFault.TheVariants.{LineTooLong}
-use Rattle.trace_reader.specs.TraceLine.{event_of_line}
-use Rattle.trace_reader.specs.TraceText.{Trace, no_lines, with_line, trace_from}
+use Rattle.trace_reader.specs.{TraceLine.{event_of_line}, TraceText.{Trace, no_lines, with_line, trace_from}}
+use Rattle.trace_reader.specs.declared.fault.{TraceFault.{TraceFault}, TraceFault.TheVariants.{LineTooLong}}
 
 -- A trace after another, which is the whole where that one has a fault.
 abbrev pub followed_by : Option (ℕ × TraceFault) → List Event → Trace → Trace

@@ -1,17 +1,11 @@
 -- Texts of traces, worked out: their events, and their first fault with its line.
 use Rattle.std.proofs.Common.{◌≡◌, ℕ, List, [], ◌∷◌, ◌++◌, Some, None, Ok, Err, refl, pos, negsuc, codes, replicate}
-use Rattle.line_text.specs.Hexadecimal.{hex_of}
-use Rattle.line_text.specs.Lines.{lines, words, text_of}
-use Rattle.line_text.specs.Numbers.{number_of}
-use Rattle.line_text.specs.Signed.{signed_of}
+use Rattle.line_text.specs.{Hexadecimal.{hex_of}, Lines.{lines, words, text_of}, Numbers.{number_of}, Signed.{signed_of}}
 use Rattle.trace_event.specs.declared.event.Event.TheVariants.{Malloc, Calloc, Realloc, Free, Load, Store, Addg, Subg}
-use Rattle.trace_reader.specs.declared.fault.TraceError.TheVariants.{Line}
-use Rattle.trace_reader.specs.declared.fault.TraceFault.{TraceFault}
+use Rattle.trace_reader.specs.{Reading.{Reading, cut, fed, finished, nothing_read}, Reading.State.{Open, Failed, Finished}}
+use Rattle.trace_reader.specs.{TraceLine.{event_of_line, event_of_words}, TraceText.{Trace, trace_from, trace_of}}
+use Rattle.trace_reader.specs.declared.fault.{TraceError.TheVariants.{Line}, TraceFault.{TraceFault}}
 use Rattle.trace_reader.specs.declared.fault.TraceFault.TheVariants.{BadWord, BadNumber, OutOfRange, LineTooLong, TooManyEvents}
-use Rattle.trace_reader.specs.Reading.{Reading, cut, fed, finished, nothing_read}
-use Rattle.trace_reader.specs.Reading.State.{Open, Failed, Finished}
-use Rattle.trace_reader.specs.TraceLine.{event_of_line, event_of_words}
-use Rattle.trace_reader.specs.TraceText.{Trace, trace_from, trace_of}
 
 -- ---- whole texts
 

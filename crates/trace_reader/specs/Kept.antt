@@ -1,10 +1,11 @@
 -- The event that a kept event stands for.
 use Rattle.std.specs.Prelude.{◌+◌, ◌/◌, ◌%◌}
-use Rattle.trace_event.specs.declared.event.Event.{Event}
-use Rattle.trace_event.specs.declared.event.Event.TheVariants.{Malloc, Calloc, Realloc, Free, Load, Store, Addg, Subg}
+use Rattle.trace_event.specs.declared.event.{Event.{Event}, Event.TheVariants.{Malloc, Calloc, Realloc, Free, Load, Store, Addg, Subg}}
 use Rattle.trace_event.specs.declared.event.TheConstants.Event.{LONGEST_ACCESS}
 use Rattle.trace_reader.specs.declared.kept_event.KeptEvent.{KeptEvent}
-use Rattle.trace_reader.specs.declared.kept_event.KeptEvent.TheVariants.{Malloc as KeptMalloc, Calloc as KeptCalloc, Realloc as KeptRealloc, Free as KeptFree, Load as KeptLoad, Store as KeptStore, Addg as KeptAddg, Subg as KeptSubg}
+use Rattle.trace_reader.specs.declared.kept_event.KeptEvent.TheVariants.{Realloc as KeptRealloc, Free as KeptFree, Load as KeptLoad}
+use Rattle.trace_reader.specs.declared.kept_event.KeptEvent.TheVariants.{Store as KeptStore, Addg as KeptAddg, Subg as KeptSubg}
+use Rattle.trace_reader.specs.declared.kept_event.KeptEvent.TheVariants.{Malloc as KeptMalloc, Calloc as KeptCalloc}
 
 abbrev pub event_of : KeptEvent → Event
 event_of (KeptMalloc v n) = Malloc v n

@@ -1,8 +1,6 @@
 -- The words of a line that spells an event, as they are read one after the other.
-use Rattle.std.specs.Prelude.{◌≡◌, ℕ, List, ◌∷◌, Result, Ok, Bool}
-use Rattle.std.specs.List.{list_any}
-use Rattle.trace_reader.specs.declared.fault.TraceFault.{TraceFault}
-use Rattle.trace_reader.specs.TraceLine.{is_empty_word}
+use Rattle.std.specs.{List.{list_any}, Prelude.{◌≡◌, ℕ, List, ◌∷◌, Result, Ok, Bool}}
+use Rattle.trace_reader.specs.{TraceLine.{is_empty_word}, declared.fault.TraceFault.{TraceFault}}
 
 -- The first word spells this value, and the words after it are left.
 pub record IsRead {A : Type 0} (reading : List ℕ → Result A TraceFault) (old new : List (List ℕ)) (value : A) : Type 0 where

@@ -1,10 +1,8 @@
 -- The result of a call that reads, and the reader after it.
 use Rattle.std.specs.Prelude.{◌≡◌, ◌≢◌, ℕ, List, Result, Ok, Err, true}
 use Rattle.line_text.specs.Prefixes.{IsPrefix}
-use Rattle.trace_reader.specs.declared.fault.TraceError.{TraceError}
-use Rattle.trace_reader.specs.declared.fault.TraceError.TheVariants.{OutOfMemory}
-use Rattle.trace_reader.specs.Reading.{State, Reading, fed, is_open}
-use Rattle.trace_reader.specs.Reading.State.{Open, Failed, Finished}
+use Rattle.trace_reader.specs.{Reading.{State, Reading, fed, is_open}, Reading.State.{Open, Failed, Finished}}
+use Rattle.trace_reader.specs.declared.fault.{TraceError.{TraceError}, TraceError.TheVariants.{OutOfMemory}}
 
 -- What a call answers if this is the state after it: the error, if the reading has failed.
 abbrev pub answer_of : State → Result (Unit {0}) TraceError

@@ -1,14 +1,11 @@
 -- A trace that comes in pieces: what has been read of it, and what one more piece and its end make of that.
-use Rattle.std.specs.Prelude.{ℕ, suc, ◌+◌, Bool, true, false, List, [], ◌∷◌, ◌++◌, length, Option, Some, None, Result, Ok, Err, nat_lt, if◌then◌else◌, IfOk, ◌<◌, ⊤}
+use Rattle.std.specs.Prelude.{ℕ, suc, ◌+◌, Bool, true, false, List, [], ◌∷◌, ◌++◌, length, Option, Some, None, Result, Ok, Err, nat_lt}
+use Rattle.std.specs.Prelude.{if◌then◌else◌, IfOk, ◌<◌, ⊤}
 use Rattle.line_text.specs.Lines.{is_newline}
-use Rattle.trace_event.specs.declared.event.Event.{Event}
-use Rattle.trace_reader.specs.declared.fault.TraceError.{TraceError}
-use Rattle.trace_reader.specs.declared.fault.TraceError.TheVariants.{Line}
-use Rattle.trace_reader.specs.declared.fault.TraceFault.{TraceFault}
+use Rattle.trace_event.specs.{Ranges.{IsInRange}, declared.event.Event.{Event}}
+use Rattle.trace_reader.specs.{TraceLine.{event_of_line, longest_line, most_events}, TraceText.{Trace, no_lines, with_line, trace_from}}
+use Rattle.trace_reader.specs.declared.fault.{TraceError.{TraceError}, TraceError.TheVariants.{Line}, TraceFault.{TraceFault}}
 use Rattle.trace_reader.specs.declared.fault.TraceFault.TheVariants.{LineTooLong}
-use Rattle.trace_event.specs.Ranges.{IsInRange}
-use Rattle.trace_reader.specs.TraceLine.{event_of_line, longest_line, most_events}
-use Rattle.trace_reader.specs.TraceText.{Trace, no_lines, with_line, trace_from}
 
 -- ---- whole lines
 

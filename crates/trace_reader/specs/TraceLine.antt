@@ -1,19 +1,13 @@
 -- A line of a trace: how an event is spelled, and which event, or which fault, a line is.
-use Rattle.std.specs.Prelude.{ℕ, ℤ, nat_abs, ◌&&◌, List, [], ◌∷◌, ◌++◌, length, codes, Option, Some, None, Result, Ok, Err, nat_lt, nat_le, ◌==◌, if◌then◌else◌, Bool}
-use Rattle.std.specs.Fmt.{decimal, signed_decimal}
-use Rattle.std.specs.List.{list_any}
-use Rattle.std.specs.Str.{bytes_eq}
-use Rattle.line_text.specs.FirstFault.{◌>>=◌}
-use Rattle.line_text.specs.Lines.{words, line_of}
-use Rattle.line_text.specs.Numbers.{number_of}
-use Rattle.line_text.specs.Signed.{signed_of}
-use Rattle.line_text.specs.Hexadecimal.{hex_of, hex}
-use Rattle.trace_event.specs.declared.event.TheConstants.Event.{LAST_VARIABLE, LARGEST_REQUEST, LONGEST_ACCESS, FARTHEST_ACCESS, FARTHEST_MOVE, LARGEST_TAG_STEP}
-use Rattle.trace_event.specs.declared.event.Event.{Event}
-use Rattle.trace_event.specs.declared.event.Event.TheVariants.{Malloc, Calloc, Realloc, Free, Load, Store, Addg, Subg}
-use Rattle.trace_reader.specs.declared.fault.TraceFault.{TraceFault}
+use Rattle.std.specs.{Fmt.{decimal, signed_decimal}, List.{list_any}, Str.{bytes_eq}}
+use Rattle.std.specs.Prelude.{List, [], ◌∷◌, ◌++◌, length, codes, Option, Some, None, Result, Ok, Err, nat_lt, nat_le, ◌==◌, if◌then◌else◌}
+use Rattle.std.specs.Prelude.{Bool, ℕ, ℤ, nat_abs, ◌&&◌}
+use Rattle.line_text.specs.{FirstFault.{◌>>=◌}, Hexadecimal.{hex_of, hex}, Lines.{words, line_of}, Numbers.{number_of}, Signed.{signed_of}}
+use Rattle.trace_event.specs.declared.event.{Event.{Event}, Event.TheVariants.{Malloc, Calloc, Realloc, Free, Load, Store, Addg, Subg}}
+use Rattle.trace_event.specs.declared.event.TheConstants.Event.{LAST_VARIABLE, LARGEST_REQUEST, LONGEST_ACCESS, FARTHEST_ACCESS}
+use Rattle.trace_event.specs.declared.event.TheConstants.Event.{FARTHEST_MOVE, LARGEST_TAG_STEP}
+use Rattle.trace_reader.specs.declared.{fault.TraceFault.{TraceFault}, line.TheConstants.{LONGEST_LINE, MOST_EVENTS}}
 use Rattle.trace_reader.specs.declared.fault.TraceFault.TheVariants.{BadWord, BadNumber, OutOfRange, LineTooLong, TooManyEvents}
-use Rattle.trace_reader.specs.declared.line.TheConstants.{LONGEST_LINE, MOST_EVENTS}
 
 -- The most bytes of a line, without its newline.
 abbrev pub longest_line : ℕ

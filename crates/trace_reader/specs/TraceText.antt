@@ -1,10 +1,8 @@
 -- A trace's text: a line for each event.
 use Rattle.std.specs.Prelude.{◌≤◌, ℕ, suc, List, [], ◌∷◌, length, map, Option, Some, None, Result, Ok, Err, All}
 use Rattle.line_text.specs.Lines.{IsTextOf, lines}
-use Rattle.trace_event.specs.declared.event.Event.{Event}
-use Rattle.trace_reader.specs.declared.fault.TraceFault.{TraceFault}
-use Rattle.trace_event.specs.Ranges.{IsInRange}
-use Rattle.trace_reader.specs.TraceLine.{event_line, event_of_line, most_events}
+use Rattle.trace_event.specs.{Ranges.{IsInRange}, declared.event.Event.{Event}}
+use Rattle.trace_reader.specs.{TraceLine.{event_line, event_of_line, most_events}, declared.fault.TraceFault.{TraceFault}}
 
 -- ---- the spelling
 

@@ -1,14 +1,9 @@
 -- Valid potentials bound what every table costs from below.
-use Rattle.std.proofs.Common.{◌≡◌, ℕ, zero, suc, ◌+◌, ◌<◌, ◌≤◌, List, [], ◌∷◌, length, arith, ap, inl, inr}
-use Rattle.std.proofs.lemmas.Bool.{cases_lt}
+use Rattle.std.proofs.{Common.{◌≡◌, ℕ, zero, suc, ◌+◌, ◌<◌, ◌≤◌, List, [], ◌∷◌, length, arith, ap, inl, inr}, lemmas.Bool.{cases_lt}}
 use Rattle.class_table.proofs.LawLemmas.{AreClassesAbove, classes_of_legal_table}
-use Rattle.tuner_theory.specs.Best.{IsCandidate}
-use Rattle.tuner_theory.specs.Intervals.{IsIntervalCost, IsSumOfIntervals, cost_above, span_cost}
-use Rattle.tuner_theory.specs.Potentials.{AreValidPotentials}
-use Rattle.tuner_theory.specs.Spans.{places}
-use Rattle.tuner_theory.proofs.Needs.{Reaches, reach, reach-one}
-use Rattle.tuner_theory.proofs.Intervals.{span-least}
-use Rattle.tuner_theory.proofs.Tables.{ServesAbove, ServesAbove-later, nothing-left}
+use Rattle.tuner_theory.{proofs.Intervals.{span-least}, proofs.Needs.{Reaches, reach, reach-one}, specs.Best.{IsCandidate}}
+use Rattle.tuner_theory.{proofs.Tables.{ServesAbove, ServesAbove-later, nothing-left}, specs.Potentials.{AreValidPotentials}}
+use Rattle.tuner_theory.specs.{Intervals.{IsIntervalCost, IsSumOfIntervals, cost_above, span_cost}, Spans.{places}}
 
 module _ (cost : ℕ → ℕ → ℕ) (d limit : ℕ) (potential : ℕ → ℕ → ℕ) (valid : AreValidPotentials cost d limit potential) where
   -- one class more, in numbers: the class reaches from place i to place j, and the classes after it cost at least the rest

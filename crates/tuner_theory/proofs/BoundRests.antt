@@ -1,19 +1,13 @@
 -- Valid potentials bound what every rest costs from below: what is counted above any place.
-use Rattle.std.proofs.Common.{◌≡◌, ℕ, zero, suc, ◌+◌, ◌*◌, ◌<◌, ◌≤◌, ◌%◌, max, List, [], ◌∷◌, length, slice_index, cond, ltb, leb, Option, arith, refl, ap, sym, subst, ◌∙◌, inl, inr, IsSome}
+use Rattle.std.proofs.Common.{◌≡◌, ℕ, zero, suc, ◌+◌, ◌*◌, ◌<◌, ◌≤◌, ◌%◌, max, List, [], ◌∷◌, length, slice_index, cond, ltb, leb, Option}
+use Rattle.std.proofs.Common.{arith, refl, ap, sym, subst, ◌∙◌, inl, inr, IsSome}
 use Rattle.std.proofs.lemmas.Bool.{cases_lt, cond_both, cond-false, le-ltb, lt-leb}
 use Rattle.class_table.proofs.LawLemmas.{AreClassesAbove, classes_of_legal_table}
-use Rattle.tuner_theory.specs.Best.{IsCandidate}
-use Rattle.tuner_theory.specs.Intervals.{IsIntervalCost, cost_above, span_cost}
-use Rattle.tuner_theory.specs.Potentials.{AreValidPotentials}
-use Rattle.tuner_theory.specs.Rests.{counts_above, counts_above_from}
+use Rattle.tuner_theory.proofs.{Bound.{bound}, Needs.{Reaches, place_is_counted, places_ascend}, Rounding.{rounded-positive}}
+use Rattle.tuner_theory.proofs.{Sums.{sum_same}, Tables.{ServesAbove, class_for-later, waste_above, waste_above-costs}}
+use Rattle.tuner_theory.specs.{Best.{IsCandidate}, Intervals.{IsIntervalCost, cost_above, span_cost}, Potentials.{AreValidPotentials}}
+use Rattle.tuner_theory.specs.{Profiles.{IsCounted}, Rests.{counts_above, counts_above_from}, Waste.{sum_below, waste_at, waste_of}}
 use Rattle.tuner_theory.specs.Spans.{need_at, places, rounded_need, waste_between}
-use Rattle.tuner_theory.specs.Profiles.{IsCounted}
-use Rattle.tuner_theory.specs.Waste.{sum_below, waste_at, waste_of}
-use Rattle.tuner_theory.proofs.Bound.{bound}
-use Rattle.tuner_theory.proofs.Needs.{Reaches, place_is_counted, places_ascend}
-use Rattle.tuner_theory.proofs.Rounding.{rounded-positive}
-use Rattle.tuner_theory.proofs.Sums.{sum_same}
-use Rattle.tuner_theory.proofs.Tables.{ServesAbove, class_for-later, waste_above, waste_above-costs}
 
 -- ---- the counts above a need
 

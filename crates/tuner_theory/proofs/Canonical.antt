@@ -1,24 +1,16 @@
 -- The table that least rows give is best, and of the best tables whose every class is used the lexicographically least.
-use Rattle.std.proofs.Common.{◌≡◌, ℕ, zero, suc, ◌<◌, ◌≤◌, List, [], ◌∷◌, length, slice_index, ltb, Some, arith, refl, ap, sym, subst, ◌∙◌, inl, inr, All}
-use Rattle.std.specs.Bool.{⊤}
-use Rattle.std.proofs.lemmas.Bool.{cases_lt, cond_both, ltb-true}
-use Rattle.std.proofs.lemmas.List.{get_or_default}
-use Rattle.std.proofs.lemmas.Option.{same_Some}
-use Rattle.class_table.specs.Tables.{class_for}
+use Rattle.std.proofs.Common.{◌≡◌, ℕ, zero, suc, ◌<◌, ◌≤◌, List, [], ◌∷◌, length, slice_index, ltb, Some, arith, refl, ap, sym, subst, ◌∙◌}
+use Rattle.std.proofs.{Common.{inl, inr, All}, lemmas.Bool.{cases_lt, cond_both, ltb-true}, lemmas.List.{get_or_default}}
+use Rattle.std.{proofs.lemmas.Option.{same_Some}, specs.Bool.{⊤}}
 use Rattle.class_table.proofs.LawLemmas.{AreClassesAbove, class_above, classes_of_legal_table, legal_table_of_classes}
-use Rattle.tuner_theory.specs.Best.{IsBestBy, IsCandidate, IsCanonicalBy, IsLexicographicallyAtMost, IsUsed}
-use Rattle.tuner_theory.specs.Intervals.{IsIntervalCost, IsSumOfIntervals, cost_above, span_cost}
-use Rattle.tuner_theory.specs.Tuned.{AreRowsBy, tuned_table}
-use Rattle.tuner_theory.specs.Rows.{AreLeastRows, table_of_ends}
-use Rattle.tuner_theory.specs.Spans.{need_at, places, rounded_need}
-use Rattle.tuner_theory.specs.Profiles.{IsCounted}
-use Rattle.tuner_theory.proofs.Bound.{bound, potentials_bound_costs}
-use Rattle.tuner_theory.proofs.Intervals.{span-least}
-use Rattle.tuner_theory.proofs.LeastRows.{ends_are_later, least_rows_are_valid}
+use Rattle.class_table.specs.Tables.{class_for}
+use Rattle.tuner_theory.proofs.{Bound.{bound, potentials_bound_costs}, Intervals.{span-least}, Rounding.{rounded-positive, step-positive}}
+use Rattle.tuner_theory.proofs.{LeastRows.{ends_are_later, least_rows_are_valid}, TunedTable.{IsTableFor, next-above, table-tuned}}
 use Rattle.tuner_theory.proofs.Needs.{Reaches, place_is_counted, places_ascend, reach, reach-at, reach-covers, reach-one}
-use Rattle.tuner_theory.proofs.Rounding.{rounded-positive, step-positive}
 use Rattle.tuner_theory.proofs.Tables.{ServesAbove, ServesAbove-later, class_for-first, class_for-later, nothing-left}
-use Rattle.tuner_theory.proofs.TunedTable.{IsTableFor, next-above, table-tuned}
+use Rattle.tuner_theory.specs.{Best.{IsBestBy, IsCandidate, IsCanonicalBy, IsLexicographicallyAtMost, IsUsed}, Profiles.{IsCounted}}
+use Rattle.tuner_theory.specs.{Intervals.{IsIntervalCost, IsSumOfIntervals, cost_above, span_cost}, Rows.{AreLeastRows, table_of_ends}}
+use Rattle.tuner_theory.specs.{Spans.{need_at, places, rounded_need}, Tuned.{AreRowsBy, tuned_table}}
 
 -- ---- used classes
 

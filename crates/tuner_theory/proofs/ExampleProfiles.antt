@@ -1,11 +1,8 @@
 -- The definitions of needs, wastes and steps at small profiles.
 use Rattle.std.proofs.Common.{◌≡◌, ℕ, List, [], ◌∷◌, ◌++◌, replicate, refl, arith, inl}
-use Rattle.tuner_theory.specs.Best.{IsLexicographicallyAtMost}
-use Rattle.tuner_theory.specs.Rests.{counts_above}
-use Rattle.tuner_theory.specs.Rows.{table_of_ends, number_at}
-use Rattle.tuner_theory.specs.Spans.{distinct_needs, need_at, places, span_waste}
+use Rattle.tuner_theory.specs.{Best.{IsLexicographicallyAtMost}, Rests.{counts_above}, Rows.{table_of_ends, number_at}}
+use Rattle.tuner_theory.specs.{Spans.{distinct_needs, need_at, places, span_waste}, Waste.{sum_below, waste_of}}
 use Rattle.class_table.specs.Steps.{round_up}
-use Rattle.tuner_theory.specs.Waste.{sum_below, waste_of}
 
 -- three requests of 16 bytes and one of 40
 abbrev pub two_sizes : List ℕ

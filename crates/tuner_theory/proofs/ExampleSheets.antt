@@ -1,11 +1,8 @@
 -- The conditions on a sheet at small sheets for the profile of three requests of 16 bytes and one of 40.
-use Rattle.std.proofs.Common.{ℕ, false, List, [], ◌∷◌, arith}
-use Rattle.std.proofs.lemmas.Bool.{false≢true}
-use Rattle.tuner_theory.specs.Sheets.{IsVerdict, Meets, Sheet}
-use Rattle.tuner_theory.specs.Waste.{sum_below}
-use Rattle.tuner_theory.specs.declared.verdict.Refusal.TheVariants.{OffStep, OverLimit, NotServing, WasteWrong, Shape, LastClass, StageDrop, Edge, NotTight}
-use Rattle.tuner_theory.specs.declared.verdict.Verdict.TheVariants.{Optimal}
-use Rattle.tuner_theory.proofs.ExampleProfiles.{two_sizes}
+use Rattle.std.proofs.{Common.{ℕ, false, List, [], ◌∷◌, arith}, lemmas.Bool.{false≢true}}
+use Rattle.tuner_theory.{proofs.ExampleProfiles.{two_sizes}, specs.Sheets.{IsVerdict, Meets, Sheet}, specs.Waste.{sum_below}}
+use Rattle.tuner_theory.specs.declared.verdict.Refusal.TheVariants.{OffStep, OverLimit, NotServing, WasteWrong, Shape, LastClass, StageDrop}
+use Rattle.tuner_theory.specs.declared.verdict.{Refusal.TheVariants.{Edge, NotTight}, Verdict.TheVariants.{Optimal}}
 
 -- a sheet for step 1, with two rows of two numbers
 abbrev sheet_of : List ℕ → ℕ → ℕ → List ℕ → List ℕ → Sheet

@@ -1,24 +1,14 @@
 -- The footprint is the sum of the intervals of its classes.
-use Rattle.std.proofs.Common.{◌≡◌, ℕ, zero, suc, ◌+◌, ◌*◌, ◌%◌, ◌<◌, ◌≤◌, ◌&&◌, Bool, true, false, List, [], ◌∷◌, length, slice_index, get_or, cond, ltb, leb, eqb, Option, arith, refl, ap, ◌∙◌, inl, inr, All, sum_by}
-use Rattle.std.specs.Option.{option_map_or}
-use Rattle.std.proofs.lemmas.Bool.{cases_lt, cond_both}
-use Rattle.std.proofs.lemmas.Bool.Decides.{nat_tests}
-use Rattle.std.proofs.lemmas.List.FromFn.{get_or-map-range_with_len, length-map-range_with_len}
-use Rattle.std.proofs.lemmas.List.Sums.{sum_by-cons}
-use Rattle.std.proofs.Math.Nat.{mul-le-mul}
-use Rattle.class_table.specs.Sizes.{largest_counted}
-use Rattle.class_table.proofs.LawLemmas.{AreClassesAbove, classes_of_legal_table}
-use Rattle.tuner_theory.specs.Footprint.{blocks, blocks_between, footprint_between, footprint_of, is_class_of}
-use Rattle.tuner_theory.specs.Histories.{AreSnapshots, most, peaks}
-use Rattle.tuner_theory.specs.Intervals.{IsIntervalCost, IsSumOfIntervals, cost_above}
-use Rattle.tuner_theory.specs.Profiles.{IsCounted}
-use Rattle.tuner_theory.specs.Served.{served}
-use Rattle.tuner_theory.specs.Spans.{rounded_need}
+use Rattle.std.proofs.Common.{◌≡◌, ℕ, zero, suc, ◌+◌, ◌*◌, ◌%◌, ◌<◌, ◌≤◌, ◌&&◌, Bool, true, false, List, [], ◌∷◌, length, slice_index}
+use Rattle.std.proofs.{Common.{get_or, cond, ltb, leb, eqb, Option, arith, refl, ap, ◌∙◌, inl, inr, All, sum_by}, Math.Nat.{mul-le-mul}}
+use Rattle.std.proofs.lemmas.{Bool.{cases_lt, cond_both}, Bool.Decides.{nat_tests}, List.Sums.{sum_by-cons}}
+use Rattle.std.{proofs.lemmas.List.FromFn.{get_or-map-range_with_len, length-map-range_with_len}, specs.Option.{option_map_or}}
+use Rattle.class_table.{proofs.LawLemmas.{AreClassesAbove, classes_of_legal_table}, specs.Sizes.{largest_counted}}
+use Rattle.tuner_theory.proofs.{Rounding.{rounded-positive}, Served.{counted-served, interval-more}, Sums.{sum_at_most, sum_same}}
+use Rattle.tuner_theory.{proofs.Tables.{class_for-first, class_for-later, cost-at_one}, specs.Histories.{AreSnapshots, most, peaks}}
+use Rattle.tuner_theory.specs.{Footprint.{blocks, blocks_between, footprint_between, footprint_of, is_class_of}, Profiles.{IsCounted}}
+use Rattle.tuner_theory.specs.{Intervals.{IsIntervalCost, IsSumOfIntervals, cost_above}, Served.{served}, Spans.{rounded_need}}
 use Rattle.tuner_theory.specs.Waste.{sum_below}
-use Rattle.tuner_theory.proofs.Rounding.{rounded-positive}
-use Rattle.tuner_theory.proofs.Served.{counted-served, interval-more}
-use Rattle.tuner_theory.proofs.Sums.{sum_at_most, sum_same}
-use Rattle.tuner_theory.proofs.Tables.{class_for-first, class_for-later, cost-at_one}
 
 -- ---- the most over snapshots
 

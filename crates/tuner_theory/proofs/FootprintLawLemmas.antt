@@ -1,35 +1,20 @@
 -- What holds of footprints: how large they are, what one snapshot makes of them, and what larger histories do.
-use Rattle.std.proofs.Common.{◌≡◌, ℕ, zero, suc, ◌+◌, ◌*◌, ◌^◌, ◌<◌, ◌≤◌, ◌&&◌, Bool, true, false, List, [], ◌∷◌, length, slice_index, get_or, cond, ltb, leb, arith, refl, ap, sym, subst, ◌∙◌, inl, inr, All, sum_by}
+use Rattle.std.proofs.Common.{◌≡◌, ℕ, zero, suc, ◌+◌, ◌*◌, ◌^◌, ◌<◌, ◌≤◌, ◌&&◌, Bool, true, false, List, [], ◌∷◌, length, slice_index}
+use Rattle.std.proofs.{Common.{get_or, cond, ltb, leb, arith, refl, ap, sym, subst, ◌∙◌, inl, inr, All, sum_by}, lemmas.List.{ext_get_or}}
+use Rattle.std.proofs.{Math.Nat.{le-max_right, mul-le-mul, mul-le-mul_left, mul-le-mul_right}, lemmas.Bool.Decides.{nat_tests}}
+use Rattle.std.proofs.lemmas.{Bool.{cases_lt, cond-false, cond-true, false≢true, le-leb, le-ltb, lt-ltb}, List.Sums.{sum_by-cons}}
 use Rattle.std.specs.List.{AllZip}
-use Rattle.std.proofs.lemmas.Bool.{cases_lt, cond-false, cond-true, false≢true, le-leb, le-ltb, lt-ltb}
-use Rattle.std.proofs.lemmas.Bool.Decides.{nat_tests}
-use Rattle.std.proofs.lemmas.List.{ext_get_or}
-use Rattle.std.proofs.lemmas.List.Sums.{sum_by-cons}
-use Rattle.std.proofs.Math.Nat.{le-max_right, mul-le-mul, mul-le-mul_left, mul-le-mul_right}
-use Rattle.class_table.specs.Sizes.{granule_bytes, largest_counted, loss_of}
-use Rattle.class_table.specs.Steps.{IsStep}
-use Rattle.class_table.specs.Tables.{IsLegalTable}
-use Rattle.class_table.specs.declared.sizes.TheConstants.{LARGEST_CLASS}
-use Rattle.class_table.proofs.LawLemmas.{AreClassesAbove, classes_of_legal_table}
-use Rattle.tuner_theory.specs.Best.{IsCandidate, IsCanonical, IsCanonicalBy}
+use Rattle.class_table.{proofs.LawLemmas.{AreClassesAbove, classes_of_legal_table}, specs.Sizes.{granule_bytes, largest_counted, loss_of}}
+use Rattle.class_table.specs.{Steps.{IsStep}, Tables.{IsLegalTable}, declared.sizes.TheConstants.{LARGEST_CLASS}}
+use Rattle.tuner_theory.proofs.{Footprint.{footprint-above, footprint-all, footprint_is_sum, peak-at, peaks-length}, Needs.{place_is_class}}
+use Rattle.tuner_theory.proofs.{Rounding.{rounded-fits, rounded-positive, step-positive}, Served.{counted-served, served_waste}}
+use Rattle.tuner_theory.proofs.{Sheets.{optimal-best_by}, Spans.{count-small}, Tables.{ServesAbove, ServesAbove-later, waste-sum}}
+use Rattle.tuner_theory.{proofs.Sums.{sum_at_most, sum_balance, sum_bounded, sum_none, sum_same, sum_split}, specs.Measures.{footprint_on}}
+use Rattle.tuner_theory.specs.{Best.{IsCandidate, IsCanonical, IsCanonicalBy}, Histories.{AreSnapshots, most, peaks}, Served.{served}}
 use Rattle.tuner_theory.specs.Footprint.{IsFitted, IsLeastFootprint, blocks, blocks_between, footprint_between, footprint_of}
-use Rattle.tuner_theory.specs.Histories.{AreSnapshots, most, peaks}
-use Rattle.tuner_theory.specs.Intervals.{cost_above, span_cost}
-use Rattle.tuner_theory.specs.Measures.{footprint_on}
-use Rattle.tuner_theory.specs.Profiles.{AreCounts, greatest_count}
-use Rattle.tuner_theory.specs.Served.{served}
-use Rattle.tuner_theory.specs.Sheets.{IsFitVerdict, Sheet}
-use Rattle.tuner_theory.specs.Spans.{need_at, places, rounded_need, waste_between}
-use Rattle.tuner_theory.specs.Waste.{Serves, sum_below, waste_of}
+use Rattle.tuner_theory.specs.{Intervals.{cost_above, span_cost}, Profiles.{AreCounts, greatest_count}, Sheets.{IsFitVerdict, Sheet}}
+use Rattle.tuner_theory.specs.{Spans.{need_at, places, rounded_need, waste_between}, Waste.{Serves, sum_below, waste_of}}
 use Rattle.tuner_theory.specs.declared.verdict.Verdict.TheVariants.{Optimal}
-use Rattle.tuner_theory.proofs.Footprint.{footprint-above, footprint-all, footprint_is_sum, peak-at, peaks-length}
-use Rattle.tuner_theory.proofs.Needs.{place_is_class}
-use Rattle.tuner_theory.proofs.Rounding.{rounded-fits, rounded-positive, step-positive}
-use Rattle.tuner_theory.proofs.Served.{counted-served, served_waste}
-use Rattle.tuner_theory.proofs.Sheets.{optimal-best_by}
-use Rattle.tuner_theory.proofs.Spans.{count-small}
-use Rattle.tuner_theory.proofs.Sums.{sum_at_most, sum_balance, sum_bounded, sum_none, sum_same, sum_split}
-use Rattle.tuner_theory.proofs.Tables.{ServesAbove, ServesAbove-later, waste-sum}
 
 -- A fit that meets all conditions, and whose table is legal, has a table of least footprint, whoever wrote it.
 pub optimal_fit_is_least : (snapshots : List (List ℕ)) (fit : Sheet) → AreSnapshots snapshots → IsLegalTable 1 fit.table

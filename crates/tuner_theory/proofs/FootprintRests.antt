@@ -1,22 +1,14 @@
 -- The numbers of a fit's rows are the least footprints of what is left above each place.
-use Rattle.std.proofs.Common.{◌≡◌, ℕ, ◌*◌, ◌%◌, ◌<◌, ◌≤◌, max, Bool, false, List, [], ◌∷◌, length, map, slice_index, cond, ltb, leb, arith, refl, ap, sym, ◌∙◌}
-use Rattle.std.proofs.lemmas.Bool.Decides.{nat_tests}
-use Rattle.std.proofs.lemmas.List.Sums.{sum_by-cons}
+use Rattle.std.proofs.Common.{◌≡◌, ℕ, ◌*◌, ◌%◌, ◌<◌, ◌≤◌, max, Bool, false, List, [], ◌∷◌, length, map, slice_index, cond, ltb, leb, arith}
+use Rattle.std.proofs.{Common.{refl, ap, sym, ◌∙◌}, lemmas.Bool.Decides.{nat_tests}, lemmas.List.Sums.{sum_by-cons}}
 use Rattle.class_table.proofs.LawLemmas.{AreClassesAbove}
-use Rattle.tuner_theory.specs.Footprint.{blocks, footprint_between, footprint_of, is_class_of}
-use Rattle.tuner_theory.specs.Histories.{AreSnapshots, most, peaks}
-use Rattle.tuner_theory.specs.Intervals.{cost_above}
-use Rattle.tuner_theory.specs.Rests.{IsFootprintRest, counts_above, counts_above_from, snapshots_above}
-use Rattle.tuner_theory.specs.Served.{served}
+use Rattle.tuner_theory.proofs.{BoundRests.{IsRestCost, counted-above, counted-to, left-above, length-above}, Rests.{rows_are_rests}}
+use Rattle.tuner_theory.proofs.Footprint.{no-class, sum-later, blocks_above, footprint-above, footprint-cost_on, footprint_above, later-is}
+use Rattle.tuner_theory.proofs.{Footprint.{most-same}, Rounding.{rounded-positive, step-positive}, Served.{counted-served}}
+use Rattle.tuner_theory.{proofs.Sums.{sum_none, sum_same}, specs.Footprint.{blocks, footprint_between, footprint_of, is_class_of}}
+use Rattle.tuner_theory.specs.{Histories.{AreSnapshots, most, peaks}, Intervals.{cost_above}, Served.{served}, Tuned.{AreFittedRows}}
+use Rattle.tuner_theory.specs.{Rests.{IsFootprintRest, counts_above, counts_above_from, snapshots_above}, Waste.{sum_below}}
 use Rattle.tuner_theory.specs.Spans.{need_at, places, rounded_need}
-use Rattle.tuner_theory.specs.Tuned.{AreFittedRows}
-use Rattle.tuner_theory.specs.Waste.{sum_below}
-use Rattle.tuner_theory.proofs.BoundRests.{IsRestCost, counted-above, counted-to, left-above, length-above}
-use Rattle.tuner_theory.proofs.Footprint.{blocks_above, footprint-above, footprint-cost_on, footprint_above, later-is, most-same, no-class, sum-later}
-use Rattle.tuner_theory.proofs.Rests.{rows_are_rests}
-use Rattle.tuner_theory.proofs.Rounding.{rounded-positive, step-positive}
-use Rattle.tuner_theory.proofs.Served.{counted-served}
-use Rattle.tuner_theory.proofs.Sums.{sum_none, sum_same}
 
 most-map : (f : List ℕ → ℕ) (g : List ℕ → List ℕ) (snapshots : List (List ℕ)) → most f (map g snapshots) ≡ most (λ s. f (g s)) snapshots
 most-map f g [] = refl

@@ -1,18 +1,10 @@
 -- A certificate with a forced class that meets all conditions has the best of the tables with that class.
 use Rattle.std.proofs.Common.{◌≡◌, ℕ, true, List, Bool, refl, subst}
 use Rattle.class_table.specs.Tables.{IsLegalTable}
-use Rattle.tuner_theory.specs.Best.{IsBestBy}
-use Rattle.tuner_theory.specs.Footprint.{IsLeastFootprint, footprint_of}
-use Rattle.tuner_theory.specs.Forced.{IsBestWithLargest}
-use Rattle.tuner_theory.specs.Histories.{AreSnapshots, peaks}
-use Rattle.tuner_theory.specs.Profiles.{AreCounts}
-use Rattle.tuner_theory.specs.Served.{served}
-use Rattle.tuner_theory.specs.Sheets.{IsFitVerdict, IsVerdict, Sheet}
-use Rattle.tuner_theory.specs.Waste.{waste_of}
-use Rattle.tuner_theory.specs.declared.verdict.Verdict.TheVariants.{Optimal}
-use Rattle.tuner_theory.proofs.FootprintLawLemmas.{optimal_fit_is_least, peaks_are_counts}
-use Rattle.tuner_theory.proofs.Served.{best_with_largest, served_waste}
-use Rattle.tuner_theory.proofs.Sheets.{optimal_is_best}
+use Rattle.tuner_theory.proofs.{FootprintLawLemmas.{optimal_fit_is_least, peaks_are_counts}, Served.{best_with_largest, served_waste}}
+use Rattle.tuner_theory.{proofs.Sheets.{optimal_is_best}, specs.Best.{IsBestBy}, specs.Footprint.{IsLeastFootprint, footprint_of}}
+use Rattle.tuner_theory.specs.{Forced.{IsBestWithLargest}, Histories.{AreSnapshots, peaks}, Profiles.{AreCounts}, Served.{served}}
+use Rattle.tuner_theory.specs.{Sheets.{IsFitVerdict, IsVerdict, Sheet}, Waste.{waste_of}, declared.verdict.Verdict.TheVariants.{Optimal}}
 
 pub forced_sheet_is_best : (counts : List ℕ) (sheet : Sheet) → AreCounts counts → IsLegalTable 1 sheet.table → sheet.forced ≡ true
     → IsVerdict counts sheet Optimal → IsBestWithLargest (waste_of counts) counts sheet.step sheet.limit sheet.table

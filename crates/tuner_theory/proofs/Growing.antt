@@ -1,15 +1,9 @@
 -- Costs of intervals grow with their spans.
 use Rattle.std.proofs.Common.{ℕ, ◌<◌, List, arith}
 use Rattle.class_table.specs.Steps.{IsStep}
-use Rattle.tuner_theory.specs.Footprint.{footprint_between}
-use Rattle.tuner_theory.specs.Growing.{IsGrowing}
-use Rattle.tuner_theory.specs.Histories.{AreSnapshots, peaks}
-use Rattle.tuner_theory.specs.Intervals.{IsIntervalCost, span_cost}
-use Rattle.tuner_theory.specs.Profiles.{IsCounted}
-use Rattle.tuner_theory.specs.Spans.{need_at, places}
-use Rattle.tuner_theory.proofs.Footprint.{footprint-cost_on}
-use Rattle.tuner_theory.proofs.Needs.{need_at-mono}
-use Rattle.tuner_theory.proofs.Rounding.{step-positive}
+use Rattle.tuner_theory.proofs.{Footprint.{footprint-cost_on}, Needs.{need_at-mono}, Rounding.{step-positive}}
+use Rattle.tuner_theory.specs.{Footprint.{footprint_between}, Growing.{IsGrowing}, Histories.{AreSnapshots, peaks}, Profiles.{IsCounted}}
+use Rattle.tuner_theory.specs.{Intervals.{IsIntervalCost, span_cost}, Spans.{need_at, places}}
 
 pub spans_grow : (counts : List ℕ) (step : ℕ) → 0 < step → (between : ℕ → ℕ → ℕ) → IsIntervalCost counts step between
     → IsGrowing (span_cost between counts step) (places counts step)

@@ -1,9 +1,7 @@
 -- A cost of intervals between places.
-use Rattle.std.proofs.Common.{◌≡◌, ℕ, ◌<◌, ◌≤◌, List, arith}
-use Rattle.std.proofs.lemmas.Bool.{cases_lt}
-use Rattle.tuner_theory.specs.Intervals.{IsIntervalCost, span_cost}
+use Rattle.std.proofs.{Common.{◌≡◌, ℕ, ◌<◌, ◌≤◌, List, arith}, lemmas.Bool.{cases_lt}}
+use Rattle.tuner_theory.{proofs.Needs.{Reaches, reach-at, reach-covers}, specs.Intervals.{IsIntervalCost, span_cost}}
 use Rattle.tuner_theory.specs.Spans.{need_at, places}
-use Rattle.tuner_theory.proofs.Needs.{Reaches, reach-at, reach-covers}
 
 module _ (counts : List ℕ) (step : ℕ) (pos : 0 < step) (between : ℕ → ℕ → ℕ) (cost : IsIntervalCost counts step between) where
   -- a class c after low costs at least what the span of the places between them does,

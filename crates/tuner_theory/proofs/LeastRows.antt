@@ -1,10 +1,8 @@
 -- Least rows: their ends are after their places, and ascend where spans cross; their numbers are valid potentials, and there is one row of
 -- them for each number of classes.
 use Rattle.std.proofs.Common.{◌≡◌, ℕ, zero, suc, ◌+◌, ◌-◌, ◌<◌, ◌≤◌, List, [], length, slice_index_or, arith, ap, sym, ◌∙◌, inl, inr}
-use Rattle.std.proofs.lemmas.List.{ext_get_or}
-use Rattle.std.proofs.lemmas.Bool.{cases_lt}
-use Rattle.tuner_theory.specs.Potentials.{AreValidPotentials}
-use Rattle.tuner_theory.specs.Rows.{AreLaterEnds, AreLeastRows, HasShape, IsLeastEnd, number_at}
+use Rattle.std.proofs.lemmas.{Bool.{cases_lt}, List.{ext_get_or}}
+use Rattle.tuner_theory.specs.{Potentials.{AreValidPotentials}, Rows.{AreLaterEnds, AreLeastRows, HasShape, IsLeastEnd, number_at}}
 use Rattle.tuner_theory.specs.Spans.{IsCrossing}
 
 pub ends_ascend : (cost : ℕ → ℕ → ℕ) (before : ℕ → ℕ) (d i j e f : ℕ) → IsCrossing cost d → i ≤ j

@@ -1,8 +1,6 @@
 -- Vectors of vectors, and their rows.
-use Rattle.std.proofs.Common.{◌≡◌, ℕ, ◌<◌, List, [], length, slice_index_or, slice_set, arith, ap, ◌∙◌, Vec}
-use Rattle.std.specs.Vec.{with_item}
-use Rattle.std.specs.declared.alloc.Global.{Global}
-use Rattle.std.proofs.lemmas.List.{get_or-map, length-map, map-set}
+use Rattle.std.{proofs.Common.{◌≡◌, ℕ, ◌<◌, List, [], length, slice_index_or, slice_set, arith, ap, ◌∙◌, Vec}, specs.Vec.{with_item}}
+use Rattle.std.{proofs.lemmas.List.{get_or-map, length-map, map-set}, specs.declared.alloc.Global.{Global}}
 use Rattle.tuner_theory.specs.Lists.{lists_of}
 
 pub lists-length : (vectors : List (Vec ℕ Global)) → length (lists_of vectors) ≡ length vectors

@@ -1,13 +1,11 @@
 -- The distinct needs: they ascend, each is the need of a counted size, and each counted size has its need among them.
-use Rattle.std.proofs.Common.{◌≡◌, ℕ, zero, suc, ◌+◌, ◌%◌, ◌<◌, ◌≤◌, List, [], ◌∷◌, length, slice_index, eqb, ltb, arith, refl, sym, subst, ap, ◌∙◌, inl, inr, ◌⊎◌}
+use Rattle.std.proofs.Common.{◌≡◌, ℕ, zero, suc, ◌+◌, ◌%◌, ◌<◌, ◌≤◌, List, [], ◌∷◌, length, slice_index, eqb, ltb, arith, refl, sym, subst}
+use Rattle.std.proofs.{Common.{ap, ◌∙◌, inl, inr, ◌⊎◌}, lemmas.Bool.{cond_both, eqb-true, eqb-false, ltb-true, cases_lt, lt-ltb}}
 use Rattle.std.specs.Bool.{⊤}
-use Rattle.std.proofs.lemmas.Bool.{cond_both, eqb-true, eqb-false, ltb-true, cases_lt, lt-ltb}
-use Rattle.tuner_theory.specs.Spans.{with_need, needs_below, distinct_needs, places, need_at, rounded_need}
-use Rattle.class_table.specs.Steps.{IsStep}
-use Rattle.class_table.specs.Sizes.{IsBlockSize, largest_counted}
-use Rattle.class_table.specs.declared.sizes.TheConstants.{MOST_NEEDS}
-use Rattle.tuner_theory.specs.Profiles.{AreCounts, IsCounted}
 use Rattle.tuner_theory.proofs.Rounding.{rounded-mono, rounded-multiple, rounded-positive, rounded-small, step-positive}
+use Rattle.tuner_theory.specs.Profiles.{AreCounts, IsCounted}
+use Rattle.tuner_theory.specs.Spans.{with_need, needs_below, distinct_needs, places, need_at, rounded_need}
+use Rattle.class_table.specs.{Sizes.{IsBlockSize, largest_counted}, Steps.{IsStep}, declared.sizes.TheConstants.{MOST_NEEDS}}
 
 -- ---- lists that ascend
 

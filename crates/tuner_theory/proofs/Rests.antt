@@ -1,18 +1,11 @@
 -- The numbers of least rows are the least rests, by any cost that is a sum of intervals.
 use Rattle.std.proofs.Common.{◌≡◌, ℕ, zero, suc, ◌<◌, ◌≤◌, max, List, arith}
-use Rattle.tuner_theory.specs.Intervals.{IsIntervalCost}
-use Rattle.tuner_theory.specs.Rests.{IsRest, IsRestBy, counts_above}
-use Rattle.tuner_theory.specs.Rows.{table_of_ends}
-use Rattle.tuner_theory.specs.Tuned.{AreRowsBy, AreTunedRows}
-use Rattle.tuner_theory.specs.Spans.{need_at, places, rounded_need, waste_between}
-use Rattle.tuner_theory.specs.Waste.{waste_of}
+use Rattle.tuner_theory.proofs.{BoundRests.{IsRestCost, reach-low, rests-bound, waste-rest}, LeastRows.{least_rows_are_valid}}
+use Rattle.tuner_theory.proofs.{Needs.{Reaches}, Rounding.{rounded-positive, step-positive}, Tables.{waste-cost}}
+use Rattle.tuner_theory.{proofs.TunedTable.{IsTableFor, table-tuned}, specs.Intervals.{IsIntervalCost}, specs.Rows.{table_of_ends}}
+use Rattle.tuner_theory.specs.{Rests.{IsRest, IsRestBy, counts_above}, Spans.{need_at, places, rounded_need, waste_between}}
+use Rattle.tuner_theory.specs.{Tuned.{AreRowsBy, AreTunedRows}, Waste.{waste_of}}
 use Rattle.class_table.proofs.LawLemmas.{legal_table_of_classes}
-use Rattle.tuner_theory.proofs.BoundRests.{IsRestCost, reach-low, rests-bound, waste-rest}
-use Rattle.tuner_theory.proofs.LeastRows.{least_rows_are_valid}
-use Rattle.tuner_theory.proofs.Needs.{Reaches}
-use Rattle.tuner_theory.proofs.Rounding.{rounded-positive, step-positive}
-use Rattle.tuner_theory.proofs.Tables.{waste-cost}
-use Rattle.tuner_theory.proofs.TunedTable.{IsTableFor, table-tuned}
 
 module _ (between : ℕ → ℕ → ℕ) (counts : List ℕ) (step limit : ℕ) (interval : IsIntervalCost counts step between) (rows ends : ℕ → ℕ → ℕ)
     (made : AreRowsBy between counts step limit rows ends) (cost : List ℕ → ℕ) (above : List ℕ) (i : ℕ)

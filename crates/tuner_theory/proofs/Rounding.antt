@@ -1,10 +1,8 @@
 -- Needs, rounded up, against the classes that serve.
-use Rattle.std.proofs.Common.{◌≡◌, ℕ, ◌+◌, ◌-◌, ◌*◌, ◌%◌, ◌<◌, ◌≤◌, arith, refl}
-use Rattle.std.proofs.Math.Nat.{lt-mul-div-succ}
-use Rattle.class_table.specs.Sizes.{largest_counted, need_of}
-use Rattle.tuner_theory.specs.Spans.{rounded_need}
-use Rattle.class_table.specs.Steps.{IsLeastMultiple, IsStep, round_up}
+use Rattle.std.proofs.{Common.{◌≡◌, ℕ, ◌+◌, ◌-◌, ◌*◌, ◌%◌, ◌<◌, ◌≤◌, arith, refl}, Math.Nat.{lt-mul-div-succ}}
+use Rattle.class_table.specs.{Sizes.{largest_counted, need_of}, Steps.{IsLeastMultiple, IsStep, round_up}}
 use Rattle.class_table.specs.declared.sizes.TheConstants.{LARGEST_CLASS, SMALLEST_CLASS}
+use Rattle.tuner_theory.specs.Spans.{rounded_need}
 
 -- ---- steps
 

@@ -1,18 +1,12 @@
 -- The counts that have to be served: what is counted in them, which tables serve them, and what a table wastes on them.
-use Rattle.std.proofs.Common.{◌≡◌, ◌≢◌, ◌↔◌, ℕ, zero, suc, ◌-◌, ◌*◌, ◌<◌, ◌≤◌, Bool, true, false, List, [], ◌∷◌, length, slice_index, slice_index_or, max, leb, arith, refl, ap, subst, ◌∙◌, inl, inr, ◌⊎◌, unwrap_or, IsSome, All, Contains}
+use Rattle.std.proofs.Common.{◌≡◌, ◌≢◌, ◌↔◌, ℕ, zero, suc, ◌-◌, ◌*◌, ◌<◌, ◌≤◌, Bool, true, false, List, [], ◌∷◌, length, slice_index}
+use Rattle.std.proofs.Common.{slice_index_or, max, leb, arith, refl, ap, subst, ◌∙◌, inl, inr, ◌⊎◌, unwrap_or, IsSome, All, Contains}
 use Rattle.std.proofs.lemmas.Bool.{cases_eq, cases_lt, cond-false, cond_both, cond-true, false≢true, le-leb, lt-leb}
-use Rattle.std.proofs.lemmas.List.{get_or-set_other, get_or-set_same, length-set}
-use Rattle.std.proofs.lemmas.List.Elements.{All-head, All-tail}
-use Rattle.class_table.specs.Sizes.{IsBlockSize, largest_counted, loss_of}
-use Rattle.class_table.specs.Tables.{IsLegalTable, class_for}
+use Rattle.std.proofs.lemmas.{List.{get_or-set_other, get_or-set_same, length-set}, List.Elements.{All-head, All-tail}}
+use Rattle.class_table.specs.{Sizes.{IsBlockSize, largest_counted, loss_of}, Tables.{IsLegalTable, class_for}}
 use Rattle.class_table.specs.declared.sizes.TheConstants.{LARGEST_CLASS}
-use Rattle.tuner_theory.specs.Best.{IsBestBy}
-use Rattle.tuner_theory.specs.Forced.{IsBestWithLargest}
-use Rattle.tuner_theory.specs.Intervals.{IsIntervalCost}
-use Rattle.tuner_theory.specs.Profiles.{AreCounts, IsCounted}
-use Rattle.tuner_theory.specs.Served.{served}
-use Rattle.tuner_theory.specs.Waste.{Serves, sum_below, waste_at, waste_of}
-use Rattle.tuner_theory.proofs.Sums.{sum_same}
+use Rattle.tuner_theory.{proofs.Sums.{sum_same}, specs.Best.{IsBestBy}, specs.Forced.{IsBestWithLargest}, specs.Intervals.{IsIntervalCost}}
+use Rattle.tuner_theory.specs.{Profiles.{AreCounts, IsCounted}, Served.{served}, Waste.{Serves, sum_below, waste_at, waste_of}}
 
 -- ---- what is counted
 

@@ -1,25 +1,13 @@
 -- What meets all conditions has a best table, and the table of least rows meets them.
-use Rattle.std.proofs.Common.{◌≡◌, ℕ, ◌<◌, Bool, List, arith, refl, sym}
-use Rattle.std.proofs.lemmas.Bool.{cases_lt}
-use Rattle.std.proofs.lemmas.List.{get_or_past}
+use Rattle.std.proofs.{Common.{◌≡◌, ℕ, ◌<◌, Bool, List, arith, refl, sym}, lemmas.Bool.{cases_lt}, lemmas.List.{get_or_past}}
 use Rattle.class_table.specs.Tables.{IsLegalTable}
-use Rattle.tuner_theory.specs.Best.{IsBest, IsBestBy, IsCanonicalBy}
-use Rattle.tuner_theory.specs.Intervals.{IsSumOfIntervals, span_cost}
-use Rattle.tuner_theory.specs.Tuned.{AreRowsBy, tuned_table}
-use Rattle.tuner_theory.specs.Potentials.{AreValidPotentials}
-use Rattle.tuner_theory.specs.Rows.{HasShape, number_at}
-use Rattle.tuner_theory.specs.Measures.{AreSums, Measure, waste_on}
-use Rattle.tuner_theory.specs.Served.{served}
-use Rattle.tuner_theory.specs.Sheets.{IsVerdict, MeetsOn, Sheet}
-use Rattle.tuner_theory.specs.Spans.{places}
-use Rattle.tuner_theory.specs.declared.verdict.Refusal.{Refusal}
-use Rattle.tuner_theory.specs.declared.verdict.Refusal.TheVariants.{OffStep, OverLimit, NotServing, WasteWrong, Shape, LastClass, StageDrop, Edge, NotTight}
-use Rattle.tuner_theory.specs.declared.verdict.Verdict.TheVariants.{Optimal}
-use Rattle.tuner_theory.proofs.Bound.{potentials_bound_costs}
-use Rattle.tuner_theory.proofs.Canonical.{rows-canonical}
-use Rattle.tuner_theory.proofs.LeastRows.{least_rows_are_valid}
-use Rattle.tuner_theory.proofs.Rounding.{step-positive}
-use Rattle.tuner_theory.proofs.Tables.{waste-sum}
+use Rattle.tuner_theory.proofs.{Bound.{potentials_bound_costs}, Canonical.{rows-canonical}, LeastRows.{least_rows_are_valid}}
+use Rattle.tuner_theory.{proofs.Rounding.{step-positive}, proofs.Tables.{waste-sum}, specs.Best.{IsBest, IsBestBy, IsCanonicalBy}}
+use Rattle.tuner_theory.specs.{Intervals.{IsSumOfIntervals, span_cost}, Measures.{AreSums, Measure, waste_on}, Rows.{HasShape, number_at}}
+use Rattle.tuner_theory.specs.{Potentials.{AreValidPotentials}, Served.{served}, Sheets.{IsVerdict, MeetsOn, Sheet}, Spans.{places}}
+use Rattle.tuner_theory.specs.{Tuned.{AreRowsBy, tuned_table}, declared.verdict.Refusal.{Refusal}}
+use Rattle.tuner_theory.specs.declared.verdict.Refusal.TheVariants.{OffStep, OverLimit, NotServing, WasteWrong, Shape, LastClass, StageDrop}
+use Rattle.tuner_theory.specs.declared.verdict.{Refusal.TheVariants.{Edge, NotTight}, Verdict.TheVariants.{Optimal}}
 
 -- past the rows' ends
 pub rows-end : (rows : List (List ℕ)) (limit d : ℕ) → HasShape rows limit d → (k : ℕ) → number_at rows k d ≡ 0

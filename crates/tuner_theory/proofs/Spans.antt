@@ -1,18 +1,12 @@
 -- The waste between two needs: spans that cross, and the two sums that give it.
 use Rattle.std.proofs.Common.{◌≡◌, ℕ, ◌+◌, ◌-◌, ◌*◌, ◌^◌, ◌<◌, ◌≤◌, ◌&&◌, List, length, slice_index, cond, ltb, leb, arith, ap, inl, inr}
-use Rattle.std.proofs.lemmas.Bool.{cond_both, cases_lt, lt-ltb, le-ltb, le-leb, lt-leb}
-use Rattle.std.proofs.lemmas.Bool.Decides.{nat_tests}
-use Rattle.std.proofs.lemmas.List.{get_or_past}
-use Rattle.std.proofs.Math.Nat.{mul-le-mul, mul-le-mul_left}
-use Rattle.class_table.specs.Sizes.{largest_counted, loss_of}
-use Rattle.tuner_theory.specs.Spans.{bytes_up_to, counted_up_to, need_at, places, rounded_need, span_waste, waste_between}
-use Rattle.class_table.specs.Steps.{IsStep}
-use Rattle.class_table.specs.declared.sizes.TheConstants.{GRANULE_BYTES, LARGEST_CLASS}
+use Rattle.std.proofs.{Math.Nat.{mul-le-mul, mul-le-mul_left}, lemmas.Bool.{cond_both, cases_lt, lt-ltb, le-ltb, le-leb, lt-leb}}
+use Rattle.std.proofs.lemmas.{Bool.Decides.{nat_tests}, List.{get_or_past}}
+use Rattle.class_table.specs.{Sizes.{largest_counted, loss_of}, Steps.{IsStep}, declared.sizes.TheConstants.{GRANULE_BYTES, LARGEST_CLASS}}
+use Rattle.tuner_theory.proofs.{Needs.{need_at-mono, place_is_class}, Rounding.{rounded-fits, step-positive}}
+use Rattle.tuner_theory.{proofs.Sums.{sum_at_most, sum_balance, sum_bounded, sum_exchange, sum_none}, specs.Waste.{sum_below}}
 use Rattle.tuner_theory.specs.Profiles.{AreCounts, greatest_count}
-use Rattle.tuner_theory.specs.Waste.{sum_below}
-use Rattle.tuner_theory.proofs.Needs.{need_at-mono, place_is_class}
-use Rattle.tuner_theory.proofs.Rounding.{rounded-fits, step-positive}
-use Rattle.tuner_theory.proofs.Sums.{sum_at_most, sum_balance, sum_bounded, sum_exchange, sum_none}
+use Rattle.tuner_theory.specs.Spans.{bytes_up_to, counted_up_to, need_at, places, rounded_need, span_waste, waste_between}
 
 -- ---- spans that cross
 

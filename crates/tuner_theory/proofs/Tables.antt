@@ -1,19 +1,12 @@
 -- A table and its waste, class by class.
-use Rattle.std.proofs.Common.{◌≡◌, ℕ, ◌+◌, ◌-◌, ◌*◌, ◌%◌, ◌<◌, ◌≤◌, ◌&&◌, List, [], ◌∷◌, length, cond, ltb, leb, Option, Some, unwrap_or, arith, sym, inl, inr, IsSome}
+use Rattle.std.proofs.Common.{◌≡◌, ℕ, ◌+◌, ◌-◌, ◌*◌, ◌%◌, ◌<◌, ◌≤◌, ◌&&◌, List, [], ◌∷◌, length, cond, ltb, leb, Option, Some, unwrap_or}
+use Rattle.std.proofs.{Common.{arith, sym, inl, inr, IsSome}, Math.Nat.{mul-le-mul_right}, lemmas.Bool.Decides.{nat_tests}}
 use Rattle.std.proofs.lemmas.Bool.{cases_lt, cond_both, cond-true, le-leb, lt-ltb, false≢true}
-use Rattle.std.proofs.lemmas.Bool.Decides.{nat_tests}
-use Rattle.std.proofs.Math.Nat.{mul-le-mul_right}
-use Rattle.class_table.specs.Sizes.{loss_of}
-use Rattle.class_table.specs.Tables.{class_for}
-use Rattle.class_table.proofs.LawLemmas.{AreClassesAbove, classes_of_legal_table}
-use Rattle.tuner_theory.specs.Intervals.{IsIntervalCost, IsSumOfIntervals, cost_above}
+use Rattle.class_table.{proofs.LawLemmas.{AreClassesAbove, classes_of_legal_table}, specs.Sizes.{loss_of}, specs.Tables.{class_for}}
+use Rattle.tuner_theory.proofs.{Needs.{Reaches, place_is_counted}, Rounding.{fits-rounded, rounded-fits, rounded-positive}}
+use Rattle.tuner_theory.{proofs.Spans.{loss-mono}, proofs.Sums.{sum_at_most, sum_none, sum_same, sum_split}, specs.Profiles.{IsCounted}}
+use Rattle.tuner_theory.specs.{Intervals.{IsIntervalCost, IsSumOfIntervals, cost_above}, Waste.{sum_below, waste_at, waste_of}}
 use Rattle.tuner_theory.specs.Spans.{need_at, places, rounded_need, waste_between}
-use Rattle.tuner_theory.specs.Profiles.{IsCounted}
-use Rattle.tuner_theory.specs.Waste.{sum_below, waste_at, waste_of}
-use Rattle.tuner_theory.proofs.Needs.{Reaches, place_is_counted}
-use Rattle.tuner_theory.proofs.Rounding.{fits-rounded, rounded-fits, rounded-positive}
-use Rattle.tuner_theory.proofs.Spans.{loss-mono}
-use Rattle.tuner_theory.proofs.Sums.{sum_at_most, sum_none, sum_same, sum_split}
 
 -- ---- the class of a request, by its rounded need
 

@@ -1,20 +1,14 @@
 -- What one event changes of the blocks of a class, and of the most that were live.
-use Rattle.std.proofs.Common.{◌≡◌, ℕ, zero, suc, ◌+◌, ◌*◌, ◌<◌, ◌≤◌, Bool, true, false, List, [], ◌∷◌, ◌++◌, length, map, max, slice_index, get_or, cond, eqb, ltb, arith, refl, ap, sym, ◌∙◌, inl, inr, add-one}
-use Rattle.std.specs.List.{range_with_len}
-use Rattle.std.proofs.lemmas.Bool.{cases_order}
-use Rattle.std.proofs.lemmas.Bool.Decides.{nat_tests}
+use Rattle.std.proofs.Common.{◌≡◌, ℕ, zero, suc, ◌+◌, ◌*◌, ◌<◌, ◌≤◌, Bool, true, false, List, [], ◌∷◌, ◌++◌, length, map, max, slice_index}
+use Rattle.std.proofs.{Common.{get_or, cond, eqb, ltb, arith, refl, ap, sym, ◌∙◌, inl, inr, add-one}, lemmas.Bool.{cases_order}}
+use Rattle.std.{proofs.lemmas.Bool.Decides.{nat_tests}, specs.List.{range_with_len}}
 use Rattle.std.proofs.lemmas.List.FromFn.{get_or-map-range_with_len, length-map-range_with_len, map-range_with_len_more}
 use Rattle.class_table.specs.Sizes.{largest_counted}
-use Rattle.tuner_theory.specs.Footprint.{blocks, is_class_of}
-use Rattle.tuner_theory.specs.Histories.{most}
-use Rattle.tuner_theory.specs.Timelines.{IsTimeline, moments, most_to, snapshot_at}
-use Rattle.tuner_theory.specs.Waste.{sum_below}
-use Rattle.tuner_theory.specs.declared.size_event.SizeEvent.{SizeEvent}
+use Rattle.tuner_theory.proofs.{Footprint.{most-above}, Sums.{sum_balance, sum_below-more, sum_below-none, sum_none}}
+use Rattle.tuner_theory.proofs.{TimelineSteps.{frees_at, freed-more, requested-more, requests_at}, Timelines.{live-at, snapshot-length}}
+use Rattle.tuner_theory.specs.{Footprint.{blocks, is_class_of}, Histories.{most}, Timelines.{IsTimeline, moments, most_to, snapshot_at}}
+use Rattle.tuner_theory.specs.{Waste.{sum_below}, declared.size_event.SizeEvent.{SizeEvent}}
 use Rattle.tuner_theory.specs.declared.size_event.SizeEvent.TheVariants.{Request, Free}
-use Rattle.tuner_theory.proofs.Footprint.{most-above}
-use Rattle.tuner_theory.proofs.Sums.{sum_balance, sum_below-more, sum_below-none, sum_none}
-use Rattle.tuner_theory.proofs.Timelines.{live-at, snapshot-length}
-use Rattle.tuner_theory.proofs.TimelineSteps.{frees_at, freed-more, requested-more, requests_at}
 
 -- ---- one event
 

@@ -1,24 +1,16 @@
 -- A table that is chosen for some moments, and takes no more over all of them, is the one that is chosen for the timeline.
-use Rattle.std.proofs.Common.{◌≡◌, ℕ, zero, suc, ◌+◌, ◌*◌, ◌<◌, ◌≤◌, Bool, true, false, List, [], ◌∷◌, length, slice_index, get_or, cond, eqb, arith, refl, ap, ◌∙◌, inl, inr, All, sum_by, Option, Some, None}
-use Rattle.std.specs.Option.{option_map_or}
-use Rattle.std.proofs.lemmas.Bool.{cases_lt, cond-true, eq-eqb, eqb-true}
-use Rattle.std.proofs.lemmas.List.{get_or-map, length-map}
-use Rattle.std.proofs.lemmas.List.Elements.{All-cons, All-nil}
-use Rattle.std.proofs.lemmas.List.Sums.{sum_by-cons}
-use Rattle.std.proofs.Math.Nat.{mul-le-mul, mul-le-mul_left}
-use Rattle.class_table.specs.Sizes.{largest_counted}
-use Rattle.class_table.specs.Tables.{class_for}
-use Rattle.tuner_theory.specs.Best.{IsBestBy, IsCandidate, IsCanonicalBy, IsUsed}
-use Rattle.tuner_theory.specs.Footprint.{IsFitted, blocks, footprint_of, is_class_of}
-use Rattle.tuner_theory.specs.Histories.{most, peaks}
-use Rattle.tuner_theory.specs.Served.{served}
+use Rattle.std.proofs.Common.{◌≡◌, ℕ, zero, suc, ◌+◌, ◌*◌, ◌<◌, ◌≤◌, Bool, true, false, List, [], ◌∷◌, length, slice_index, get_or, cond}
+use Rattle.std.proofs.{Common.{eqb, arith, refl, ap, ◌∙◌, inl, inr, All, sum_by, Option, Some, None}, lemmas.List.{get_or-map, length-map}}
+use Rattle.std.proofs.{Math.Nat.{mul-le-mul, mul-le-mul_left}, lemmas.Bool.{cases_lt, cond-true, eq-eqb, eqb-true}}
+use Rattle.std.{proofs.lemmas.List.Elements.{All-cons, All-nil}, proofs.lemmas.List.Sums.{sum_by-cons}, specs.Option.{option_map_or}}
+use Rattle.class_table.specs.{Sizes.{largest_counted}, Tables.{class_for}}
+use Rattle.tuner_theory.{proofs.Footprint.{most-above, peak-at, peaks-length}, proofs.FootprintLawLemmas.{sum-more}, specs.Served.{served}}
+use Rattle.tuner_theory.{proofs.Served.{counted-served, largest-served, served-cases}, specs.Histories.{most, peaks}}
+use Rattle.tuner_theory.proofs.Timelines.{moments-length, snapshot-length, some-below, some_moments_take_less, candidate-before}
+use Rattle.tuner_theory.{proofs.Timelines.{served-later, serves-served, moment-at}, specs.Waste.{Serves, sum_below}}
+use Rattle.tuner_theory.specs.{Best.{IsBestBy, IsCandidate, IsCanonicalBy, IsUsed}, Footprint.{IsFitted, blocks, footprint_of, is_class_of}}
 use Rattle.tuner_theory.specs.Timelines.{AreMoments, footprint_over, history_at, moments, snapshot_at}
-use Rattle.tuner_theory.specs.Waste.{Serves, sum_below}
 use Rattle.tuner_theory.specs.declared.size_event.SizeEvent.{SizeEvent}
-use Rattle.tuner_theory.proofs.Footprint.{most-above, peak-at, peaks-length}
-use Rattle.tuner_theory.proofs.FootprintLawLemmas.{sum-more}
-use Rattle.tuner_theory.proofs.Served.{counted-served, largest-served, served-cases}
-use Rattle.tuner_theory.proofs.Timelines.{candidate-before, served-later, serves-served, moment-at, moments-length, snapshot-length, some-below, some_moments_take_less}
 
 -- ---- what is not 0
 

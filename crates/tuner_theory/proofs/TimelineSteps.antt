@@ -1,19 +1,12 @@
 -- What one event changes of the live blocks, and which sizes are live at a moment.
-use Rattle.std.proofs.Common.{◌≡◌, ◌↔◌, ℕ, zero, suc, ◌+◌, ◌<◌, ◌≤◌, List, [], ◌∷◌, length, take, slice_index, get_or, cond, arith, refl, ap, sym, ◌∙◌, inl, inr, add-one, IsSome}
-use Rattle.std.proofs.lemmas.List.{get_or-map, length-map, take_all}
-use Rattle.std.proofs.lemmas.Bool.{cases_lt}
-use Rattle.std.proofs.lemmas.Bool.Decides.{nat_tests}
-use Rattle.std.proofs.lemmas.List.Sums.{sum_by_more, sum_by-take-le}
-use Rattle.class_table.specs.Sizes.{largest_counted}
-use Rattle.class_table.specs.Tables.{class_for}
-use Rattle.tuner_theory.specs.Histories.{peaks}
+use Rattle.std.proofs.Common.{◌≡◌, ◌↔◌, ℕ, zero, suc, ◌+◌, ◌<◌, ◌≤◌, List, [], ◌∷◌, length, take, slice_index, get_or, cond, arith, refl}
+use Rattle.std.proofs.{Common.{ap, sym, ◌∙◌, inl, inr, add-one, IsSome}, lemmas.Bool.{cases_lt}, lemmas.Bool.Decides.{nat_tests}}
+use Rattle.std.proofs.lemmas.{List.{get_or-map, length-map, take_all}, List.Sums.{sum_by_more, sum_by-take-le}}
+use Rattle.class_table.specs.{Sizes.{largest_counted}, Tables.{class_for}}
+use Rattle.tuner_theory.proofs.{Footprint.{most-above, peak-at, peaks-length}, FootprintLawLemmas.{most-bounded}}
+use Rattle.tuner_theory.{proofs.Timelines.{live-at, moment-at, moment-below, moments-length}, specs.Histories.{peaks}, specs.Waste.{Serves}}
 use Rattle.tuner_theory.specs.Timelines.{IsTimeline, freed, history_at, is_free, is_request, moments, requested, snapshot_at}
-use Rattle.tuner_theory.specs.Waste.{Serves}
-use Rattle.tuner_theory.specs.declared.size_event.SizeEvent.{SizeEvent}
-use Rattle.tuner_theory.specs.declared.size_event.SizeEvent.TheVariants.{Request, Free}
-use Rattle.tuner_theory.proofs.Footprint.{most-above, peak-at, peaks-length}
-use Rattle.tuner_theory.proofs.FootprintLawLemmas.{most-bounded}
-use Rattle.tuner_theory.proofs.Timelines.{live-at, moment-at, moment-below, moments-length}
+use Rattle.tuner_theory.specs.declared.size_event.{SizeEvent.{SizeEvent}, SizeEvent.TheVariants.{Request, Free}}
 
 abbrev pub requests_at : ℕ → SizeEvent → ℕ
 requests_at n e = cond (is_request n e) 1 0

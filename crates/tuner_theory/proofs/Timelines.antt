@@ -1,26 +1,15 @@
 -- What a history of some moments says of the whole timeline.
 use Rattle.std.proofs.Common.{◌≡◌, ℕ, ◌+◌, ◌-◌, ◌*◌, ◌≤◌, Bool, List, [], ◌∷◌, length, take, slice_index, get_or, arith, ap, inl, inr, All}
-use Rattle.std.proofs.lemmas.List.{length-map, length-take}
-use Rattle.std.proofs.lemmas.List.Elements.{All-head, All-map, All-tail}
-use Rattle.std.proofs.lemmas.List.FromFn.{get_or-map-range_with_len, length-map-range_with_len}
-use Rattle.std.proofs.lemmas.List.Sums.{count_by-le-length}
-use Rattle.std.proofs.Math.Nat.{mul-le-mul_left}
-use Rattle.class_table.specs.Sizes.{largest_counted}
-use Rattle.class_table.specs.Tables.{IsLegalTable}
-use Rattle.tuner_theory.specs.Best.{IsCandidate}
-use Rattle.tuner_theory.specs.Footprint.{blocks, footprint_of}
-use Rattle.tuner_theory.specs.Histories.{AreSnapshots, most, peaks}
-use Rattle.tuner_theory.specs.Profiles.{AreCounts, IsCounted}
-use Rattle.tuner_theory.specs.Served.{served}
-use Rattle.tuner_theory.specs.Sheets.{IsFitVerdict, Sheet}
-use Rattle.tuner_theory.specs.Timelines.{AreMoments, IsLeastOver, IsTimeline, footprint_over, freed, history_at, is_request, moments, requested, snapshot_at}
-use Rattle.tuner_theory.specs.Waste.{Serves}
-use Rattle.tuner_theory.specs.declared.size_event.SizeEvent.{SizeEvent}
-use Rattle.tuner_theory.specs.declared.verdict.Refusal.TheVariants.{WasteWrong}
+use Rattle.std.proofs.{Math.Nat.{mul-le-mul_left}, lemmas.List.{length-map, length-take}, lemmas.List.Sums.{count_by-le-length}}
+use Rattle.std.proofs.lemmas.List.{Elements.{All-head, All-map, All-tail}, FromFn.{get_or-map-range_with_len, length-map-range_with_len}}
+use Rattle.class_table.specs.{Sizes.{largest_counted}, Tables.{IsLegalTable}}
+use Rattle.tuner_theory.proofs.{Footprint.{most-above, peak-at, peaks-length}, FootprintLawLemmas.{optimal_fit_is_least, sum-more}}
+use Rattle.tuner_theory.{proofs.Served.{largest-served, served-cases, served-more}, specs.Best.{IsCandidate}, specs.Served.{served}}
+use Rattle.tuner_theory.specs.{Footprint.{blocks, footprint_of}, Histories.{AreSnapshots, most, peaks}, Profiles.{AreCounts, IsCounted}}
+use Rattle.tuner_theory.specs.{Sheets.{IsFitVerdict, Sheet}, Waste.{Serves}, declared.size_event.SizeEvent.{SizeEvent}}
+use Rattle.tuner_theory.specs.Timelines.{is_request, moments, requested, snapshot_at, AreMoments, IsLeastOver, IsTimeline, footprint_over}
+use Rattle.tuner_theory.specs.{Timelines.{freed, history_at}, declared.verdict.Refusal.TheVariants.{WasteWrong}}
 use Rattle.tuner_theory.specs.declared.verdict.Verdict.TheVariants.{Optimal}
-use Rattle.tuner_theory.proofs.Footprint.{most-above, peak-at, peaks-length}
-use Rattle.tuner_theory.proofs.FootprintLawLemmas.{optimal_fit_is_least, sum-more}
-use Rattle.tuner_theory.proofs.Served.{largest-served, served-cases, served-more}
 
 -- ---- snapshots
 

@@ -1,16 +1,11 @@
 -- The table that least rows give costs what the rows say.
-use Rattle.std.proofs.Common.{◌≡◌, ℕ, zero, suc, ◌+◌, ◌<◌, ◌≤◌, List, [], ◌∷◌, length, ltb, Option, arith, refl, ap, sym, subst, inl, inr, IsSome}
-use Rattle.std.proofs.lemmas.Bool.{cases_lt, cond_both, ltb-true, ltb-false}
-use Rattle.class_table.specs.Sizes.{largest_counted}
-use Rattle.tuner_theory.specs.Intervals.{IsIntervalCost, cost_above, span_cost}
-use Rattle.tuner_theory.specs.Rows.{AreLeastRows, table_of_ends}
+use Rattle.std.proofs.Common.{◌≡◌, ℕ, zero, suc, ◌+◌, ◌<◌, ◌≤◌, List, [], ◌∷◌, length, ltb, Option, arith, refl, ap, sym, subst, inl, inr}
+use Rattle.std.proofs.{Common.{IsSome}, lemmas.Bool.{cases_lt, cond_both, ltb-true, ltb-false}}
+use Rattle.class_table.{proofs.LawLemmas.{AreClassesAbove}, specs.Sizes.{largest_counted}, specs.Steps.{IsStep}}
+use Rattle.tuner_theory.proofs.{Intervals.{span-same}, Needs.{Reaches, counted_has_place, need_at-mono, place_is_class, reach-at}}
+use Rattle.tuner_theory.proofs.{Rounding.{step-positive}, Tables.{ServesAbove, class_for-first, class_for-later}}
+use Rattle.tuner_theory.specs.{Intervals.{IsIntervalCost, cost_above, span_cost}, Rows.{AreLeastRows, table_of_ends}}
 use Rattle.tuner_theory.specs.Spans.{need_at, places, rounded_need}
-use Rattle.class_table.specs.Steps.{IsStep}
-use Rattle.class_table.proofs.LawLemmas.{AreClassesAbove}
-use Rattle.tuner_theory.proofs.Needs.{Reaches, counted_has_place, need_at-mono, place_is_class, reach-at}
-use Rattle.tuner_theory.proofs.Rounding.{step-positive}
-use Rattle.tuner_theory.proofs.Intervals.{span-same}
-use Rattle.tuner_theory.proofs.Tables.{ServesAbove, class_for-first, class_for-later}
 
 -- a table for the needs above low, of at most k classes, that costs so much
 pub record IsTableFor (between : ℕ → ℕ → ℕ) (counts : List ℕ) (step k low cost : ℕ) (classes : List ℕ) : Type 0 where

@@ -1,24 +1,15 @@
 -- What histories of windows say of the run.
-use Rattle.std.proofs.Common.{◌≡◌, ℕ, zero, suc, ◌+◌, ◌-◌, ◌*◌, ◌<◌, ◌≤◌, List, [], ◌∷◌, length, map, slice_index, get_or, arith, refl, ap, ◌∙◌, All, Contains}
-use Rattle.std.specs.List.{AllZip, range_with_len}
-use Rattle.std.proofs.lemmas.List.{length-map}
-use Rattle.std.proofs.lemmas.List.FromFn.{get_or-map-range_with_len, length-map-range_with_len}
-use Rattle.std.proofs.Math.Nat.{mul-le-mul_left}
-use Rattle.class_table.specs.Sizes.{largest_counted}
-use Rattle.class_table.specs.Tables.{IsLegalTable}
-use Rattle.tuner_theory.specs.Best.{IsCandidate}
-use Rattle.tuner_theory.specs.Footprint.{blocks, footprint_of}
-use Rattle.tuner_theory.specs.Histories.{most, peaks}
-use Rattle.tuner_theory.specs.Served.{served}
-use Rattle.tuner_theory.specs.Sheets.{IsFitVerdict, Sheet}
-use Rattle.tuner_theory.specs.Timelines.{IsLeastOver, footprint_over, history_at, moments, snapshot_at}
-use Rattle.tuner_theory.specs.Waste.{Serves}
-use Rattle.tuner_theory.specs.Windows.{AreWindows, IsLowerHistory, IsUpperHistory, Window, most_in}
-use Rattle.tuner_theory.specs.declared.size_event.SizeEvent.{SizeEvent}
-use Rattle.tuner_theory.specs.declared.verdict.Verdict.TheVariants.{Optimal}
-use Rattle.tuner_theory.proofs.Footprint.{most-above, peak-at, peaks-length}
+use Rattle.std.proofs.Common.{◌≡◌, ℕ, zero, suc, ◌+◌, ◌-◌, ◌*◌, ◌<◌, ◌≤◌, List, [], ◌∷◌, length, map, slice_index, get_or, arith, refl, ap}
+use Rattle.std.proofs.{Common.{◌∙◌, All, Contains}, Math.Nat.{mul-le-mul_left}, lemmas.List.{length-map}}
+use Rattle.std.{proofs.lemmas.List.FromFn.{get_or-map-range_with_len, length-map-range_with_len}, specs.List.{AllZip, range_with_len}}
+use Rattle.class_table.specs.{Sizes.{largest_counted}, Tables.{IsLegalTable}}
+use Rattle.tuner_theory.{proofs.Footprint.{most-above, peak-at, peaks-length}, specs.Best.{IsCandidate}, specs.Histories.{most, peaks}}
 use Rattle.tuner_theory.proofs.FootprintLawLemmas.{blocks-more, counts-more, most-bounded, optimal_fit_is_least, sum-more}
-use Rattle.tuner_theory.proofs.Timelines.{fit_bounds_run, moment-at, moments-length, serves-served, snapshot-length}
+use Rattle.tuner_theory.{proofs.Timelines.{fit_bounds_run, moment-at, moments-length, serves-served, snapshot-length}, specs.Waste.{Serves}}
+use Rattle.tuner_theory.specs.{Footprint.{blocks, footprint_of}, Served.{served}, Sheets.{IsFitVerdict, Sheet}}
+use Rattle.tuner_theory.specs.Timelines.{IsLeastOver, footprint_over, history_at, moments, snapshot_at}
+use Rattle.tuner_theory.specs.Windows.{AreWindows, IsLowerHistory, IsUpperHistory, Window, most_in}
+use Rattle.tuner_theory.specs.declared.{size_event.SizeEvent.{SizeEvent}, verdict.Verdict.TheVariants.{Optimal}}
 
 -- ---- an upper history
 

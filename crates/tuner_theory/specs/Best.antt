@@ -1,8 +1,7 @@
 -- The best tables for a profile, and the one that is chosen of them. `counts` is how often each size was requested.
 use Rattle.std.specs.Prelude.{◌≡◌, ℕ, ◌<◌, ◌≤◌, ◌⊎◌, List, [], ◌∷◌, length, Some, All, ⊤}
 use Rattle.class_table.specs.Tables.{IsLegalTable, class_for}
-use Rattle.tuner_theory.specs.Profiles.{IsCounted}
-use Rattle.tuner_theory.specs.Waste.{Serves, waste_of}
+use Rattle.tuner_theory.specs.{Profiles.{IsCounted}, Waste.{Serves, waste_of}}
 
 -- A table in question: legal for the step, of at most `limit` classes, and with a class for each counted size.
 pub record IsCandidate (counts : List ℕ) (step limit : ℕ) (classes : List ℕ) : Type 0 where

@@ -1,12 +1,8 @@
 -- The footprint of a table: what its classes take, each at the snapshot at which most of its own blocks are live.
-use Rattle.std.specs.Prelude.{ℕ, ◌*◌, ◌&&◌, ◌==◌, Bool, false, nat_lt, nat_le, if◌then◌else◌, List, length, slice_index, sum_by}
 use Rattle.std.specs.Option.{option_map_or}
-use Rattle.class_table.specs.Sizes.{granule_bytes}
-use Rattle.class_table.specs.Tables.{class_for}
-use Rattle.tuner_theory.specs.Best.{IsBestBy, IsCanonicalBy}
-use Rattle.tuner_theory.specs.Histories.{most, peaks}
-use Rattle.tuner_theory.specs.Served.{served}
-use Rattle.tuner_theory.specs.Spans.{rounded_need}
+use Rattle.std.specs.Prelude.{ℕ, ◌*◌, ◌&&◌, ◌==◌, Bool, false, nat_lt, nat_le, if◌then◌else◌, List, length, slice_index, sum_by}
+use Rattle.class_table.specs.{Sizes.{granule_bytes}, Tables.{class_for}}
+use Rattle.tuner_theory.specs.{Best.{IsBestBy, IsCanonicalBy}, Histories.{most, peaks}, Served.{served}, Spans.{rounded_need}}
 use Rattle.tuner_theory.specs.Waste.{sum_below}
 
 -- Whether this is the class of a size.

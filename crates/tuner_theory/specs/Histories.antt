@@ -1,9 +1,7 @@
 -- Histories: how many blocks of each size were live at each of some snapshots.
-use Rattle.std.specs.Prelude.{ℕ, ◌+◌, ◌≤◌, max, List, [], ◌∷◌, length, map, slice_index, All}
-use Rattle.std.specs.List.{range_with_len}
+use Rattle.std.specs.{List.{range_with_len}, Prelude.{ℕ, ◌+◌, ◌≤◌, max, List, [], ◌∷◌, length, map, slice_index, All}}
 use Rattle.class_table.specs.Sizes.{largest_counted}
-use Rattle.tuner_theory.specs.Profiles.{AreCounts}
-use Rattle.tuner_theory.specs.declared.most_snapshots.TheConstants.{MOST_SNAPSHOTS}
+use Rattle.tuner_theory.specs.{Profiles.{AreCounts}, declared.most_snapshots.TheConstants.{MOST_SNAPSHOTS}}
 
 -- The most that a measure is over some snapshots. A snapshot counts the live blocks of each size, as a profile counts its requests.
 abbrev pub most : (List ℕ → ℕ) → List (List ℕ) → ℕ

@@ -2,8 +2,7 @@
 -- waste of a table is the sum of such costs, and so is its footprint.
 use Rattle.std.specs.Prelude.{◌≡◌, ℕ, ◌+◌, ◌<◌, ◌≤◌, List, [], ◌∷◌}
 use Rattle.class_table.specs.Tables.{IsLegalTable}
-use Rattle.tuner_theory.specs.Profiles.{IsCounted}
-use Rattle.tuner_theory.specs.Spans.{need_at, rounded_need}
+use Rattle.tuner_theory.specs.{Profiles.{IsCounted}, Spans.{need_at, rounded_need}}
 
 -- What a table costs for the needs above `low`: the sum of what its classes cost, each from the class before it on.
 abbrev pub cost_above : (ℕ → ℕ → ℕ) → ℕ → List ℕ → ℕ

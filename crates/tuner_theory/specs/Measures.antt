@@ -1,11 +1,7 @@
 -- What tables are measured by, and so what certificates are checked against: the waste on a profile, or the footprint over a history.
 use Rattle.std.specs.Prelude.{ℕ, ◌<◌, Bool, List}
-use Rattle.tuner_theory.specs.Footprint.{footprint_between, footprint_of}
-use Rattle.tuner_theory.specs.Histories.{peaks}
-use Rattle.tuner_theory.specs.Intervals.{IsSumOfIntervals}
-use Rattle.tuner_theory.specs.Served.{served}
-use Rattle.tuner_theory.specs.Spans.{waste_between}
-use Rattle.tuner_theory.specs.Waste.{waste_of}
+use Rattle.tuner_theory.specs.{Footprint.{footprint_between, footprint_of}, Histories.{peaks}, Intervals.{IsSumOfIntervals}}
+use Rattle.tuner_theory.specs.{Served.{served}, Spans.{waste_between}, Waste.{waste_of}}
 
 -- The counts whose sizes a table has to serve; what a table costs; and `between step low high`, what the class `high` costs for the needs
 -- above `low` up to its own.

@@ -1,7 +1,8 @@
 -- How a refusal is shown: by its code and its name.
 use Rattle.std.specs.Prelude.{ℕ, List, codes}
 use Rattle.tuner_theory.specs.declared.verdict.Refusal.{Refusal}
-use Rattle.tuner_theory.specs.declared.verdict.Refusal.TheVariants.{OffStep, OverLimit, NotServing, WasteWrong, Shape, LastClass, StageDrop, Edge, NotTight}
+use Rattle.tuner_theory.specs.declared.verdict.Refusal.TheVariants.{LastClass, StageDrop, Edge, NotTight, OffStep, OverLimit, NotServing}
+use Rattle.tuner_theory.specs.declared.verdict.Refusal.TheVariants.{WasteWrong, Shape}
 
 abbrev pub shown_refusal : Refusal → List ℕ
 shown_refusal OffStep = codes "39 OffStep"

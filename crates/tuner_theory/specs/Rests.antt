@@ -1,10 +1,6 @@
 -- The least waste and the least footprint of the rest: of the sizes whose rounded need is above the one at a place.
 use Rattle.std.specs.Prelude.{◌≡◌, ℕ, suc, Bool, nat_le, if◌then◌else◌, List, [], ◌∷◌, map}
-use Rattle.tuner_theory.specs.Best.{IsBestBy}
-use Rattle.tuner_theory.specs.Footprint.{footprint_of}
-use Rattle.tuner_theory.specs.Histories.{peaks}
-use Rattle.tuner_theory.specs.Served.{served}
-use Rattle.tuner_theory.specs.Spans.{need_at, rounded_need}
+use Rattle.tuner_theory.specs.{Best.{IsBestBy}, Footprint.{footprint_of}, Histories.{peaks}, Served.{served}, Spans.{need_at, rounded_need}}
 use Rattle.tuner_theory.specs.Waste.{waste_of}
 
 -- The counts of the sizes from n on, without those whose rounded need is at most `low`.

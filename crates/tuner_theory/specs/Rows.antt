@@ -1,6 +1,7 @@
 -- The rows of a tuner: row k has, for each place, the least cost of serving the places above it with at most k classes. They are filled row
 -- by row, and give the table.
-use Rattle.std.specs.Prelude.{◌≡◌, ℕ, zero, suc, ◌+◌, ◌-◌, ◌<◌, ◌≤◌, nat_lt, if◌then◌else◌, List, [], ◌∷◌, length, slice_index, slice_index_or, All}
+use Rattle.std.specs.Prelude.{◌≡◌, ℕ, zero, suc, ◌+◌, ◌-◌, ◌<◌, ◌≤◌, nat_lt, if◌then◌else◌, List, [], ◌∷◌, length, slice_index}
+use Rattle.std.specs.Prelude.{slice_index_or, All}
 
 -- The number in row k, counted from 1, at place i; 0 past the row's end.
 abbrev pub number_at : List (List ℕ) → ℕ → ℕ → ℕ

@@ -1,18 +1,11 @@
 -- Sheets, what has to hold of one, and the verdict on it.
 use Rattle.std.specs.Prelude.{◌≡◌, ℕ, ◌<◌, ◌≤◌, Bool, List, length}
-use Rattle.class_table.specs.Tables.{FitsStep}
-use Rattle.tuner_theory.specs.Intervals.{span_cost}
-use Rattle.tuner_theory.specs.Measures.{Measure, footprint_on, waste_on}
-use Rattle.tuner_theory.specs.Potentials.{KeepsEdges, KeepsLastClass, KeepsStageDrops}
-use Rattle.tuner_theory.specs.Rows.{HasShape, number_at}
-use Rattle.tuner_theory.specs.Served.{served}
-use Rattle.tuner_theory.specs.Spans.{places}
-use Rattle.class_table.specs.Steps.{IsStep}
-use Rattle.tuner_theory.specs.Waste.{Serves}
-use Rattle.tuner_theory.specs.declared.verdict.Refusal.{Refusal}
-use Rattle.tuner_theory.specs.declared.verdict.Refusal.TheVariants.{OffStep, OverLimit, NotServing, WasteWrong, Shape, LastClass, StageDrop, Edge, NotTight}
-use Rattle.tuner_theory.specs.declared.verdict.Verdict.{Verdict}
-use Rattle.tuner_theory.specs.declared.verdict.Verdict.TheVariants.{Optimal, Refused}
+use Rattle.class_table.specs.{Steps.{IsStep}, Tables.{FitsStep}}
+use Rattle.tuner_theory.specs.{Intervals.{span_cost}, Measures.{Measure, footprint_on, waste_on}, Rows.{HasShape, number_at}}
+use Rattle.tuner_theory.specs.{Potentials.{KeepsEdges, KeepsLastClass, KeepsStageDrops}, Served.{served}, Spans.{places}, Waste.{Serves}}
+use Rattle.tuner_theory.specs.declared.verdict.{Refusal.{Refusal}, Verdict.{Verdict}, Verdict.TheVariants.{Optimal, Refused}}
+use Rattle.tuner_theory.specs.declared.verdict.Refusal.TheVariants.{LastClass, StageDrop, Edge, NotTight, OffStep, OverLimit, NotServing}
+use Rattle.tuner_theory.specs.declared.verdict.Refusal.TheVariants.{WasteWrong, Shape}
 
 -- A class table with the certificate of its cost: its waste on a profile, or its footprint over a history. `forced` is whether the table has to
 -- have the largest class.

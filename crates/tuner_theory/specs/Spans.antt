@@ -1,7 +1,7 @@
 -- The distinct needs of a profile, and the waste of a span of them: of serving neighbouring needs by the greatest one.
-use Rattle.std.specs.Prelude.{◌≤◌, ◌<◌, ℕ, zero, suc, ◌+◌, ◌*◌, ◌&&◌, nat_lt, nat_le, ◌==◌, if◌then◌else◌, List, [], ◌∷◌, length, slice_index}
-use Rattle.class_table.specs.Sizes.{need_of, loss_of}
-use Rattle.class_table.specs.Steps.{round_up}
+use Rattle.std.specs.Prelude.{◌≤◌, ◌<◌, ℕ, zero, suc, ◌+◌, ◌*◌, ◌&&◌, nat_lt, nat_le, ◌==◌, if◌then◌else◌, List, [], ◌∷◌, length}
+use Rattle.std.specs.Prelude.{slice_index}
+use Rattle.class_table.specs.{Sizes.{need_of, loss_of}, Steps.{round_up}}
 use Rattle.tuner_theory.specs.Waste.{sum_below}
 
 -- The granules that a request of n bytes needs, rounded up to the step.

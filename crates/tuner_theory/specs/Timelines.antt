@@ -1,12 +1,8 @@
 -- Timelines: the requests and frees of a run in their order, by size alone. Their moments, and the tables of least footprint over all of them.
-use Rattle.std.specs.Prelude.{ℕ, ◌+◌, ◌-◌, ◌≤◌, ◌==◌, Bool, false, List, length, map, take, All}
-use Rattle.std.specs.List.{count_by, range_with_len}
+use Rattle.std.specs.{List.{count_by, range_with_len}, Prelude.{ℕ, ◌+◌, ◌-◌, ◌≤◌, ◌==◌, Bool, false, List, length, map, take, All}}
 use Rattle.class_table.specs.Sizes.{largest_counted}
-use Rattle.tuner_theory.specs.Footprint.{IsLeastFootprint, footprint_of}
-use Rattle.tuner_theory.specs.Histories.{most}
-use Rattle.tuner_theory.specs.Profiles.{greatest_count}
-use Rattle.tuner_theory.specs.declared.most_snapshots.TheConstants.{MOST_SNAPSHOTS}
-use Rattle.tuner_theory.specs.declared.size_event.SizeEvent.{SizeEvent}
+use Rattle.tuner_theory.specs.{Footprint.{IsLeastFootprint, footprint_of}, Histories.{most}, Profiles.{greatest_count}}
+use Rattle.tuner_theory.specs.declared.{most_snapshots.TheConstants.{MOST_SNAPSHOTS}, size_event.SizeEvent.{SizeEvent}}
 use Rattle.tuner_theory.specs.declared.size_event.SizeEvent.TheVariants.{Request, Free}
 
 -- Whether it requests n bytes;

@@ -1,14 +1,8 @@
 -- What a tuner makes for a profile: rows over its spans, and the table that they give.
 use Rattle.std.specs.Prelude.{ℕ, ◌≤◌, Bool, List}
-use Rattle.tuner_theory.specs.Footprint.{footprint_between}
-use Rattle.tuner_theory.specs.Histories.{peaks}
-use Rattle.tuner_theory.specs.Intervals.{span_cost}
-use Rattle.tuner_theory.specs.Rows.{AreLeastRows, table_of_ends}
-use Rattle.tuner_theory.specs.Served.{served}
-use Rattle.tuner_theory.specs.Spans.{need_at, places, waste_between}
-use Rattle.class_table.specs.Steps.{IsStep}
-use Rattle.tuner_theory.specs.Profiles.{AreCounts}
-use Rattle.class_table.specs.declared.table.TheConstants.{MOST_CLASSES}
+use Rattle.tuner_theory.specs.{Footprint.{footprint_between}, Histories.{peaks}, Intervals.{span_cost}, Profiles.{AreCounts}}
+use Rattle.tuner_theory.specs.{Rows.{AreLeastRows, table_of_ends}, Served.{served}, Spans.{need_at, places, waste_between}}
+use Rattle.class_table.specs.{Steps.{IsStep}, declared.table.TheConstants.{MOST_CLASSES}}
 
 -- Least rows over the places of a profile by an interval cost, for 1 to 32 classes.
 pub record AreRowsBy (between : ℕ → ℕ → ℕ) (counts : List ℕ) (step limit : ℕ) (rows ends : ℕ → ℕ → ℕ) : Type 0 where

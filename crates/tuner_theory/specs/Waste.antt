@@ -1,7 +1,6 @@
 -- The waste of a table: the bytes that its classes lose by rounding the counted requests up.
 use Rattle.std.specs.Prelude.{ℕ, zero, suc, ◌+◌, ◌*◌, List, length, slice_index, unwrap_or, IsSome}
-use Rattle.class_table.specs.Sizes.{loss_of}
-use Rattle.class_table.specs.Tables.{class_for}
+use Rattle.class_table.specs.{Sizes.{loss_of}, Tables.{class_for}}
 use Rattle.tuner_theory.specs.Profiles.{IsCounted}
 
 -- The sum of f over the numbers below n.

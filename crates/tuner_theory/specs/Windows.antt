@@ -1,8 +1,6 @@
 -- Windows of a run: histories that close in what a table takes over it from both sides, however long the run is.
-use Rattle.std.specs.Prelude.{ℕ, ◌+◌, ◌-◌, ◌≤◌, List, length, map, Contains}
-use Rattle.std.specs.List.{AllZip, range_with_len}
-use Rattle.tuner_theory.specs.Histories.{AreSnapshots, peaks}
-use Rattle.tuner_theory.specs.Timelines.{AreMoments, history_at, snapshot_at}
+use Rattle.std.specs.{List.{AllZip, range_with_len}, Prelude.{ℕ, ◌+◌, ◌-◌, ◌≤◌, List, length, map, Contains}}
+use Rattle.tuner_theory.specs.{Histories.{AreSnapshots, peaks}, Timelines.{AreMoments, history_at, snapshot_at}}
 use Rattle.tuner_theory.specs.declared.size_event.SizeEvent.{SizeEvent}
 
 -- A lower history of a run: some of its moments, which are written as a history. The run may be longer than a timeline.

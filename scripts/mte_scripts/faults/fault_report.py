@@ -50,36 +50,48 @@ def count(number: int, word: str) -> str:
 
 def sentence(error: Error, log: Log) -> str:
     """What the program did; the runtime has the same words (tell.c)."""
-    if error.letter == "n":
-        return "free of an address that the heap never gave out"
-    if error.is_free() and not error.block:
-        return "free of a block that was freed long ago"
     size = log.size[error.block]
     block = f"a block of {count(size, 'byte')}"
-    gone = "" if error.state == "live" else f" that was {error.state}"
-    if error.is_free():
-        if error.offset:
-            return f"free of a pointer {count(abs(error.offset), 'byte')} {'into' if error.offset > 0 else 'before'} {block}{gone}"
-        return f"free of {block}{gone}"
+    if error.letter == "n" or error.is_free():
+        return free_sentence(error, block)
     if error.letter == "V":
         place = f"{count(error.offset, 'byte')} into {block}" if error.block else f"at the address 0x{error.offset:x}"
         return f"overlapping copy of {count(error.size, 'byte')}, {place}"
     access = f"{'load' if error.is_load() else 'store'} of {count(error.size, 'byte')}"
     if error.is_of_poison():
         access += f" {'of' if error.is_load() else 'to'} poisoned memory"
-        if not error.block:
-            return f"{access}, at the address 0x{error.offset:x}"
+    if error.is_of_poison() and not error.block:
+        return f"{access}, at the address 0x{error.offset:x}"
     if error.is_too_large():
         access += ", more than an object can have"
     if not error.block:
         return access + ("," if error.is_too_large() else "") + " of " + PLACES[error.offset]
+    return f"{access}, {place_sentence(error, size, block)}"
+
+
+def gone(error: Error) -> str:
+    return "" if error.state == "live" else f" that was {error.state}"
+
+
+def free_sentence(error: Error, block: str) -> str:
+    if error.letter == "n":
+        return "free of an address that the heap never gave out"
+    if not error.block:
+        return "free of a block that was freed long ago"
+    if error.offset:
+        return f"free of a pointer {count(abs(error.offset), 'byte')} {'into' if error.offset > 0 else 'before'} {block}{gone(error)}"
+    return f"free of {block}{gone(error)}"
+
+
+def place_sentence(error: Error, size: int, block: str) -> str:
+    """Where an access begins."""
     if error.offset < 0:
-        return f"{access}, {count(-error.offset, 'byte')} before {block}{gone}"
+        return f"{count(-error.offset, 'byte')} before {block}{gone(error)}"
     if error.offset >= size:
-        return f"{access}, {count(error.offset - size, 'byte')} after {block}{gone}"
+        return f"{count(error.offset - size, 'byte')} after {block}{gone(error)}"
     if error.state == "live" and not error.is_too_large() and not error.is_of_poison():
-        return f"{access}, from {count(error.offset, 'byte')} into {block} to {count(error.offset + error.size - size, 'byte')} after it"
-    return f"{access}, {count(error.offset, 'byte')} into {block}{gone}"
+        return f"from {count(error.offset, 'byte')} into {block} to {count(error.offset + error.size - size, 'byte')} after it"
+    return f"{count(error.offset, 'byte')} into {block}{gone(error)}"
 
 
 def crash_sentence(crash: Crash) -> str:

@@ -138,28 +138,30 @@ def facts(line: str) -> Facts:
     return Facts(int(event), int(first), int(own), int(generation), granules)
 
 
-def verdict(error: Error, its: Facts, log: Log) -> Verdict:
-    def left(kind: str, why: str) -> Verdict:
-        return Verdict(kind, Promise("open", None, why), None, error.is_free())
-
+def why_not_asked(error: Error, its: Facts, log: Log) -> "tuple[str, str] | None":
+    """The kind and the reason of a verdict for which the heap is not asked."""
+    size = log.size[error.block]
     if error.letter == "n":
-        return left("ruled", NOT_GIVEN)
+        return "ruled", NOT_GIVEN
     if not error.block:
-        return left("left", NOT_OF_HEAP if error.is_inside() else (FORGOTTEN, NEVER_GIVEN, NOT_OF_HEAP)[error.offset])
-    if log.size[error.block] > LARGEST_SIZE:
-        return left("large", LARGE_BLOCK)
+        return "left", NOT_OF_HEAP if error.is_inside() else (FORGOTTEN, NEVER_GIVEN, NOT_OF_HEAP)[error.offset]
+    if size > LARGEST_SIZE:
+        return "large", LARGE_BLOCK
     if not its.generation:
-        return left("left", NO_SLOT)
+        return "left", NO_SLOT
+    if error.is_free() and error.offset % GRANULE:
+        return "ruled", MISPLACED
+    is_far = abs(error.offset) > GRANULE * FARTHEST_MOVE * MOST_MOVES if error.is_free() else abs(error.window(size)[0]) > FARTHEST_ACCESS
+    return ("left", NEVER_GIVEN) if is_far else None
+
+
+def verdict(error: Error, its: Facts, log: Log) -> Verdict:
+    if found := why_not_asked(error, its, log):
+        return Verdict(found[0], Promise("open", None, found[1]), None, error.is_free())
     if error.is_free():
-        if error.offset % GRANULE:
-            return left("ruled", MISPLACED)
-        if abs(error.offset) > GRANULE * FARTHEST_MOVE * MOST_MOVES:
-            return left("left", NEVER_GIVEN)
         before, at = its.granules
         is_chunk = before.kind == "header" and at.kind == "other"
         return Verdict("asked", freeing(its, before, at), its.event, True, meets(its, at) if is_chunk else None)
-    if abs(error.window(log.size[error.block])[0]) > FARTHEST_ACCESS:
-        return left("left", NEVER_GIVEN)
     promise = access(its)
     if promise.reason == LAST_GRANULE and error.state == "resized":
         promise = promise._replace(reason=IN_PLACE)

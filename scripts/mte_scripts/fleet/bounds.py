@@ -65,13 +65,13 @@ class Certified(NamedTuple):
 
 def of(load: Load, among: Among) -> Bound:
     """The bound of one load."""
-    if load.kind in ("history", "timeline") and load.most() <= MOST_COUNT:
+    if load.kind in ("history", "timeline") and load.count_bound() <= MOST_COUNT:
         timed = figures.over_time(load.kind, load.text, among.largest, among.limit, among.step)
         cost = load.cost(timed.fit.classes) or 0
         judged = claims.Judged(load.kind, timed.verdict, among.limit, among.step, timed.fit.classes, load.name, cost, texts.forced_classes(timed.fit))
         between = claims.bound(judged)
         return shown(Bound(cost if between is None else between, judged, timed.fit.classes, timed.fit_text, load.text))
-    divisor = -(-load.most() // MOST_COUNT)
+    divisor = -(-load.count_bound() // MOST_COUNT)
     if load.kind == "profile":
         kind, found = "profile" if divisor == 1 else "scaled", checked(sheet([(1, load)], divisor, among))
     else:

@@ -104,7 +104,7 @@ class Search:
         if len(set(numbers)) == 1:
             numbers = [1] * len(numbers)
         parts = list(zip(numbers, self.given))
-        divisor = -(-sum(each * load.most() for each, load in parts) // MOST_COUNT)
+        divisor = -(-sum(each * load.count_bound() for each, load in parts) // MOST_COUNT)
         if self.given[0].kind == "profile":
             found = bounds.sheet(parts, divisor, self.among)
         else:

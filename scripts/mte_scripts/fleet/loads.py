@@ -71,7 +71,8 @@ class Member:
         }
         self.take(texts.History(self.history.snapshots + more.snapshots, both))
 
-    def most(self) -> int:
+    def count_bound(self) -> int:
+        """No size has more blocks at any moment."""
         if self.timeline is not None:
             return self.timeline.count(b"\n")
         return max(max(counts) for counts in self.history.counts.values())
@@ -133,9 +134,9 @@ class Load:
             self.known_peaks[key] = sums
         return self.known_peaks[key]
 
-    def most(self) -> int:
+    def count_bound(self) -> int:
         """A count that none of these columns, or of the profile, is above."""
-        return max([*self.counts.values(), sum(member.weight * member.most() for member in self.members)])
+        return max([*self.counts.values(), sum(member.weight * member.count_bound() for member in self.members)])
 
 
 def read(paths: Iterable[str], found_faults: Optional[Faults] = None) -> list[Load]:

@@ -169,8 +169,8 @@ def is_to_try(crate: str) -> bool:
 
 
 def text() -> str:
-    """The table of the crates that have wrong bodies, and a line for each that is let through."""
-    its, through = known(), []
+    """The table of the crates that have wrong bodies, and a line for each that is open."""
+    its, open_ones = known(), []
     rows: list[tuple[str, list[int]]] = []
     for crate in sorted(CrateList(ROOT).stands_on):
         plants = planted.plants_of(crate)
@@ -184,10 +184,10 @@ def text() -> str:
             rows.append((f"`{crate}`, not tried", [0, 0, 0, 0]))
         elif count:
             rows.append((f"`{crate}`", [count, count - alike - left, alike, left]))
-        through += [f"- `{crate}`, {body.replace('|', '&#124;')}: {kind}, {why}.\n" for kind, body, why in let]
+        open_ones += [f"- `{crate}`, {body.replace('|', '&#124;')}: {why}.\n" for kind, body, why in let if kind in ("memory", "open")]
     rows.append(("all", [sum(column) for column in zip(*(counts for _, counts in rows))]))
     table = "".join(f"| {name} | " + " | ".join(f"{it:,}" for it in counts) + " |\n" for name, counts in rows)
-    return f"{HEAD}{table}\nLet through:\n\n{''.join(through)}" if through else f"{HEAD}{table}"
+    return f"{HEAD}{table}\nOpen:\n\n{''.join(open_ones)}" if open_ones else f"{HEAD}{table}"
 
 
 def write() -> int:

@@ -1,4 +1,4 @@
-"""Print a promise's contract, and each definition that it reaches, where it is cited first.
+"""Print a promise's contract, and below it each definition that it reaches.
 
 Usage: statement [--html] NAME
        statement --count
@@ -9,8 +9,9 @@ Usage: statement [--html] NAME
 NAME is a command of mte_tool (score, tune, check, footprint, fit, check-fit, peaks, profile, replay, run), a promise of README.md
 (safe, least-waste, headline, hardening, bounded), or `program`: the whole program on its own streams.
 
-The types and constants of the source that a definition cites come after the definitions. The words of std and clap come last, by
-their names alone. Comments and empty lines are no lines of a definition.
+It is read from the top. A module of definitions, or a file with types and constants that they name, comes after all that cite it; in it a
+definition comes where it is cited first. A line `-- laws:` has the laws that name a definition, where these are four at most: theorems
+that say more of it. The words of std and clap come last, by their names alone. Comments and empty lines are no lines of a definition.
 
 Exit status:
   0  it is printed

@@ -66,10 +66,11 @@ def worked(example: "Example | None") -> str:
 
 def folded(each: Definition, places: "dict[Key, str]", example: "Example | None" = None) -> str:
     place = f' id="{places[each.key]}"' if each.key in places else ""
-    where = escape(statements.short(each.key))
+    where, laws = escape(statements.short(each.key)), escape(statements.laws_on(each).removeprefix("-- "))
+    told = f'<p class="soft">{laws}</p>\n' if laws else ""
     return (
         f'<details open{place}><summary><code>{escape(each.key.name)}</code> <span class="soft">{where}</span></summary>\n'
-        f"{said(each.comment)}<pre>{linked(each, places)}</pre>\n{worked(example)}</details>\n"
+        f"{said(each.comment)}<pre>{linked(each, places)}</pre>\n{told}{worked(example)}</details>\n"
     )
 
 
@@ -83,10 +84,9 @@ def page(found: Statement) -> str:
     """The statement in HTML, with its policy."""
     places, examples = ids(found), statements.examples()
     title = found.title.replace("`", "")
-    lead = statements.counted(found) + ". Each definition stands where it is cited first." if found.contracts else statements.NO_CONTRACT
+    lead = f"{statements.counted(found)}. A module stands after all that cite it." if found.contracts else statements.NO_CONTRACT
     sections = [("The contract" if len(found.contracts) == 1 else "The contracts", "".join(folded(it, places) for it in found.contracts))]
-    sections.append(("The definitions", "".join(folded(it, places, examples.get(it.key)) for it in found.own)))
-    sections.append(("Types and constants of the source", "".join(folded(it, places) for it in found.items)))
+    sections.append(("The definitions", "".join(folded(it, places, examples.get(it.key)) for it in found.definitions)))
     of_kit = (f"<p>{escape(crate)}: <code>{escape(words)}</code></p>\n" for crate, words in found.kit_words.items())
     sections.append(("Words that the kit defines", "".join(of_kit)))
     body = "".join(f"<h2>{heading}</h2>\n{text}" for heading, text in sections if text)

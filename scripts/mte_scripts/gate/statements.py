@@ -36,12 +36,15 @@ TOPICS: dict = {**COMMANDS, **PROMISES, **PROGRAM}
 # of the promise that no definition carries
 NO_CONTRACT = "The prover demands it of every function, with or without a contract; it cites no definition. docs/PROOFS.md says more."
 
+FEW_LAWS = 4
+
 TOKEN = re.compile(r'(?P<comment>--[^\n]*|//[^\n]*)|(?P<string>"(?:\\.|[^"\\])*")|(?P<mark>[(){}\[\],;:.])|(?P<word>[^\s(){}\[\],;:."]+)')
 RUST_WORD = re.compile(r"(?P<comment>//[^\n]*|#\[[^\n]*\])|(?P<word>[A-Za-z_]\w*)|(?P<mark>[^\sA-Za-z_])")
 NUMBER = re.compile(r"0x[0-9A-Fa-f]+$|[0-9]+$")
 HEAD = re.compile(r"(?:abbrev |unfoldable |opaque |pub |(?P<kind>record |data ))*(?P<name>[^\s(){}:]+)")
 BEGINS = re.compile(r"(?:abbrev|unfoldable|opaque|pub|record|data) ")
-IMPORT = re.compile(r"(?m)^(?:ghost |    ghost )?(?:pub )?use ((?:Rattle|base|denote|contract)\.[\w.-]+)(?:\.\{([^}]*)\}| as (\w+))?;?$")
+IMPORT = re.compile(r"(?m)^(?:ghost |    ghost )?(?:pub )?use ((?:Rattle|base|denote|contract)[\w.-]*)(?:\.\{((?:[^{}]|\{[^}]*\})*)\}| as (\w+))?;?$")
+LISTED = re.compile(r"([\w.-]+)\.\{([^}]*)\}|([^\s,{}][^,{}]*)")
 RUST_USE = re.compile(r"(?ms)^(?:pub )?use ([a-z_][\w:]*?)(?:::\{([^}]*)\}|::(\w+))?(?: as (\w+))?;")
 GHOST = re.compile(r"(?m)^[ \t]*(?:ghost|requires|ensures)\b[^{\n;]*\{")
 # the language's own words
@@ -127,12 +130,13 @@ def read(path: str) -> str:
 def imports_in(text: str) -> dict:
     """What each name that a text imports is: its module and its name there."""
     found = {}
-    for module, names, whole in IMPORT.findall(text):
+    for path, listed, whole in IMPORT.findall(text):
         if whole:
-            found[whole] = (module, whole)
-        for each in filter(None, (it.strip() for it in names.split(","))):
-            name, _, alias = each.partition(" as ")
-            found[(alias or name).strip()] = (module, name.strip())
+            found[whole] = (path, whole)
+        for below, names, name in LISTED.findall(listed):
+            for each in filter(None, (it.strip() for it in (names or name).split(","))):
+                name, _, alias = each.partition(" as ")
+                found[(alias or name).strip()] = (f"{path}.{below}" if below else path, name.strip())
     return found
 
 
@@ -542,11 +546,22 @@ def laws(crate: str) -> list:
     return found + [function(crate, name) for name in re.findall(r"pub fn (law_\w+)", text)]
 
 
+@functools.lru_cache(maxsize=None)
+def named_by_laws() -> dict:
+    """The laws of all crates whose statement names a definition, by the definition."""
+    found: dict = {}
+    for crate in sorted(os.listdir(CRATES)):
+        for name in sorted({name for file in sources_of(crate) for name in re.findall(r"\bpub fn (law_\w+)", source(file).text)}):
+            for key in dict.fromkeys(own_links(function(crate, name))):
+                found.setdefault(key, []).append(name)
+    return found
+
+
 @dataclass
 class Statement:
     title: str
     contracts: list
-    definitions: list  # of specs/ and of the source, each after what cites it first; a text has those of the source at its end
+    definitions: list  # of specs/ and of the source, in the order of `downwards`
     foreign: list
 
     @property
@@ -569,23 +584,77 @@ class Statement:
         return len(own), sum(it.lines for it in own), len({it.key.place for it in own}), len(self.items)
 
 
-def statement(topic: str) -> Statement:
-    """The contracts of a topic, and each definition that they reach, where it is cited first."""
-    title, functions = TOPICS[topic]
-    contracts = [it for crate, name in functions for it in (laws(crate) if name == "laws" else [function(crate, name)])]
-    order, foreign = {}, set()
+def own_links(found: Definition) -> "list[Key]":
+    """What a definition cites, but for the kit's words."""
+    return [key for _, _, key in found.links if isinstance(key, Key)]
 
-    def reach(found: Definition) -> None:
-        for _, _, key in found.links:
-            if isinstance(key, Foreign):
-                foreign.add(key)
-            elif key not in order:
-                order[key] = definition(key)
-                reach(order[key])
+
+def places_downwards(contracts: list, reached: dict) -> list:
+    """The modules and files of what contracts reach, each after all that cite it."""
+    cites = {"": [key.place for it in contracts for key in own_links(it)]}
+    for it in reached.values():
+        cites.setdefault(it.key.place, []).extend(key.place for key in own_links(it))
+    upwards: list = []
+    seen: set = set()
+
+    def visit(place: str) -> None:
+        seen.add(place)
+        for other in reversed(cites[place]):
+            if other not in seen:
+                visit(other)
+        upwards.append(place)
+
+    visit("")
+    return upwards[-2::-1]
+
+
+def downwards(contracts: list, reached: dict) -> list:
+    """What contracts reach, in the order in which it is read: module by module, each after all that cite it, and in a module each definition
+    where it is cited first."""
+    waiting: dict = {place: [] for place in places_downwards(contracts, reached)}
+    order: dict = {}
+
+    def follow(found: Definition, place: str) -> None:
+        for key in own_links(found):
+            if key.place == place:
+                put(key)
+            else:
+                waiting[key.place].append(key)
+
+    def put(key: Key) -> None:
+        if key not in order:
+            order[key] = reached[key]
+            follow(reached[key], key.place)
 
     for contract in contracts:
-        reach(contract)
-    return Statement(title, contracts, list(order.values()), sorted(foreign, key=lambda it: (it.crate, it.name)))
+        follow(contract, "")
+    for keys in waiting.values():
+        for key in keys:
+            put(key)
+    return list(order.values())
+
+
+def reach(contracts: list) -> "tuple[dict, set]":
+    """All definitions that contracts cite, directly or by others; and the kit's words among them."""
+    reached: dict = {}
+    foreign: set = set()
+    left = list(contracts)
+    while left:
+        found = left.pop()
+        foreign.update(key for _, _, key in found.links if isinstance(key, Foreign))
+        for key in own_links(found):
+            if key not in reached:
+                reached[key] = definition(key)
+                left.append(reached[key])
+    return reached, foreign
+
+
+def statement(topic: str) -> Statement:
+    """The contracts of a topic, and each definition that they reach."""
+    title, functions = TOPICS[topic]
+    contracts = [it for crate, name in functions for it in (laws(crate) if name == "laws" else [function(crate, name)])]
+    reached, foreign = reach(contracts)
+    return Statement(title, contracts, downwards(contracts, reached), sorted(foreign, key=lambda it: (it.crate, it.name)))
 
 
 def short(key: Key) -> str:
@@ -602,14 +671,17 @@ def counted(found: Statement) -> str:
     return f"{definitions} definitions, {lines} lines in {modules} modules, and {items} types and constants of the source"
 
 
+def laws_on(found: Definition) -> str:
+    """The line with the laws that say more of a definition of specs/; empty without one, or where so many name it that it is a common word."""
+    names = [] if found.key.is_source else named_by_laws().get(found.key, [])
+    return f"-- laws: {', '.join(names)}" if 1 <= len(names) <= FEW_LAWS else ""
+
+
 def as_text(found: Statement) -> str:
     """The statement, to be read from the top."""
     parts = [f"{found.title}: {counted(found) if found.contracts else NO_CONTRACT}"]
-    place = None
-    for each in found.contracts + found.own + found.items:
-        if each.file != place:
-            place = each.file
-            parts.append(f"==== {os.path.relpath(place, ROOT)}")
-        parts.append((each.comment + "\n" if each.comment else "") + each.text)
+    for file, its in itertools.groupby(found.contracts + found.definitions, lambda it: it.file):
+        shown = ("\n".join(filter(None, (it.comment, laws_on(it), it.text))) for it in its)
+        parts.append(f"==== {os.path.relpath(file, ROOT)}\n" + "\n\n".join(shown))
     parts += [f"==== words of {crate}, which the kit defines: {words}" for crate, words in found.kit_words.items()]
     return "\n\n".join(parts) + "\n"

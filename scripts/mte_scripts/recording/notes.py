@@ -2,14 +2,29 @@
 
 import ctypes
 import os
+from typing import NamedTuple
 
-PAGE, RINGS, SNAPSHOTS, WINDOWS, TABLES = 4096, 1024, 64, 512, 28
+from mte_scripts.recording import TABLES
+
+PAGE, RINGS = 4096, 1024
 REASONS = (
     f"more than {RINGS:,} run at once",
     "a limit of their address space (ulimit -v) leaves no room for the stream",
     "they can't open the stream from where they are (chroot, another user or namespace)",
     "they began in a program that gave up system calls (seccomp)",
 )
+
+
+class Texts(NamedTuple):
+    """The profile, what else was wanted, the numbers of its moments, the upper history, the stacks as sites.py reads them, and the events of a
+    timeline as timelines.py has them; empty where there is none."""
+
+    profile: bytes
+    wanted: bytes
+    moments: bytes
+    upper: bytes
+    sites: bytes
+    events: bytes
 
 
 def numbers(names: str) -> list:
@@ -30,11 +45,12 @@ class Notes(ctypes.Structure):
     """What the reader noted; the texts are there once `version` is not 0."""
 
     _fields_ = [
-        *numbers("version profile text upper at status error started executed requests live large resident others other_requests untouched foreign"),
+        *numbers("version"),
+        ("bytes", ctypes.c_uint64 * len(Texts._fields)),
+        *numbers("status error started executed requests live large resident others other_requests untouched foreign"),
         ("refused", ctypes.c_uint64 * len(REASONS)),
         *numbers("lost wrong spoiled gaps events snapshots is_cut variables shared left"),
         ("processes", ctypes.c_uint64 * 32),
-        *numbers("sites codes"),
         ("taken", ctypes.c_int64 * (TABLES + 4)),
         ("words", ctypes.c_char * 128),
         ("room", ctypes.c_char * 120),

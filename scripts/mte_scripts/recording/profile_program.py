@@ -2,7 +2,6 @@
 
 import argparse
 import os
-import pathlib
 import re
 import signal
 import stat
@@ -11,9 +10,9 @@ import time
 
 from mte_scripts import private_folder, texts
 from mte_scripts.private_folder import NotPrivate
-from mte_scripts.recording import recording, timelines
+from mte_scripts.recording import SNAPSHOTS, TABLES, WINDOWS, recording, timelines
 from mte_scripts.recording.imports import found, importing
-from mte_scripts.recording.notes import SNAPSHOTS, TABLES, WINDOWS, Notes
+from mte_scripts.recording.notes import Notes, Texts
 from mte_scripts.running import Refused
 from mte_scripts.texts import MOST_SNAPSHOTS
 from mte_scripts.words import ProgramWords, between, named, some
@@ -159,18 +158,17 @@ class Options(argparse.Namespace):
             raise Refused(2, f"there are {len(self.tables)} tables of --classes: it takes {TABLES if over_time else 'one without --windows'}")
         over_time += ["--classes"] * bool(self.tables)
         self.live = over_time[0] if over_time else self.live
-        if not over_time and self.peak:
-            raise Refused(2, "--peak goes with --timeline, --history, --windows or --classes")
-        if self.upper and not self.read and self.live not in ("--timeline", "--windows"):
-            raise Refused(2, "--upper goes with --windows, --timeline or --read")
-        if self.again and self.live != "--windows":
-            raise Refused(2, "--again goes with --windows")
-        for name in ("stacks", "events"):
-            if getattr(self, name) and (self.live != "--timeline" or not self.words):
-                raise Refused(2, f"--{name} goes with --timeline and a program to run")
-        for name in ("measured", "as_scudo", "processes"):
-            if getattr(self, name) and not self.live:
-                raise Refused(2, f"--{name.replace('_', '-')} goes with --live, --timeline, --history, --windows or --classes")
+        is_recorded = self.live == "--timeline" and self.words
+        goes_with = {
+            "peak": (over_time, "--timeline, --history, --windows or --classes"),
+            "upper": (self.read or self.live in ("--timeline", "--windows"), "--windows, --timeline or --read"),
+            "again": (self.live == "--windows", "--windows"),
+            **dict.fromkeys(("stacks", "events"), (is_recorded, "--timeline and a program to run")),
+            **dict.fromkeys(("measured", "as_scudo", "processes"), (self.live, "--live, --timeline, --history, --windows or --classes")),
+        }
+        for name, (is_there, what) in goes_with.items():
+            if getattr(self, name) and not is_there:
+                raise Refused(2, f"--{name.replace('_', '-')} goes with {what}")
 
     def refuse_beside_import(self) -> None:
         others = {"--read": self.read, "--follow": self.follow, "--only": self.only, "--as-scudo": self.as_scudo, "--library": self.library}
@@ -209,22 +207,21 @@ def moments_in(path: str) -> "list[int]":
 
 # ---- what was found
 
-def print_found(options: Options, speaker: recording.Speaker, notes: Notes, profile: bytes, text: bytes, upper: bytes, moments: bytes) -> bool:
+def print_found(options: Options, speaker: recording.Speaker, notes: Notes, found_: Texts) -> bool:
     """Prints what was counted. False where that is nothing."""
-    counts = {size if size == "large" else int(size): int(count) for size, count in map(str.split, profile.decode().splitlines())}
-    if options.measured:
-        texts.write_file(options.measured, "".join(f"{line}\n" for line in measured(options, notes, moments)))
+    write_beside(options.measured, "".join(f"{line}\n" for line in measured(options, notes, found_.moments)))
     if notes.is_cut:
         instead = f"a history of {notes.snapshots} of its moments is made in its place"
         speaker.say(f"the timeline of {notes.events:,} events would have more than {timelines.MOST_TEXT:,} bytes: {instead}")
-    if text:
-        recording.write("the history" if notes.snapshots else "the timeline", text)
-        write_beside(options.peak, texts.profile_text(counts))
-    elif counts:
-        recording.write("the profile", texts.profile_text(counts))
-    if upper:
-        write_beside(options.upper, upper)
-    return bool(text or counts)
+    profile = texts.profile_text(texts.parse_profile(found_.profile, "the profile"))  # its counts may be above what a text may have
+    if found_.wanted:
+        recording.write("the history" if notes.snapshots else "the timeline", found_.wanted)
+        write_beside(options.peak, profile)
+    elif profile:
+        recording.write("the profile", profile)
+    if found_.upper:
+        write_beside(options.upper, found_.upper)
+    return bool(found_.wanted or profile)
 
 
 def measured(options: Options, notes: Notes, moments: bytes) -> "list[str]":
@@ -258,7 +255,7 @@ def print_run(options: Options, speaker: recording.Speaker, run: recording.Found
     recording.refuse_spoiled(notes, program)
     say_uncounted(speaker, notes, options.live or "--live", program)
     recording.say_lost(speaker, notes)
-    return print_found(options, speaker, notes, *run.texts())
+    return print_found(options, speaker, notes, run.texts())
 
 
 # ---- a service
@@ -290,7 +287,9 @@ def read_only(options: Options, speaker: recording.Speaker) -> int:
     try:
         with open(path, "rb", opener=private_folder.look_at) as file:
             form, reader, descriptor = HEAD.unpack(file.read(HEAD.size))
-        if form != FORM or os.fsencode(path) not in pathlib.Path(f"/proc/{reader}/maps").read_bytes():
+        with open(f"/proc/{reader}/maps", "rb") as maps:
+            is_followed = form == FORM and os.fsencode(path) in maps.read()
+        if not is_followed:
             raise Refused(3, f"{options.read} is no stream, or nobody follows it: `profile_program --follow` does")
         with open(f"/proc/{reader}/fd/{descriptor}", "rb") as shared:
             return print_service(options, speaker, asked(reader, recording.Found(shared.fileno()), options.read), options.read)
@@ -314,9 +313,10 @@ def asked(reader: int, run: recording.Found, stream: str) -> recording.Found:
 def import_file(options: Options, speaker: recording.Speaker) -> int:
     """Prints what a file of another tool counts, and says what that is; or what is kept of a timeline."""
     if options.is_timeline():
-        with private_folder.temporary_folder() as work, recording.of_timeline(options.import_, work, options.wanted(), options.table_words()) as run:
-            if print_found(options, speaker, run.notes(), *run.texts()):
-                return 0
+        with private_folder.temporary_folder() as work:
+            of_reader = recording.of_timeline(options.import_, work, options.wanted(), options.table_words())
+        if print_found(options, speaker, *of_reader):
+            return 0
         raise Refused(3, f"{texts.named(options.import_)}: it counts nothing")
     wanted = options.live.removeprefix("--") if options.live else found.ALL
     got = importing.imported(options.import_, options.as_, wanted, options.history)
@@ -337,7 +337,8 @@ def print_library(options: Options, speaker: recording.Speaker) -> int:
         library = recording.make("stream", work)
         if options.words:
             library = installed(library, options.words[0])
-        work.keep = library.startswith(f"{work.path}/")
+        if library.startswith(f"{work.path}/"):
+            work.keep()
     if not recording.is_plain(library):
         speaker.say("the loader takes no path with a space, a colon or a dollar sign: put the library elsewhere by --library DIR")
     recording.write("the path", f"{library}\n")
@@ -389,8 +390,8 @@ def run_program(options: Options, speaker: recording.Speaker, path: str, work: p
     program = options.words[0]
     with recording.Run(speaker, work, options.wanted(), options.only, options.table_words(), bool(options.stacks)) as run:
         notes = run.run(options.words, path)
-        write_beside(options.stacks, run.found.sites())
-        write_beside(options.events, run.found.events())
+        write_beside(options.stacks, run.found.texts().sites)
+        write_beside(options.events, run.found.texts().events)
         write_beside(options.processes, "".join(f"{line}\n" for line in notes.programs()))
         if notes.left:
             say_left(speaker, options, notes)

@@ -16,17 +16,15 @@ from typing import NoReturn
 from mte_scripts import private_folder, texts
 from mte_scripts.private_folder import NotPrivate
 from mte_scripts.recording import children, programs
-from mte_scripts.recording.notes import PAGE, Notes
-from mte_scripts.recording.shims import SHIMS, compile_alone, sum_of
+from mte_scripts.recording.notes import PAGE, Notes, Texts
+from mte_scripts.recording.shims import SHIMS, compile_alone, sources_in, sum_of
 from mte_scripts.running import Refused
 
 RECORDERS = os.path.join(texts.ROOT, "recorders")  # of a package
-# The library, and its reader. Without -fno-builtin gcc makes a calloc of a malloc and a memset, also inside calloc.
-FLAGS = {"stream": ["-O2", "-fno-builtin", "-shared", "-fPIC", "-Wall"], "follow": ["-O2", "-Wall"]}
-ENDINGS = {"stream": ".so", "follow": ""}
-WITH_STACKS = {"stacks": "stream", "sites": "follow"}  # what is made of the same source, and records the stack of each request too
-for _name, _source in WITH_STACKS.items():
-    FLAGS[_name], ENDINGS[_name] = FLAGS[_source], ENDINGS[_source]
+# Without -fno-builtin gcc makes a calloc of a malloc and a memset, also inside calloc.
+LIBRARY, READER = ["-O2", "-fno-builtin", "-shared", "-fPIC", "-Wall"], ["-O2", "-Wall"]
+FLAGS = {"stream": LIBRARY, "follow": READER, "stacks": LIBRARY, "sites": READER}  # the last two record the stack of each request too
+ENDINGS = {name: ".so" if flags is LIBRARY else "" for name, flags in FLAGS.items()}
 WATCHED = 1  # a line on a terminal every so many seconds
 NO_NOTES = {3: "there is no room for what is recorded"}  # the reader's status, where it could not note it
 ANOTHER_PLACE = "set XDG_CACHE_HOME to another place"
@@ -82,11 +80,9 @@ def make(name: str, work: private_folder.Folder) -> str:
     there is no cache that nobody else can change."""
     if texts.IS_PACKAGED and (path := packaged(name)):
         return path
-    source = os.path.join(SHIMS, f"{name}.c")
-    sources = [source, *(os.path.join(SHIMS, f"{each}.c") for each in [WITH_STACKS.get(name)] if each)]
-    file = f"{name}-{sum_of(FLAGS[name], sources)}{ENDINGS[name]}"
+    file = f"{name}-{sum_of(FLAGS[name], sources_in(SHIMS, '.c'))}{ENDINGS[name]}"
     with cache_or(work, file) as place:
-        return place.kept(file, lambda new: compile_source(name, source, new))
+        return place.kept(file, lambda new: compile_source(name, new))
 
 
 def packaged(name: str) -> "str | None":
@@ -116,8 +112,8 @@ def cache_or(work: private_folder.Folder, file: str) -> private_folder.Place:
     return private_folder.closed(work.path)
 
 
-def compile_source(name: str, source: str, to: str) -> None:
-    compiler = os.environ.get("CC") or "cc"
+def compile_source(name: str, to: str) -> None:
+    source, compiler = os.path.join(SHIMS, f"{name}.c"), os.environ.get("CC") or "cc"
     if not shutil.which(compiler):
         install = "install one, for example by `apt-get install gcc libc6-dev`, or set CC"
         raise Refused(3, f"there is no C compiler `{compiler}`: {install}")
@@ -146,14 +142,11 @@ class Library:
     def keep(self) -> None:
         """For processes that are left: what they start loads the library by its name."""
         if self.link:
-            self.link.keep = True
+            self.link.keep()
         if self.path.startswith(self.work.path + "/") or (self.link and self.link.path.startswith(self.work.path + "/")):
-            self.work.keep = True
+            self.work.keep()
 
-    def __enter__(self) -> "Library":
-        return self
-
-    def __exit__(self, *_: object) -> None:
+    def close(self) -> None:
         if self.link:
             self.link.close()
 
@@ -229,38 +222,21 @@ class Found:
     def notes(self) -> Notes:
         return Notes.of(os.pread(self.descriptor, PAGE, 0))
 
-    def texts(self) -> "tuple[bytes, bytes, bytes, bytes]":
-        """The profile, what else was wanted, the upper history, and the numbers of its moments."""
-        notes = self.notes()
+    def texts(self) -> Texts:
         with open(os.dup(self.descriptor), "rb") as file:
             file.seek(PAGE)
-            return file.read(notes.profile), file.read(notes.text), file.read(notes.upper), file.read(notes.at)
-
-    def sites(self) -> bytes:
-        """The stacks, as sites.py reads them; empty where there are none."""
-        notes = self.notes()
-        return os.pread(self.descriptor, notes.sites, PAGE + notes.profile + notes.text + notes.upper + notes.at)
-
-    def events(self) -> bytes:
-        """The events of a timeline, as timelines.py has them; empty where they were not wanted."""
-        notes = self.notes()
-        return os.pread(self.descriptor, notes.codes, PAGE + notes.profile + notes.text + notes.upper + notes.at + notes.sites)
+            return Texts(*map(file.read, self.notes().bytes))
 
 
-@contextlib.contextmanager
-def of_timeline(path: str, work: private_folder.Folder, wanted: str, tables: str) -> "Iterator[Found]":
+def of_timeline(path: str, work: private_folder.Folder, wanted: str, tables: str) -> "tuple[Notes, Texts]":
     """What a reader finds in a timeline of any length."""
-    shared = os.memfd_create("mte_found", 0)
-    try:
-        words = [make("follow", work), str(shared), "", wanted, "", tables, "-"]
-        with texts.opened(path) as file:
-            status = children.run(words, stdin=file, stdout=2, close_fds=False)
-        notes = Found(shared).notes()
-        if status or not notes.version:
-            raise Refused(2 if notes.why else 3, f"{texts.named(path)}: {notes.why or 'the reader was ended'}")
-        yield Found(shared)
-    finally:
-        os.close(shared)
+    with open(os.memfd_create("mte_found", 0), "rb") as shared, texts.opened(path) as file:
+        words = [make("follow", work), str(shared.fileno()), "", wanted, "", tables, "-"]
+        status = children.run(words, stdin=file, stdout=2, close_fds=False)
+        notes, found = Found(shared.fileno()).notes(), Found(shared.fileno()).texts()
+    if status or not notes.version:
+        raise Refused(2 if notes.why else 3, f"{texts.named(path)}: {notes.why or 'the reader was ended'}")
+    return notes, found
 
 
 class Run:
@@ -329,7 +305,7 @@ class Run:
 
     def __exit__(self, *_: object) -> None:
         os.close(self.found.descriptor)
-        self.library.__exit__()
+        self.library.close()
 
 
 @contextlib.contextmanager

@@ -4,14 +4,14 @@ import bisect
 import functools
 import itertools
 from array import array
-from collections import Counter
+from collections import Counter, defaultdict
 from collections.abc import Callable, Iterator
 
 from mte_scripts import texts
 
 FREED, SIZE = 1 << 15, (1 << 14) - 1  # the parts of an event
 PIECE = 1 << 20  # events
-CLASSES = texts.LARGEST_CLASS + 1
+UNIT, KEPT = 64, 1 << 16  # bytes of events; units of which it is kept what they come to
 LARGE = texts.LARGEST_SIZE + 1
 MOST_TEXT = texts.MOST_INPUT - (1 << 20)  # in bytes: a command takes a table or a fit beside it
 
@@ -49,9 +49,28 @@ def by_size(codes: Counter) -> Counter:
     return found
 
 
+def units_of(events: array) -> Iterator[bytes]:
+    """The events in pieces: short ones where most of these come again, as they do in a run that does the same often."""
+    for begin in range(0, len(events), PIECE):
+        data = events[begin : begin + PIECE].tobytes()
+        units = [data[at : at + UNIT] for at in range(0, len(data), UNIT)]
+        yield from units if len(set(units)) * 2 < len(units) else [data]
+
+
+def count(events: array) -> Counter:
+    """How often each event comes."""
+    found, by_times = Counter[int](), defaultdict(list)
+    for unit, times in Counter(units_of(events)).items():
+        by_times[times].append(unit)
+    for times, units in by_times.items():
+        for code, number in Counter(array("H", b"".join(units))).items():
+            found[code] += times * number
+    return found
+
+
 def counted(events: array, moments: list) -> list[Counter]:
     """How often each event comes between each two of these moments."""
-    return [Counter(events[begin:end]) for begin, end in zip(moments, moments[1:])]
+    return [count(events[begin:end]) for begin, end in zip(moments, moments[1:])]
 
 
 def need_of(size: int) -> int:
@@ -59,19 +78,18 @@ def need_of(size: int) -> int:
     return max(-(-size // 16), 1) + 1
 
 
-def peaks(events: array, groups: tuple) -> dict:
-    """The moments at which a group of classes has more blocks than at any before, by the number of events; as shims/moments.h has them."""
-    groups = tuple(group + 1 for group in groups)  # an event of a large block has 0
+def peaks(events: array) -> dict:
+    """The live blocks at the moments at which a class of 16 bytes has more of them than at any before, by the number of events."""
     most: Counter = Counter()
     now: Counter = Counter()
     at: dict = {}
-    for place, group in enumerate(map(by_code(lambda size: groups[need_of(size)]).__getitem__, events), 1):
-        if group < 0:
-            now[-group] -= 1
-        elif group:
-            now[group] += 1
-            if now[group] > most[group]:
-                most[group], at[group] = now[group], place
+    for place, need in enumerate(map(by_code(need_of).__getitem__, events), 1):
+        if need < 0:
+            now[-need] -= 1
+        elif need:
+            now[need] += 1
+            if now[need] > most[need]:
+                most[need], at[need] = now[need], place
     return live_at(events, sorted(at.values()))
 
 
@@ -155,8 +173,7 @@ def history_at(text: bytes, moments: list) -> texts.History:
 def requests_of(text: bytes) -> dict:
     """The profile of all requests."""
     found = read(text)
-    if found.codes is None:
-        found.codes = Counter(found.events)
+    found.codes = found.codes or count(found.events)
     return named(requested(found.codes))
 
 
@@ -171,21 +188,22 @@ def place_in(classes: list) -> Callable[[int], int]:
     return lambda size: bisect.bisect_left(classes, need_of(size)) + 1
 
 
-def most_of(text: bytes, amount: Callable[[int], int]) -> int:
-    """The most of all live blocks, each with an amount of its size. Large blocks have none."""
-    steps = filter(None, map(by_code(amount).__getitem__, parsed(text)))
-    return max(itertools.accumulate(steps, initial=0))
+def peak_of(text: bytes, amount: Callable[[int], int] = int) -> tuple[int, int]:
+    """The most of all live blocks, each with an amount of its size, and the first moment of so many. Large blocks have none."""
+    amounts, seen, now, most, at = by_code(amount), 0, 0, 0, 0
 
+    @functools.lru_cache(maxsize=KEPT)
+    def sums_of(unit: bytes) -> tuple[int, int, int]:
+        sums = list(itertools.accumulate(map(amounts.__getitem__, array("H", unit))))
+        top = max(sums)
+        return top, sums.index(top) + 1, sums[-1]
 
-def peak_of(text: bytes) -> int:
-    """The first moment of the most requested bytes. Large blocks count for nothing."""
-    amounts, events, now, most, at = by_code(int), parsed(text), 0, 0, 0
-    for seen in range(0, len(events), PIECE):
-        sums = list(itertools.accumulate(map(amounts.__getitem__, events[seen : seen + PIECE]), initial=now))
-        now, top = sums[-1], max(sums)
-        if top > most:
-            most, at = top, seen + sums.index(top)
-    return at
+    for unit in units_of(parsed(text)):
+        top, place, number = sums_of(unit)
+        if now + top > most:
+            most, at = now + top, seen + place
+        now, seen = now + number, seen + len(unit) // 2
+    return most, at
 
 
 def heights(text: bytes, classes: list, parts: int) -> list[list[int]]:
@@ -193,21 +211,26 @@ def heights(text: bytes, classes: list, parts: int) -> list[list[int]]:
     What the table does not serve is left out."""
     events, of_event = parsed(text), by_code(place_in(classes))
     parts, now, rows, begin = min(parts, len(events)), [0] * (len(classes) + 2), [], 0
+
+    @functools.lru_cache(maxsize=KEPT)
+    def changes_of(unit: bytes) -> list[tuple[int, int, int]]:
+        """What it adds to the blocks of classes, by their places, at most and in all."""
+        added, most = [0] * len(now), [0] * len(now)
+        for place in map(of_event.__getitem__, array("H", unit)):
+            if place < 0:
+                added[-place] -= 1
+            elif place:
+                added[place] += 1
+                if added[place] > most[place]:
+                    most[place] = added[place]
+        return [each for each in zip(itertools.count(), most, added) if each[1] or each[2]]
+
     for part in range(1, parts + 1):
         end, most = len(events) * part // parts, list(now)
-        for place in map(of_event.__getitem__, events[begin:end]):
-            if place < 0:
-                now[-place] -= 1
-            elif place:
-                now[place] += 1
-                if now[place] > most[place]:
-                    most[place] = now[place]
+        for place, top, number in itertools.chain.from_iterable(map(changes_of, units_of(events[begin:end]))):
+            if now[place] + top > most[place]:
+                most[place] = now[place] + top
+            now[place] += number
         rows.append(most[1:-1])
         begin = end
     return rows
-
-
-def with_block(text: bytes, size: int) -> bytes:
-    """The timeline with one block more that is live from before the first event on; the same where a block of this size is requested."""
-    line = b"%d\n" % size
-    return text if b"\n" + line in text or text.endswith(b"\n" + line[:-1]) else text.replace(b"\n", b"\n" + line, 1)

@@ -55,7 +55,7 @@ def remarks(options: argparse.Namespace, notes: Notes) -> "Iterator[str]":
         yield f"one process is traced. Others requested too {others}: --only NAME traces another"
     if notes.foreign:
         yield recording.foreign(program, notes, "traced")
-    if notes.untouched or not notes.text:
+    if notes.untouched or not notes.events:
         recording.refuse_nothing(program, notes, "traced")
     if notes.is_cut:
         yield f"the trace is cut at {options.first or 'a million'} events"
@@ -83,7 +83,7 @@ def run_program(options: argparse.Namespace, speaker: recording.Speaker, path: s
         for remark in remarks(options, notes):
             speaker.say(remark)
         recording.say_lost(speaker, notes)
-        recording.write("the trace", run.found.texts()[1])
+        recording.write("the trace", run.found.texts().wanted)
     return 1 if run.status else 0
 
 

@@ -73,34 +73,57 @@ def page(figures: Figures, name: str, counted: str, warnings: list[str], checks:
     """The page for a program or a profile of this name. COUNTED says what was counted, CHECKS are the commands that check the sheet or the fit of
     the first table, and that of the other one, if there is one. TABLES is the file beside it with the page of scripts/page, if that is made, and
     MEASURED the part on what was measured."""
-    first, judged = figures.first, figures.judged[0]
-    known = figures.known()
+    title = f"Size classes for {escape(name)}"
+    parts = (
+        head_section(figures, title, warnings, tables), cards(figures, counted), measured, tables_section(figures), curve_section(figures),
+        over_time_section(figures), sizes_section(figures), classes_section(figures), check_section(figures, checks),
+    )
+    return html_safe.document(title, STYLE, "".join(parts))
+
+
+def head_section(figures: Figures, title: str, warnings: list[str], tables: "str | None") -> str:
+    """What the table costs, and what is known of it."""
+    known, judged = figures.known(), figures.judged[0]
     proved = int(claims.holds(judged) and texts.trust().is_proved)
-    caption = claims.curve_caption(judged.kind, judged.step, judged.given, judged.forced)
-    where = "" if texts.IS_PACKAGED else " at the top of the repository of <code>mte_tool</code>"
-    over_time = " The footprint is the most memory of the classes over time." if figures.timed else ""
-    return html_safe.document(f"Size classes for {escape(name)}", STYLE, f"""<h1>Size classes for {escape(name)}</h1>
+    return f"""<h1>{title}</h1>
 <p class="lead">{escape(lead(figures))}</p>
 <p id="proof" data-verdict="{escape(judged.verdict)}" data-proved="{proved}">{with_code(known[0])}</p>
 {lines(f'<p id="proof-other">{with_code(words)}</p>' for words in known[1:])}
 {lines(f'<p>{escape(words)}</p>' for words in figures.interval())}
 {lines(f'<p class="warning">{escape(text)}</p>' for text in warnings)}
 {f'<p><a href="{tables}">Try other tables for these counts</a>, in a page that tunes and checks as you turn its knobs.</p>' * bool(tables)}
-<dl>
+"""
+
+
+def cards(figures: Figures, counted: str) -> str:
+    """What was counted, in numbers."""
+    judged = figures.judged[0]
+    return f"""<dl>
 {card("requests", "Requests counted", figures.requests, escape(counted))}
 {card("bytes", "Bytes requested", figures.bytes, byte_text(figures.bytes))}
 {card("large", "Large requests", figures.large, f"above {texts.LARGEST_SIZE:,} bytes; in no other figure here")}
 {card("limit", "Limit of classes", judged.limit, f"in steps of {GRANULE * judged.step} bytes")}
 </dl>
-{measured}<h2>Each table</h2>
+"""
+
+
+def tables_section(figures: Figures) -> str:
+    over_time = " The footprint is the most memory of the classes over time." if figures.timed else ""
+    return f"""<h2>Each table</h2>
 <div class="scroll"><table id="tables">
 {headings("Table", "Classes", *FOOTPRINT * bool(figures.timed), "Waste, bytes", "The first one saves")}
-<tbody>{table_row(figures, first, "first")}
+<tbody>{table_row(figures, figures.first, "first")}
 {lines(table_row(figures, table, f"other-{at}") for at, table in enumerate(figures.rest))}</tbody>
 </table></div>
 <p class="soft">A block has a header of 16 bytes, the bytes that were requested, and those that are lost by rounding: the
 waste. Its share is of the requested bytes. What is saved of it has its share of all blocks with that table.{over_time}</p>
-<h2>How many classes?</h2>
+"""
+
+
+def curve_section(figures: Figures) -> str:
+    judged = figures.judged[0]
+    caption = claims.curve_caption(judged.kind, judged.step, judged.given, judged.forced)
+    return f"""<h2>How many classes?</h2>
 <figure>{curve(figures, "wide", 760, 340)}{curve(figures, "narrow", 340, 260)}
 {curve_key(figures)}
 <figcaption>{escape(caption)} Where it leaves the picture, it goes on upwards.</figcaption></figure>
@@ -108,22 +131,36 @@ waste. Its share is of the requested bytes. What is saved of it has its share of
 {headings("Classes", claims.TEMPLATES[f"{judged.kind}.curve.column"])}
 <tbody>{lines(least_row(figures, *row) for row in enumerate(figures.least, 1))}</tbody>
 </table></div></details>
-{over_time_section(figures)}<h2>What was requested</h2>
+"""
+
+
+def sizes_section(figures: Figures) -> str:
+    return f"""<h2>What was requested</h2>
 <figure>{histogram(figures, "wide", 760, 360, 8)}{histogram(figures, "narrow", 340, 300, 4)}
 {border_key(figures)}
 <figcaption>A bar is the bytes that were requested in neighbouring sizes. A border is the largest size that a class
 serves.</figcaption></figure>
-<h2>The classes of the table of {first.name}</h2>
+"""
+
+
+def classes_section(figures: Figures) -> str:
+    return f"""<h2>The classes of the table of {figures.first.name}</h2>
 <div class="scroll"><table id="classes">
 {headings("Block, bytes", "Sizes served", *CLASS_COLUMNS[figures.objective], "Share")}
 <tbody>{lines(class_row(figures, *row) for row in figures.classes())}</tbody>
 </table></div>
-<h2>Check it again</h2>
-<p>This is the table of {first.name} as a class line, in granules of 16 bytes:</p>
-<pre id="class-line">{class_text(first.classes)}</pre>
+"""
+
+
+def check_section(figures: Figures, checks: list[str]) -> str:
+    """Each table, and the command that checks its certificate."""
+    where = "" if texts.IS_PACKAGED else " at the top of the repository of <code>mte_tool</code>"
+    return f"""<h2>Check it again</h2>
+<p>This is the table of {figures.first.name} as a class line, in granules of 16 bytes:</p>
+<pre id="class-line">{class_text(figures.first.classes)}</pre>
 <p>Its certificate is checked by this{where}:</p>
 <pre id="check">{escape(checks[0])}</pre>
-{lines(other_section(*each) for each in zip(figures.made()[1:], checks[1:]))}""")
+{lines(other_section(*each) for each in zip(figures.made()[1:], checks[1:]))}"""
 
 
 def lead(figures: Figures) -> str:

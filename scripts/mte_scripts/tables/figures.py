@@ -15,6 +15,7 @@ from mte_scripts.recording import timelines
 from mte_scripts.tables import scudo_map, scudo_memory
 
 GRANULE = claims.GRANULE  # bytes; a block begins with a header of one granule
+WORTH = 0.005  # a saving that is worth a word, as a share of the process
 NARROW = 100  # an interval is narrow where its width is at most a hundredth of its lower end
 Classes = tuple[int, ...]
 NOTHING = f"no bytes are counted in requests of at most {texts.LARGEST_SIZE:,} bytes: there is nothing to tune"
@@ -257,7 +258,7 @@ class Figures:
     def most(self, amount: Callable[[int], int]) -> int:
         """The most of all live blocks together at a moment, each with an amount of its size."""
         if self.timed.kind == "timeline":
-            return timelines.most_of(self.timed.text, amount)
+            return timelines.peak_of(self.timed.text, amount)[0]
         rows = [[amount(size) * count for count in counts] for size, counts in self.timed.history.counts.items() if size != "large"]
         return max(map(sum, zip(*rows)), default=0)
 

@@ -6,12 +6,12 @@ import math
 import operator
 import os
 import stat
+import sys
 from collections.abc import Callable, Iterable
 from typing import Any, NamedTuple, Optional
 
 from mte_scripts import private_folder, texts
-from mte_scripts.recording import children, timelines
-from mte_scripts.recording.notes import TABLES
+from mte_scripts.recording import TABLES, children, timelines
 from mte_scripts.tables import figures
 
 MOST_RUNS = 8
@@ -62,7 +62,7 @@ class Runs:
         if moments:
             texts.write_file(self.file("again"), "".join(f"moment {each}\n" for each in moments))
             words += ["--again", self.file("again")]
-        command = [os.path.join(texts.SCRIPTS, "profile_program"), *words, "--said", self.file("said"), *self.words]
+        command = [sys.executable, "-ISXutf8", "--", os.path.join(texts.SCRIPTS, "profile_program"), *words, "--said", self.file("said"), *self.words]
         self.number += 1
         if self.number > 1 and self.offset is not None:
             os.lseek(0, self.offset, os.SEEK_SET)

@@ -28,14 +28,14 @@ def cut(block: int, blocks: int) -> tuple[int, int]:
     the blocks that a thread takes at once are left of it; else a set may be smaller. Of very many, those that fill whole pieces of what is
     mapped are left out of this, so that the sets may be others."""
     filling = MAPPED // math.gcd(MAPPED, block)
-    begin = max(0, blocks - FOLLOWED) // filling * filling
+    begin, at_once = max(0, blocks - FOLLOWED) // filling * filling, cached(block)
     before = last = mapped = 0
     while begin + before + last < blocks:
         before += last
-        needed = (before + cached(block)) * block
+        needed = (before + at_once) * block
         if needed > mapped:
             mapped += -(-(needed - mapped) // MAPPED) * MAPPED
-        last = min(SETS * cached(block), mapped // block - before)
+        last = min(SETS * at_once, mapped // block - before)
     return begin + before, last
 
 

@@ -2,19 +2,18 @@
 
 import argparse
 import os
-from collections.abc import Callable, Iterator
+from collections.abc import Callable
 from typing import Any
 
 from mte_scripts import private_folder, texts
 from mte_scripts.builds import web_page
-from mte_scripts.claims import numbered
-from mte_scripts.recording import recording, sites, timelines
+from mte_scripts.recording import sites, timelines
 from mte_scripts.recording.imports import heaptrack_stacks
-from mte_scripts.reports import measured_section, report_page, who_section
+from mte_scripts.reports import report_page, who_section
 from mte_scripts.reports.pictures import escape
-from mte_scripts.tables import draw_waste, figures, long_runs, processes, scudo_map, settings, verdict, verification, who
-from mte_scripts.tables.figures import kibibytes, number, percent
-from mte_scripts.texts import printable, wrapped
+from mte_scripts.tables import draw_waste, figures, long_runs, processes, scudo_map, summary, who
+from mte_scripts.tables.figures import Figures
+from mte_scripts.tables.result_folder import Folder
 from mte_scripts.words import TABLES, ProgramWords, between, named, some
 
 HELP = """\
@@ -86,25 +85,6 @@ Example:
   tune_program sqlite3 :memory: < examples/sqlite_large.sql
 """.replace("{MOST_RUNS}", str(long_runs.MOST_RUNS))
 
-WIDTH, HEIGHT = 80, 24
-KEPT = ("program.timeline", "program.history", "program.profile")  # the records
-FILES = [
-    ("program.profile", "what was counted"),
-    ("tuned.sheet", "table, certificate"),
-    ("tuned_map.inc", "the table for Scudo"),
-    ("program.timeline", "what was recorded"),
-    ("program.history", "blocks over time"),
-    ("upper.history", "most of each window"),
-    ("fitted.fit", "table, certificate"),
-    ("moments.history", "the fit's moments"),
-    ("claims.txt", "what is shown"),
-    ("who.txt", "who requests it"),
-    ("waste.svg", "waste by classes"),
-    ("report.html", "all of it as a page"),
-    ("summary.txt", "this summary"),
-]
-
-
 class Options(argparse.Namespace):
     objective: str
 
@@ -150,53 +130,6 @@ class Options(argparse.Namespace):
         return "profile" if self.read == "-" else figures.without_ending(self.read, ".profile", ".history", ".timeline")
 
 
-class Folder:
-    """The new folder. What a step has made stays there, also where a later step fails."""
-
-    def __init__(self, path: str) -> None:
-        kept = next((name for name in KEPT if os.path.isfile(os.path.join(path, name))), None)
-        if kept:
-            again = f"--read {texts.path_word(os.path.join(path, kept))} --output ANOTHER"
-            raise texts.Refused(3, f"{path} is there already: name another folder by --output, or tune its record again, without a run: {again}")
-        self.place = texts.new_folder(path, "--output")
-        self.path = path
-
-    def file(self, name: str) -> str:
-        """The path of a file, as it is shown."""
-        return os.path.join(self.path, name)
-
-    def at(self, name: str) -> str:
-        """The path by which it is opened."""
-        return self.place.at(name)
-
-    def has(self, name: str) -> bool:
-        return os.path.isfile(self.at(name))
-
-    def write(self, name: str, data: "str | bytes") -> None:
-        try:
-            self.place.write(name, data if isinstance(data, bytes) else data.encode(errors="surrogateescape"))
-        except texts.Refused:
-            if self.has(name):
-                os.remove(self.at(name))  # what is there of it is no use
-            raise
-
-    def drop_record(self) -> None:
-        """What was recorded is of no use."""
-        for name in KEPT:
-            if self.has(name):
-                os.remove(self.at(name))
-
-    def drop_empty(self) -> None:
-        """Without a profile nothing is worth keeping: then the next run finds its folder free."""
-        try:
-            for name in KEPT:
-                if self.has(name) and not os.path.getsize(self.at(name)):
-                    os.remove(self.at(name))
-            os.rmdir(self.path)
-        except OSError:
-            pass  # there is something in it
-
-
 def is_long(options: Options) -> bool:
     """Whether --read names a timeline that is too long to be read at once."""
     if options.read == "-" or not os.path.isfile(options.read) or os.path.getsize(options.read) <= texts.MOST_INPUT:
@@ -218,7 +151,7 @@ def read_given(options: Options) -> "dict[str, str | bytes]":
     if texts.is_timeline(data):
         options.agree_on(data)
         figures.refuse_timeline(data, name)
-        peak = timelines.history_at(data, [timelines.peak_of(data)])
+        peak = timelines.history_at(data, [timelines.peak_of(data)[1]])
         profile, files["program.timeline"] = {size: counts[0] for size, counts in peak.counts.items()}, data
     elif texts.is_history(data):
         history = texts.parse_history(data, name)
@@ -234,200 +167,16 @@ def read_given(options: Options) -> "dict[str, str | bytes]":
     return {"program.profile": texts.profile_text(profile), **files}
 
 
-def warnings(options: Options, found: figures.Figures, notes: list[str]) -> Iterator[str]:
-    """Where the result means little: a line for each reason."""
-    default = found.others[0]
-    saving = found.saving(default)
-    if seen := [table.name for table in (found.first, *found.rest) if table.takes_more and table.footprint is not None]:
-        yield f"Of {' and '.join(seen)} the footprint is that over the recorded moments: over the run it may be more."
-    if found.bytes < 1 << 20 and not options.all:
-        yield f"Less than 1 MiB counts here ({figures.byte_text(found.bytes)}): the resident set may not change."
-    elif saving is not None and 0 <= saving < 1 << 20 and not options.all:
-        yield f"The saving against {default.name} is below 1 MiB: the resident set may not show it."
-    for table in found.made():
-        if found.timed and None not in (table.footprint, default.footprint) and table.footprint > default.footprint:
-            more = kibibytes(table.footprint - default.footprint)
-            yield f"The table of {table.name} takes {more} more than {default.name} over time."
-    if found.timed:
-        yield from wasteful(found, default)
-    if found.requests + found.large < 1000:
-        yield f"Only {numbered(found.requests + found.large, 'request')} counted: a longer or larger job says more."
-    if parts := ["requests"] * (found.large > found.requests) + ["bytes"] * (found.large * (texts.LARGEST_SIZE + 1) > found.bytes):
-        yield f"More than half of the {' and of the '.join(parts)} are of large requests, which have no class."
-    yield from notes
-
-
-def wasteful(found: figures.Figures, default: figures.Table) -> Iterator[str]:
-    """Whether all requests lose more than by default, though their peak does not."""
-    ours, theirs = (found.waste_over_time(table) for table in (found.first, default))
-    if None not in (ours, theirs) and ours > theirs:
-        yield (
-            f"Over all requests of the run, the table of {found.first.name} wastes more than {default.name}: {numbered(ours, 'byte')}, and not "
-            f"{number(theirs)}. Another run, which has other sizes at its peak, may take more with it."
-        )
-
-
-def counted(options: Options, timed: "figures.OverTime | None" = None) -> str:
-    """What the requests are that count."""
-    if options.all:
-        return "all requests"
-    if timed and timed.kind == "history" and options.read:
-        return "the blocks of the snapshot with the most bytes"
-    return "the blocks live at the peak" if timed or options.read is None else "as the profile has them"
-
-
-def headline(options: Options, found: figures.Figures, process: int) -> str:
-    """What the table of the map is, and what it saves: of the bytes of the process, where these were measured."""
-    default = found.others[0]
-    saving = found.saving(default)
-    if saving is None:
-        return f"{options.name()}: {found.first.name}"
-    share = "" if process else f" ({percent(abs(saving), found.whole(default))})"
-    saved = f"{kibibytes(abs(saving))}{share} {'less' if saving >= 0 else 'more'} than {default.name}"
-    if not process:
-        return f"{options.name()}: {found.first.name}, {saved}"
-    helps = "" if abs(saving) >= verdict.SHARE * process else "a table is not worth it here; "
-    return f"{options.name()}: {helps}{found.first.name}, {saved}, {percent(abs(saving), process)} of the process"
-
-
-def summary(options: Options, found: figures.Figures, folder: Folder, noted: list[str], measured: dict[str, int],
-            what_ifs: "list[who.WhatIf]") -> str:
-    """The summary. It fits a terminal of 80 columns and 24 lines, unless there are many tables or warnings: what it has no room for is in the
-    page."""
-    lines = wrapped(headline(options, found, measured.get("resident", 0)), indent="  ")
-    for text in found.interval()[:1]:
-        lines += wrapped(text)
-    if found.timed:
-        lines += wrapped(recorded(found.timed))
-    else:
-        what = f"{numbered(found.requests, 'request')} of {numbered(found.bytes, 'byte')}"
-        lines += ["", *wrapped(f"Counted: {what}, {counted(options, found.timed)}.")]
-    if found.large or measured.get("large"):
-        most = f"; at most {figures.byte_text(measured['large'])} live" if measured.get("large") else ""
-        lines += wrapped(f"Not counted: {numbered(found.large, 'large request')}, above {number(texts.LARGEST_SIZE)} bytes{most}.")
-    lines += over_time(found, measured) if found.timed else ["", *comparison(found), *wrapped(legend(options))]
-    rest = [line for known in [*found.known()[:1], *found.interval()[1:]] for line in wrapped(known)]
-    rest += [line for each in what_ifs for line in wrapped(each.said())]
-    rest += [line for text in noted for line in wrapped(f"! {text}", indent="  ")]
-    rest += left(found, folder) if found.timed else listed(found, folder)
-    if found.timed and len(lines) + len(rest) + len(foreseen := wrapped(predicted(found))) <= HEIGHT:
-        lines += foreseen
-    lines += rest
-    if len(lines) > HEIGHT:
-        lines = [line for line in lines if line]
-    return "".join(f"{printable(line)}\n" for line in lines)
-
-
-def legend(options: Options) -> str:
-    """What the columns of the tables without a record over time are."""
-    sums = " Of all requests, these are sums over time, and no memory." if options.all else ""
-    return (
-        "Waste: lost by rounding, with its share of the requested bytes. "
-        f"Saving: by the first table, with its share of all blocks with that table.{sums}"
-    )
-
-
-def left(found: figures.Figures, folder: Folder) -> list[str]:
-    """What the folder has, in short, and the next step."""
-    lines = wrapped(f"In {folder.path}: report.html has all of it as a page, claims.txt what is shown, and how to check it.")
-    if folder.has("tuned_map.inc"):
-        lines += wrapped(f"Next (docs/TUNING.md, section 6): cp {texts.path_word(folder.file('tuned_map.inc'))} $SCUDO/", indent="  ")
-    return lines
-
-
-def listed(found: figures.Figures, folder: Folder) -> list[str]:
-    """The files of the folder, and the next step."""
-    said = {"tuned_map.inc": f"map of {found.first.name}", "tuned.sheet": found.best.name, "fitted.fit": found.fitted.name} if found.fitted else {}
-    files = [f"{name:17}{said.get(name, words)}" for name, words in FILES if name in ("summary.txt", "report.html") or folder.has(name)]
-    half = (len(files) + 1) // 2
-    lines = ["", f"In the folder {folder.path}:"]
-    lines += [f"  {one:40}{other}".rstrip() for one, other in zip(files[:half], files[half:] + [""])]
-    if folder.has("tuned_map.inc"):
-        lines.append("Next, with Scudo's sources in $SCUDO (docs/TUNING.md, section 6):")
-        lines.append(f"  cp {texts.path_word(folder.file('tuned_map.inc'))} $SCUDO/")
-    return lines
-
-
-def recorded(timed: figures.OverTime) -> str:
-    """What was seen of the run."""
-    if timed.interval:
-        return f"Recorded: {numbered(timed.history.snapshots, 'moment')} of the run, and the most blocks between them."
-    if timed.kind == "timeline":
-        return f"Recorded: each moment of the run, {numbered(timed.text.rstrip(bytes([10])).count(bytes([10])), 'event')}."
-    return f"Recorded: {numbered(timed.history.snapshots, 'moment')} of the run, and not what lies between."
-
-
-def over_time(found: figures.Figures, measured: dict[str, int]) -> list[str]:
-    """The footprint and the waste of each table, and what the process takes now."""
-    rows: list[tuple] = [("Table", "footprint", "saving", "share", "classes", "waste")]
-    for table in (found.first, *found.rest):
-        if table.footprint is None:
-            rows.append((table.name, unserved(found, table)))
-            continue
-        saved = found.saved_footprint(table)
-        saving = ("", "") if saved is None or table is found.first else (kibibytes(saved), percent(saved, table.footprint))
-        waste = "" if table.waste is None else percent(table.waste, found.bytes)
-        rows.append((table.name, kibibytes(table.footprint), *saving, number(len(table.classes)), waste))
-    if measured.get("resident"):
-        rows.append(("the process now", kibibytes(measured["resident"]), "", "", "", ""))
-    return texts.columns(rows, most=WIDTH) + wrapped(
-        "Footprint: the most memory of the classes over time; the first table saves so much of it. Waste: the share of the blocks live at the peak "
-        "that rounding loses."
-    )
-
-
-def unserved(found: figures.Figures, table: figures.Table) -> str:
-    """Which sizes a table does not serve."""
-    most = 16 * table.classes[-1] - 16 if table.classes else -1
-    above = figures.byte_text(found.most(lambda size: size if size > most else 0))
-    return f"serves none above {number(most)} bytes, of which {above} were live"
-
-
-def larger_blocks(found: figures.Figures) -> str:
-    """Which sizes have a larger block than by default."""
-    default = found.others[0]
-    sizes, all_sizes, cost = found.larger(default)
-    if not sizes:
-        return f"No requested size has a larger block than with {default.name}."
-    return f"Of {all_sizes} requested sizes {len(sizes)} have a larger block than with {default.name}: together at most {figures.byte_text(cost)} more at a moment."
-
-
-def predicted(found: figures.Figures) -> str:
-    """The range of what the map saves, and on what it rests."""
-    default = found.others[0]
-    if found.saved_footprint(default) is None:
-        return "Nothing is predicted, since one of the tables does not serve all sizes."
-    at_once = found.most_live(default) - found.most_live(found.first)
-    rests = "each moment of the run" if found.timed.kind == "timeline" else "the recorded moments"
-    return (
-        f"Predicted of Scudo from {rests}, and not proved: against {default.name} the peak {moved(found.saved_in_scudo)} "
-        f"where it gives nothing back, in whole pages, and {moved(at_once)} where it gives back each block."
-    )
-
-
-def moved(saved: int) -> str:
-    return f"{'falls' if saved >= 0 else 'rises'} by {kibibytes(abs(saved))}"
-
-
-def comparison(found: figures.Figures) -> list[str]:
-    """The tables: classes, waste and saving, in columns."""
-    rows: list[tuple] = [("Table", "classes", "waste, bytes", "share", "saving", "share")]
-    for table in (found.first, *found.rest):
-        if table.waste is None:
-            rows.append((table.name, number(len(table.classes)), f"does not serve {number(table.unserved)} bytes"))
-            continue
-        saving = found.saved_waste(table)
-        saved = ("", "") if table is found.first else (kibibytes(saving), percent(saving, found.blocks(table)))
-        rows.append((table.name, number(len(table.classes)), number(table.waste), percent(table.waste, found.bytes), *saved))
-    return texts.columns(rows, most=WIDTH)
-
-
 def tune(words: list[str]) -> int:
     options = Options(words)
     others = figures.other_tables(options.against)
     record = heaptrack_stacks.read(options.read) if options.who and options.read is not None else None
     given = read_stacks(options, record) if record else None if options.read is None or is_long(options) else read_given(options)
-    scudo = None if options.verify is None else verification.place(options.verify)
+    scudo = None
+    if options.verify is not None:
+        from mte_scripts.tables import hardening  # it takes its time, which other runs are spared
+
+        scudo = hardening.InScudo(options)
     if options.read is None:
         need_program(options)
     folder = Folder(options.output or options.name() + ".tuned")
@@ -443,14 +192,13 @@ def need_program(options: Options) -> None:
         raise texts.Refused(3, f"{refused.text}: there is no program to tune with, so nothing was run") from None
 
 
-def tuned_in(options: Options, folder: Folder, others: list, given: "dict | None", scudo: "verification.Place | None",
-             work: private_folder.Folder, run: "who.Run | None") -> int:
-    """All steps in a new folder, with one for what is needed meanwhile."""
-    recorded, runs, kept = long_runs.Recorded(0, [], {}, {}, b""), None, None
+def tuned_in(options: Options, folder: Folder, others: list, given: "dict | None", scudo: Any, work: private_folder.Folder,
+             run: "who.Run | None") -> int:
+    """All steps in a new folder, with one for what is needed meanwhile; SCUDO is a hardening.InScudo, or None."""
+    recorded, runs = long_runs.Recorded(0, [], {}, {}, b""), None
     try:
         if given is None:
-            kept = work.file("input") if scudo and verification.keep_input(work.file("input")) else None
-            runs = long_runs.runs_of(options, work, kept)
+            runs = long_runs.runs_of(options, work, scudo and scudo.keep_input(work.file("input")))
             recorded, run = count(options, folder, runs, others)
         else:
             recorded = recorded._replace(upper=given.pop("upper.history", "").encode())
@@ -463,7 +211,7 @@ def tuned_in(options: Options, folder: Folder, others: list, given: "dict | None
         timed, recorded = long_runs.narrowed(options, folder, runs, recorded, others)
         found, report = made(options, folder, others, recorded, timed, run)
         if scudo:
-            verify(options, folder, found, report, scudo, work.path, kept)
+            scudo.verify(folder, found, report, work.path)
     except texts.Refused as refused:
         raise texts.Refused(refused.status, f"{refused.text}; what was made until then is in {folder.path}") from None
     except KeyboardInterrupt:
@@ -506,25 +254,55 @@ def read_stacks(options: Options, record: heaptrack_stacks.Record) -> "dict[str,
     """The files of heaptrack's record."""
     text = who.timeline_of(who.of_heaptrack(record), {})
     options.agree_on(text)
-    peak = timelines.history_at(text, [timelines.peak_of(text)])
+    peak = timelines.history_at(text, [timelines.peak_of(text)[1]])
     return {"program.profile": texts.profile_text({size: counts[0] for size, counts in peak.counts.items()}), "program.timeline": text}
 
 
 def made(options: Options, folder: Folder, others: list, recorded: long_runs.Recorded, timed: "figures.OverTime | None",
-         run: "who.Run | None") -> tuple[figures.Figures, Callable[[str], None]]:
+         run: "who.Run | None") -> tuple[Figures, Callable[[str], None]]:
     """All that follows from program.profile, and from the record over time, whose fit may be there already; and what writes report.html anew, with
     a further part."""
+    profile, sheet = sheet_of(options, folder)
+    timed = fitted(options, folder, timed, recorded.events)
+    given = "program.timeline" if timed and timed.kind == "timeline" else "program.history"
+    found = Figures(profile, sheet, others, timed, options.objective, "program.profile", given)
+    failed = make_others(options, folder, found)
+    noted = [*summary.warnings(options, found, recorded.notes), *failed]
+    checks = write_claims(options, folder, found)
+    beside = "page.html" if folder.has("page.html") else None
+    found_who = who.Who(run, timed) if run and timed else None
+    for name, text in found_who.files(options.name()).items() if found_who else ():
+        folder.write(name, text)
+    part = f"<p>{escape(summary.predicted(found))} {escape(summary.larger_blocks(found))}</p>\n" if timed else ""
+    part += who_section.section(found_who) if found_who else ""
+    counted = summary.counted(options, timed)
+
+    def report(measured: str = "") -> None:
+        folder.write("report.html", report_page.page(found, options.name(), counted, noted, checks, beside, measured + part))
+
+    report()
+    text = summary.summary(options, found, folder, noted, recorded.measured, found_who.what_ifs[:1] if found_who else [])
+    folder.write("summary.txt", text)
+    texts.write(text)
+    failed += found.unheld()
+    if failed:
+        raise texts.Refused(3, "; ".join(failed))
+    return found, report
+
+
+def sheet_of(options: Options, folder: Folder) -> tuple[dict, str]:
+    """The profile, and the sheet that is made of it."""
     profile = texts.read_profile(folder.at("program.profile")) if folder.has("program.profile") else {}
     if not any(size for size in profile if size != "large"):
         raise texts.Refused(3, figures.NOTHING)
     words = figures.options(options.limit, options.step, options.largest)
-    _, answer = figures.run(["tune", *words], figures.profile_text(profile))
-    sheet = f"{answer}\n"
+    sheet = figures.run(["tune", *words], figures.profile_text(profile))[1] + "\n"
     folder.write("tuned.sheet", sheet)
-    timed = fitted(options, folder, timed, recorded.events)
-    given = "program.timeline" if timed and timed.kind == "timeline" else "program.history"
-    found = figures.Figures(profile, sheet, others, timed, options.objective, "program.profile", given)
-    # none of these is needed for what follows
+    return profile, sheet
+
+
+def make_others(options: Options, folder: Folder, found: Figures) -> list[str]:
+    """Makes the map, the picture and the page, which nothing else needs; says which of them failed."""
     makes: dict[str, Callable[[], str]] = {
         "tuned_map.inc": lambda: scudo_map.as_default(found.first.classes),
         "waste.svg": lambda: draw_waste.picture([draw_waste.Curve(folder.at("program.profile"), options.name())]),
@@ -537,81 +315,19 @@ def made(options: Options, folder: Folder, others: list, recorded: long_runs.Rec
             folder.write(name, make())
         except texts.Refused as refused:
             failed.append(f"{name} is not made: {refused.text}")
-    noted = [*warnings(options, found, recorded.notes), *failed]
+    return failed
+
+
+def write_claims(options: Options, folder: Folder, found: Figures) -> list[str]:
+    """Writes what is known of the tables, with the commands that check it; these."""
     checks = [check_command(folder, "check", "tuned.sheet", "program.profile")]
-    if timed:
-        checks.append(check_fit_command(folder, timed))
+    if found.timed:
+        checks.append(check_command(folder, "check-fit", "fitted.fit", f"program.{found.timed.kind}"))
     if options.objective == "footprint":
         checks.reverse()
     said = [f"{known}\n\n    {command}\n\n" for known, command in zip(found.known(), checks)]
     folder.write("claims.txt", "".join([*said, *(f"{text}\n\n" for text in found.interval())]))
-    beside = "page.html" if folder.has("page.html") else None
-    found_who = who.Who(run, timed) if run and timed else None
-    for name, text in found_who.files(options.name()).items() if found_who else ():
-        folder.write(name, text)
-    part = f"<p>{escape(predicted(found))} {escape(larger_blocks(found))}</p>\n" if timed else ""
-    part += who_section.section(found_who) if found_who else ""
-
-    def report(measured: str = "") -> None:
-        folder.write("report.html", report_page.page(found, options.name(), counted(options, timed), noted, checks, beside, measured + part))
-
-    report()
-    text = summary(options, found, folder, noted, recorded.measured, found_who.what_ifs[:1] if found_who else [])
-    folder.write("summary.txt", text)
-    texts.write(text)
-    failed += found.unheld()
-    if failed:
-        raise texts.Refused(3, "; ".join(failed))
-    return found, report
-
-
-def verify(options: Options, folder: Folder, found: figures.Figures, report: Callable[[str], None], scudo: verification.Place, work: str,
-           kept: "str | None") -> None:
-    """Runs the program in the real Scudo, leaves the tuned one in the folder, and adds to summary and report what was measured."""
-    tuned, path, made = found.first.name, recording.find_program(options.words[0]), f"libscudo_{plain(options.name())}.so"
-    own = verdict.present(path)
-    libraries: "dict[str, str | None]" = {own: None, **{name: file for name, file in verdict.installed().items() if name != own}}
-    for name, classes in ((verdict.DEFAULT, None), (tuned, found.first.classes)):
-        texts.say("tune_program", f"compiling Scudo with {'its own table' if classes is None else 'this one'}; that takes about half a minute")
-        libraries[name] = file = os.path.join(work, "default.so" if classes is None else "tuned.so")
-        verification.build(scudo, file, classes, work)
-        verification.need_loaded(file)
-    folder.write(made, texts.read(os.path.join(work, "tuned.so")))
-    folder.write(verification.CONFIG, scudo_map.config(found.first.classes))
-    runner = os.path.join(work, "peak")
-    verification.build_runner(scudo, runner, work)
-    rows = verdict.measured(runner, options.words, path, libraries, kept)
-    said = f"{options.name()}: {verdict.verdict(rows, tuned)}"
-    report(measured_section.section(said, rows, tuned, found.saved_in_scudo))
-    further = []
-    if options.settings:
-        both = [each for each in (libraries[verdict.DEFAULT], libraries[tuned]) if each]
-        further = ["", *settings.lines(settings.measured(runner, options.words, path, both, kept), both)]
-    text = "".join(f"{printable(line)}\n" for line in measured_lines(options, folder, found, rows, made, said) + further)
-    folder.write("summary.txt", texts.read(folder.at("summary.txt")) + text.encode())
-    texts.write(text)
-
-
-def plain(name: str) -> str:
-    """A name without what ends a name in LD_PRELOAD."""
-    return "".join("_" if each in " :" or not each.isprintable() else each for each in name)
-
-
-def measured_lines(options: Options, folder: Folder, found: figures.Figures, rows: "list[verdict.Row]", made: str, said: str) -> list[str]:
-    """The verdict, and what it follows from."""
-    lines = ["", *wrapped(f"Verdict on {said}", indent="  ")]
-    measured = f"Measured, {verdict.RUNS} runs each: the middle peak of the resident set, from where to where a further one lies (95%), and processor time:"
-    lines += ["", *wrapped(measured), *verdict.lines(rows)]
-    lines += wrapped(predicted(found))
-    for row in rows:
-        if row.strange:
-            lines += wrapped(f"! With {row.name} the program ended otherwise than with {rows[0].name}.", indent="  ")
-    lines += ["", "To run it in Scudo with this table, which is in the folder beside its header:"]
-    file = os.path.abspath(folder.file(made))
-    lines.append(f"  LD_PRELOAD={texts.path_word(file)} {texts.path_word(options.words[0])} ..")
-    if plain(file) != file:
-        lines.append("! LD_PRELOAD ends a path at a space or a colon: copy the library first.")
-    return lines
+    return checks
 
 
 def fitted(options: Options, folder: Folder, timed: "figures.OverTime | None", events: bytes) -> "figures.OverTime | None":
@@ -633,11 +349,6 @@ def fitted(options: Options, folder: Folder, timed: "figures.OverTime | None", e
 
 def check_command(folder: Folder, command: str, *names: str) -> str:
     return f"cat {' '.join(texts.path_word(folder.file(name)) for name in names)} | {texts.as_called('scripts/mte_tool')} {command}"
-
-
-def check_fit_command(folder: Folder, timed: figures.OverTime) -> str:
-    """The command that checks the fit."""
-    return check_command(folder, "check-fit", "fitted.fit", f"program.{timed.kind}")
 
 
 def tables(options: Options, folder: Folder, engines: dict[str, bytes]) -> str:

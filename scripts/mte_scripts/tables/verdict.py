@@ -11,7 +11,7 @@ from typing import NamedTuple, Optional
 from mte_scripts import texts
 from mte_scripts.running import Refused
 from mte_scripts.tables import verification
-from mte_scripts.tables.figures import kibibytes, percent
+from mte_scripts.tables.figures import WORTH, kibibytes, percent
 
 GLIBC, DEFAULT = "glibc", "Scudo's default"
 OTHERS = (  # an allocator and its file
@@ -24,7 +24,7 @@ LINKED = re.compile(r"lib(jemalloc|mimalloc|tcmalloc|tbbmalloc|hardened_malloc)[
 RUNS, SEED = 5, 1
 STUDENT = 2.7764451  # Student's t with RUNS - 1 degrees of freedom, which 95% do not exceed to either side
 COUNTED = 32 * 4096  # bytes of a process that one processor may have counted apart from the others when Linux is asked for the peak
-LEAST, SHARE = 1 << 19, 0.005  # a difference that is worth a word: in bytes, and as a share of the process
+LEAST = 1 << 19  # bytes: a difference that is worth a word
 
 
 class Row(NamedTuple):
@@ -50,7 +50,7 @@ class Row(NamedTuple):
 
     def is_below(self, other: "Row") -> bool:
         """Whether it takes clearly less: no run took as much as any of the other's, and the middle ones differ by what is worth a word."""
-        return self.peaks[-1] < other.peaks[0] and other.peak() - self.peak() >= max(LEAST, SHARE * other.peak())
+        return self.peaks[-1] < other.peaks[0] and other.peak() - self.peak() >= max(LEAST, WORTH * other.peak())
 
 
 class Price(NamedTuple):

@@ -1,7 +1,6 @@
 -- Rows of which one number is set.
 use Rattle.std.proofs.Common.{◌≡◌, ◌≢◌, ℕ, suc, ◌-◌, ◌<◌, ◌≤◌, List, [], length, slice_index, slice_index_or, slice_set, arith, ap, ◌∙◌}
-use Rattle.std.proofs.lemmas.List.{get_or-set_other, get_or-set_same, length-set}
-use Rattle.std.proofs.lemmas.List.Elements.{All-from_get_or}
+use Rattle.std.proofs.lemmas.{List.{get_or-set_other, get_or-set_same, length-set}, List.Elements.{All-from_get_or}}
 use Rattle.tuner_theory.specs.Rows.{HasShape, number_at}
 
 module _ (rows : List (List ℕ)) (limit d : ℕ) (shape : HasShape rows limit d) (k place v : ℕ) (lt : k < limit) (in_row : place < d) where

@@ -1,17 +1,13 @@
 -- One place of the rows, row by row.
-use Rattle.std.proofs.Common.{◌≡◌, ℕ, suc, ◌+◌, ◌-◌, ◌/◌, ◌^◌, ◌<◌, ◌≤◌, List, [], ◌∷◌, ◌++◌, length, replicate, slice_index, slice_index_or, slice_set, arith, ap, ◌∙◌, inl, inr}
-use Rattle.std.proofs.lemmas.Bool.{cases_lt}
-use Rattle.std.proofs.lemmas.Grind.{common_steps}
+use Rattle.std.proofs.Common.{◌≡◌, ℕ, suc, ◌+◌, ◌-◌, ◌/◌, ◌^◌, ◌<◌, ◌≤◌, List, [], ◌∷◌, ◌++◌, length, replicate, slice_index}
+use Rattle.std.proofs.{Common.{slice_index_or, slice_set, arith, ap, ◌∙◌, inl, inr}, lemmas.Bool.{cases_lt}, lemmas.Grind.{common_steps}}
 use Rattle.std.proofs.lemmas.List.{length-replicate}
-use Rattle.class_tuner.specs.Fits.PlaceByPlace.{AreCostsFrom, AreLeastRowsFrom, AreOlderCosts, AreReady, AreRowsSoFar, IsFresh, IsPlaceFilled, end_cost}
-use Rattle.class_tuner.specs.declared.fits.filling.Memory.{Memory}
+use Rattle.class_tuner.proofs.{FitLemmas.Numbers.{set-here, set-other_place, set-other_row, set-shape, set-small}, Rows.{shape-pushed}}
+use Rattle.class_tuner.specs.Fits.PlaceByPlace.{AreCostsFrom, AreLeastRowsFrom, AreOlderCosts, AreReady, AreRowsSoFar, IsFresh}
+use Rattle.class_tuner.specs.{Fits.PlaceByPlace.{IsPlaceFilled, end_cost}, declared.fits.filling.Memory.{Memory}}
 use Rattle.potential_check.specs.declared.footprints.slack.TheConstants.{BLOCK}
-use Rattle.class_tuner.proofs.Rows.{shape-pushed}
-use Rattle.tuner_theory.specs.Growing.{IsGrowing}
-use Rattle.tuner_theory.specs.Lists.{lists_of}
-use Rattle.class_tuner.proofs.FitLemmas.Numbers.{set-here, set-other_place, set-other_row, set-shape, set-small}
+use Rattle.tuner_theory.{proofs.Sheets.{rows-end}, specs.Growing.{IsGrowing}, specs.Lists.{lists_of}}
 use Rattle.tuner_theory.specs.Rows.{IsFilled, IsLeastEnd, number_at}
-use Rattle.tuner_theory.proofs.Sheets.{rows-end}
 
 -- a least end, by costs that are the same at later places
 pub least-same : (f g : ℕ → ℕ) (place d end : ℕ) → ((j : ℕ) → place < j → j ≤ d → f j ≡ g j) → IsLeastEnd f place d end →

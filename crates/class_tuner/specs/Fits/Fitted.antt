@@ -1,13 +1,8 @@
 -- The result of a fitter.
 use Rattle.std.specs.Prelude.{ℕ, ◌<◌, ◌≤◌, Bool, List}
 use Rattle.class_tuner.specs.Tuned.{IsMadeFor}
-use Rattle.tuner_theory.specs.Histories.{peaks}
-use Rattle.tuner_theory.specs.Measures.{footprint_on}
-use Rattle.tuner_theory.specs.Rests.{IsFootprintRest}
-use Rattle.tuner_theory.specs.Rows.{number_at}
-use Rattle.tuner_theory.specs.Served.{served}
-use Rattle.tuner_theory.specs.Sheets.{Sheet}
-use Rattle.tuner_theory.specs.Spans.{places}
+use Rattle.tuner_theory.specs.{Histories.{peaks}, Measures.{footprint_on}, Rests.{IsFootprintRest}, Rows.{number_at}, Served.{served}}
+use Rattle.tuner_theory.specs.{Sheets.{Sheet}, Spans.{places}}
 
 -- Each number of the rows is the least footprint of its row and place.
 abbrev pub AreFootprintRests : Bool → List (List ℕ) → ℕ → ℕ → List (List ℕ) → Type 0

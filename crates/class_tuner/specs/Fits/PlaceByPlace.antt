@@ -1,10 +1,8 @@
 -- Rows that are filled place by place, from the last place on.
 use Rattle.std.specs.Prelude.{◌≡◌, ℕ, suc, ◌+◌, ◌^◌, ◌/◌, ◌<◌, ◌≤◌, List, length, slice_index}
 use Rattle.class_tuner.specs.declared.fits.filling.Memory.{Memory}
-use Rattle.potential_check.specs.Footprints.Bounds.{AreRowBounds, AreZeros, IsSlack}
-use Rattle.potential_check.specs.declared.footprints.slack.TheConstants.{BLOCK}
-use Rattle.tuner_theory.specs.Lists.{lists_of}
-use Rattle.tuner_theory.specs.Rows.{HasShape, IsLeastEnd, number_at}
+use Rattle.potential_check.specs.{Footprints.Bounds.{AreRowBounds, AreZeros, IsSlack}, declared.footprints.slack.TheConstants.{BLOCK}}
+use Rattle.tuner_theory.specs.{Lists.{lists_of}, Rows.{HasShape, IsLeastEnd, number_at}}
 
 -- The first row and the later ones are least rows from place `start` on.
 pub record AreLeastRowsFrom (cost : ℕ → ℕ → ℕ) (d limit start : ℕ) (rows ends : ℕ → ℕ → ℕ) : Type 0 where

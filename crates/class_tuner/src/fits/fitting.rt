@@ -65,6 +65,7 @@ fn fit_over_sizes(
     ensures exact { IfOk result
         (λ fitted. fitted.evaluations ≡ span_count (places (served forced (peaks history.now.snapshots)) step)) }
 {
+    // the call tells the proof that it is a history
     let _peaks = history.peaks();
     let spans = Spans::new(alloc, sizes, step)?;
     let mut costs = HistorySpans::new(alloc, history, &spans)?;

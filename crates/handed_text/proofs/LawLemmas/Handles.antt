@@ -5,26 +5,17 @@
 --     HandleOf      what a handle holds, with its laws; the handle's structure; the pointer and the value in it, and how it is made of them
 --     Held, Handle, Parts      the rows of the value, of the handle, and of the parts of a box of the value, which is E
 --     owns_made     what the handle of a pointer and a value owns
-use mathlib.Core.Path.{◌≡◌, sym}
-use mathlib.Core.List.{List, [], ◌∷◌}
-use mir.Syntax.{Ty, impl, tnil, tcons, dnil, ty_ptr, ty_struct}
-use mir.Val.{Val}
+use mathlib.Core.{List.{List, [], ◌∷◌}, Path.{◌≡◌, sym}}
+use mir.{Syntax.{Ty, impl, tnil, tcons, dnil, ty_ptr, ty_struct}, Val.{Val}}
 use base.Fml.{Fml, fsep, fex}
-use denote.Exit.{under, hidden}
-use denote.Param.{layout}
-use denote.Param.Laws.{Laws}
-use denote.RattleType.{RattleType, Valss}
-use denote.RawPtr.{Ptr, RawPtr}
-use denote.Signature.{Slot, plain}
-use denote.Struct.Field.{RawPtr-field}
-use denote.Struct.Owning.{Owning, shape, row}
-use denote.Struct.Struct.{exits_of, within}
+use denote.{Exit.{under, hidden}, Param.{layout}, Param.Laws.{Laws}, RattleType.{RattleType, Valss}, RawPtr.{Ptr, RawPtr}}
+use denote.{Signature.{Slot, plain}, Struct.Field.{RawPtr-field}, Struct.Owning.{Owning, shape, row}, Struct.Struct.{exits_of, within}}
 use Rattle.std.proofs.Common.{Option}
 use Rattle.std_alloc.proofs.BoxSteps.Form.{Bx}
-use Rattle.std_heap.specs.contracts.Global as Heap
 use Rattle.std_heap.specs.contracts.GlobalAllocator.TheImpl.{ghosts, dict}
-use Rattle.std_heap.proofs.Global.TheLaws as heap
 use Rattle.handed_text.specs.Ownership.{handle_owns}
+use Rattle.std_heap.specs.contracts.Global as Heap
+use Rattle.std_heap.proofs.Global.TheLaws as heap
 use Rattle.handed_text.specs.contracts.parts.BoxParts as parts
 pub mod Empty
 pub mod IntoParts

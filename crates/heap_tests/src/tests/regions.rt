@@ -39,6 +39,9 @@ fn has_runs(rt: &impl Abort, region: &mut RawRegion) {
     let mut into = [0; 64];
     region.read_into(20, 4, &mut into);
     same(rt, &&into[..4], &&b"tags"[..], &"in a longer buffer");
+    region.fill_few(0, 3, 7);
+    let ends = (region.byte(0), region.byte(2), region.byte(3));
+    same(rt, &ends, &(7, 7, 1), &"a few bytes");
 }
 
 #[test]
@@ -62,6 +65,10 @@ fn has_bytes(rt: &impl Abort, memory: &mut Memory) {
     let mut into = [0xff; 64];
     memory.read_into(63 * 16 + 8, 8, &mut into);
     same(rt, &&into[..8], &&run[..], &"in a longer buffer");
+    memory.fill_bytes(3, 60, 7);
+    let first = (memory.byte(0, 2), memory.byte(0, 3));
+    let last = (memory.byte(3, 14), memory.byte(3, 15));
+    same(rt, &(first, last), &((0, 7), (7, 0)), &"sixty bytes");
 }
 
 fn joins_bytes(rt: &impl Abort, memory: &mut Memory) {

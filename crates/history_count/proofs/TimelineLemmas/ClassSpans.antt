@@ -1,30 +1,16 @@
 -- The sizes of the classes of a table, and the peak of each class.
-use Rattle.std.proofs.Common.{◌≡◌, ℕ, zero, suc, ◌+◌, ◌-◌, ◌*◌, ◌<◌, ◌≤◌, List, [], ◌∷◌, ◌++◌, length, take, sum_by, slice_get, slice_index, get_or, arith, ap, sym, subst, ◌∙◌, inl, inr, All, Some, add-one}
-use Rattle.std.proofs.lemmas.Bool.{cases_lt}
-use Rattle.std.proofs.lemmas.List.{get_or_append_left}
-use Rattle.std.proofs.lemmas.List.Elements.{All-map}
-use Rattle.std.proofs.lemmas.List.Kept.{AllPairs-from_increasing}
-use Rattle.std.proofs.lemmas.List.Sums.{sum_by_more}
-use Rattle.std.proofs.lemmas.Option.{get_or_from_slice_get, slice_get_within}
-use Rattle.std.proofs.Math.Nat.{mul-le-mul}
-use Rattle.std.proofs.Math.Seq.{get_or-append_seam}
-use Rattle.std.specs.List.{range_with_len}
-use Rattle.class_table.specs.Sizes.{largest_counted}
-use Rattle.class_table.specs.Tables.{IsLegalTable}
-use Rattle.class_table.proofs.LawLemmas.{classes_of_legal_table}
-use Rattle.tuner_theory.specs.Footprint.{blocks}
-use Rattle.tuner_theory.specs.Histories.{most}
-use Rattle.tuner_theory.specs.Profiles.{AreCounts, greatest_count}
-use Rattle.tuner_theory.specs.Timelines.{IsTimeline, moments, snapshot_at}
+use Rattle.std.proofs.Common.{◌≡◌, ℕ, zero, suc, ◌+◌, ◌-◌, ◌*◌, ◌<◌, ◌≤◌, List, [], ◌∷◌, ◌++◌, length, take, sum_by, slice_get, slice_index}
+use Rattle.std.proofs.{Common.{get_or, arith, ap, sym, subst, ◌∙◌, inl, inr, All, Some, add-one}, Math.Nat.{mul-le-mul}}
+use Rattle.std.proofs.{Math.Seq.{get_or-append_seam}, lemmas.Bool.{cases_lt}, lemmas.List.{get_or_append_left}}
+use Rattle.std.proofs.lemmas.List.{Elements.{All-map}, Kept.{AllPairs-from_increasing}, Sums.{sum_by_more}}
+use Rattle.std.{proofs.lemmas.Option.{get_or_from_slice_get, slice_get_within}, specs.List.{range_with_len}}
+use Rattle.class_table.{proofs.LawLemmas.{classes_of_legal_table}, specs.Sizes.{largest_counted}, specs.Tables.{IsLegalTable}}
+use Rattle.tuner_theory.{proofs.Footprint.{blocks-of_number}, proofs.Timelines.{snapshot-counts}, specs.Footprint.{blocks}}
+use Rattle.tuner_theory.specs.{Histories.{most}, Profiles.{AreCounts, greatest_count}, Timelines.{IsTimeline, moments, snapshot_at}}
 use Rattle.tuner_theory.specs.declared.size_event.SizeEvent.{SizeEvent}
-use Rattle.tuner_theory.proofs.Footprint.{blocks-of_number}
-use Rattle.tuner_theory.proofs.Timelines.{snapshot-counts}
-use Rattle.history_count.specs.Histories.{blocks_from}
-use Rattle.history_count.specs.Timelines.LiveBlocks.{IsFirst, class_bytes}
+use Rattle.history_count.proofs.{ClassByClass.{IsCut, blocks-cut, cut-class, cut-none, most-same}, TimelineLemmas.Peaks.{span-few}}
+use Rattle.history_count.specs.{Histories.{blocks_from}, Timelines.LiveBlocks.{IsFirst, class_bytes}, declared.timelines.peaks.Peak.{Peak}}
 use Rattle.history_count.specs.Timelines.Stretches.{AreInOrder, class_start}
-use Rattle.history_count.specs.declared.timelines.peaks.Peak.{Peak}
-use Rattle.history_count.proofs.ClassByClass.{IsCut, blocks-cut, cut-class, cut-none, most-same}
-use Rattle.history_count.proofs.TimelineLemmas.Peaks.{span-few}
 
 -- ---- where the sizes of a class begin and end
 

@@ -1,24 +1,20 @@
 -- The live blocks by the lines of the requested sizes, one event more; and the stretches, one more.
-use Rattle.std.proofs.Common.{◌≡◌, ◌≢◌, ℕ, suc, ◌+◌, ◌-◌, ◌<◌, ◌≤◌, List, [], ◌∷◌, ◌++◌, length, length-append, max, replicate, slice_index, slice_index_or, slice_set, get_or, map, take, All, arith, refl, ap, sym, subst, ◌∙◌, inl, inr}
-use Rattle.std.proofs.lemmas.Bool.{cases_lt, cases_order}
-use Rattle.std.proofs.lemmas.Bool.Decides.{eqb_tells}
-use Rattle.std.proofs.lemmas.List.{ext_get_or, get_or-map, get_or-replicate, get_or-set_other, get_or-set_same, get_or_append_left, get_or_default, get_or_past, length-map, length-replicate, length-set, map-append, take_all, take_more}
+use Rattle.std.proofs.Common.{◌≡◌, ◌≢◌, ℕ, suc, ◌+◌, ◌-◌, ◌<◌, ◌≤◌, List, [], ◌∷◌, ◌++◌, length, length-append, max, replicate, slice_index}
+use Rattle.std.proofs.Common.{slice_index_or, slice_set, get_or, map, take, All, arith, refl, ap, sym, subst, ◌∙◌, inl, inr}
+use Rattle.std.proofs.{Math.Seq.{get_or-append_seam}, lemmas.Bool.{cases_lt, cases_order}, lemmas.Bool.Decides.{eqb_tells}}
+use Rattle.std.proofs.lemmas.List.{ext_get_or, get_or-map, get_or-replicate, get_or-set_other, get_or-set_same, get_or_append_left}
+use Rattle.std.proofs.lemmas.List.{get_or_default, get_or_past, length-map, length-replicate, length-set, map-append, take_all, take_more}
 use Rattle.std.proofs.lemmas.List.Elements.{All-map}
-use Rattle.std.proofs.Math.Seq.{get_or-append_seam}
 use Rattle.class_table.specs.Sizes.{largest_counted}
-use Rattle.tuner_theory.specs.Profiles.{greatest_count}
-use Rattle.tuner_theory.specs.Timelines.{IsTimeline, history_at, requested, snapshot_at}
-use Rattle.tuner_theory.specs.declared.size_event.SizeEvent.{SizeEvent}
+use Rattle.tuner_theory.{proofs.Timelines.{snapshot-length}, specs.Profiles.{greatest_count}}
+use Rattle.tuner_theory.specs.{Timelines.{IsTimeline, history_at, requested, snapshot_at}, declared.size_event.SizeEvent.{SizeEvent}}
 use Rattle.tuner_theory.specs.declared.size_event.SizeEvent.TheVariants.{Request, Free}
-use Rattle.tuner_theory.proofs.Timelines.{snapshot-length}
-use Rattle.history_count.specs.CountedLines.{AreFew, AreSizes, CountsSizes, spread}
-use Rattle.history_count.specs.Timelines.Runs.{after_event, may_come, size_of}
+use Rattle.history_count.proofs.{RowPeaks.{spread-column}, TimelineLemmas.Requested.{free-requests, request-requests}}
+use Rattle.history_count.{proofs.TimelineLemmas.Requests.{unrequested-before}, specs.CountedLines.{AreFew, AreSizes, CountsSizes, spread}}
+use Rattle.history_count.proofs.TimelineLemmas.Walk.{free_counts, free_is_live, large_free_counts, large_request_counts, request_counts}
+use Rattle.history_count.{proofs.TimelineLemmas.Walk.{snapshot_none, snapshot_small}, specs.Timelines.Runs.{after_event, may_come, size_of}}
 use Rattle.history_count.specs.Timelines.Stretches.{AreRequested, AreStretchesTo, Bounds, IsLineOf, column_of}
 use Rattle.history_count.specs.declared.timelines.requested.Requested.{Requested}
-use Rattle.history_count.proofs.RowPeaks.{spread-column}
-use Rattle.history_count.proofs.TimelineLemmas.Requested.{free-requests, request-requests}
-use Rattle.history_count.proofs.TimelineLemmas.Requests.{unrequested-before}
-use Rattle.history_count.proofs.TimelineLemmas.Walk.{free_counts, free_is_live, large_free_counts, large_request_counts, request_counts, snapshot_none, snapshot_small}
 
 -- ---- columns
 

@@ -1,20 +1,12 @@
 -- The line of an event: the event is read from it, and from no other line.
-use Rattle.std.proofs.Common.{◌≡◌, ℕ, ◌≤◌, ◌<◌, ◌^◌, Bool, true, false, List, [], ◌∷◌, length, Option, Some, None, option_map, refl, sym, ap, ◌∙◌, arith, codes, eqb, inl, inr}
-use Rattle.std.specs.Fmt.{decimal}
+use Rattle.std.proofs.Common.{◌≡◌, ℕ, ◌≤◌, ◌<◌, ◌^◌, Bool, true, false, List, [], ◌∷◌, length, Option, Some, None, option_map, refl, sym}
+use Rattle.std.proofs.{Common.{ap, ◌∙◌, arith, codes, eqb, inl, inr}, lemmas.Bool.{le-leb, leb-true}, lemmas.List.Elements.{All-cons}}
+use Rattle.std.{proofs.lemmas.Bool.Decides.{eqb_tells, nat_tests}, proofs.lemmas.Slice.Eq.{bytes_eq-Decides}, specs.Fmt.{decimal}}
 use Rattle.std.specs.Str.{bytes_eq}
-use Rattle.std.proofs.lemmas.Bool.{le-leb, leb-true}
-use Rattle.std.proofs.lemmas.Bool.Decides.{eqb_tells, nat_tests}
-use Rattle.std.proofs.lemmas.List.Elements.{All-cons}
-use Rattle.std.proofs.lemmas.Slice.Eq.{bytes_eq-Decides}
-use Rattle.class_table.specs.Sizes.{largest_counted}
-use Rattle.class_table.proofs.LawLemmas.{plain_name}
-use Rattle.line_text.specs.Lines.{IsFullLine}
-use Rattle.line_text.specs.Numbers.{number_of}
-use Rattle.line_text.proofs.LawLemmas.{text_laws as laws}
-use Rattle.tuner_theory.specs.declared.size_event.SizeEvent.{SizeEvent}
-use Rattle.tuner_theory.specs.declared.size_event.SizeEvent.TheVariants.{Request, Free}
-use Rattle.history_count.specs.Timelines.Runs.{large_size, size_of}
-use Rattle.history_count.specs.Timelines.TimelineText.{counted_size, event_in, event_line, size_in, size_word}
+use Rattle.class_table.{proofs.LawLemmas.{plain_name}, specs.Sizes.{largest_counted}}
+use Rattle.line_text.{proofs.LawLemmas.{text_laws as laws}, specs.Lines.{IsFullLine}, specs.Numbers.{number_of}}
+use Rattle.tuner_theory.specs.declared.size_event.{SizeEvent.{SizeEvent}, SizeEvent.TheVariants.{Request, Free}}
+use Rattle.history_count.specs.Timelines.{Runs.{large_size, size_of}, TimelineText.{counted_size, event_in, event_line, size_in, size_word}}
 
 -- ---- sizes
 

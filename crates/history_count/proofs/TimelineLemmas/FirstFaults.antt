@@ -1,15 +1,14 @@
 -- The line at which a text is refused as a timeline is its first fault.
-use Rattle.std.proofs.Common.{◌≡◌, ℕ, ◌+◌, ◌<◌, ◌≤◌, ◌⊎◌, max, Bool, true, false, List, [], ◌∷◌, ◌++◌, length, Option, Some, None, Result, Ok, Err, All, ◌↔◌, refl, sym, ap, ◌∙◌, arith, inl, inr}
+use Rattle.std.proofs.Common.{◌≡◌, ℕ, ◌+◌, ◌<◌, ◌≤◌, ◌⊎◌, max, Bool, true, false, List, [], ◌∷◌, ◌++◌, length, Option, Some, None, Result}
+use Rattle.std.proofs.{Common.{Ok, Err, All, ◌↔◌, refl, sym, ap, ◌∙◌, arith, inl, inr}, lemmas.List.Elements.{All-cons, All-nil}}
 use Rattle.std.specs.Str.{bytes_eq}
-use Rattle.std.proofs.lemmas.List.Elements.{All-cons, All-nil}
-use Rattle.line_text.specs.FirstFault.{IsFirstFault}
+use Rattle.line_text.{proofs.LawLemmas.{IsLineByLine, first_fault_is_a_refusal, refusal_is_first_fault}, specs.FirstFault.{IsFirstFault}}
 use Rattle.line_text.specs.Lines.{IsLine, lines}
-use Rattle.line_text.proofs.LawLemmas.{IsLineByLine, first_fault_is_a_refusal, refusal_is_first_fault}
 use Rattle.tuner_theory.specs.declared.size_event.SizeEvent.{SizeEvent}
+use Rattle.history_count.proofs.TimelineLemmas.LineByLine.{head_line-full, head_read, line_faulty, line_read, no_line}
+use Rattle.history_count.proofs.TimelineLemmas.LineByLine.{spelled_timeline_is_read, timeline_is_spelled}
 use Rattle.history_count.specs.Timelines.TimelineText.{IsRefusedAt, SpellsTimeline, events_from, head_line, next_event, timeline_of_lines}
-use Rattle.history_count.specs.declared.timelines.fault.TimelineFault.{TimelineFault}
-use Rattle.history_count.specs.declared.timelines.fault.TimelineFault.TheVariants.{BadTimeline}
-use Rattle.history_count.proofs.TimelineLemmas.LineByLine.{head_line-full, head_read, line_faulty, line_read, no_line, spelled_timeline_is_read, timeline_is_spelled}
+use Rattle.history_count.specs.declared.timelines.fault.{TimelineFault.{TimelineFault}, TimelineFault.TheVariants.{BadTimeline}}
 
 -- ---- one reading of all lines: before the first line there are no events
 

@@ -1,19 +1,16 @@
 -- Reading a timeline line by line: what is read is spelled, and what is spelled is read.
-use Rattle.std.proofs.Common.{◌≡◌, ℕ, suc, ◌+◌, ◌<◌, ◌≤◌, Bool, true, false, List, [], ◌∷◌, ◌++◌, length, map, Option, Some, None, Result, Ok, Err, All, refl, sym, ap, ◌∙◌, subst, arith, nat_le, add-one, append_assoc, append-nil, length-append}
+use Rattle.std.proofs.Common.{◌≡◌, ℕ, suc, ◌+◌, ◌<◌, ◌≤◌, Bool, true, false, List, [], ◌∷◌, ◌++◌, length, map, Option, Some, None, Result}
+use Rattle.std.proofs.Common.{Ok, Err, All, refl, sym, ap, ◌∙◌, subst, arith, nat_le, add-one, append_assoc, append-nil, length-append}
+use Rattle.std.proofs.lemmas.{Bool.{leb-false, lt-leb}, List.Elements.{All-cons, All-head, All-nil, All-tail}, Slice.Eq.{bytes_eq-Decides}}
 use Rattle.std.specs.Str.{bytes_eq}
-use Rattle.std.proofs.lemmas.Bool.{leb-false, lt-leb}
-use Rattle.std.proofs.lemmas.List.Elements.{All-cons, All-head, All-nil, All-tail}
-use Rattle.std.proofs.lemmas.Slice.Eq.{bytes_eq-Decides}
 use Rattle.class_table.proofs.LawLemmas.{plain_name}
-use Rattle.line_text.specs.Lines.{IsFullLine, IsTextOf, lines}
-use Rattle.line_text.proofs.LawLemmas.{text_laws as laws}
-use Rattle.tuner_theory.specs.Profiles.{greatest_count}
-use Rattle.tuner_theory.specs.declared.size_event.SizeEvent.{SizeEvent}
-use Rattle.history_count.specs.Timelines.Runs.{IsRun, large_size, size_of}
-use Rattle.history_count.specs.Timelines.TimelineText.{SpellsTimeline, event_in, event_line, events_from, finds_live, head_line, next_event, timeline_lines, timeline_of}
-use Rattle.history_count.specs.declared.timelines.fault.TimelineFault.{TimelineFault}
+use Rattle.line_text.{proofs.LawLemmas.{text_laws as laws}, specs.Lines.{IsFullLine, IsTextOf, lines}}
+use Rattle.tuner_theory.specs.{Profiles.{greatest_count}, declared.size_event.SizeEvent.{SizeEvent}}
 use Rattle.history_count.proofs.TimelineLemmas.EventLines.{event_in-line, event_in-read, event_line-full}
-use Rattle.history_count.proofs.TimelineLemmas.Runs.{run-finds, run-more, run-none}
+use Rattle.history_count.{proofs.TimelineLemmas.Runs.{run-finds, run-more, run-none}, specs.Timelines.Runs.{IsRun, large_size, size_of}}
+use Rattle.history_count.specs.Timelines.TimelineText.{SpellsTimeline, event_in, event_line, events_from, finds_live, head_line, next_event}
+use Rattle.history_count.specs.Timelines.TimelineText.{timeline_lines, timeline_of}
+use Rattle.history_count.specs.declared.timelines.fault.TimelineFault.{TimelineFault}
 
 -- ---- line by line
 

@@ -1,15 +1,17 @@
 -- A line that is read in one pass.
-use Rattle.std.proofs.Common.{◌≡◌, ℕ, ◌≤◌, Bool, true, false, List, [], ◌∷◌, drop, length, Option, Some, None, option_and_then, option_map, refl, sym, ap, ◌∙◌, arith, slice_get}
-use Rattle.std.proofs.lemmas.Bool.{le-leb}
+use Rattle.std.proofs.Common.{◌≡◌, ℕ, ◌≤◌, Bool, true, false, List, [], ◌∷◌, drop, length, Option, Some, None, option_and_then, refl, sym}
+use Rattle.std.proofs.{Common.{ap, ◌∙◌, arith, eqb, eqb-true, get_or, slice_get, ◌<◌, ◌++◌, Ok, Err, cond}, lemmas.Bool.{le-leb, lt-leb}}
+use Rattle.std.specs.Int.{from_bool}
 use Rattle.class_table.specs.Sizes.{largest_counted}
-use Rattle.line_text.specs.Lines.{line_of, lines, words}
-use Rattle.line_text.specs.Numbers.{number_of}
+use Rattle.line_text.{proofs.LawLemmas.{text_laws as laws}, specs.Lines.{line_of, lines, words}, specs.Numbers.{number_of}}
 use Rattle.line_text.specs.Rows.{AreRowWords, IsRow}
-use Rattle.line_text.proofs.LawLemmas.{text_laws as laws}
-use Rattle.tuner_theory.specs.declared.size_event.SizeEvent.{SizeEvent}
+use Rattle.tuner_theory.specs.{Profiles.{greatest_count}, declared.size_event.SizeEvent.{SizeEvent}}
 use Rattle.tuner_theory.specs.declared.size_event.SizeEvent.TheVariants.{Request, Free}
-use Rattle.history_count.specs.Timelines.TimelineText.{IsSigned, counted_size, event_in, event_of}
-use Rattle.history_count.proofs.TimelineLemmas.EventLines.{free_in, request_in, size_in-counted}
+use Rattle.history_count.proofs.TimelineLemmas.{EventLines.{free_in, request_in, size_in-counted}, LineByLine.{next_run}}
+use Rattle.history_count.{proofs.TimelineLemmas.Pieces.{taken_faulty, taken_more}, specs.Timelines.Pieces.{AreTaken, going_on}}
+use Rattle.history_count.specs.{Timelines.Runs.{AreLiveCounts, IsRun}, declared.timelines.fault.TimelineFault.{TimelineFault}}
+use Rattle.history_count.specs.Timelines.TimelineText.{IsSigned, counted_size, event_in, event_of, finds_live, may_follow, next_event}
+use Rattle.history_count.specs.declared.timelines.fault.TimelineFault.TheVariants.{NotLive}
 
 -- the counted size that the first line spells
 abbrev pub first_size : List (List ℕ) → Option ℕ
@@ -20,11 +22,9 @@ abbrev pub first_event : List (List ℕ) → Option SizeEvent
 first_event ls = option_and_then event_in (slice_get ls 0)
 
 -- a row without further numbers is a line with one number
-pub row-size : (ls : List (List ℕ)) (n : ℕ) (more : List ℕ) → length more ≡ 0 → IsRow (slice_get ls 0) n more → n ≤ largest_counted
-    → first_size ls ≡ Some n
-row-size ls n (x ∷ more) none row le = absurd (omega (arith, none))
-row-size [] n [] none row le = absurd row
-row-size (line ∷ ls) n [] none row le = by_words (words line) refl row
+pub row-size : (ls : List (List ℕ)) (n : ℕ) → IsRow (slice_get ls 0) n [] → n ≤ largest_counted → first_size ls ≡ Some n
+row-size [] n row le = absurd row
+row-size (line ∷ ls) n row le = by_words (words line) refl row
   where
     by_words : (ws : List (List ℕ)) → words line ≡ ws → AreRowWords (words line) n [] → first_size (line ∷ ls) ≡ Some n
     by_words [] is row = let none = rw is at row in absurd none
@@ -55,6 +55,13 @@ drop-free text n is = go (lines text) refl
     go [] parts = let none = rw parts at is in absurd cc
     go (line ∷ ls) parts = rw parts refl
 
+-- a text is cut after its sign
+pub signed-cut : (text : List ℕ) (is_free : Bool) → 0 < length text → is_free ≡ eqb (get_or text 0 0) 45
+    → IsSigned text is_free (drop (from_bool is_free) text)
+signed-cut [] is_free some is = absurd (omega (arith, some))
+signed-cut (b ∷ text) true some is = ap (λ (x : ℕ). x ∷ text) (eqb-true b 45 (sym is))
+signed-cut (b ∷ text) false some is = refl
+
 pub signed-event : (text word : List ℕ) (is_free : Bool) (n : ℕ) → IsSigned text is_free word → first_size (lines word) ≡ Some n
     → first_event (lines text) ≡ Some (event_of is_free n)
 signed-event text word true n is size = rw is (size-free word n size)
@@ -71,13 +78,60 @@ pub record IsNextLine (ls new : List (List ℕ)) (spelled : Option SizeEvent) : 
   pub parts : ls ≡ line ∷ new
   pub read : event_in line ≡ spelled
 
-pub next-line : (ls new : List (List ℕ)) (spelled : Option SizeEvent) → Some spelled ≡ option_map event_in (slice_get ls 0) → new ≡ drop 1 ls
-    → IsNextLine ls new spelled
-next-line [] new spelled is rest = absurd cc
-next-line (line ∷ ls) new spelled is rest =
-    let read : spelled ≡ event_in line = cc in
-    record { line = line; parts = ap (λ (l : List (List ℕ)). line ∷ l) (sym rest); read = sym read }
+pub counted-line : (ls new : List (List ℕ)) (event : SizeEvent) → first_event ls ≡ Some event → new ≡ drop 1 ls → IsNextLine ls new (Some event)
+counted-line [] new event is rest = absurd cc
+counted-line (line ∷ ls) new event is rest =
+    record { line = line; parts = ap (λ (l : List (List ℕ)). line ∷ l) (sym rest); read = is }
 
-pub no-line : (ls : List (List ℕ)) → None ≡ option_map event_in (slice_get ls 0) → ls ≡ []
-no-line [] is = refl
-no-line (line ∷ ls) is = absurd cc
+-- ---- lines that are taken
+
+pub follows : (events : List SizeEvent) (event : SizeEvent) (is_live : Bool) → length events < greatest_count → is_live ≡ finds_live events event
+    → may_follow events (Some event) ≡ cond is_live (Ok event) (Err NotLive)
+follows events event is_live room is =
+    rw (lt-leb greatest_count (length events) room) (ap (λ b. cond b (Ok event) (Err NotLive)) (sym is))
+
+pub taken-none : (events : List SizeEvent) (live : List ℕ) (ls : List (List ℕ)) → IsRun events → AreLiveCounts events live
+    → AreTaken events events None live ls ls
+taken-none events live ls run are = record { run = run; live = are; read = λ more. refl }
+
+module _ (before events : List SizeEvent) (live : List ℕ) (ls now new : List (List ℕ)) (taken : AreTaken before events None live ls now) where
+  -- a line of which an event was read,
+  pub taken-event : (spelled : Option SizeEvent) (event : SizeEvent) (counts : List ℕ) → IsNextLine now new spelled
+      → may_follow events spelled ≡ Ok event → AreLiveCounts (events ++ event ∷ []) counts
+      → AreTaken before (events ++ event ∷ []) None counts ls new
+  taken-event spelled event counts next follow are =
+      let is : next_event events next.line ≡ Ok event = ap (may_follow events) next.read ∙ follow in
+      record {
+        run = next_run events next.line event taken.run is;
+        live = are;
+        read = λ more. taken.read more ∙ taken_more events now new next.line event next.parts is more;
+      }
+
+  -- a faulty one, after which the others do not matter,
+  pub taken-fault : (spelled : Option SizeEvent) (fault : TimelineFault) (counts : List ℕ) → IsNextLine now new spelled
+      → may_follow events spelled ≡ Err fault → AreTaken before events (Some fault) counts ls new
+  taken-fault spelled fault counts next follow =
+      let is : next_event events next.line ≡ Err fault = ap (may_follow events) next.read ∙ follow in
+      record {
+        run = taken.run;
+        live = tt;
+        read = λ more. taken.read more ∙ taken_faulty events now new next.line fault next.parts is more;
+      }
+
+  -- any one,
+  pub taken-line : (line : List ℕ) (after : List SizeEvent) (fault : Option TimelineFault) (counts : List ℕ) → now ≡ line ∷ new
+      → AreTaken events after fault counts (line ∷ []) [] → AreTaken before after fault counts ls new
+  taken-line line after fault counts parts one = record {
+    run = one.run;
+    live = one.live;
+    read = λ more. taken.read more ∙ ap (λ (l : List (List ℕ)). going_on events None (l ++ more)) parts ∙ one.read (new ++ more);
+  }
+
+  -- or many.
+  pub taken-then : (after : List SizeEvent) (fault : Option TimelineFault) (counts : List ℕ) → AreTaken events after fault counts now new
+      → AreTaken before after fault counts ls new
+  taken-then after fault counts further = record {
+    run = further.run;
+    live = further.live;
+    read = λ more. taken.read more ∙ further.read more;
+  }

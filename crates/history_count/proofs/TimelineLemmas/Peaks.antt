@@ -1,26 +1,17 @@
 -- The peak of some sizes over a timeline: one event more, and a stretch in which it is not higher.
-use Rattle.std.proofs.Common.{◌≡◌, ℕ, zero, suc, ◌+◌, ◌-◌, ◌*◌, ◌<◌, ◌≤◌, ◌⊎◌, List, [], ◌∷◌, length, max, slice_index, slice_index_or, get_or, cond, ltb, true, arith, refl, ap, sym, subst, ◌∙◌, inl, inr, add-one}
+use Rattle.std.proofs.Common.{◌≡◌, ℕ, zero, suc, ◌+◌, ◌-◌, ◌*◌, ◌<◌, ◌≤◌, ◌⊎◌, List, [], ◌∷◌, length, max, slice_index, slice_index_or}
+use Rattle.std.proofs.{Common.{get_or, cond, ltb, true, arith, refl, ap, sym, subst, ◌∙◌, inl, inr, add-one}, lemmas.List.{get_or_default}}
 use Rattle.std.proofs.lemmas.Bool.{cases_lt, le-ltb, lt-ltb}
-use Rattle.std.proofs.lemmas.List.{get_or_default}
 use Rattle.class_table.specs.Sizes.{largest_counted}
-use Rattle.tuner_theory.specs.Histories.{most}
-use Rattle.tuner_theory.specs.Timelines.{IsTimeline, moments, most_to, snapshot_at}
-use Rattle.tuner_theory.specs.Waste.{sum_below}
-use Rattle.tuner_theory.specs.declared.size_event.SizeEvent.{SizeEvent}
+use Rattle.tuner_theory.proofs.{Sums.{sum_balance, sum_below-more, sum_none}, Timelines.{live-at, moment-below}}
+use Rattle.tuner_theory.{proofs.TimelineBlocks.{most_to-above, most_to-all, most_to-more, most_to-none, sum-one}, specs.Histories.{most}}
+use Rattle.tuner_theory.{proofs.TimelineSteps.{frees_at, freed-more, requested-more, requests_at}, specs.Waste.{sum_below}}
+use Rattle.tuner_theory.specs.{Timelines.{IsTimeline, moments, most_to, snapshot_at}, declared.size_event.SizeEvent.{SizeEvent}}
 use Rattle.tuner_theory.specs.declared.size_event.SizeEvent.TheVariants.{Request, Free}
-use Rattle.tuner_theory.proofs.Sums.{sum_balance, sum_below-more, sum_none}
-use Rattle.tuner_theory.proofs.TimelineBlocks.{most_to-above, most_to-all, most_to-more, most_to-none, sum-one}
-use Rattle.tuner_theory.proofs.TimelineSteps.{frees_at, freed-more, requested-more, requests_at}
-use Rattle.tuner_theory.proofs.Timelines.{live-at, moment-below}
-use Rattle.history_count.specs.CountedLines.{AreFew}
-use Rattle.history_count.specs.Histories.{blocks_from}
-use Rattle.history_count.specs.Timelines.LiveBlocks.{IsFirst}
+use Rattle.history_count.proofs.{CutLines.{sum-lines}, TimelineLemmas.Columns.{bounds-start, column-at, column-counts, column-length}}
+use Rattle.history_count.specs.{CountedLines.{AreFew}, Histories.{blocks_from}, Timelines.LiveBlocks.{IsFirst}}
 use Rattle.history_count.specs.Timelines.Stretches.{AreInOrder, AreRequested, AreStretchesTo, IsPeakTo, IsSpan, column_of}
-use Rattle.history_count.specs.declared.timelines.peaks.Peak.{Peak}
-use Rattle.history_count.specs.declared.timelines.peaks.Span.{Span}
-use Rattle.history_count.specs.declared.timelines.requested.Requested.{Requested}
-use Rattle.history_count.proofs.CutLines.{sum-lines}
-use Rattle.history_count.proofs.TimelineLemmas.Columns.{bounds-start, column-at, column-counts, column-length}
+use Rattle.history_count.specs.declared.timelines.{peaks.Peak.{Peak}, peaks.Span.{Span}, requested.Requested.{Requested}}
 
 -- ---- sums
 

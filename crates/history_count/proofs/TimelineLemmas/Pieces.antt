@@ -1,24 +1,17 @@
 -- Reading a timeline in pieces.
-use Rattle.std.proofs.Common.{◌≡◌, ℕ, ◌+◌, ◌<◌, ◌≤◌, Bool, true, false, List, [], ◌∷◌, ◌++◌, length, Option, Some, None, Ok, Err, refl, sym, ap, ◌∙◌, arith, append_assoc, append-nil, cond, eqb, eqb-true, length-append, inl, inr, codes, take, drop, get_or, subst}
-use Rattle.std.proofs.lemmas.Bool.{false_from_ne_true}
-use Rattle.std.proofs.lemmas.Bool.Decides.{eqb_tells}
-use Rattle.std.proofs.lemmas.Fmt.{length-decimal-le}
-use Rattle.std.proofs.lemmas.List.{get_or-drop, length-drop, take_more}
-use Rattle.std.proofs.lemmas.List.Elements.{All-from_get_or, All-head, All-tail}
-use Rattle.std.specs.Option.{is_some}
-use Rattle.std.specs.List.{onto_first}
+use Rattle.std.proofs.Common.{◌≡◌, ℕ, ◌+◌, ◌<◌, ◌≤◌, Bool, true, false, List, [], ◌∷◌, ◌++◌, length, Option, Some, None, Ok, Err, refl, sym}
+use Rattle.std.proofs.Common.{ap, ◌∙◌, arith, append_assoc, append-nil, cond, eqb, eqb-true, length-append, inl, inr, codes, take, drop}
+use Rattle.std.proofs.{Common.{get_or, subst}, lemmas.Bool.{false_from_ne_true}, lemmas.Bool.Decides.{eqb_tells}}
+use Rattle.std.{proofs.lemmas.Fmt.{length-decimal-le}, proofs.lemmas.List.{get_or-drop, length-drop, take_more}, specs.List.{onto_first}}
+use Rattle.std.{proofs.lemmas.List.Elements.{All-from_get_or, All-head, All-tail}, specs.Option.{is_some}}
 use Rattle.memchr.specs.Find.{IsLastByte, is_byte}
-use Rattle.line_text.specs.Lines.{IsLine, ended, is_newline, lines}
-use Rattle.line_text.proofs.LawLemmas.{line_in_front_is_read}
-use Rattle.tuner_theory.specs.declared.size_event.SizeEvent.{SizeEvent}
-use Rattle.tuner_theory.specs.declared.size_event.SizeEvent.TheVariants.{Request, Free}
-use Rattle.history_count.specs.Timelines.Pieces.{AreTaken, AreWholeLines, IsFed, IsReadingOf, Reading, going_on, going_on_by, nothing_read}
-use Rattle.history_count.specs.Timelines.Runs.{large_size, size_of}
-use Rattle.history_count.specs.Timelines.TimelineText.{event_in, event_line, events_from, head_line, next_event, size_word, timeline_of}
-use Rattle.history_count.specs.declared.timelines.fault.TimelineFault.{TimelineFault}
-use Rattle.history_count.specs.declared.timelines.fault.TimelineFault.TheVariants.{BadTimeline}
-use Rattle.history_count.proofs.TimelineLemmas.EventLines.{event_in-read}
+use Rattle.line_text.{proofs.LawLemmas.{line_in_front_is_read}, specs.Lines.{IsLine, ended, is_newline, lines}}
+use Rattle.tuner_theory.specs.declared.size_event.{SizeEvent.{SizeEvent}, SizeEvent.TheVariants.{Request, Free}}
+use Rattle.history_count.{proofs.TimelineLemmas.EventLines.{event_in-read}, specs.Timelines.Runs.{large_size, size_of}}
 use Rattle.history_count.proofs.TimelineLemmas.LineByLine.{head_line-full, head_read, line_faulty, line_read, no_line}
+use Rattle.history_count.specs.Timelines.Pieces.{AreTaken, AreWholeLines, IsFed, IsReadingOf, Reading, going_on, going_on_by, nothing_read}
+use Rattle.history_count.specs.Timelines.TimelineText.{event_in, event_line, events_from, head_line, next_event, size_word, timeline_of}
+use Rattle.history_count.specs.declared.timelines.fault.{TimelineFault.{TimelineFault}, TimelineFault.TheVariants.{BadTimeline}}
 
 -- ---- one piece after another
 
@@ -164,7 +157,7 @@ taken_faulty events ls new line fault parts is more =
 -- ---- the steps of a reader
 
 pub fed_newline : (old new : Reading) (live kept : List ℕ) → IsLine old.rest → old.fault ≡ None → kept ≡ old.rest ++ 10 ∷ []
-    → new.rest ≡ [] → AreTaken old.events new.events new.fault live (lines kept) → IsFed old (10 ∷ []) new
+    → new.rest ≡ [] → AreTaken old.events new.events new.fault live (lines kept) [] → IsFed old (10 ∷ []) new
 fed_newline old new live kept is unfailed kept-is start' taken more =
     let all : lines (old.rest ++ 10 ∷ more) ≡ lines kept ++ lines more =
     ap lines (sym (append_assoc old.rest (10 ∷ []) more)) ∙ whole_ended old.rest more
@@ -198,7 +191,7 @@ stopped reading bytes fault is failed =
 
 -- the unfinished line is the last one
 pub last_is_taken : (reading : Reading) (bytes live : List ℕ) (after : List SizeEvent) (fault : Option TimelineFault)
-    → IsReadingOf reading bytes → reading.fault ≡ None → AreTaken reading.events after fault live (lines reading.rest)
+    → IsReadingOf reading bytes → reading.fault ≡ None → AreTaken reading.events after fault live (lines reading.rest) []
     → timeline_of (ended head_line ++ bytes) ≡ going_on after fault []
 last_is_taken reading bytes live after fault is unfailed taken =
     all_is_read reading bytes is ∙ ap (λ o. going_on reading.events o (lines reading.rest)) unfailed

@@ -1,21 +1,15 @@
 -- The requested sizes, one event more.
-use Rattle.std.proofs.Common.{◌≡◌, ◌≢◌, ◌↔◌, ℕ, suc, ◌+◌, ◌-◌, ◌<◌, ◌≤◌, ◌⊎◌, List, [], ◌∷◌, length, min, take, slice_index, get_or, arith, refl, ap, ◌∙◌, inl, inr, add-one, None, Some, Option, IsSome, IfNone, IfSome}
-use Rattle.std.proofs.lemmas.Bool.{cases_lt, false≢true}
-use Rattle.std.proofs.lemmas.Bool.Decides.{eqb_tells, nat_tests}
-use Rattle.std.proofs.lemmas.List.{take_all, take-take}
-use Rattle.std.proofs.lemmas.List.Sums.{sum_by-take-le}
-use Rattle.std.proofs.Math.Nat.{min-eq_left, min-eq_right}
-use Rattle.class_table.specs.Sizes.{largest_counted}
-use Rattle.class_table.specs.Tables.{class_for}
-use Rattle.tuner_theory.specs.Histories.{peaks}
-use Rattle.tuner_theory.specs.Timelines.{IsTimeline, freed, moments, requested, snapshot_at}
-use Rattle.tuner_theory.specs.Waste.{Serves}
-use Rattle.tuner_theory.specs.declared.size_event.SizeEvent.{SizeEvent}
-use Rattle.tuner_theory.specs.declared.size_event.SizeEvent.TheVariants.{Request, Free}
-use Rattle.tuner_theory.proofs.Timelines.{live-at}
+use Rattle.std.proofs.Common.{◌≡◌, ◌≢◌, ◌↔◌, ℕ, suc, ◌+◌, ◌-◌, ◌<◌, ◌≤◌, ◌⊎◌, List, [], ◌∷◌, length, min, take, slice_index, get_or, arith}
+use Rattle.std.proofs.Common.{refl, ap, ◌∙◌, inl, inr, add-one, None, Some, Option, IsSome, IfNone, IfSome}
+use Rattle.std.proofs.{Math.Nat.{min-eq_left, min-eq_right}, lemmas.Bool.{cases_lt, false≢true}, lemmas.Bool.Decides.{eqb_tells, nat_tests}}
+use Rattle.std.proofs.lemmas.{List.{take_all, take-take}, List.Sums.{sum_by-take-le}}
+use Rattle.class_table.specs.{Sizes.{largest_counted}, Tables.{class_for}}
 use Rattle.tuner_theory.proofs.TimelineSteps.{frees_at, freed-more, largest_is_live, requested-more, requested_sizes, requests_at}
-use Rattle.history_count.specs.Timelines.Runs.{size_of}
+use Rattle.tuner_theory.{proofs.Timelines.{live-at}, specs.Histories.{peaks}, specs.Waste.{Serves}}
+use Rattle.tuner_theory.specs.{Timelines.{IsTimeline, freed, moments, requested, snapshot_at}, declared.size_event.SizeEvent.{SizeEvent}}
+use Rattle.tuner_theory.specs.declared.size_event.SizeEvent.TheVariants.{Request, Free}
 use Rattle.history_count.specs.Timelines.Requests.{Decides, IsFirstLive, IsLargest, IsLargestSoFar, IsLeastSoFar, IsLeastUnserved}
+use Rattle.history_count.specs.Timelines.Runs.{size_of}
 
 -- how many requests of a size there are after one event more
 pub requested-next : (events : List SizeEvent) (k n : ℕ) (event : SizeEvent) → k < length events → get_or events k (Request 0) ≡ event

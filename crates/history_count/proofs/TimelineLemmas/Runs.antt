@@ -1,16 +1,13 @@
 -- One event more of a run.
-use Rattle.std.proofs.Common.{◌≡◌, ◌≢◌, ℕ, ◌+◌, ◌-◌, ◌<◌, ◌≤◌, true, false, List, [], ◌∷◌, ◌++◌, length, take, cond, refl, sym, ◌∙◌, arith, inl, inr, slice_index, slice_set, replicate, length-append, eqb}
-use Rattle.std.proofs.lemmas.Bool.{cases_lt, le-ltb, lt-ltb, ltb-true}
-use Rattle.std.proofs.lemmas.Bool.Decides.{eqb_tells, nat_tests}
-use Rattle.std.proofs.lemmas.List.{get_or-replicate, get_or-set_other, get_or-set_same, length-replicate, length-set, take-append-le, take_all}
-use Rattle.std.proofs.lemmas.List.Elements.{All-append, All-cons, All-nil}
-use Rattle.std.proofs.lemmas.List.Sums.{sum_by-append, sum_by-cons}
-use Rattle.tuner_theory.specs.Profiles.{greatest_count}
-use Rattle.tuner_theory.specs.Timelines.{IsTimeline, freed, requested}
-use Rattle.tuner_theory.specs.declared.size_event.SizeEvent.{SizeEvent}
+use Rattle.std.proofs.Common.{◌≡◌, ◌≢◌, ℕ, ◌+◌, ◌-◌, ◌<◌, ◌≤◌, true, false, List, [], ◌∷◌, ◌++◌, length, take, cond, refl, sym, ◌∙◌, arith}
+use Rattle.std.proofs.{Common.{inl, inr, slice_index, slice_set, replicate, length-append, eqb}, lemmas.Bool.Decides.{eqb_tells, nat_tests}}
+use Rattle.std.proofs.lemmas.{Bool.{cases_lt, le-ltb, lt-ltb, ltb-true}, List.Elements.{All-append, All-cons, All-nil}}
+use Rattle.std.proofs.lemmas.List.{get_or-replicate, get_or-set_other, get_or-set_same, length-replicate, length-set, take-append-le}
+use Rattle.std.proofs.lemmas.{List.{take_all}, List.Sums.{sum_by-append, sum_by-cons}}
+use Rattle.tuner_theory.{proofs.TimelineSteps.{frees_at, requests_at}, specs.Profiles.{greatest_count}}
+use Rattle.tuner_theory.specs.{Timelines.{IsTimeline, freed, requested}, declared.size_event.SizeEvent.{SizeEvent}}
 use Rattle.tuner_theory.specs.declared.size_event.SizeEvent.TheVariants.{Request, Free}
-use Rattle.tuner_theory.proofs.TimelineSteps.{frees_at, requests_at}
-use Rattle.history_count.specs.Timelines.Runs.{AreLiveCounts, IsRun, after_event, large_size, may_come, size_of}
+use Rattle.history_count.specs.Timelines.Runs.{AreLiveCounts, IsRun, after_event, large_size, lowered, may_come, raised, size_of}
 use Rattle.history_count.specs.Timelines.TimelineText.{finds_live}
 
 pub requested-append : (events : List SizeEvent) (event : SizeEvent) (n : ℕ)
@@ -168,3 +165,17 @@ finds-none events live (Free n) are le none =
       | inl some ↦ absurd (none some)
       | inr nothing ↦ omega (arith, are.balance n le, nothing)
     ]))
+
+-- ---- an event in two steps
+
+pub raised-may : (event : SizeEvent) (count : ℕ) → raised event count ≢ 0 → may_come event count
+raised-may (Request n) count some = tt
+raised-may (Free n) count some = omega (arith, some)
+
+pub raised-none : (event : SizeEvent) (count : ℕ) → raised event count ≡ 0 → may_come event count → ⊥
+raised-none (Request n) count none may = omega (arith, none)
+raised-none (Free n) count none may = omega (arith, none, may)
+
+pub lowered-after : (event : SizeEvent) (count : ℕ) → lowered event (raised event count) ≡ after_event event count
+lowered-after (Request n) count = refl
+lowered-after (Free n) count = refl

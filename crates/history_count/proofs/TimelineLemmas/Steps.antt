@@ -1,24 +1,20 @@
 -- One event more.
-use Rattle.std.proofs.Common.{◌≡◌, ◌≢◌, ℕ, suc, ◌+◌, ◌-◌, ◌*◌, ◌<◌, ◌≤◌, ◌⊎◌, Bool, true, false, List, length, replicate, slice_get, sum_by, take, max, slice_index, slice_set, get_or, cond, eqb, ltb, arith, refl, ap, sym, subst, ◌∙◌, inl, inr, add-one, All, Option, Some, None, IsSome}
-use Rattle.std.specs.Option.{option_and_then, option_map_or}
-use Rattle.std.proofs.lemmas.Bool.{cases_lt, cases_order, eq-eqb, le-ltb, lt-ltb}
+use Rattle.std.proofs.Common.{◌≡◌, ◌≢◌, ℕ, suc, ◌+◌, ◌-◌, ◌*◌, ◌^◌, ◌<◌, ◌≤◌, ◌⊎◌, Bool, true, false, List, length, replicate, slice_get}
+use Rattle.std.proofs.Common.{sum_by, take, max, slice_index, slice_set, get_or, cond, eqb, ltb, arith, refl, ap, sym, subst, ◌∙◌, inl, inr}
+use Rattle.std.proofs.{Common.{add-one, All, Option, Some, None, IsSome}, Math.Nat.{max-eq_left}, lemmas.Bool.Decides.{eqb_tells}}
+use Rattle.std.proofs.lemmas.{Bool.{cases_lt, cases_order, eq-eqb, le-ltb, lt-ltb}, List.Kept.{AllPairs-from_increasing}}
+use Rattle.std.proofs.lemmas.List.{ext_get_or, get_or-map, get_or-replicate, get_or-set_same, get_or-set_other, get_or_default, length-map}
+use Rattle.std.proofs.lemmas.{List.{length-replicate, length-set, set-get_or}, List.Sums.{sum_by_more}}
 use Rattle.std.proofs.lemmas.Option.{get_or_from_slice_get, slice_get-get_or, slice_get_within}
-use Rattle.std.proofs.lemmas.Bool.Decides.{eqb_tells}
-use Rattle.std.proofs.lemmas.List.{ext_get_or, get_or-map, get_or-replicate, get_or-set_same, get_or-set_other, get_or_default, length-map, length-replicate, length-set, set-get_or}
-use Rattle.std.proofs.lemmas.List.Sums.{sum_by_more}
-use Rattle.std.proofs.Math.Nat.{max-eq_left}
-use Rattle.std.proofs.lemmas.List.Kept.{AllPairs-from_increasing}
-use Rattle.class_table.specs.Sizes.{largest_counted}
+use Rattle.std.specs.Option.{option_and_then, option_map_or}
+use Rattle.class_table.{proofs.LawLemmas.{number_gives_class}, specs.Sizes.{largest_counted}}
 use Rattle.class_table.specs.Tables.{IsLegalTable, class_for, class_number_for}
-use Rattle.class_table.proofs.LawLemmas.{number_gives_class}
-use Rattle.tuner_theory.specs.Footprint.{blocks, is_class_of}
-use Rattle.tuner_theory.specs.Histories.{most}
-use Rattle.tuner_theory.specs.Timelines.{IsTimeline, moments, most_to, snapshot_at}
-use Rattle.tuner_theory.specs.declared.size_event.SizeEvent.{SizeEvent}
-use Rattle.tuner_theory.specs.declared.size_event.SizeEvent.TheVariants.{Request, Free}
-use Rattle.tuner_theory.proofs.TimelineBlocks.{blocks-none, blocks-step, comes_at, free-goes, goes_at, large-does-nothing, most_to-above, most_to-all, most_to-more, most_to-none, request-comes}
+use Rattle.tuner_theory.proofs.TimelineBlocks.{blocks-none, blocks-step, comes_at, free-goes, goes_at, large-does-nothing, most_to-above}
+use Rattle.tuner_theory.{proofs.TimelineBlocks.{most_to-all, most_to-more, most_to-none, request-comes}, specs.Histories.{most}}
+use Rattle.tuner_theory.specs.{Footprint.{blocks, is_class_of}, Timelines.{IsTimeline, moments, most_to, snapshot_at}}
+use Rattle.tuner_theory.specs.declared.size_event.{SizeEvent.{SizeEvent}, SizeEvent.TheVariants.{Request, Free}}
+use Rattle.history_count.specs.Timelines.LiveBlocks.{AreFirsts, AreKnown, AreLive, IsFirst, class_bytes, first_moved, most_blocks}
 use Rattle.history_count.specs.Timelines.Runs.{after_event, may_come, size_of}
-use Rattle.history_count.specs.Timelines.LiveBlocks.{AreFirsts, AreLive, IsFirst, class_bytes, first_moved, most_blocks}
 
 first-step : (f : List ℕ → ℕ) (events : List SizeEvent) (k much newer greater first newest : ℕ) → IsFirst f events k much first
     → much ≡ most_to f events k → newer ≡ f (snapshot_at events (suc k)) → greater ≡ max much newer
@@ -37,49 +33,49 @@ first-step f events k much newer greater first newest is so-far now raised moved
           rw (old, kept) (record { within = omega (arith, is.within); there = is.there; before = is.before })
     ]
 
--- what a step has to show of each class
-pub live-step : (events : List SizeEvent) (classes : List ℕ) (k : ℕ) (d : SizeEvent) (live most firsts newer greater newest : List ℕ)
+-- what an event does to the counts of one class
+record IsStep (k comes goes live most first newer greater newest : ℕ) : Type 0 where
+  balance : newer + goes ≡ live + comes
+  slow : newer ≤ live + 1
+  raised : greater ≡ max most newer
+  moved : most < newer → newest ≡ k + 1
+  stays : newer ≤ most → newest ≡ first
+
+unchanged : (k moves live most first : ℕ) → live ≤ most → IsStep k moves moves live most first live most first
+unchanged k moves live most first below = record {
+  balance = refl;
+  slow = omega arith;
+  raised = omega arith;
+  moved = λ up. absurd (omega arith);
+  stays = λ kept. refl;
+}
+
+live-step : (events : List SizeEvent) (classes : List ℕ) (k : ℕ) (d : SizeEvent) (live most firsts newer greater newest : List ℕ)
     → IsTimeline events → k < length events → AreLive events classes k live most firsts → length newer ≡ length classes
     → length greater ≡ length classes → length newest ≡ length classes
-    → ((j : ℕ) → j < length classes → slice_index newer j + goes_at classes (slice_index classes j) (get_or events k d)
-    ≡ slice_index live j + comes_at classes (slice_index classes j) (get_or events k d))
-    → ((j : ℕ) → j < length classes → slice_index newer j ≤ slice_index live j + 1)
-    → ((j : ℕ) → j < length classes → slice_index greater j ≡ max (slice_index most j) (slice_index newer j))
-    → ((j : ℕ) → j < length classes → slice_index most j < slice_index newer j → slice_index newest j ≡ k + 1)
-    → ((j : ℕ) → j < length classes → slice_index newer j ≤ slice_index most j → slice_index newest j ≡ slice_index firsts j)
+    → ((j : ℕ) → j < length classes → let class = slice_index classes j in let event = get_or events k d in
+    IsStep k (comes_at classes class event) (goes_at classes class event) (slice_index live j) (slice_index most j) (slice_index firsts j)
+    (slice_index newer j) (slice_index greater j) (slice_index newest j))
     → AreLive events classes (k + 1) newer greater newest
-live-step events classes k d live most firsts newer greater newest timeline lt are newer-len greater-len newest-len balance slow raised moved
-    stays =
+live-step events classes k d live most firsts newer greater newest timeline lt are newer-len greater-len newest-len step =
     subst (λ (m : ℕ). AreLive events classes m newer greater newest) (sym (add-one k)) (record {
       live_len = newer-len;
       most_len = greater-len;
       firsts_len = newest-len;
       live_at = at;
       most_at = λ j within.
-          omega (
-            arith,
-            raised j within,
-            at j within,
-            are.most_at j within,
-            most_to-more (blocks classes (slice_index classes j)) events k,
-          );
-      below = λ j within. omega (arith, raised j within);
-      small = λ j within.
-          omega (arith, raised j within, are.small j within, are.below j within, slow j within);
+          omega (arith, (step j within).raised, at j within, are.most_at j within, most_to-more (blocks classes (slice_index classes j)) events k);
+      below = λ j within. omega (arith, (step j within).raised);
+      small = λ j within. let its = step j within in omega (arith, its.raised, are.small j within, are.below j within, its.slow);
       first_at = λ j within.
+          let its = step j within in
           first-step (blocks classes (slice_index classes j)) events k (slice_index most j) (slice_index newer j) (slice_index greater j)
-          (slice_index firsts j) (slice_index newest j) (are.first_at j within) (are.most_at j within) (at j within) (raised j within)
-          (moved j within) (stays j within);
+          (slice_index firsts j) (slice_index newest j) (are.first_at j within) (are.most_at j within) (at j within) its.raised its.moved its.stays;
     })
   where
     at : (j : ℕ) → j < length classes → slice_index newer j ≡ blocks classes (slice_index classes j) (snapshot_at events (suc k))
     at j within =
-        omega (
-          arith,
-          blocks-step events classes (slice_index classes j) k d timeline lt,
-          are.live_at j within,
-          balance j within,
-        )
+        omega (arith, blocks-step events classes (slice_index classes j) k d timeline lt, are.live_at j within, (step j within).balance)
 
 -- ---- the class of a size by its number
 
@@ -149,87 +145,28 @@ request_step events classes k n number d live most firsts timeline lt legal are 
     (length-set live number (slice_index live number + 1) ∙ are.live_len)
     (length-set most number (max (slice_index most number) (slice_index live number + 1)) ∙ are.most_len)
     (moved-length (ltb (slice_index most number) (slice_index live number + 1)) number (k + 1) firsts ∙ are.firsts_len)
-    (λ j within. omega (arith, comes j, goes j, balance j within))
-    (λ j within. omega (arith, slow j within))
-    (λ j within. omega (arith, raised j within))
-    moved stays
-  where
-    comes : (j : ℕ) → comes_at classes (slice_index classes j) (get_or events k d) ≡ cond (is_class_of classes (slice_index classes j) n) 1 0
-    comes j = ap (comes_at classes (slice_index classes j)) event ∙ (request-comes classes (slice_index classes j) n counted).0
-
-    goes : (j : ℕ) → goes_at classes (slice_index classes j) (get_or events k d) ≡ 0
-    goes j = ap (goes_at classes (slice_index classes j)) event ∙ (request-comes classes (slice_index classes j) n counted).1
-
-    balance : (j : ℕ) → j < length classes
-        → slice_index (slice_set live number (slice_index live number + 1)) j
-        ≡ slice_index live j + cond (is_class_of classes (slice_index classes j) n) 1 0
-    balance j within =
-        elim (eqb_tells j number) [
-          | inl same ↦ rw same.1
-              (omega (
-                arith,
-                get_or-set_same live number (slice_index live number + 1) 0 (omega (arith, are.live_len)),
-                one-of _ (own-class classes n number is inside),
-              ))
-          | inr differs ↦ omega (
-            arith,
-            get_or-set_other live number j (slice_index live number + 1) 0 differs.1,
-            none-of _ (other-class classes n number j legal is inside within differs.1),
-          )
-        ]
-
-    slow : (j : ℕ) → j < length classes
-        → slice_index (slice_set live number (slice_index live number + 1)) j ≤ slice_index live j + 1
-    slow j within =
-        elim (eqb_tells j number) [
-          | inl same ↦ rw same.1
-              (omega (arith, get_or-set_same live number (slice_index live number + 1) 0 (omega (arith, are.live_len))))
-          | inr differs ↦ omega (arith, get_or-set_other live number j (slice_index live number + 1) 0 differs.1)
-        ]
-
-    moved : (j : ℕ) → j < length classes → slice_index most j < slice_index (slice_set live number (slice_index live number + 1)) j
-        → slice_index (first_moved (slice_index most number) (slice_index live number + 1) number (k + 1) firsts) j ≡ k + 1
-    moved j within up =
-        elim (eqb_tells j number) [
-          | inl same ↦ let set-there = get_or-set_same live number (slice_index live number + 1) 0 (omega (arith, are.live_len)) in
-              let up-there : slice_index most number < slice_index live number + 1 = omega (arith, set-there, rw same.1 at up) in
-              rw (same.1, lt-ltb _ _ up-there) (get_or-set_same firsts number (k + 1) 0 (omega (arith, are.firsts_len)))
-          | inr differs ↦ absurd (omega (
-            arith,
-            get_or-set_other live number j (slice_index live number + 1) 0 differs.1,
-            are.below j within,
-          ))
-        ]
-
-    stays : (j : ℕ) → j < length classes → slice_index (slice_set live number (slice_index live number + 1)) j ≤ slice_index most j
-        → slice_index (first_moved (slice_index most number) (slice_index live number + 1) number (k + 1) firsts) j ≡ slice_index firsts j
-    stays j within kept =
-        elim (eqb_tells j number) [
-          | inl same ↦ let set-there = get_or-set_same live number (slice_index live number + 1) 0 (omega (arith, are.live_len)) in
-              let kept-there : slice_index live number + 1 ≤ slice_index most number = omega (arith, set-there, rw same.1 at kept) in
-              rw (le-ltb _ _ kept-there) refl
-          | inr differs ↦ moved-other (ltb (slice_index most number) (slice_index live number + 1)) number j (k + 1) firsts differs.1
-        ]
-
-    raised : (j : ℕ) → j < length classes
-        → slice_index (slice_set most number (max (slice_index most number) (slice_index live number + 1))) j
-        ≡ max (slice_index most j) (slice_index (slice_set live number (slice_index live number + 1)) j)
-    raised j within =
-        elim (eqb_tells j number) [
-          | inl same ↦ rw same.1
-              (omega (
-                arith,
-                get_or-set_same live number (slice_index live number + 1) 0 (omega (arith, are.live_len)),
-                get_or-set_same most number (max (slice_index most number) (slice_index live number + 1)) 0
-                    (omega (arith, are.most_len)),
-              ))
-          | inr differs ↦ omega (
-            arith,
-            get_or-set_other live number j (slice_index live number + 1) 0 differs.1,
-            get_or-set_other most number j (max (slice_index most number) (slice_index live number + 1)) 0 differs.1,
-            are.below j within,
-          )
-        ]
+    (λ j within.
+    let moves = request-comes classes (slice_index classes j) n counted in
+    rw (event, moves.0, moves.1) (elim (eqb_tells j number) [
+      | inl same ↦ rw (
+        same.1,
+        own-class classes n number is inside,
+        get_or-set_same live number (slice_index live number + 1) 0 (omega (arith, are.live_len)),
+        get_or-set_same most number (max (slice_index most number) (slice_index live number + 1)) 0 (omega (arith, are.most_len)),
+      ) (record {
+        balance = omega arith;
+        slow = omega arith;
+        raised = refl;
+        moved = λ up. rw (lt-ltb _ _ up) (get_or-set_same firsts number (k + 1) 0 (omega (arith, are.firsts_len)));
+        stays = λ kept. rw (le-ltb _ _ kept) refl;
+      })
+      | inr differs ↦ rw (
+        other-class classes n number j legal is inside within differs.1,
+        get_or-set_other live number j (slice_index live number + 1) 0 differs.1,
+        get_or-set_other most number j (max (slice_index most number) (slice_index live number + 1)) 0 differs.1,
+        moved-other (ltb (slice_index most number) (slice_index live number + 1)) number j (k + 1) firsts differs.1,
+      ) (unchanged k 0 _ _ _ (are.below j within))
+    ]))
 
 -- a block that is freed was live
 free_live : (events : List SizeEvent) (classes : List ℕ) (k n number : ℕ) (d : SizeEvent) (live most firsts : List ℕ) → IsTimeline events
@@ -256,35 +193,25 @@ free_step : (events : List SizeEvent) (classes : List ℕ) (k n number : ℕ) (d
 free_step events classes k n number d live most firsts timeline lt legal are event counted is inside =
     live-step events classes k d live most firsts (slice_set live number (slice_index live number - 1)) most firsts timeline lt are
     (length-set live number (slice_index live number - 1) ∙ are.live_len) are.most_len are.firsts_len
-    (λ j within. omega (arith, comes j, goes j, balance j within))
-    (λ j within. omega (arith, balance j within))
-    (λ j within. omega (arith, balance j within, are.below j within))
-    (λ j within up. absurd (omega (arith, balance j within, are.below j within))) (λ j within same. refl)
-  where
-    comes : (j : ℕ) → comes_at classes (slice_index classes j) (get_or events k d) ≡ 0
-    comes j = ap (comes_at classes (slice_index classes j)) event ∙ (free-goes classes (slice_index classes j) n counted).1
-
-    goes : (j : ℕ) → goes_at classes (slice_index classes j) (get_or events k d) ≡ cond (is_class_of classes (slice_index classes j) n) 1 0
-    goes j = ap (goes_at classes (slice_index classes j)) event ∙ (free-goes classes (slice_index classes j) n counted).0
-
-    balance : (j : ℕ) → j < length classes
-        → slice_index (slice_set live number (slice_index live number - 1)) j + cond (is_class_of classes (slice_index classes j) n) 1 0
-        ≡ slice_index live j
-    balance j within =
-        elim (eqb_tells j number) [
-          | inl same ↦ rw same.1
-              (omega (
-                arith,
-                get_or-set_same live number (slice_index live number - 1) 0 (omega (arith, are.live_len)),
-                one-of _ (own-class classes n number is inside),
-                free_live events classes k n number d live most firsts timeline lt are event counted is inside,
-              ))
-          | inr differs ↦ omega (
-            arith,
-            get_or-set_other live number j (slice_index live number - 1) 0 differs.1,
-            none-of _ (other-class classes n number j legal is inside within differs.1),
-          )
-        ]
+    (λ j within.
+    let moves = free-goes classes (slice_index classes j) n counted in
+    rw (event, moves.0, moves.1) (elim (eqb_tells j number) [
+      | inl same ↦ rw (
+        same.1,
+        own-class classes n number is inside,
+        get_or-set_same live number (slice_index live number - 1) 0 (omega (arith, are.live_len)),
+      ) (record {
+        balance = omega (arith, free_live events classes k n number d live most firsts timeline lt are event counted is inside);
+        slow = omega arith;
+        raised = omega (arith, are.below number inside);
+        moved = λ up. absurd (omega (arith, are.below number inside));
+        stays = λ kept. refl;
+      })
+      | inr differs ↦ rw (
+        other-class classes n number j legal is inside within differs.1,
+        get_or-set_other live number j (slice_index live number - 1) 0 differs.1,
+      ) (unchanged k 0 _ _ _ (are.below j within))
+    ]))
 
 still-step : (events : List SizeEvent) (classes : List ℕ) (k : ℕ) (d : SizeEvent) (live most firsts : List ℕ) → IsTimeline events
     → k < length events → AreLive events classes k live most firsts
@@ -292,10 +219,7 @@ still-step : (events : List SizeEvent) (classes : List ℕ) (k : ℕ) (d : SizeE
     → AreLive events classes (k + 1) live most firsts
 still-step events classes k d live most firsts timeline lt are still =
     live-step events classes k d live most firsts live most firsts timeline lt are are.live_len are.most_len are.firsts_len
-    (λ j within. omega (arith, still (slice_index classes j)))
-    (λ j within. omega arith)
-    (λ j within. omega (arith, are.below j within))
-    (λ j within up. absurd (omega (arith, are.below j within))) (λ j within same. refl)
+    (λ j within. rw (still (slice_index classes j)) (unchanged k _ _ _ _ (are.below j within)))
 
 -- what has no class, or is large, changes nothing
 unserved_request_step : (events : List SizeEvent) (classes : List ℕ) (k n : ℕ) (d : SizeEvent) (live most firsts : List ℕ)
@@ -429,3 +353,38 @@ bytes_more events classes counted number total class bytes count all found bytes
       so-far,
       ap (λ b. b * count) bytes-is ∙ ap (λ m. 16 * class * m) its,
     )
+
+-- ---- the classes that are known
+
+pub known-none : (classes : List ℕ) → AreKnown classes (replicate (2 ^ 16) 255)
+known-none classes = record {
+  len = length-replicate {A = ℕ} (2 ^ 16) 255;
+  counted = λ n lt some. absurd (some (get_or-replicate {A = ℕ} (2 ^ 16) n 255 0 lt));
+  number = λ n lt some. absurd (some (get_or-replicate {A = ℕ} (2 ^ 16) n 255 0 lt));
+  within = λ n lt some. absurd (some (get_or-replicate {A = ℕ} (2 ^ 16) n 255 0 lt));
+}
+
+pub known-more : (classes known : List ℕ) (n number : ℕ) → AreKnown classes known → n ≤ largest_counted
+    → class_number_for classes n ≡ Some number → number < length classes → AreKnown classes (slice_set known n number)
+known-more classes known n number are counted found inside = record {
+  len = length-set known n number ∙ are.len;
+  counted = λ m lt some. elim (eqb_tells m n) [
+    | inl same ↦ rw same.1 counted
+    | inr differs ↦ are.counted m lt (rw (get_or-set_other known n m number 0 differs.1) at some)
+  ];
+  number = λ m lt some. elim (eqb_tells m n) [
+    | inl same ↦ rw (same.1, here) found
+    | inr differs ↦
+        let still = get_or-set_other known n m number 0 differs.1 in
+        rw still (are.number m lt (rw still at some))
+  ];
+  within = λ m lt some. elim (eqb_tells m n) [
+    | inl same ↦ rw (same.1, here) inside
+    | inr differs ↦
+        let still = get_or-set_other known n m number 0 differs.1 in
+        rw still (are.within m lt (rw still at some))
+  ];
+}
+  where
+    here : slice_index (slice_set known n number) n ≡ number
+    here = get_or-set_same known n number 0 (omega (arith, are.len))

@@ -1,23 +1,16 @@
 -- What one event more does to the sums over the classes of a table.
-use Rattle.std.proofs.Common.{◌≡◌, ◌≢◌, ℕ, zero, suc, ◌+◌, ◌-◌, ◌*◌, ◌<◌, ◌≤◌, List, [], ◌∷◌, length, take, sum_by, max, slice_index, slice_set, ltb, arith, refl, ap, sym, subst, ◌∙◌, inl, inr, add-one}
-use Rattle.std.proofs.lemmas.Bool.{cases_lt, le-ltb, lt-ltb}
-use Rattle.std.proofs.lemmas.List.{get_or-set_same, get_or-set_other, length-set, set-get_or, take_all}
+use Rattle.std.proofs.Common.{◌≡◌, ◌≢◌, ℕ, zero, suc, ◌+◌, ◌-◌, ◌*◌, ◌<◌, ◌≤◌, List, [], ◌∷◌, length, take, sum_by, max, slice_index}
+use Rattle.std.proofs.{Common.{slice_set, ltb, arith, refl, ap, sym, subst, ◌∙◌, inl, inr, add-one}, Math.Nat.{max-eq_left, mul-add}}
+use Rattle.std.proofs.lemmas.{Bool.{cases_lt, le-ltb, lt-ltb}, List.{get_or-set_same, get_or-set_other, length-set, set-get_or, take_all}}
 use Rattle.std.proofs.lemmas.List.Sums.{sum_by_more}
-use Rattle.std.proofs.Math.Nat.{max-eq_left, mul-add}
-use Rattle.class_table.specs.Sizes.{granule_bytes}
-use Rattle.class_table.specs.Tables.{IsLegalTable}
-use Rattle.tuner_theory.specs.Footprint.{blocks}
-use Rattle.tuner_theory.specs.Histories.{most}
-use Rattle.tuner_theory.specs.Timelines.{most_to, snapshot_at}
-use Rattle.tuner_theory.specs.declared.size_event.SizeEvent.{SizeEvent}
+use Rattle.class_table.specs.{Sizes.{granule_bytes}, Tables.{IsLegalTable}}
+use Rattle.tuner_theory.{proofs.TimelineBlocks.{blocks-none, most_to-more, most_to-none}, specs.Footprint.{blocks}, specs.Histories.{most}}
+use Rattle.tuner_theory.specs.{Timelines.{most_to, snapshot_at}, declared.size_event.SizeEvent.{SizeEvent}}
 use Rattle.tuner_theory.specs.declared.size_event.SizeEvent.TheVariants.{Request, Free}
-use Rattle.tuner_theory.proofs.TimelineBlocks.{blocks-none, most_to-more, most_to-none}
-use Rattle.history_count.specs.Timelines.Runs.{after_event, may_come}
-use Rattle.history_count.specs.Timelines.LiveBlocks.{AreLive, AreSame, IsMoved, IsOneMore, moved_by}
-use Rattle.history_count.specs.Timelines.TablePeaks.{AreSums, MayMove, freed_blocks, live_blocks, live_bytes, made_blocks, moved_sums, sums_after}
-use Rattle.history_count.specs.declared.timelines.counting.Moved.{Moved}
-use Rattle.history_count.specs.declared.timelines.counting.Moved.TheVariants.{Nothing, New, Again, Freed}
-use Rattle.history_count.specs.declared.timelines.sums.Sums.{Sums}
+use Rattle.history_count.specs.Timelines.{LiveBlocks.{AreLive, AreSame, IsMoved, IsOneMore, moved_by}, Runs.{after_event, may_come}}
+use Rattle.history_count.specs.Timelines.TablePeaks.{AreSums, MayMove, freed_blocks, live_blocks, live_bytes, made_blocks, moved_sums}
+use Rattle.history_count.specs.{Timelines.TablePeaks.{sums_after}, declared.timelines.counting.Moved.{Moved}}
+use Rattle.history_count.specs.declared.timelines.{counting.Moved.TheVariants.{Nothing, New, Again, Freed}, sums.Sums.{Sums}}
 
 -- ---- one more block of a class
 

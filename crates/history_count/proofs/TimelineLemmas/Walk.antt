@@ -1,14 +1,12 @@
 -- One event more of a walk over the sizes.
-use Rattle.std.proofs.Common.{◌≡◌, ◌≢◌, ℕ, suc, ◌+◌, ◌-◌, ◌<◌, ◌≤◌, List, length, take, replicate, slice_index, slice_set, get_or, cond, eqb, arith, refl, ap, sym, ◌∙◌, inl, inr, add-one}
-use Rattle.std.proofs.lemmas.Bool.Decides.{eqb_tells, nat_tests}
-use Rattle.std.proofs.lemmas.List.{ext_get_or, get_or-replicate, get_or-set_same, get_or-set_other, length-replicate, length-set, length-take}
-use Rattle.std.proofs.lemmas.List.Sums.{count_by-le-length}
+use Rattle.std.proofs.Common.{◌≡◌, ◌≢◌, ℕ, suc, ◌+◌, ◌-◌, ◌<◌, ◌≤◌, List, length, take, replicate, slice_index, slice_set, get_or, cond}
+use Rattle.std.proofs.{Common.{eqb, arith, refl, ap, sym, ◌∙◌, inl, inr, add-one}, lemmas.Bool.Decides.{eqb_tells, nat_tests}}
+use Rattle.std.proofs.lemmas.List.{ext_get_or, get_or-replicate, get_or-set_same, get_or-set_other, length-replicate, length-set}
+use Rattle.std.proofs.lemmas.{List.{length-take}, List.Sums.{count_by-le-length}}
 use Rattle.class_table.specs.Sizes.{largest_counted}
-use Rattle.tuner_theory.specs.Timelines.{IsTimeline, is_request, snapshot_at}
-use Rattle.tuner_theory.specs.declared.size_event.SizeEvent.{SizeEvent}
+use Rattle.tuner_theory.proofs.{TimelineSteps.{frees_at, freed-more, requested-more, requests_at}, Timelines.{live-at, snapshot-length}}
+use Rattle.tuner_theory.specs.{Timelines.{IsTimeline, is_request, snapshot_at}, declared.size_event.SizeEvent.{SizeEvent}}
 use Rattle.tuner_theory.specs.declared.size_event.SizeEvent.TheVariants.{Request, Free}
-use Rattle.tuner_theory.proofs.TimelineSteps.{frees_at, freed-more, requested-more, requests_at}
-use Rattle.tuner_theory.proofs.Timelines.{live-at, snapshot-length}
 
 -- ---- the counts
 

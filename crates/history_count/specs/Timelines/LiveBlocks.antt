@@ -1,13 +1,10 @@
 -- What is counted of the blocks of each class, event by event.
-use Rattle.std.specs.Prelude.{◌≡◌, ◌≢◌, Bool, ℕ, ◌+◌, ◌*◌, ◌<◌, ◌≤◌, if◌then◌else◌, nat_lt, List, length, map, slice_index, slice_set}
-use Rattle.class_table.specs.Sizes.{granule_bytes}
-use Rattle.tuner_theory.specs.Footprint.{blocks}
-use Rattle.tuner_theory.specs.Histories.{most}
-use Rattle.tuner_theory.specs.Timelines.{moments, most_to, snapshot_at}
-use Rattle.tuner_theory.specs.declared.size_event.SizeEvent.{SizeEvent}
-use Rattle.tuner_theory.specs.declared.size_event.SizeEvent.TheVariants.{Request, Free}
-use Rattle.history_count.specs.declared.timelines.counting.Moved.{Moved}
-use Rattle.history_count.specs.declared.timelines.counting.Moved.TheVariants.{Nothing, New, Again, Freed}
+use Rattle.std.specs.Prelude.{◌≡◌, ◌≢◌, Bool, ℕ, Some, ◌+◌, ◌*◌, ◌^◌, ◌<◌, ◌≤◌, if◌then◌else◌, nat_lt, List, length, map, slice_index}
+use Rattle.std.specs.Prelude.{slice_set}
+use Rattle.class_table.specs.{Sizes.{granule_bytes, largest_counted}, Tables.{class_number_for}}
+use Rattle.tuner_theory.specs.{Footprint.{blocks}, Histories.{most}, Timelines.{moments, most_to, snapshot_at}}
+use Rattle.tuner_theory.specs.declared.size_event.{SizeEvent.{SizeEvent}, SizeEvent.TheVariants.{Request, Free}}
+use Rattle.history_count.specs.declared.timelines.counting.{Moved.{Moved}, Moved.TheVariants.{Nothing, New, Again, Freed}}
 
 -- The first moment at which a measure is so much, up to this one.
 pub record IsFirst (measure : List ℕ → ℕ) (events : List SizeEvent) (moment much first : ℕ) : Type 0 where
@@ -29,6 +26,13 @@ pub record AreLive (events : List SizeEvent) (classes : List ℕ) (moment : ℕ)
   pub small : (j : ℕ) → j < length classes → slice_index most j ≤ moment
   pub first_at : (j : ℕ) → j < length classes
       → IsFirst (blocks classes (slice_index classes j)) events moment (slice_index most j) (slice_index firsts j)
+
+-- Each size that 16 bits hold has a place: the number of its class, or 255 where that is not known.
+pub record AreKnown (classes known : List ℕ) : Type 0 where
+  pub len : length known ≡ 2 ^ 16
+  pub counted : (n : ℕ) → n < 2 ^ 16 → slice_index known n ≢ 255 → n ≤ largest_counted
+  pub number : (n : ℕ) → n < 2 ^ 16 → slice_index known n ≢ 255 → class_number_for classes n ≡ Some (slice_index known n)
+  pub within : (n : ℕ) → n < 2 ^ 16 → slice_index known n ≢ 255 → slice_index known n < length classes
 
 -- The first moments where `newer` blocks of the class of this number are live at a moment, before which `much` was the most.
 abbrev pub first_moved : ℕ → ℕ → ℕ → ℕ → List ℕ → List ℕ

@@ -2,8 +2,7 @@
 use Rattle.std.specs.Prelude.{◌≡◌, ℕ, ◌+◌, List, [], ◌++◌, length, Option, Some, None, Result, Ok, Err}
 use Rattle.line_text.specs.Lines.{lines}
 use Rattle.tuner_theory.specs.declared.size_event.SizeEvent.{SizeEvent}
-use Rattle.history_count.specs.Timelines.Runs.{AreLiveCounts, IsRun}
-use Rattle.history_count.specs.Timelines.TimelineText.{events_from}
+use Rattle.history_count.specs.Timelines.{Runs.{AreLiveCounts, IsRun}, TimelineText.{events_from}}
 use Rattle.history_count.specs.declared.timelines.fault.TimelineFault.{TimelineFault}
 
 -- The events that were read, the fault of the line after theirs, if it was found, and the bytes of the unfinished line.
@@ -43,13 +42,13 @@ abbrev pub AreCountsUnless : Option TimelineFault → List SizeEvent → List �
 AreCountsUnless None events live = AreLiveCounts events live
 AreCountsUnless (Some fault) events live = Unit {0}
 
--- The events that were read after those before, or also the fault of the line after theirs.
-pub record AreTaken (before after : List SizeEvent) (fault : Option TimelineFault) (counts : List ℕ) (ls : List (List ℕ)) : Type 0 where
+-- Lines were taken from these, and the rest is left: the events that were read after those before, or also the fault of the line after theirs.
+pub record AreTaken (before after : List SizeEvent) (fault : Option TimelineFault) (counts : List ℕ) (ls rest : List (List ℕ)) : Type 0 where
   pub run : IsRun after
   pub live : AreCountsUnless fault after counts
-  pub read : (more : List (List ℕ)) → going_on before None (ls ++ more) ≡ going_on after fault more
+  pub read : (more : List (List ℕ)) → going_on before None (ls ++ more) ≡ going_on after fault (rest ++ more)
 
 -- These lines were taken, unless memory ran out.
 abbrev pub TakesLines : {E : Type 0} → Result (Option TimelineFault) E → List SizeEvent → List SizeEvent → List ℕ → List (List ℕ) → Type 0
-TakesLines (Ok fault) before after live ls = AreTaken before after fault live ls
+TakesLines (Ok fault) before after live ls = AreTaken before after fault live ls []
 TakesLines (Err error) before after live ls = IsRun after × AreLiveCounts after live

@@ -1,10 +1,7 @@
 -- Which sizes were requested, event by event: the largest one, and the least that a table does not serve.
 use Rattle.std.specs.Prelude.{◌≡◌, ℕ, ◌+◌, ◌-◌, ◌<◌, ◌≤◌, None, IsSome, List, length, slice_index, take}
-use Rattle.class_table.specs.Sizes.{largest_counted}
-use Rattle.class_table.specs.Tables.{class_for}
-use Rattle.tuner_theory.specs.Histories.{peaks}
-use Rattle.tuner_theory.specs.Timelines.{history_at, moments, requested, snapshot_at}
-use Rattle.tuner_theory.specs.Waste.{Serves}
+use Rattle.class_table.specs.{Sizes.{largest_counted}, Tables.{class_for}}
+use Rattle.tuner_theory.specs.{Histories.{peaks}, Timelines.{history_at, moments, requested, snapshot_at}, Waste.{Serves}}
 use Rattle.tuner_theory.specs.declared.size_event.SizeEvent.{SizeEvent}
 
 -- Whatever serves a history that has this moment serves the timeline.

@@ -1,9 +1,7 @@
 -- Runs as a text spells them: all sizes above the largest that is counted go by one size, and their frees find live blocks too.
 use Rattle.std.specs.Prelude.{◌≡◌, ℕ, ◌+◌, ◌-◌, ◌<◌, ◌≤◌, List, length, take, slice_index, All}
 use Rattle.class_table.specs.Sizes.{largest_counted}
-use Rattle.tuner_theory.specs.Profiles.{greatest_count}
-use Rattle.tuner_theory.specs.Timelines.{freed, requested}
-use Rattle.tuner_theory.specs.declared.size_event.SizeEvent.{SizeEvent}
+use Rattle.tuner_theory.specs.{Profiles.{greatest_count}, Timelines.{freed, requested}, declared.size_event.SizeEvent.{SizeEvent}}
 use Rattle.tuner_theory.specs.declared.size_event.SizeEvent.TheVariants.{Request, Free}
 
 -- The size by which all larger blocks go, in bytes.
@@ -18,6 +16,15 @@ size_of (Free n) = n
 abbrev pub after_event : SizeEvent → ℕ → ℕ
 after_event (Request n) count = count + 1
 after_event (Free n) count = count - 1
+
+-- The same in two steps: first the count with a request, then without what is freed.
+abbrev pub raised : SizeEvent → ℕ → ℕ
+raised (Request n) count = count + 1
+raised (Free n) count = count
+
+abbrev pub lowered : SizeEvent → ℕ → ℕ
+lowered (Request n) count = count
+lowered (Free n) count = count - 1
 
 -- A free needs a live block.
 abbrev pub may_come : SizeEvent → ℕ → Type 0

@@ -1,23 +1,18 @@
 -- An index of a timeline: the sizes that are requested, and by stretches of so many events how many blocks of each are live.
-use Rattle.std.specs.Prelude.{◌≡◌, ◌↔◌, ℕ, zero, suc, ◌+◌, ◌-◌, ◌*◌, ◌<◌, ◌≤◌, max, List, length, map, slice_index, slice_index_or, take, []}
+use Rattle.std.specs.Prelude.{◌≡◌, ◌↔◌, ℕ, zero, suc, ◌+◌, ◌-◌, ◌*◌, ◌^◌, ◌<◌, ◌≤◌, max, List, length, map, slice_index, slice_index_or}
+use Rattle.std.specs.Prelude.{take, []}
 use Rattle.class_table.specs.Sizes.{granule_bytes, largest_counted}
-use Rattle.tuner_theory.specs.Lists.{lists_of}
-use Rattle.tuner_theory.specs.Profiles.{greatest_count}
-use Rattle.tuner_theory.specs.Timelines.{IsTimeline, most_to, requested, snapshot_at}
+use Rattle.tuner_theory.specs.{Lists.{lists_of}, Profiles.{greatest_count}, Timelines.{IsTimeline, most_to, requested, snapshot_at}}
 use Rattle.tuner_theory.specs.declared.size_event.SizeEvent.{SizeEvent}
-use Rattle.history_count.specs.CountedLines.{AreSizes, IsCutAt}
-use Rattle.history_count.specs.Timelines.LiveBlocks.{IsFirst}
-use Rattle.history_count.specs.Timelines.Requests.{IsLargestSoFar}
-use Rattle.history_count.specs.declared.timelines.peaks.Peak.{Peak}
-use Rattle.history_count.specs.declared.timelines.peaks.Span.{Span}
-use Rattle.history_count.specs.declared.timelines.requested.Requested.{Requested}
+use Rattle.history_count.specs.{CountedLines.{AreSizes, IsCutAt}, Timelines.LiveBlocks.{IsFirst}, Timelines.Requests.{IsLargestSoFar}}
+use Rattle.history_count.specs.declared.timelines.{peaks.Peak.{Peak}, peaks.Span.{Span}, requested.Requested.{Requested}}
 use Rattle.history_count.specs.declared.timelines.stretches.Stretches.{Stretches}
 
 -- ---- the requested sizes
 
--- Of the first k events: a size has a mark exactly if it was requested.
+-- Of the first k events: a counted size has a mark exactly if it was requested. Each size that 16 bits hold has a place.
 pub record AreSeen (events : List SizeEvent) (k : ℕ) (seen : List ℕ) : Type 0 where
-  pub len : length seen ≡ largest_counted + 1
+  pub len : length seen ≡ 2 ^ 16
   pub marks : (n : ℕ) → n ≤ largest_counted → 0 < slice_index seen n ↔ 0 < requested (take k events) n
 
 -- A size is that of a line.

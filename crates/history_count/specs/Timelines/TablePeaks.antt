@@ -1,12 +1,9 @@
 -- What the blocks of a table come to over a timeline: the bytes of those that are live, and the freed ones.
 use Rattle.std.specs.Prelude.{◌≡◌, ℕ, zero, suc, ◌+◌, ◌-◌, ◌*◌, ◌<◌, ◌≤◌, max, List, length, slice_index, sum_by}
 use Rattle.class_table.specs.Sizes.{granule_bytes}
-use Rattle.tuner_theory.specs.Footprint.{blocks}
-use Rattle.tuner_theory.specs.Profiles.{greatest_count}
-use Rattle.tuner_theory.specs.Timelines.{most_to, snapshot_at}
+use Rattle.tuner_theory.specs.{Footprint.{blocks}, Profiles.{greatest_count}, Timelines.{most_to, snapshot_at}}
 use Rattle.tuner_theory.specs.declared.size_event.SizeEvent.{SizeEvent}
-use Rattle.history_count.specs.declared.timelines.counting.Moved.{Moved}
-use Rattle.history_count.specs.declared.timelines.counting.Moved.TheVariants.{Nothing, New, Again, Freed}
+use Rattle.history_count.specs.declared.timelines.counting.{Moved.{Moved}, Moved.TheVariants.{Nothing, New, Again, Freed}}
 use Rattle.history_count.specs.declared.timelines.sums.Sums.{Sums}
 
 -- The bytes of all live blocks at a snapshot.

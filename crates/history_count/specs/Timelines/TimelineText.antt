@@ -1,20 +1,14 @@
 -- A timeline's text: the line `timeline`; then a line for each event, `N` for a request of N bytes and `-N` for a free, with `large` in the
 -- place of each size above the largest that is counted.
-use Rattle.std.specs.Prelude.{◌≡◌, ℕ, suc, Bool, true, false, List, [], ◌∷◌, ◌++◌, length, map, codes, Option, Some, None, Result, Ok, Err, nat_lt, nat_le, ◌==◌, if◌then◌else◌}
-use Rattle.std.specs.Fmt.{decimal}
-use Rattle.std.specs.Option.{option_map}
-use Rattle.std.specs.Str.{bytes_eq}
+use Rattle.std.specs.{Fmt.{decimal}, Option.{option_map}, Str.{bytes_eq}}
+use Rattle.std.specs.Prelude.{◌≡◌, ℕ, suc, Bool, true, false, List, [], ◌∷◌, ◌++◌, length, map, codes, Option, Some, None, Result, Ok, Err}
+use Rattle.std.specs.Prelude.{nat_lt, nat_le, ◌==◌, if◌then◌else◌}
 use Rattle.class_table.specs.Sizes.{largest_counted}
-use Rattle.line_text.specs.Lines.{IsTextOf, lines}
-use Rattle.line_text.specs.Numbers.{number_of}
-use Rattle.tuner_theory.specs.Profiles.{greatest_count}
-use Rattle.tuner_theory.specs.Timelines.{freed, requested}
-use Rattle.tuner_theory.specs.declared.size_event.SizeEvent.{SizeEvent}
+use Rattle.line_text.specs.{Lines.{IsTextOf, lines}, Numbers.{number_of}}
+use Rattle.tuner_theory.specs.{Profiles.{greatest_count}, Timelines.{freed, requested}, declared.size_event.SizeEvent.{SizeEvent}}
 use Rattle.tuner_theory.specs.declared.size_event.SizeEvent.TheVariants.{Request, Free}
-use Rattle.history_count.specs.Timelines.Runs.{IsRun, large_size}
-use Rattle.history_count.specs.declared.timelines.fault.TimelineError.{TimelineError}
-use Rattle.history_count.specs.declared.timelines.fault.TimelineError.TheVariants.{OutOfMemory, Line}
-use Rattle.history_count.specs.declared.timelines.fault.TimelineFault.{TimelineFault}
+use Rattle.history_count.specs.{Timelines.Runs.{IsRun, large_size}, declared.timelines.fault.TimelineError.{TimelineError}}
+use Rattle.history_count.specs.declared.timelines.fault.{TimelineError.TheVariants.{OutOfMemory, Line}, TimelineFault.{TimelineFault}}
 use Rattle.history_count.specs.declared.timelines.fault.TimelineFault.TheVariants.{BadTimeline, NotLive}
 
 -- ---- the spelling

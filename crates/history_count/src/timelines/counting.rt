@@ -2,7 +2,7 @@
 ghost use Rattle.std.specs.Prelude.{◌≡◌, ◌<◌, ◌≤◌, ◌+◌, ◌-◌, ◌*◌, ◌^◌, ◌⊎◌, ℕ, max, All, IfOk, IfSome, IfNone, Some, None, length, nat_lt, replicate, slice_index, slice_set};
 ghost use Rattle.class_table.specs.Sizes.{largest_counted};
 ghost use Rattle.class_table.specs.Tables.{IsLegalTable, class_number_for};
-ghost use Rattle.history_count.specs.Timelines.LiveBlocks.{AreFirsts, AreLive, IsMoved, first_moved, most_blocks, moved_by};
+ghost use Rattle.history_count.specs.Timelines.LiveBlocks.{AreFirsts, AreKnown, AreLive, IsMoved, first_moved, most_blocks, moved_by};
 ghost use Rattle.history_count.specs.Timelines.Requests.{IsLeastSoFar};
 ghost use Rattle.tuner_theory.specs.Timelines.{IsTimeline};
 
@@ -11,6 +11,9 @@ use crate::timelines::live::{counted, event_size};
 use class_table::{ClassTable, FEWEST_GRANULES, LARGEST_COUNTED, Layout};
 use std::alloc::{AllocError, Global};
 use tuner_theory::SizeEvent;
+
+/// So many sizes may an event have.
+pub(crate) const SIZES: usize = u16::MAX as usize + 1;
 
 /// For each class of a table the most of its blocks that are live at a moment, and the first such moment.
 #[derive(Debug, Drop)]
@@ -47,6 +50,7 @@ pub(crate) struct Counted {
 
 /// Counts the blocks of each class of a table over a timeline. It goes over the events once. The only error is that the allocator refuses
 /// memory.
+#[inline(never)]
 pub(crate) fn class_peaks(
     alloc: Global,
     events: &[SizeEvent],
@@ -63,10 +67,20 @@ pub(crate) fn class_peaks(
     let mut firsts = no_moments(alloc, table.len())?;
     // any region's layout finds a class at once
     let layout = Layout::new(table, FEWEST_GRANULES);
+    let mut known = marks(alloc, UNKNOWN, SIZES)?;
     // no size below this one lacks a class
     let mut least = LARGE_SIZE;
     for k in 0..events.len() {
-        let counted = count_event(&mut live, &mut most, &mut firsts, least, events, k, &layout);
+        let counted = count_event(
+            &mut live,
+            &mut most,
+            &mut firsts,
+            &mut known,
+            least,
+            events,
+            k,
+            &layout,
+        );
         least = counted.least;
     }
     Ok(ClassPeaks {
@@ -82,6 +96,7 @@ pub(crate) fn count_event(
     live: &mut [u32],
     most: &mut [u32],
     firsts: &mut [usize],
+    known: &mut [u8],
     least: u16,
     events: &[SizeEvent],
     k: usize,
@@ -91,14 +106,16 @@ pub(crate) fn count_event(
     requires event { k < length events.now }
     requires legal { IsLegalTable 1 layout.now.classes }
     requires live { AreLive events.now layout.now.classes k live.old most.old firsts.old }
+    requires known { AreKnown layout.now.classes known.old }
     requires least { IsLeastSoFar events.now layout.now.classes k least }
     ensures live { AreLive events.now layout.now.classes (k + 1) live.new most.new firsts.new }
+    ensures known { AreKnown layout.now.classes known.new }
     ensures least { IsLeastSoFar events.now layout.now.classes (k + 1) result.least }
     ensures moved { IsMoved result.moved live.old most.old live.new most.new }
 {
     let event = events[k];
     let n = event_size(event);
-    let Some(number) = counted_class(layout, n) else {
+    let Some(number) = known_class(known, layout, n) else {
         return Counted {
             least: least.min(n),
             moved: Moved::Nothing,
@@ -123,8 +140,29 @@ fn moved_by(event: SizeEvent, number: usize, is_more: bool) -> Moved
     }
 }
 
-// the number of the class of a size that is counted
+/// Where the class of a size is not known.
+pub(crate) const UNKNOWN: u8 = u8::MAX;
+
+// the number of the class of a size that is counted; `known` has those that were found before
 #[inline(always)]
+fn known_class(known: &mut [u8], layout: &Layout, n: u16) -> Option<usize>
+    requires legal { IsLegalTable 1 layout.now.classes }
+    requires known { AreKnown layout.now.classes known.old }
+    ensures known { AreKnown layout.now.classes known.new }
+    ensures some { IfSome result (λ number.
+        (n ≤ largest_counted) × (class_number_for layout.now.classes n ≡ Some number) × (number < length layout.now.classes)) }
+    ensures none { IfNone result ((largest_counted < n) ⊎ (class_number_for layout.now.classes n ≡ None)) }
+{
+    let number = known[n as usize];
+    if number != UNKNOWN {
+        return Some(usize::from(number));
+    }
+    let number = counted_class(layout, n)?;
+    known[n as usize] = number as u8;
+    Some(number)
+}
+
+// the number of the class of a size that is counted
 fn counted_class(layout: &Layout, n: u16) -> Option<usize>
     ensures some { IfSome result (λ number.
         (n ≤ largest_counted) × (class_number_for layout.now.classes n ≡ Some number) × (number < length layout.now.classes)) }
@@ -155,6 +193,13 @@ pub(crate) fn zeros(alloc: Global, n: usize) -> Result<Vec<u32>, AllocError>
     ensures { IfOk result (λ counts. counts.items ≡ replicate n 0) }
 {
     vec![in alloc; 0u32; n]
+}
+
+/// The same mark for this many sizes. The only error is that the allocator refuses memory.
+pub(crate) fn marks(alloc: Global, mark: u8, sizes: usize) -> Result<Vec<u8>, AllocError>
+    ensures { IfOk result (λ marks. marks.items ≡ replicate sizes mark) }
+{
+    vec![in alloc; mark; sizes]
 }
 
 /// This many times the moment before any event. The only error is that the allocator refuses memory.

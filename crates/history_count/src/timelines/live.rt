@@ -1,7 +1,7 @@
 //! How many blocks of each size are live while a timeline is read.
-ghost use Rattle.std.specs.Prelude.{◌≡◌, ◌↔◌, ◌≤◌, ◌++◌, [], ◌∷◌, ℕ, ◌<◌, length, IfOk, IfSome, IsTrue};
+ghost use Rattle.std.specs.Prelude.{◌≡◌, ◌≤◌, ◌++◌, [], ◌∷◌, ℕ, ◌<◌, length, IfOk, IfSome};
 ghost use Rattle.std.specs.Bool.{OnTrue};
-ghost use Rattle.history_count.specs.Timelines.Runs.{AreLiveCounts, after_event, large_size, may_come, size_of};
+ghost use Rattle.history_count.specs.Timelines.Runs.{AreLiveCounts, after_event, large_size, lowered, may_come, raised, size_of};
 ghost use Rattle.history_count.specs.Timelines.TimelineText.{finds_live, may_follow};
 
 use crate::timelines::fault::TimelineFault;
@@ -35,21 +35,31 @@ pub(crate) fn counted(count: u32, event: SizeEvent) -> u32
     }
 }
 
-// whether an event may come where so many blocks of its size are live: a free needs one
+// a count before a free, and one that a request raises
 #[inline(always)]
-fn may_come(event: SizeEvent, count: u32) -> bool
+fn raised(event: SizeEvent, count: u32) -> u32
     requires { count ≤ GREATEST_COUNT }
-    ensures { IsTrue result ↔ may_come event count }
+    ensures { result ≡ raised event count }
 {
-    let requests = match event {
-        SizeEvent::Request { .. } => 1,
-        SizeEvent::Free { .. } => 0,
-    };
-    count + requests > 0
+    match event {
+        SizeEvent::Request { .. } => count + 1,
+        SizeEvent::Free { .. } => count,
+    }
+}
+
+// the same count after the event
+#[inline(always)]
+fn lowered(event: SizeEvent, count: u32) -> u32
+    requires { 0 < count }
+    ensures { result ≡ lowered event count }
+{
+    match event {
+        SizeEvent::Request { .. } => count,
+        SizeEvent::Free { .. } => count - 1,
+    }
 }
 
 /// What a line's event, or that it spells none, adds to the events before it. `live` has the counts after these, and then after the event too.
-#[inline(always)]
 pub(crate) fn followed_by(
     events: &[SizeEvent],
     live: &mut [u32],
@@ -72,8 +82,9 @@ pub(crate) fn followed_by(
     Ok(event)
 }
 
-// counts an event; false if it frees a block of a size of which none is live
-fn count(events: &[SizeEvent], live: &mut [u32], event: SizeEvent) -> bool
+/// Counts an event; false if it frees a block of a size of which none is live.
+#[inline(always)]
+pub(crate) fn count(events: &[SizeEvent], live: &mut [u32], event: SizeEvent) -> bool
     requires live { AreLiveCounts events.now live.old }
     requires size { size_of event ≤ large_size }
     requires few { length events.now < GREATEST_COUNT }
@@ -81,9 +92,10 @@ fn count(events: &[SizeEvent], live: &mut [u32], event: SizeEvent) -> bool
     ensures live { OnTrue result (AreLiveCounts (events.now ++ event ∷ []) live.new) }
 {
     let n = event_size(event) as usize;
-    if !may_come(event, live[n]) {
+    let most = raised(event, live[n]);
+    if most == 0 {
         return false;
     }
-    live[n] = counted(live[n], event);
+    live[n] = lowered(event, most);
     true
 }

@@ -104,6 +104,7 @@ fn add_stretch(
 }
 
 // counts the events of a stretch
+#[inline(never)]
 fn count_stretch(
     counts: &mut [u32],
     most: &mut [u32],

@@ -7,7 +7,7 @@ ghost use Rattle.tuner_theory.specs.Histories.{most, peaks};
 ghost use Rattle.tuner_theory.specs.Timelines.{IsTimeline, moments};
 ghost use Rattle.tuner_theory.specs.Waste.{Serves};
 
-use crate::timelines::counting::{Moved, count_event, no_moments, zeros};
+use crate::timelines::counting::{Moved, SIZES, UNKNOWN, count_event, marks, no_moments, zeros};
 use crate::timelines::footprint::unserved_in;
 use crate::timelines::line::LARGE_SIZE;
 use class_table::{ClassTable, FEWEST_GRANULES, GRANULE_BYTES, Layout};
@@ -52,6 +52,7 @@ const NOTHING: Sums = Sums {
 
 /// What the blocks of a table come to over a timeline. A size that no class serves counts for nothing. It goes over the events once. The only
 /// error is that the allocator refuses memory.
+#[inline(never)]
 pub fn table_peaks(
     alloc: Global,
     events: &[SizeEvent],
@@ -69,10 +70,20 @@ pub fn table_peaks(
     let mut most = zeros(alloc, table.len())?;
     let mut firsts = no_moments(alloc, table.len())?;
     let layout = Layout::new(table, FEWEST_GRANULES);
+    let mut known = marks(alloc, UNKNOWN, SIZES)?;
     let mut least = LARGE_SIZE;
     let mut sums = NOTHING;
     for k in 0..events.len() {
-        let counted = count_event(&mut live, &mut most, &mut firsts, least, events, k, &layout);
+        let counted = count_event(
+            &mut live,
+            &mut most,
+            &mut firsts,
+            &mut known,
+            least,
+            events,
+            k,
+            &layout,
+        );
         least = counted.least;
         sums = moved_sums(sums, counted.moved, table);
     }

@@ -1,8 +1,7 @@
 -- Arrays that are written number by number, and rows in one array.
-use Rattle.std.proofs.Common.{◌≡◌, ℕ, ◌+◌, ◌-◌, ◌*◌, ◌/◌, ◌%◌, ◌<◌, ◌≤◌, List, [], ◌∷◌, ◌++◌, length, get_or, set, take, drop, append_assoc, arith, refl, sym, slice_get, Some}
-use Rattle.std.proofs.lemmas.List.{drop_more, length-take-le, set-append_right, take_more}
-use Rattle.std.proofs.lemmas.Nat.{div-mul-add, mod-mul-add}
-use Rattle.std.proofs.lemmas.Option.{get_or_from_slice_get, slice_get_within}
+use Rattle.std.proofs.Common.{◌≡◌, ℕ, ◌+◌, ◌-◌, ◌*◌, ◌/◌, ◌%◌, ◌<◌, ◌≤◌, List, [], ◌∷◌, ◌++◌, length, get_or, set, take, drop, append_assoc}
+use Rattle.std.proofs.{Common.{arith, refl, sym, slice_get, Some}, lemmas.List.{drop_more, length-take-le, set-append_right, take_more}}
+use Rattle.std.proofs.lemmas.{Nat.{div-mul-add, mod-mul-add}, Option.{get_or_from_slice_get, slice_get_within}}
 use Rattle.tuner_theory.specs.Rows.{HasShape, number_at}
 use Rattle.mte_c.specs.Arrays.Spelled.{AreRows}
 

@@ -1,16 +1,10 @@
 -- What is handed out of a call of an engine, from bytes in memory to an empty sink, is its answer.
 use Rattle.std.proofs.Common.{◌≡◌, ℕ, List, [], ◌++◌, Some, Result, Ok, Err, refl, ap, ◌∙◌, inl, inr}
-use Rattle.byte_streams.specs.Streams.{SourceState, sink_state}
-use Rattle.byte_streams.specs.declared.memory_streams.MemorySink.{MemorySink}
-use Rattle.mte_engine.proofs.LawLemmas.{answers_all}
-use Rattle.mte_engine.specs.Outcome.{Answer, AnswersInput, Reports, Runs}
-use Rattle.mte_engine.specs.declared.engine.Status.{Status}
-use Rattle.mte_engine.specs.declared.engine.Status.TheVariants.{Done, No}
-use Rattle.mte_engine.specs.declared.fault.InputFault.{InputFault}
-use Rattle.mte_engine.specs.declared.fault.ToolFault.{ToolFault}
-use Rattle.mte_engine.specs.declared.fault.ToolFault.TheVariants.{OutOfMemory, Input, ReadFault, WriteFault}
-use Rattle.mte_c.specs.Commands.Answered.{HandsOut, IsAnswered}
-use Rattle.mte_c.specs.declared.commands.ended.Ended.{Ended}
+use Rattle.byte_streams.specs.{Streams.{SourceState, sink_state}, declared.memory_streams.MemorySink.{MemorySink}}
+use Rattle.mte_engine.{proofs.LawLemmas.{answers_all}, specs.Outcome.{Answer, AnswersInput, Reports, Runs}}
+use Rattle.mte_engine.specs.declared.{engine.Status.{Status}, engine.Status.TheVariants.{Done, No}, fault.InputFault.{InputFault}}
+use Rattle.mte_engine.specs.declared.fault.{ToolFault.{ToolFault}, ToolFault.TheVariants.{OutOfMemory, Input, ReadFault, WriteFault}}
+use Rattle.mte_c.specs.{Commands.Answered.{HandsOut, IsAnswered}, declared.commands.ended.Ended.{Ended}}
 use Rattle.mte_c.specs.declared.commands.ended.Ended.TheVariants.{OutOfMemory as RanOut}
 
 -- memory ran out

@@ -1,23 +1,14 @@
 -- What the calls over arrays answer.
 use Rattle.std.specs.Prelude.{◌≡◌, ◌≢◌, ℕ, ◌*◌, ◌/◌, ◌%◌, ◌<◌, ◌≤◌, Bool, ◌==◌, List, ◌++◌, drop, length, None, Some, Result, Ok, Err, IsOk}
-use Rattle.class_table.specs.Faults.{table_of_classes}
-use Rattle.class_table.specs.declared.fault.TableError.{TableError}
+use Rattle.class_table.specs.{Faults.{table_of_classes}, declared.fault.TableError.{TableError}}
 use Rattle.class_tuner.specs.Tuned.{IsTuned}
 use Rattle.profile_count.specs.Counts.{unserved_of}
 use Rattle.tool_call.specs.Options.{AreTuneOptions}
-use Rattle.tuner_theory.specs.Best.{IsBest}
-use Rattle.tuner_theory.specs.Profiles.{Profile}
-use Rattle.tuner_theory.specs.Served.{served}
-use Rattle.tuner_theory.specs.Sheets.{IsVerdict, Sheet}
-use Rattle.tuner_theory.specs.Spans.{places}
-use Rattle.tuner_theory.specs.Waste.{waste_of}
-use Rattle.tuner_theory.specs.declared.verdict.Verdict.{Verdict}
-use Rattle.tuner_theory.specs.declared.verdict.Verdict.TheVariants.{Optimal}
-use Rattle.mte_c.specs.Arrays.Spelled.{AreRows, profile_of_arrays}
-use Rattle.mte_c.specs.declared.arrays.fault.ArrayError.{ArrayError}
+use Rattle.tuner_theory.specs.{Best.{IsBest}, Profiles.{Profile}, Served.{served}, Sheets.{IsVerdict, Sheet}, Spans.{places}}
+use Rattle.tuner_theory.specs.{Waste.{waste_of}, declared.verdict.Verdict.{Verdict}, declared.verdict.Verdict.TheVariants.{Optimal}}
+use Rattle.mte_c.specs.{Arrays.Spelled.{AreRows, profile_of_arrays}, declared.arrays.fault.ArrayError.{ArrayError}}
 use Rattle.mte_c.specs.declared.arrays.fault.ArrayError.TheVariants.{OutOfMemory, Table, Entry, BadOption, Misuse}
-use Rattle.mte_c.specs.declared.arrays.scoring.Scored.{Scored}
-use Rattle.mte_c.specs.declared.arrays.scoring.Scored.TheVariants.{Waste, NotServing}
+use Rattle.mte_c.specs.declared.arrays.scoring.{Scored.{Scored}, Scored.TheVariants.{Waste, NotServing}}
 use Rattle.mte_c.specs.declared.arrays.tuning.TunedNumbers.{TunedNumbers}
 
 -- The table of some classes, or their fault.

@@ -4,15 +4,11 @@ use Rattle.class_table.specs.FaultText.{shown_table_error}
 use Rattle.handed_text.specs.declared.ends.TheConstants.{DONE, NO, REFUSED, OUT_OF_MEMORY, BAD_OPTION, MISUSE}
 use Rattle.line_text.specs.Numbers.{leading_number_of}
 use Rattle.profile_count.specs.FaultText.{shown_profile_fault}
-use Rattle.tuner_theory.specs.Sheets.{code_of}
-use Rattle.tuner_theory.specs.declared.verdict.Verdict.{Verdict}
+use Rattle.tuner_theory.specs.{Sheets.{code_of}, declared.verdict.Verdict.{Verdict}}
 use Rattle.tuner_theory.specs.declared.verdict.Verdict.TheVariants.{Optimal, Refused}
-use Rattle.mte_c.specs.Arrays.Calls.{IsChecked, IsScored, IsTunedInto, IsTunedOr}
-use Rattle.mte_c.specs.declared.arrays.fault.ArrayError.{ArrayError}
+use Rattle.mte_c.specs.{Arrays.Calls.{IsChecked, IsScored, IsTunedInto, IsTunedOr}, declared.arrays.fault.ArrayError.{ArrayError}}
 use Rattle.mte_c.specs.declared.arrays.fault.ArrayError.TheVariants.{OutOfMemory, Table, Entry, BadOption, Misuse}
-use Rattle.mte_c.specs.declared.arrays.scoring.Scored.{Scored}
-use Rattle.mte_c.specs.declared.arrays.scoring.Scored.TheVariants.{Waste, NotServing}
-use Rattle.mte_c.specs.declared.arrays.shown.Numbers.{Numbers}
+use Rattle.mte_c.specs.declared.arrays.{scoring.Scored.{Scored}, scoring.Scored.TheVariants.{Waste, NotServing}, shown.Numbers.{Numbers}}
 use Rattle.mte_c.specs.declared.arrays.tuning.TunedNumbers.{TunedNumbers}
 
 -- An end and no number.

@@ -1,11 +1,10 @@
 -- Profiles and rows as arrays.
-use Rattle.std.specs.Prelude.{◌≡◌, ℕ, suc, ◌+◌, ◌*◌, ◌<◌, ◌||◌, List, [], ◌∷◌, slice_index, slice_index_or, Option, Some, None, Result, Ok, Err, nat_lt, if◌then◌else◌, ⊤}
+use Rattle.std.specs.Prelude.{◌≡◌, ℕ, suc, ◌+◌, ◌*◌, ◌<◌, ◌||◌, List, [], ◌∷◌, slice_index, slice_index_or, Option, Some, None, Result, Ok}
+use Rattle.std.specs.Prelude.{Err, nat_lt, if◌then◌else◌, ⊤}
 use Rattle.class_table.specs.Sizes.{largest_counted}
-use Rattle.profile_count.specs.Counts.{nothing_counted, with_count}
-use Rattle.profile_count.specs.declared.fault.ProfileFault.{ProfileFault}
+use Rattle.profile_count.specs.{Counts.{nothing_counted, with_count}, declared.fault.ProfileFault.{ProfileFault}}
 use Rattle.profile_count.specs.declared.fault.ProfileFault.TheVariants.{BadLine, NotAscending, CountOutOfRange}
-use Rattle.tuner_theory.specs.Profiles.{Profile, greatest_count}
-use Rattle.tuner_theory.specs.Rows.{HasShape}
+use Rattle.tuner_theory.specs.{Profiles.{Profile, greatest_count}, Rows.{HasShape}}
 use Rattle.mte_c.specs.declared.arrays.fault.ArrayError.{ArrayError}
 use Rattle.mte_c.specs.declared.arrays.fault.ArrayError.TheVariants.{OutOfMemory, Table, Entry, BadOption, Misuse}
 

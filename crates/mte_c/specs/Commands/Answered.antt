@@ -1,19 +1,11 @@
 -- How a call over an input ends, and the text that it leaves.
 use Rattle.std.specs.Prelude.{◌≡◌, ◌⊎◌, ℕ, true, false, MatchBool, List, [], ◌++◌, Result, Ok, Err}
-use Rattle.handed_text.specs.Bytes.{IsLeft, bytes_of, is_answer_of}
-use Rattle.handed_text.specs.declared.text.HandedText.{HandedText}
-use Rattle.mte_engine.specs.Calls.{answers_of, answers_on}
-use Rattle.mte_engine.specs.FaultText.{shown_input_fault}
-use Rattle.mte_engine.specs.Outcome.{Answer, AnswersInput}
-use Rattle.mte_engine.specs.declared.engine.Status.{Status}
-use Rattle.mte_engine.specs.declared.engine.Status.TheVariants.{Done as IsDone, No as IsNo}
-use Rattle.mte_engine.specs.declared.fault.InputFault.{InputFault}
-use Rattle.mte_engine.specs.declared.fault.ToolFault.{ToolFault}
-use Rattle.mte_engine.specs.declared.fault.ToolFault.TheVariants.{Input}
-use Rattle.tool_call.specs.Options.{has_two_texts}
-use Rattle.tool_call.specs.declared.call.Call.{Call}
-use Rattle.mte_c.specs.declared.commands.ended.Ended.{Ended}
-use Rattle.mte_c.specs.declared.commands.ended.Ended.TheVariants.{Done, No, Refused, OutOfMemory, BadOption, Misuse}
+use Rattle.handed_text.specs.{Bytes.{IsLeft, bytes_of, is_answer_of}, declared.text.HandedText.{HandedText}}
+use Rattle.mte_engine.specs.{Calls.{answers_of, answers_on}, FaultText.{shown_input_fault}, Outcome.{Answer, AnswersInput}}
+use Rattle.mte_engine.specs.declared.engine.{Status.{Status}, Status.TheVariants.{Done as IsDone, No as IsNo}}
+use Rattle.mte_engine.specs.declared.fault.{InputFault.{InputFault}, ToolFault.{ToolFault}, ToolFault.TheVariants.{Input}}
+use Rattle.tool_call.specs.{Options.{has_two_texts}, declared.call.Call.{Call}}
+use Rattle.mte_c.specs.declared.commands.ended.{Ended.{Ended}, Ended.TheVariants.{Done, No, Refused, OutOfMemory, BadOption, Misuse}}
 
 -- ---- a call
 

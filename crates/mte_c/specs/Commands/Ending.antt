@@ -1,17 +1,14 @@
 -- What C is told of the end of a call.
 use Rattle.std.specs.Prelude.{◌≡◌, ℕ, List, Option, Some, None, unwrap_or}
-use Rattle.handed_text.specs.Bytes.{bytes_of}
-use Rattle.handed_text.specs.declared.ends.TheConstants.{BAD_OPTION, DONE, MISUSE, NO, OUT_OF_MEMORY, REFUSED}
+use Rattle.handed_text.specs.{Bytes.{bytes_of}, declared.ends.TheConstants.{BAD_OPTION, DONE, MISUSE, NO, OUT_OF_MEMORY, REFUSED}}
 use Rattle.handed_text.specs.declared.text.HandedText.{HandedText}
 use Rattle.line_text.specs.Numbers.{leading_number_of}
-use Rattle.mte_c.specs.Commands.Answered.{IsAnsweredIf, IsAnsweredTo, IsCalled}
-use Rattle.mte_c.specs.declared.commands.ended.Ended.{Ended}
-use Rattle.mte_c.specs.declared.commands.ended.Ended.TheVariants.{Done as HasDone, No as HasNo, Refused as IsRefused, OutOfMemory as RanOut, BadOption as HasBadOption, Misuse as IsMisuse}
+use Rattle.mte_c.specs.{Commands.Answered.{IsAnsweredIf, IsAnsweredTo, IsCalled}, declared.commands.ended.Ended.{Ended}}
+use Rattle.mte_c.specs.declared.commands.ended.Ended.TheVariants.{Done as HasDone, No as HasNo, Refused as IsRefused, OutOfMemory as RanOut}
+use Rattle.mte_c.specs.declared.commands.ended.Ended.TheVariants.{BadOption as HasBadOption, Misuse as IsMisuse}
 use Rattle.mte_c.specs.declared.commands.structures.Ending.{Ending}
-use Rattle.mte_engine.specs.FaultLines.{line_of_fault}
-use Rattle.mte_engine.specs.FaultText.{shown_input_fault}
-use Rattle.tool_call.specs.Options.{IsValid}
-use Rattle.tool_call.specs.declared.call.Call.{Call}
+use Rattle.mte_engine.specs.{FaultLines.{line_of_fault}, FaultText.{shown_input_fault}}
+use Rattle.tool_call.specs.{Options.{IsValid}, declared.call.Call.{Call}}
 
 -- The number of an end.
 abbrev pub number_of_end : Ended → ℕ

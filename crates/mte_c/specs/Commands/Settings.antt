@@ -1,8 +1,6 @@
 -- The call that a caller from C passes.
 use Rattle.std.specs.Prelude.{ℕ, List, [], ◌∷◌, slice_get, Option, option_map}
-use Rattle.tool_call.specs.Options.{call_of}
-use Rattle.tool_call.specs.declared.call.Call.{Call}
-use Rattle.tool_call.specs.declared.call.CommandName.{CommandName}
+use Rattle.tool_call.specs.{Options.{call_of}, declared.call.Call.{Call}, declared.call.CommandName.{CommandName}}
 use Rattle.tool_call.specs.declared.call.CommandName.TheVariants.{Score, Tune, Check, Footprint, Fit, CheckFit, Peaks, Profile, Replay, Run}
 use Rattle.tool_call.specs.declared.options.Options.{Options}
 

@@ -1,19 +1,14 @@
 -- What the calls do to the heap of a handle.
-use Rattle.std.specs.Prelude.{◌≡◌, ℕ, ◌+◌, ◌≤◌, ◌<◌, ◌^◌, ◌==◌, List, length, Option, Some, None, Result, Ok, Err, is_err, nat_lt, ◌||◌, if◌then◌else◌}
-use Rattle.class_table.specs.Faults.{table_of_classes}
-use Rattle.class_table.specs.declared.fault.TableError.{TableError}
+use Rattle.std.specs.Prelude.{◌≡◌, ℕ, ◌+◌, ◌≤◌, ◌<◌, ◌^◌, ◌==◌, List, length, Option, Some, None, Result, Ok, Err, is_err, nat_lt, ◌||◌}
+use Rattle.std.specs.Prelude.{if◌then◌else◌}
+use Rattle.class_table.specs.{Faults.{table_of_classes}, declared.fault.TableError.{TableError}}
 use Rattle.handed_text.specs.declared.ends.TheConstants.{DONE, REFUSED, OUT_OF_MEMORY, BAD_OPTION, MISUSE}
-use Rattle.heap_theory.specs.Calls.{calloc_step, free_step, malloc_step, realloc_step}
-use Rattle.heap_theory.specs.State.{Heap, first_heap}
-use Rattle.machine_theory.specs.Access.{loaded}
-use Rattle.machine_theory.specs.Instructions.{addg}
-use Rattle.machine_theory.specs.declared.sizes.TheConstants.{FARTHEST_MOVE, LARGEST_TAG_STEP}
-use Rattle.heap_theory.specs.Config.{IsConfig, layout_for}
-use Rattle.tagged_heap.specs.Frees.{frees_of_realloc}
-use Rattle.tagged_heap.specs.HeapAtRest.{HeapAndFrees}
-use Rattle.heap_theory.specs.declared.config.Config.{Config}
-use Rattle.mte_c.specs.Heap.Outcomes.{access_outcome, code_of_table, freed_outcome, granule_outcome, is_done, plain, with_stored, with_value, pointer_outcome, resized_outcome}
-use Rattle.mte_c.specs.declared.heap.outcome.Outcome.{Outcome}
+use Rattle.heap_theory.specs.{Calls.{calloc_step, free_step, malloc_step, realloc_step}, Config.{IsConfig, layout_for}}
+use Rattle.heap_theory.specs.{State.{Heap, first_heap}, declared.config.Config.{Config}}
+use Rattle.machine_theory.specs.{Access.{loaded}, Instructions.{addg}, declared.sizes.TheConstants.{FARTHEST_MOVE, LARGEST_TAG_STEP}}
+use Rattle.tagged_heap.specs.{Frees.{frees_of_realloc}, HeapAtRest.{HeapAndFrees}}
+use Rattle.mte_c.specs.Heap.Outcomes.{access_outcome, code_of_table, freed_outcome, granule_outcome, is_done, plain, with_stored}
+use Rattle.mte_c.specs.{Heap.Outcomes.{with_value, pointer_outcome, resized_outcome}, declared.heap.outcome.Outcome.{Outcome}}
 use Rattle.mte_c.specs.declared.heap.settings.Settings.{Settings}
 
 abbrev pub config_of : Settings → Config

@@ -1,8 +1,7 @@
 -- The heap of a handle.
 use Rattle.std.specs.Prelude.{Option, Some, None}
 use Rattle.tagged_heap.specs.HeapAtRest.{HeapAndFrees}
-use Rattle.mte_c.specs.declared.heap.handed_heap.HandedHeap.{HandedHeap}
-use Rattle.mte_c.specs.declared.heap.held.Held.{Held}
+use Rattle.mte_c.specs.declared.heap.{handed_heap.HandedHeap.{HandedHeap}, held.Held.{Held}}
 
 abbrev pub held_heap : Option Held → Option HeapAndFrees
 held_heap None = None

@@ -1,22 +1,14 @@
 -- What C is told of each answer of the heap.
 use Rattle.std.specs.Prelude.{ℕ, List, ◌&&◌, ◌||◌, Bool, ◌==◌, nat_lt, if◌then◌else◌, length, Option, Some, None, Result, Ok, Err}
-use Rattle.class_table.specs.Layout.{slot_over}
-use Rattle.class_table.specs.declared.fault.TableError.{TableError}
+use Rattle.class_table.specs.{Layout.{slot_over}, declared.fault.TableError.{TableError}}
 use Rattle.class_table.specs.declared.fault.TableError.TheVariants.{BadLine, TooMany, OutOfRange, NotAscending}
 use Rattle.handed_text.specs.declared.ends.TheConstants.{DONE, NO, BAD_OPTION, MISUSE}
-use Rattle.heap_theory.specs.GranuleKinds.{kind_number, place_kind}
-use Rattle.heap_theory.specs.State.{Heap, slot_in}
-use Rattle.heap_theory.specs.declared.refusal.FreeError.{FreeError}
-use Rattle.heap_theory.specs.declared.refusal.FreeError.TheVariants.{Misplaced, NotLive, WrongTag}
-use Rattle.heap_theory.specs.declared.refusal.NullCause.{NullCause}
-use Rattle.heap_theory.specs.declared.refusal.NullCause.TheVariants.{Large, NoClass, Exhausted}
-use Rattle.heap_theory.specs.declared.refusal.ReallocError.{ReallocError}
+use Rattle.heap_theory.specs.{GranuleKinds.{kind_number, place_kind}, State.{Heap, slot_in}, declared.refusal.FreeError.{FreeError}}
+use Rattle.heap_theory.specs.declared.refusal.{FreeError.TheVariants.{Misplaced, NotLive, WrongTag}, NullCause.{NullCause}}
+use Rattle.heap_theory.specs.declared.refusal.{NullCause.TheVariants.{Large, NoClass, Exhausted}, ReallocError.{ReallocError}}
 use Rattle.heap_theory.specs.declared.refusal.ReallocError.TheVariants.{Null, Refused}
-use Rattle.machine_theory.specs.Access.{access_fault, is_mapped, stored}
-use Rattle.machine_theory.specs.Address.{logical_tag}
-use Rattle.machine_theory.specs.Memory.{tag_at}
-use Rattle.machine_theory.specs.declared.fault.Fault.{Fault}
-use Rattle.machine_theory.specs.declared.fault.Fault.TheVariants.{Unmapped, Alignment, TagCheck}
+use Rattle.machine_theory.specs.{Access.{access_fault, is_mapped, stored}, Address.{logical_tag}, Memory.{tag_at}}
+use Rattle.machine_theory.specs.declared.fault.{Fault.{Fault}, Fault.TheVariants.{Unmapped, Alignment, TagCheck}}
 use Rattle.machine_theory.specs.declared.sizes.TheConstants.{LONGEST_ACCESS}
 use Rattle.tagged_heap.specs.HeapAtRest.{HeapAndFrees}
 use Rattle.mte_c.specs.declared.heap.outcome.Outcome.{Outcome}

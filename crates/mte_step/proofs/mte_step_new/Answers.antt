@@ -1,9 +1,7 @@
 use Rattle.std.proofs.Common.{Option, refl, rules, subst, sym}
-use Rattle.mte_step.specs.declared.picture.NoPicture.TheVariants.{OutOfMemory}
+use Rattle.mte_step.specs.{Settings.{Made, config_of}, declared.picture.NoPicture.TheVariants.{OutOfMemory}}
 use Rattle.mte_step.specs.declared.stepper.Stepper.{Stepper}
-use Rattle.heap_theory.specs.Config.{IsConfig}
-use Rattle.heap_theory.specs.declared.config.Config.{Config}
-use Rattle.mte_step.specs.Settings.{Made, config_of}
+use Rattle.heap_theory.specs.{Config.{IsConfig}, declared.config.Config.{Config}}
 use Rattle.mte_step.proofs.mte_step_new.Goals as goal
 
 pub returns-in-Ok : goal.returns-in-Ok

@@ -1,12 +1,10 @@
 -- The need at a place and the waste of a span, by the sums that are kept.
-use Rattle.std.proofs.Common.{◌≡◌, ℕ, zero, suc, ◌+◌, ◌-◌, ◌*◌, ◌^◌, ◌<◌, ◌≤◌, List, get_or, arith, sym}
+use Rattle.std.proofs.{Common.{◌≡◌, ℕ, zero, suc, ◌+◌, ◌-◌, ◌*◌, ◌^◌, ◌<◌, ◌≤◌, List, get_or, arith, sym}, Math.Nat.{mul-le-mul}}
 use Rattle.std.proofs.lemmas.List.{get_or_default}
-use Rattle.std.proofs.Math.Nat.{mul-le-mul}
-use Rattle.class_table.specs.Sizes.{IsBlockSize, largest_counted}
-use Rattle.class_table.specs.declared.sizes.TheConstants.{GRANULE_BYTES}
-use Rattle.tuner_theory.proofs.LawLemmas.{HasNoUnderflow, place_is_class, places_ascend, step-positive, sums_ascend, sums_fit, sums_give_waste}
+use Rattle.class_table.specs.{Sizes.{IsBlockSize, largest_counted}, declared.sizes.TheConstants.{GRANULE_BYTES}}
+use Rattle.tuner_theory.proofs.LawLemmas.{HasNoUnderflow, place_is_class, places_ascend, step-positive, sums_ascend, sums_fit}
+use Rattle.tuner_theory.{proofs.LawLemmas.{sums_give_waste}, specs.Spans.{bytes_up_to, counted_up_to, need_at, places, span_waste}}
 use Rattle.potential_check.specs.Certificates.Spanned.{HoldsSums, IsSpanned, Spanned}
-use Rattle.tuner_theory.specs.Spans.{bytes_up_to, counted_up_to, need_at, places, span_waste}
 
 -- the need that is kept for a place is a class
 pub need-class : (counts : List ℕ) (step place need : ℕ) (needs counted bytes : List ℕ) → HoldsSums counts step needs counted bytes

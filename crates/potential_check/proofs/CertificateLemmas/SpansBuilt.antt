@@ -1,17 +1,12 @@
 -- The places of a profile and the sums up to each, as they grow size by size.
-use Rattle.std.proofs.lemmas.Grind.{common_steps}
-use Rattle.std.proofs.Common.{◌≡◌, ℕ, zero, suc, ◌+◌, ◌-◌, ◌*◌, ◌<◌, ◌≤◌, List, [], ◌∷◌, ◌++◌, length, length-append, slice_index, cond, leb, add-suc, add-zero, arith, refl, ap, subst, sym, ◌∙◌}
+use Rattle.std.proofs.Common.{◌≡◌, ℕ, zero, suc, ◌+◌, ◌-◌, ◌*◌, ◌<◌, ◌≤◌, List, [], ◌∷◌, ◌++◌, length, length-append, slice_index, cond}
+use Rattle.std.proofs.{Common.{leb, add-suc, add-zero, arith, refl, ap, subst, sym, ◌∙◌}, Math.Nat.{mul-le-mul}}
+use Rattle.std.proofs.{Math.Seq.{get_or-append_seam}, lemmas.Grind.{common_steps}, lemmas.List.{get_or_append_left}}
 use Rattle.std.proofs.lemmas.Bool.{cases_lt, cond_both, cond-false, cond-true, eq-eqb, le-leb, le-ltb, lt-leb, lt-ltb, ne_eqb}
-use Rattle.std.proofs.lemmas.List.{get_or_append_left}
-use Rattle.std.proofs.Math.Seq.{get_or-append_seam}
-use Rattle.std.proofs.Math.Nat.{mul-le-mul}
-use Rattle.class_table.specs.Sizes.{largest_counted}
+use Rattle.class_table.specs.{Sizes.{largest_counted}, Steps.{IsStep}}
 use Rattle.potential_check.specs.Certificates.Spanned.{AreSumsUpTo, HoldsSums, last_need}
-use Rattle.tuner_theory.specs.Spans.{needs_below, rounded_need, with_need}
-use Rattle.tuner_theory.proofs.Sums.{sum_below-more, sum_below-none, sum_bounded, sum_same}
-use Rattle.class_table.specs.Steps.{IsStep}
-use Rattle.tuner_theory.specs.Profiles.{AreCounts, greatest_count}
-use Rattle.tuner_theory.specs.Waste.{sum_below}
+use Rattle.tuner_theory.{proofs.Sums.{sum_below-more, sum_below-none, sum_bounded, sum_same}, specs.Profiles.{AreCounts, greatest_count}}
+use Rattle.tuner_theory.specs.{Spans.{needs_below, rounded_need, with_need}, Waste.{sum_below}}
 
 -- ---- sums
 

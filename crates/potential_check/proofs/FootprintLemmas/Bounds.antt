@@ -1,12 +1,10 @@
 -- Bounds of blocks of ends, from row to row and from place to place.
-use Rattle.std.proofs.Common.{◌≡◌, ◌≢◌, ℕ, ◌+◌, ◌*◌, ◌/◌, ◌<◌, ◌≤◌, List, [], length, slice_index, slice_index_or, slice_set, arith, ap, ◌∙◌, inl, inr, Vec}
-use Rattle.std.proofs.lemmas.Bool.{cases_eq, cases_lt}
+use Rattle.std.proofs.Common.{◌≡◌, ◌≢◌, ℕ, ◌+◌, ◌*◌, ◌/◌, ◌<◌, ◌≤◌, List, [], length, slice_index, slice_index_or, slice_set, arith, ap}
+use Rattle.std.{proofs.Common.{◌∙◌, inl, inr, Vec}, proofs.lemmas.Bool.{cases_eq, cases_lt}, specs.declared.alloc.Global.{Global}}
 use Rattle.std.proofs.lemmas.List.{get_or-replicate, get_or-set_other, get_or-set_same, length-replicate, length-set, map-set}
 use Rattle.potential_check.specs.Footprints.Bounds.{AreBounds, AreRowBounds, AreZeros, IsNarrowed, IsSlack}
 use Rattle.potential_check.specs.declared.footprints.slack.TheConstants.{BLOCK}
-use Rattle.tuner_theory.specs.Lists.{lists_of}
-use Rattle.tuner_theory.proofs.Lists.{lists-length}
-use Rattle.std.specs.declared.alloc.Global.{Global}
+use Rattle.tuner_theory.{proofs.Lists.{lists-length}, specs.Lists.{lists_of}}
 
 module _ (costs slack : List ℕ) (place d : ℕ) where
   -- a block that begins after the place has a bound by its ends

@@ -1,10 +1,10 @@
 -- The conditions on rows, one more row and one more place.
-use Rattle.std.proofs.Common.{◌≡◌, ℕ, suc, ◌+◌, ◌-◌, ◌<◌, ◌≤◌, List, [], length, slice_index, slice_index_or, arith, ap, sym, ◌∙◌, ◌↔◌, IsTrue, inl, inr}
-use Rattle.std.proofs.lemmas.Bool.{cases_lt}
-use Rattle.potential_check.specs.Footprints.RowConditions.{AreBoth, AreRowTests, AreTestsAt, AreTestsFrom, DropsHoldAt, DropsHoldFrom, EdgeHoldsAt, EdgesHoldAt, EdgesHoldFrom, LastHoldsFrom}
+use Rattle.std.proofs.Common.{◌≡◌, ℕ, suc, ◌+◌, ◌-◌, ◌<◌, ◌≤◌, List, [], length, slice_index, slice_index_or, arith, ap, sym, ◌∙◌, ◌↔◌}
+use Rattle.std.proofs.{Common.{IsTrue, inl, inr}, lemmas.Bool.{cases_lt}}
+use Rattle.potential_check.specs.Footprints.RowConditions.{AreBoth, AreRowTests, AreTestsAt, AreTestsFrom, DropsHoldAt, DropsHoldFrom}
+use Rattle.potential_check.specs.Footprints.RowConditions.{EdgeHoldsAt, EdgesHoldAt, EdgesHoldFrom, LastHoldsFrom}
 use Rattle.potential_check.specs.declared.measured.RowTests.{RowTests}
-use Rattle.tuner_theory.specs.Growing.{IsGrowing}
-use Rattle.tuner_theory.specs.Rows.{number_at}
+use Rattle.tuner_theory.specs.{Growing.{IsGrowing}, Rows.{number_at}}
 
 -- ---- one row more
 

@@ -1,19 +1,14 @@
 -- Sums up to places, and the most blocks of intervals.
-use Rattle.std.proofs.lemmas.Grind.{common_steps}
-use Rattle.std.proofs.Common.{◌≡◌, ℕ, zero, suc, ◌+◌, ◌-◌, ◌*◌, ◌^◌, ◌<◌, ◌≤◌, ◌&&◌, max, List, [], ◌∷◌, length, slice_index, slice_index_or, slice_set, cond, ltb, leb, arith, ap, refl, ◌∙◌, take, inl, inr}
-use Rattle.std.proofs.lemmas.List.{get_or-set_other, get_or-set_same, length-set}
-use Rattle.std.proofs.lemmas.Bool.{cases_lt}
-use Rattle.std.proofs.lemmas.Bool.Decides.{nat_tests}
+use Rattle.std.proofs.Common.{◌≡◌, ℕ, zero, suc, ◌+◌, ◌-◌, ◌*◌, ◌^◌, ◌<◌, ◌≤◌, ◌&&◌, max, List, [], ◌∷◌, length, slice_index}
+use Rattle.std.proofs.{Common.{slice_index_or, slice_set, cond, ltb, leb, arith, ap, refl, ◌∙◌, take, inl, inr}, lemmas.Bool.{cases_lt}}
+use Rattle.std.proofs.lemmas.{Bool.Decides.{nat_tests}, Grind.{common_steps}, List.{get_or-set_other, get_or-set_same, length-set}}
 use Rattle.class_table.specs.declared.sizes.TheConstants.{MOST_NEEDS}
-use Rattle.potential_check.specs.Footprints.SnapshotSums.{AreMostBlocks, AreMostIn, AreScaled, AreSumsAt, AreWritten, HoldsSnapshots, IsRaised, IsRaisedBy, raised_to}
-use Rattle.tuner_theory.specs.Footprint.{blocks_between, footprint_between}
-use Rattle.tuner_theory.specs.Growing.{IsGrowing}
-use Rattle.tuner_theory.specs.Histories.{most}
-use Rattle.tuner_theory.specs.Intervals.{span_cost}
+use Rattle.potential_check.specs.Footprints.SnapshotSums.{AreMostBlocks, AreMostIn, AreScaled, AreSumsAt, AreWritten, HoldsSnapshots}
+use Rattle.potential_check.specs.Footprints.SnapshotSums.{IsRaised, IsRaisedBy, raised_to}
+use Rattle.tuner_theory.{proofs.FootprintLawLemmas.{span_footprints_fit}, proofs.Sums.{sum_split}, specs.Growing.{IsGrowing}}
+use Rattle.tuner_theory.{proofs.LawLemmas.{few_places, places_ascend, span_footprints_grow, step-positive}, specs.Histories.{most}}
+use Rattle.tuner_theory.specs.{Footprint.{blocks_between, footprint_between}, Intervals.{span_cost}}
 use Rattle.tuner_theory.specs.Spans.{counted_up_to, need_at, places, rounded_need}
-use Rattle.tuner_theory.proofs.FootprintLawLemmas.{span_footprints_fit}
-use Rattle.tuner_theory.proofs.LawLemmas.{few_places, places_ascend, span_footprints_grow, step-positive}
-use Rattle.tuner_theory.proofs.Sums.{sum_split}
 
 -- ---- blocks between by two sums
 

@@ -1,22 +1,14 @@
 -- Sums of a snapshot up to a need, by the sizes that a class serves.
-use Rattle.std.proofs.Common.{◌≡◌, ℕ, zero, suc, ◌+◌, ◌-◌, ◌*◌, ◌%◌, ◌<◌, ◌≤◌, ◌⊎◌, ◌++◌, List, [], ◌∷◌, length, length-append, slice_index, slice_index_or, refl, sym, ◌∙◌, arith, inl, inr, Vec}
+use Rattle.std.proofs.Common.{◌≡◌, ℕ, zero, suc, ◌+◌, ◌-◌, ◌*◌, ◌%◌, ◌<◌, ◌≤◌, ◌⊎◌, ◌++◌, List, [], ◌∷◌, length, length-append, slice_index}
+use Rattle.std.proofs.{Common.{slice_index_or, refl, sym, ◌∙◌, arith, inl, inr, Vec}, Math.Seq.{get_or-append_seam}}
+use Rattle.std.proofs.lemmas.{Bool.{cases_lt, cond-true, cond-false, le-leb, lt-leb}, List.{get_or_append_left, map-append}}
 use Rattle.std.specs.declared.alloc.Global.{Global}
-use Rattle.std.proofs.lemmas.Bool.{cases_lt, cond-true, cond-false, le-leb, lt-leb}
-use Rattle.std.proofs.lemmas.List.{get_or_append_left, map-append}
-use Rattle.std.proofs.Math.Seq.{get_or-append_seam}
-use Rattle.class_table.specs.Steps.{IsStep}
-use Rattle.potential_check.specs.Footprints.SnapshotSums.{AreColumnSums, AreCuts, AreSnapshotSums}
-use Rattle.history_count.specs.CountedLines.{AreSizes, CountsSizes}
-use Rattle.history_count.proofs.LawLemmas.{sum-lines}
-use Rattle.tuner_theory.specs.Lists.{lists_of}
-use Rattle.potential_check.specs.Certificates.Spanned.{AreSumsUpTo}
-use Rattle.class_table.specs.Sizes.{largest_counted}
-use Rattle.tuner_theory.specs.Profiles.{AreCounts, greatest_count}
-use Rattle.tuner_theory.specs.Spans.{counted_up_to, need_at, places}
-use Rattle.tuner_theory.specs.Waste.{sum_below}
-use Rattle.tuner_theory.proofs.LawLemmas.{place_is_class, places_ascend}
-use Rattle.tuner_theory.proofs.Rounding.{fits-rounded, rounded-fits, rounded-positive, step-positive}
-use Rattle.tuner_theory.proofs.Sums.{sum_below-more, sum_below-none, sum_bounded, sum_same}
+use Rattle.class_table.specs.{Sizes.{largest_counted}, Steps.{IsStep}}
+use Rattle.potential_check.specs.{Certificates.Spanned.{AreSumsUpTo}, Footprints.SnapshotSums.{AreColumnSums, AreCuts, AreSnapshotSums}}
+use Rattle.history_count.{proofs.LawLemmas.{sum-lines}, specs.CountedLines.{AreSizes, CountsSizes}}
+use Rattle.tuner_theory.proofs.{LawLemmas.{place_is_class, places_ascend}, Sums.{sum_below-more, sum_below-none, sum_bounded, sum_same}}
+use Rattle.tuner_theory.{proofs.Rounding.{fits-rounded, rounded-fits, rounded-positive, step-positive}, specs.Lists.{lists_of}}
+use Rattle.tuner_theory.specs.{Profiles.{AreCounts, greatest_count}, Spans.{counted_up_to, need_at, places}, Waste.{sum_below}}
 
 sum-cut : (f g : ℕ → ℕ) (len m : ℕ) → m ≤ len → ((n : ℕ) → n < m → f n ≡ g n) → ((n : ℕ) → m ≤ n → n < len → f n ≡ 0)
     → sum_below f len ≡ sum_below g m

@@ -1,8 +1,7 @@
 -- What the spans of a profile are seen as, and what is kept of them.
 use Rattle.std.specs.Prelude.{◌≡◌, ℕ, ◌+◌, ◌≤◌, List, ◌∷◌, length, slice_index}
-use Rattle.tuner_theory.specs.Spans.{bytes_up_to, counted_up_to, distinct_needs, need_at, places}
+use Rattle.tuner_theory.specs.{Profiles.{AreCounts}, Spans.{bytes_up_to, counted_up_to, distinct_needs, need_at, places}}
 use Rattle.class_table.specs.Steps.{IsStep}
-use Rattle.tuner_theory.specs.Profiles.{AreCounts}
 
 -- The spans of a profile are seen as its counts and the step.
 pub record Spanned : Type 0 where

@@ -1,8 +1,7 @@
 -- The conditions on the rows of a certificate, and what is tested of them place by place.
 use Rattle.std.specs.Prelude.{◌↔◌, ℕ, suc, ◌+◌, ◌<◌, ◌≤◌, List, length, slice_index, IsTrue}
 use Rattle.potential_check.specs.declared.measured.RowTests.{RowTests}
-use Rattle.tuner_theory.specs.Potentials.{KeepsEdges, KeepsLastClass, KeepsStageDrops}
-use Rattle.tuner_theory.specs.Rows.{number_at}
+use Rattle.tuner_theory.specs.{Potentials.{KeepsEdges, KeepsLastClass, KeepsStageDrops}, Rows.{number_at}}
 
 -- Each test says whether its condition holds of the numbers of rows, for costs over d places.
 pub record AreRowTests (cost : ℕ → ℕ → ℕ) (d : ℕ) (rows : List (List ℕ)) (tests : RowTests) : Type 0 where

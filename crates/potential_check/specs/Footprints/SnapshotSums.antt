@@ -1,14 +1,10 @@
 -- The sums of a history's snapshots up to each place of its peaks.
 use Rattle.std.specs.Prelude.{◌≡◌, ℕ, ◌+◌, ◌-◌, ◌*◌, ◌<◌, ◌≤◌, max, List, [], ◌∷◌, length, slice_index, slice_index_or, take}
-use Rattle.class_table.specs.Steps.{IsStep}
-use Rattle.class_table.specs.Sizes.{granule_bytes}
+use Rattle.class_table.specs.{Sizes.{granule_bytes}, Steps.{IsStep}}
 use Rattle.history_count.specs.CountedLines.{IsCutAt}
 use Rattle.potential_check.specs.Certificates.Spanned.{AreSumsUpTo}
-use Rattle.tuner_theory.specs.Footprint.{blocks_between, footprint_between}
-use Rattle.tuner_theory.specs.Histories.{AreSnapshots, most, peaks}
-use Rattle.tuner_theory.specs.Profiles.{AreCounts, Covers}
-use Rattle.tuner_theory.specs.Spans.{counted_up_to, need_at, places}
-use Rattle.tuner_theory.specs.Waste.{sum_below}
+use Rattle.tuner_theory.specs.{Footprint.{blocks_between, footprint_between}, Histories.{AreSnapshots, most, peaks}, Waste.{sum_below}}
+use Rattle.tuner_theory.specs.{Profiles.{AreCounts, Covers}, Spans.{counted_up_to, need_at, places}}
 
 -- For each snapshot, how many blocks are live whose rounded need is at most that of each place.
 pub record AreSnapshotSums (snapshots : List (List ℕ)) (counts : List ℕ) (step : ℕ) (sums : List (List ℕ)) : Type 0 where

@@ -51,6 +51,7 @@ fn on_history<'a>(history: &'a History, sizes: &'a Profile, forced: bool) -> OnH
     ensures history { result.history.now ≡ history.now }
     ensures forced { result.forced ≡ forced }
 {
+    // the call tells the proof that it is a history
     let _peaks = history.peaks();
     OnHistory {
         history,
@@ -81,6 +82,7 @@ impl<'a> Measured for OnHistory<'a> {
         spans: &Spans<'_>,
         sheet: &Certificate<OfFootprint>,
     ) -> Result<RowTests, AllocError> {
+        // the use of a field gives the proof the invariant of the type
         let _limit = sheet.limit;
         let mut costs = HistorySpans::new(alloc, self.history, spans)?;
         test_rows(alloc, &mut costs, &sheet.rows)

@@ -3,7 +3,6 @@
 A format is a module in FORMATS: its NAME, WHAT it is, the KINDS that it has, how a file of it has to BEGIN, and what it READS of it."""
 
 from array import array
-from collections import Counter
 from types import ModuleType
 from typing import Iterable, NamedTuple, Optional
 
@@ -87,8 +86,7 @@ def made_of_run(events: array, peak_at: int, wanted: str, snapshots: int, told: 
     if wanted == found.TIMELINE and length_of(events) <= timelines.MOST_TEXT:
         return Imported("the timeline", timelines.text_of(events), texts.profile_text(peak), told)
     if wanted == found.TIMELINE:
-        groups = tuple(range(timelines.CLASSES + 1))
-        moments = {**timelines.peaks(events, groups), peak_at: peak}
+        moments = {**timelines.peaks(events), peak_at: peak}
         of = f"of the {len(moments)} moments at which each class of 16 bytes had the most blocks"
         told.append(f"the timeline would have more than {timelines.MOST_TEXT:,} bytes: a history is made in its place, {of}")
     else:
@@ -100,4 +98,4 @@ def made_of_run(events: array, peak_at: int, wanted: str, snapshots: int, told: 
 
 def length_of(events: array) -> int:
     """The bytes of the timeline."""
-    return sum(times * len(timelines.event_lines()[code]) for code, times in Counter(events).items())
+    return sum(times * len(timelines.event_lines()[code]) for code, times in timelines.count(events).items())

@@ -1,5 +1,4 @@
-use Rattle.std.proofs.Common.{◌≡◌, ◌++◌, List, ℕ, ap, ◌∙◌, append_assoc}
-use Rattle.std.proofs.lemmas.List.{take-append-drop}
+use Rattle.std.proofs.{Common.{◌≡◌, ◌++◌, List, ℕ, ap, ◌∙◌, append_assoc}, lemmas.List.{take-append-drop}}
 use Rattle.byte_streams.proofs.input.append.Goals as goal
 
 pub loop-rest-preserved : goal.loop-rest-preserved

@@ -1,5 +1,4 @@
-use Rattle.std.proofs.Common.{◌≡◌, ◌≤◌, ◌++◌, length, take, arith}
-use Rattle.std.proofs.lemmas.List.{length-take, length-append}
+use Rattle.std.proofs.{Common.{◌≡◌, ◌≤◌, ◌++◌, length, take, arith}, lemmas.List.{length-take, length-append}}
 use Rattle.byte_streams.proofs.Transfers.{consumes_more, moved_more, piece_of}
 use Rattle.byte_streams.proofs.transfer.read_all.Goals as goal
 

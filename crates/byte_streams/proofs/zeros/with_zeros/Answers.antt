@@ -1,5 +1,5 @@
-use Rattle.std.proofs.Common.{◌≡◌, ◌++◌, ◌+◌, ◌-◌, ◌≤◌, ◌∙◌, ℕ, List, ap, sym, arith, replicate, append-nil, append_assoc, length, take, vec_len}
-use Rattle.std.proofs.lemmas.List.{replicate-append-replicate, take_all}
+use Rattle.std.proofs.Common.{◌≡◌, ◌++◌, ◌+◌, ◌-◌, ◌≤◌, ◌∙◌, ℕ, List, ap, sym, arith, replicate, append-nil, append_assoc, length, take}
+use Rattle.std.proofs.{Common.{vec_len}, lemmas.List.{replicate-append-replicate, take_all}}
 use Rattle.byte_streams.proofs.zeros.with_zeros.Goals as goal
 
 pub runs-init : goal.runs-init

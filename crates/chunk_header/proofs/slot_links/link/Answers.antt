@@ -1,6 +1,5 @@
 use Rattle.std.proofs.Common.{sym, ap, ◌∙◌}
-use Rattle.heap_theory.specs.Header.{Header}
-use Rattle.heap_theory.proofs.Regions.{header_in-region_of}
+use Rattle.heap_theory.{proofs.Regions.{header_in-region_of}, specs.Header.{Header}}
 use Rattle.chunk_header.proofs.slot_links.link.Goals as goal
 
 pub returns : goal.returns

@@ -1,7 +1,6 @@
 use Rattle.std.proofs.Common.{sym, ap, ◌∙◌, arith}
 use Rattle.class_table.proofs.LawLemmas.{legal_slots_are_in_order}
-use Rattle.heap_theory.specs.Header.{Header}
-use Rattle.heap_theory.proofs.Regions.{header_in-region_of}
+use Rattle.heap_theory.{proofs.Regions.{header_in-region_of}, specs.Header.{Header}}
 use Rattle.chunk_header.proofs.slot_links.unlink.Goals as goal
 
 pub next-link-requires : goal.next-link-requires

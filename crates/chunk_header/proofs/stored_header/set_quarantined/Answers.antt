@@ -1,11 +1,8 @@
-use Rattle.std.proofs.Common.{◌≡◌, ◌+◌, ◌*◌, ap, sym, ◌∙◌, arith, inl}
-use Rattle.std.specs.Int.{w64, to_le_bytes}
+use Rattle.std.{proofs.Common.{◌≡◌, ◌+◌, ◌*◌, ap, sym, ◌∙◌, arith, inl}, specs.Int.{w64, to_le_bytes}}
+use Rattle.heap_theory.{proofs.HeaderWords.{header_at-elsewhere, header_of-words, with_header-words}, specs.Header.Standing.{Quarantined}}
 use Rattle.heap_theory.specs.Header.{FitsWords, first_word, second_word, header_of, header_at, with_header}
-use Rattle.heap_theory.specs.Header.Standing.{Quarantined}
 use Rattle.machine_theory.specs.Memory.{word_at, written}
-use Rattle.heap_theory.proofs.HeaderWords.{header_at-elsewhere, header_of-words, with_header-words}
-use Rattle.chunk_header.proofs.LinkedHeaders.{word_quarantined}
-use Rattle.chunk_header.proofs.Rewrites.{both_words}
+use Rattle.chunk_header.proofs.{LinkedHeaders.{word_relinked}, Rewrites.{both_words}}
 use Rattle.chunk_header.proofs.stored_header.set_quarantined.Goals as goal
 
 pub returns : goal.returns
@@ -16,7 +13,7 @@ returns c =
     let new = c.set_word-2.new.self in
     let header = record (header_at old g) { standing = Quarantined; next = 0; mark = c.args.mark } in
     let at : 16 * g + 0 ≡ 16 * g = omega arith in
-    let word = c.quarantined-word.ensures 0 ∙ word_quarantined old g c.word.result 0 c.word.ensures in
+    let word = c.quarantined-word.ensures 0 ∙ word_relinked (λ standing. Quarantined) old g 0 c.word.result 0 c.word.ensures in
     let first : word_at new (16 * g) ≡ first_word header =
     ap (word_at new) (sym at) ∙ c.set_word-2.ensures.others.word (16 * g + 0) (inl (omega arith))
     ∙ c.set_word.ensures.word ∙ word in

@@ -1,8 +1,7 @@
-use Rattle.std.proofs.Common.{◌≡◌, ◌+◌, ◌*◌, ap, sym, ◌∙◌, arith, rules, inl}
-use Rattle.std.specs.Int.{w64, to_le_bytes}
+use Rattle.std.{proofs.Common.{◌≡◌, ◌+◌, ◌*◌, ap, sym, ◌∙◌, arith, rules, inl}, specs.Int.{w64, to_le_bytes}}
+use Rattle.heap_theory.proofs.HeaderWords.{header_at-elsewhere, header_of-words, with_header-words}
 use Rattle.heap_theory.specs.Header.{first_word, second_word, header_of, header_at, with_header}
 use Rattle.machine_theory.specs.Memory.{word_at, written}
-use Rattle.heap_theory.proofs.HeaderWords.{header_at-elsewhere, header_of-words, with_header-words}
 use Rattle.chunk_header.specs.HeaderView.{seen}
 use Rattle.chunk_header.proofs.stored_header.write.Goals as goal
 

@@ -1,5 +1,4 @@
-use Rattle.std.proofs.Common.{◌≡◌, ◌%◌, ◌^◌, arith, bit_and}
-use Rattle.std.proofs.lemmas.Nat.{and_mask}
+use Rattle.std.proofs.{Common.{◌≡◌, ◌%◌, ◌^◌, arith, bit_and}, lemmas.Nat.{and_mask}}
 use Rattle.chunk_header.proofs.FirstWords.{first_word-quarantined}
 use Rattle.chunk_header.proofs.words.quarantined.Goals as goal
 

@@ -1,5 +1,4 @@
-use Rattle.std.proofs.Common.{◌≡◌, ◌%◌, ◌^◌, arith, bit_and}
-use Rattle.std.proofs.lemmas.Nat.{and_mask}
+use Rattle.std.proofs.{Common.{◌≡◌, ◌%◌, ◌^◌, arith, bit_and}, lemmas.Nat.{and_mask}}
 use Rattle.chunk_header.proofs.FirstWords.{first_word-with_next}
 use Rattle.chunk_header.proofs.words.with_next_in.Goals as goal
 

@@ -1,7 +1,5 @@
 use Rattle.std.proofs.Common.{length}
-use Rattle.heap_theory.specs.Region.{next_in}
-use Rattle.heap_theory.proofs.Linked.{IsLinked-once, IsLinked-one}
-use Rattle.heap_theory.proofs.ListSearch.{few_below}
+use Rattle.heap_theory.{proofs.Linked.{IsLinked-once, IsLinked-one}, proofs.ListSearch.{few_below}, specs.Region.{next_in}}
 use Rattle.class_lists.proofs.ListChanges.{shown_same}
 use Rattle.class_lists.proofs.laws.law_lists.Goals as goal
 

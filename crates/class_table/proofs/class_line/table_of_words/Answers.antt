@@ -1,7 +1,5 @@
-use Rattle.std.proofs.Common.{subst, sym, inl, inr, length}
-use Rattle.std.proofs.lemmas.Bool.{cases_lt}
-use Rattle.class_table.specs.Faults.{Gives}
-use Rattle.class_table.proofs.Words.{faulty, room, no_room, too_many_read, few_read, number_is, no_number}
+use Rattle.std.proofs.{Common.{subst, sym, inl, inr, length}, lemmas.Bool.{cases_lt}}
+use Rattle.class_table.{proofs.Words.{faulty, room, no_room, too_many_read, few_read, number_is, no_number}, specs.Faults.{Gives}}
 use Rattle.class_table.proofs.class_line.table_of_words.Goals as goal
 
 pub returns-in_default-clause-exact : goal.returns-in_default-clause-exact

@@ -1,4 +1,5 @@
-use Rattle.class_table.proofs.FirstFaults.{faulty_text_is_refused, first_fault_is_refused, missing_line_is_first_fault, refused_text_has_first_fault}
+use Rattle.class_table.proofs.FirstFaults.{faulty_text_is_refused, first_fault_is_refused, missing_line_is_first_fault}
+use Rattle.class_table.proofs.FirstFaults.{refused_text_has_first_fault}
 use Rattle.class_table.proofs.laws.law_class_line_fault.Goals as goal
 
 pub returns-clause-first : goal.returns-clause-first

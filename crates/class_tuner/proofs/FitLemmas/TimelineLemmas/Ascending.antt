@@ -1,10 +1,8 @@
 -- Numbers of which each is below the next.
-use Rattle.std.proofs.Common.{◌≡◌, ℕ, ◌+◌, ◌-◌, ◌<◌, ◌≤◌, List, length, slice_index, get_or, arith, ap, inl, inr}
-use Rattle.std.specs.List.{insert}
-use Rattle.std.specs.List.Sorted.{IsNonDecreasingBy, IsStrictlyIncreasing}
-use Rattle.std.proofs.lemmas.Bool.{cases_eq, cases_lt}
+use Rattle.std.{proofs.Common.{◌≡◌, ℕ, ◌+◌, ◌-◌, ◌<◌, ◌≤◌, List, length, slice_index, get_or, arith, ap, inl, inr}, specs.List.{insert}}
+use Rattle.std.proofs.lemmas.{Bool.{cases_eq, cases_lt}, List.Kept.{AllPairs-from_increasing}}
 use Rattle.std.proofs.lemmas.List.Edits.{get_or-insert_above, get_or-insert_at, get_or-insert_below, length-insert}
-use Rattle.std.proofs.lemmas.List.Kept.{AllPairs-from_increasing}
+use Rattle.std.specs.List.Sorted.{IsNonDecreasingBy, IsStrictlyIncreasing}
 
 pub ascending-rises : (xs : List ℕ) → IsStrictlyIncreasing xs → IsNonDecreasingBy (λ n. n) xs
 ascending-rises xs up i j d le lt =

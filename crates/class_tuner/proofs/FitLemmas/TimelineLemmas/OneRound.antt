@@ -1,18 +1,13 @@
 -- The rounds of a timeline are determined, and so is what is found in them.
-use Rattle.std.proofs.Common.{◌≡◌, ◌⊎◌, ℕ, zero, suc, ◌+◌, ◌≤◌, Bool, List, [], ◌∷◌, length, slice_index, arith, ap, sym, subst, inl, inr, ◌∙◌}
-use Rattle.std.proofs.lemmas.Bool.{cases_lt}
-use Rattle.std.proofs.lemmas.List.{ext_get_or}
+use Rattle.std.proofs.Common.{◌≡◌, ◌⊎◌, ℕ, zero, suc, ◌+◌, ◌≤◌, Bool, List, [], ◌∷◌, length, slice_index, arith, ap, sym, subst, inl, inr}
+use Rattle.std.proofs.{Common.{◌∙◌}, lemmas.Bool.{cases_lt}, lemmas.List.{ext_get_or}}
 use Rattle.class_table.specs.Sizes.{largest_counted}
-use Rattle.class_tuner.specs.Fits.Fitted.{IsFitOf}
+use Rattle.class_tuner.{proofs.FitLemmas.TimelineLemmas.Unions.{one-union}, proofs.OneSheet.{one_fit}, specs.Fits.Fitted.{IsFitOf}}
 use Rattle.class_tuner.specs.Fits.Timelines.Found.{IsBetween, IsLeastFit}
-use Rattle.class_tuner.specs.Fits.Timelines.Rounds.{AreNextMoments, AreRoundMoments, IsDecisive, IsGreatestOfRounds, IsLeastOfRounds, IsRound, moments_left}
-use Rattle.class_tuner.proofs.FitLemmas.TimelineLemmas.Unions.{one-union}
-use Rattle.class_tuner.proofs.OneSheet.{one_fit}
-use Rattle.history_count.specs.Timelines.LiveBlocks.{AreFirsts, IsFirst}
-use Rattle.history_count.specs.Timelines.Requests.{IsFirstLive, IsLargest}
-use Rattle.tuner_theory.specs.Sheets.{Sheet}
-use Rattle.tuner_theory.specs.Timelines.{footprint_over, history_at, requested}
-use Rattle.tuner_theory.specs.declared.size_event.SizeEvent.{SizeEvent}
+use Rattle.class_tuner.specs.Fits.Timelines.Rounds.{IsRound, moments_left, AreNextMoments, AreRoundMoments, IsDecisive, IsGreatestOfRounds}
+use Rattle.class_tuner.specs.Fits.Timelines.Rounds.{IsLeastOfRounds}
+use Rattle.history_count.specs.Timelines.{LiveBlocks.{AreFirsts, IsFirst}, Requests.{IsFirstLive, IsLargest}}
+use Rattle.tuner_theory.specs.{Sheets.{Sheet}, Timelines.{footprint_over, history_at, requested}, declared.size_event.SizeEvent.{SizeEvent}}
 
 -- ---- the decisive moment
 

@@ -1,35 +1,19 @@
 -- What a round shows, and what is kept of all of them.
-use Rattle.std.proofs.Common.{◌≡◌, ◌≢◌, ◌⊎◌, ◌+◌, ◌*◌, ◌^◌, ◌<◌, ◌≤◌, ℕ, Bool, List, [], ◌∷◌, All, length, max, sym, subst, ◌∙◌, add-one, arith, refl, inl, inr}
-use Rattle.std.proofs.Math.Nat.{mul-le-mul}
-use Rattle.std.proofs.lemmas.Bool.{cases_lt}
-use Rattle.std.specs.List.{Contains}
-use Rattle.std.specs.List.Sorted.{IsStrictlyIncreasing}
-use Rattle.std.proofs.lemmas.List.{get_or_default}
-use Rattle.std.proofs.lemmas.List.Elements.{All-cons, All-nil}
-use Rattle.class_tuner.specs.Fits.Fitted.{IsFitOf}
-use Rattle.class_table.specs.Tables.{IsLegalTable}
-use Rattle.history_count.specs.Timelines.LiveBlocks.{AreFirsts}
-use Rattle.history_count.specs.Timelines.Requests.{Decides}
-use Rattle.tuner_theory.specs.Best.{IsCandidate}
-use Rattle.tuner_theory.specs.Served.{served}
-use Rattle.tuner_theory.specs.Sheets.{Sheet}
-use Rattle.tuner_theory.specs.Histories.{peaks}
+use Rattle.std.proofs.Common.{◌≡◌, ◌≢◌, ◌⊎◌, ◌+◌, ◌*◌, ◌^◌, ◌<◌, ◌≤◌, ℕ, Bool, List, [], ◌∷◌, All, length, max, sym, subst, ◌∙◌, add-one}
+use Rattle.std.proofs.{Common.{arith, refl, inl, inr}, Math.Nat.{mul-le-mul}, lemmas.Bool.{cases_lt}, lemmas.List.{get_or_default}}
+use Rattle.std.{proofs.lemmas.List.Elements.{All-cons, All-nil}, specs.List.{Contains}, specs.List.Sorted.{IsStrictlyIncreasing}}
+use Rattle.class_tuner.{proofs.FitLemmas.TimelineLemmas.OneRound.{same-round}, specs.Fits.Fitted.{IsFitOf}}
+use Rattle.class_tuner.specs.{Fits.Timelines.Found.{IsBetween, IsLeastFit}, declared.fits.timelines.round.Round.{Round}}
+use Rattle.class_tuner.specs.Fits.Timelines.Rounds.{IsUnion, moments_left, AreLoose, AreRoundCosts, AreRoundMoments, IsDecisive}
+use Rattle.class_tuner.specs.Fits.Timelines.Rounds.{IsGreatestOfRounds, IsRound}
+use Rattle.class_table.specs.{Tables.{IsLegalTable}, declared.sizes.TheConstants.{MOST_NEEDS}}
+use Rattle.history_count.specs.Timelines.{LiveBlocks.{AreFirsts}, Requests.{Decides}}
+use Rattle.tuner_theory.proofs.{LawLemmas.{few_places}, Served.{counted-served}, TimelineCanonical.{canonical_over}}
+use Rattle.tuner_theory.{proofs.Timelines.{fit_bounds_timeline, serves-served}, specs.Best.{IsCandidate}, specs.Histories.{peaks}}
+use Rattle.tuner_theory.specs.{Served.{served}, Sheets.{Sheet}, Spans.{places}, Waste.{Serves}, declared.size_event.SizeEvent.{SizeEvent}}
 use Rattle.tuner_theory.specs.Timelines.{AreMoments, IsTimeline, footprint_over, history_at, moments}
-use Rattle.tuner_theory.specs.Waste.{Serves}
 use Rattle.tuner_theory.specs.declared.most_snapshots.TheConstants.{MOST_SNAPSHOTS}
-use Rattle.tuner_theory.specs.declared.size_event.SizeEvent.{SizeEvent}
-use Rattle.tuner_theory.proofs.LawLemmas.{few_places}
-use Rattle.tuner_theory.proofs.TimelineCanonical.{canonical_over}
-use Rattle.tuner_theory.proofs.Served.{counted-served}
-use Rattle.tuner_theory.proofs.Timelines.{fit_bounds_timeline, serves-served}
-use Rattle.class_table.specs.declared.sizes.TheConstants.{MOST_NEEDS}
-use Rattle.class_tuner.specs.declared.fits.timelines.round.Round.{Round}
-use Rattle.class_tuner.specs.Fits.Timelines.Found.{IsBetween, IsLeastFit}
-use Rattle.class_tuner.specs.Fits.Timelines.Rounds.{AreLoose, AreRoundCosts, AreRoundMoments, IsDecisive, IsGreatestOfRounds, IsRound, IsUnion, moments_left}
-use Rattle.class_tuner.proofs.FitLemmas.TimelineLemmas.OneRound.{same-round}
-use Rattle.potential_check.specs.Certificates.SheetView.{sheet_of}
-use Rattle.potential_check.specs.Footprints.CallCounts.{span_count}
-use Rattle.tuner_theory.specs.Spans.{places}
+use Rattle.potential_check.specs.{Certificates.SheetView.{sheet_of}, Footprints.CallCounts.{span_count}}
 
 -- Some moments, with the one that decides what serves.
 pub record AreDeciding (events : List SizeEvent) (numbers : List ℕ) (moment : ℕ) : Type 0 where

@@ -1,12 +1,8 @@
 -- Unions of ascending lists.
-use Rattle.std.proofs.Common.{◌≡◌, ◌⊎◌, ℕ, zero, suc, ◌+◌, ◌<◌, ◌≤◌, List, [], ◌∷◌, length, slice_index, get_or, arith, ap, refl, subst, inl, inr, ◌∙◌}
-use Rattle.std.specs.List.{Contains, insert}
-use Rattle.std.specs.List.Sorted.{IsStrictlyIncreasing}
-use Rattle.std.proofs.lemmas.Bool.{cases_lt}
-use Rattle.std.proofs.lemmas.List.{get_or_default}
-use Rattle.std.proofs.lemmas.List.Elements.{Contains-get_or}
-use Rattle.std.proofs.lemmas.List.Kept.{AllPairs-from_increasing}
-use Rattle.std.proofs.lemmas.List.Sorted.{Contains-permutation, IsPermutation-insert, IsPermutation-sym}
+use Rattle.std.proofs.Common.{◌≡◌, ◌⊎◌, ℕ, zero, suc, ◌+◌, ◌<◌, ◌≤◌, List, [], ◌∷◌, length, slice_index, get_or, arith, ap, refl, subst}
+use Rattle.std.proofs.{Common.{inl, inr, ◌∙◌}, lemmas.Bool.{cases_lt}, lemmas.List.{get_or_default}, lemmas.List.Elements.{Contains-get_or}}
+use Rattle.std.proofs.lemmas.List.{Kept.{AllPairs-from_increasing}, Sorted.{Contains-permutation, IsPermutation-insert, IsPermutation-sym}}
+use Rattle.std.specs.{List.{Contains, insert}, List.Sorted.{IsStrictlyIncreasing}}
 use Rattle.class_tuner.specs.Fits.Timelines.Rounds.{IsUnion}
 
 -- one of a list is its head, or in the rest

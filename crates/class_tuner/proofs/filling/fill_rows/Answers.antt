@@ -1,11 +1,7 @@
 use Rattle.std.proofs.Common.{[], ◌≡◌, ℕ, ◌+◌, ◌-◌, ◌^◌, add-one, arith, subst, ◌∙◌}
-use Rattle.class_tuner.specs.Filling.{IsFilledWithin}
-use Rattle.tuner_theory.specs.Lists.{lists_of}
-use Rattle.tuner_theory.specs.Rows.{IsFilled, number_at}
-use Rattle.class_tuner.proofs.SourceChanges.{OnlyCounts-more}
-use Rattle.class_tuner.proofs.CallCounts.{calls-more, room-left}
-use Rattle.class_tuner.proofs.Rows.{filled-first, filled-pushed, filled-small, has-row, row-read}
-use Rattle.class_tuner.proofs.Tried.{calls-first, calls-pushed}
+use Rattle.class_tuner.proofs.{CallCounts.{calls-more, room-left}, Rows.{filled-first, filled-pushed, filled-small, has-row, row-read}}
+use Rattle.class_tuner.{proofs.SourceChanges.{OnlyCounts-more}, proofs.Tried.{calls-first, calls-pushed}, specs.Filling.{IsFilledWithin}}
+use Rattle.tuner_theory.specs.{Lists.{lists_of}, Rows.{IsFilled, number_at}}
 use Rattle.class_tuner.proofs.filling.fill_rows.Goals as goal
 
 pub next_row-requires-clause-before : goal.next_row-requires-clause-before

@@ -1,8 +1,6 @@
 use Rattle.std.proofs.Common.{◌≡◌, ◌+◌, ◌≤◌}
-use Rattle.class_tuner.specs.CallCounts.{calls_of, most_calls}
-use Rattle.class_tuner.specs.SourceChanges.{OnlyCounts}
-use Rattle.tuner_theory.specs.Lists.{lists_of}
-use Rattle.tuner_theory.specs.Rows.{IsFilled, number_at}
+use Rattle.class_tuner.specs.{CallCounts.{calls_of, most_calls}, SourceChanges.{OnlyCounts}}
+use Rattle.tuner_theory.specs.{Lists.{lists_of}, Rows.{IsFilled, number_at}}
 use Rattle.class_tuner.proofs.filling.fill_rows.Given as goal
 
 abbrev pub invariant-loop-k : goal.invariant-loop-k

@@ -1,5 +1,4 @@
-use Rattle.std.proofs.Common.{◌≡◌, ◌∙◌, length, arith, refl, ap}
-use Rattle.std.proofs.lemmas.List.{with_items_is}
+use Rattle.std.proofs.{Common.{◌≡◌, ◌∙◌, length, arith, refl, ap}, lemmas.List.{with_items_is}}
 use Rattle.class_tuner.proofs.Rows.{row-first}
 use Rattle.class_tuner.proofs.filling.first_row.Goals as goal
 

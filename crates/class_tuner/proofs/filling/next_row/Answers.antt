@@ -1,12 +1,7 @@
-use Rattle.std.proofs.Common.{◌∙◌, length, slice_index, arith, ap}
-use Rattle.std.proofs.lemmas.List.{with_items_is}
-use Rattle.class_tuner.specs.CallCounts.{bits}
-use Rattle.class_tuner.specs.declared.filling.Row.{Row}
-use Rattle.class_tuner.proofs.CallCounts.{below-bits}
-use Rattle.class_tuner.proofs.Rows.{row-next}
-use Rattle.class_tuner.proofs.Tried.{tried-none}
+use Rattle.std.proofs.{Common.{◌∙◌, length, slice_index, arith, ap}, lemmas.List.{with_items_is}}
+use Rattle.class_tuner.{proofs.CallCounts.{below-bits}, proofs.Rows.{row-next}, proofs.Tried.{tried-none}, specs.CallCounts.{bits}}
+use Rattle.class_tuner.{proofs.filling.next_row.Goals.{then-places-gt0, else-places-gt0}, specs.declared.filling.Row.{Row}}
 use Rattle.class_tuner.proofs.filling.next_row.Goals as goal
-use Rattle.class_tuner.proofs.filling.next_row.Goals.{then-places-gt0, else-places-gt0}
 
 pub returns-clause-bounded : goal.returns-clause-bounded
 returns-clause-bounded g c =

@@ -1,8 +1,7 @@
 use Rattle.std.proofs.Common.{rules, ◌≡◌, ℕ, ◌+◌, ◌-◌, ◌/◌, ◌<◌, slice_index, slice_set, add-one, arith, refl, sym, ◌∙◌, inl, inr}
 use Rattle.std.proofs.lemmas.List.{get_or-set_same}
+use Rattle.class_tuner.proofs.{Halves.{between-left, between-right}, PartCalls.{calls-none, calls-of_part}}
 use Rattle.class_tuner.specs.Filling.{AreEndsBetween}
-use Rattle.class_tuner.proofs.Halves.{between-left, between-right}
-use Rattle.class_tuner.proofs.PartCalls.{calls-none, calls-of_part}
 use Rattle.class_tuner.proofs.halving.+fill_part.Goals as goal
 
 pub least_end-cost-requires-clause-between : goal.least_end-cost-requires-clause-between

@@ -1,5 +1,4 @@
-use Rattle.class_tuner.specs.Filling.{end_cost}
-use Rattle.class_tuner.proofs.LeastEnds.{least_end-of_window}
+use Rattle.class_tuner.{proofs.LeastEnds.{least_end-of_window}, specs.Filling.{end_cost}}
 use Rattle.class_tuner.proofs.halving.least_end.Goals as goal
 
 pub returns-clause-least : goal.returns-clause-least

@@ -1,8 +1,5 @@
 use Rattle.std.proofs.Common.{◌≡◌, ◌-◌, ◌≤◌, ◌++◌, length}
-use Rattle.tuner_theory.specs.Lists.{lists_of}
-use Rattle.tuner_theory.specs.Rows.{number_at, table_of_ends}
-use Rattle.tuner_theory.specs.Spans.{need_at, places}
-use Rattle.tuner_theory.specs.Tuned.{tuned_table}
+use Rattle.tuner_theory.specs.{Lists.{lists_of}, Rows.{number_at, table_of_ends}, Spans.{need_at, places}, Tuned.{tuned_table}}
 use Rattle.class_tuner.proofs.read_off.classes_of_ends.Given as goal
 
 abbrev pub invariant-loop-done : goal.invariant-loop-done

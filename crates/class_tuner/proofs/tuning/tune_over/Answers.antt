@@ -1,8 +1,5 @@
-use Rattle.tuner_theory.specs.Lists.{lists_of}
-use Rattle.tuner_theory.specs.Measures.{waste_on}
-use Rattle.tuner_theory.specs.Rows.{IsFilled}
+use Rattle.tuner_theory.{proofs.LawLemmas.{waste-sum}, specs.Lists.{lists_of}, specs.Measures.{waste_on}, specs.Rows.{IsFilled}}
 use Rattle.tuner_theory.specs.Spans.{places, span_waste}
-use Rattle.tuner_theory.proofs.LawLemmas.{waste-sum}
 use Rattle.class_tuner.proofs.Tunings.{made-tuned, read-later, read-legal, read-made}
 use Rattle.class_tuner.proofs.tuning.tune_over.Goals as goal
 

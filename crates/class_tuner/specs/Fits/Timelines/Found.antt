@@ -1,14 +1,8 @@
 -- What a fitter finds over a timeline.
-use Rattle.std.specs.Prelude.{◌≡◌, ℕ, suc, ◌≤◌, Bool, List}
-use Rattle.std.specs.List.Sorted.{IsStrictlyIncreasing}
+use Rattle.std.specs.{List.Sorted.{IsStrictlyIncreasing}, Prelude.{◌≡◌, ℕ, suc, ◌≤◌, Bool, List}}
 use Rattle.class_tuner.specs.Fits.Timelines.Rounds.{AreLoose, AreRoundMoments, IsGreatestOfRounds, IsLeastOfRounds, IsRound}
-use Rattle.tuner_theory.specs.Best.{IsCandidate}
-use Rattle.tuner_theory.specs.Served.{served}
-use Rattle.tuner_theory.specs.Sheets.{Sheet}
-use Rattle.tuner_theory.specs.Footprint.{IsFitted}
-use Rattle.tuner_theory.specs.Histories.{peaks}
-use Rattle.tuner_theory.specs.Timelines.{AreMoments, footprint_over, moments}
-use Rattle.tuner_theory.specs.declared.size_event.SizeEvent.{SizeEvent}
+use Rattle.tuner_theory.specs.{Best.{IsCandidate}, Footprint.{IsFitted}, Histories.{peaks}, Served.{served}, Sheets.{Sheet}}
+use Rattle.tuner_theory.specs.{Timelines.{AreMoments, footprint_over, moments}, declared.size_event.SizeEvent.{SizeEvent}}
 
 -- The fit and the moments of the last of `made` rounds, the first whose table takes no more over the whole timeline: the one that is fitted
 -- over every moment. The moments' numbers ascend, as those of a line do.

@@ -2,8 +2,7 @@
 use Rattle.std.specs.Prelude.{◌≡◌, ◌≤◌, ℕ, Bool, List, max}
 use Rattle.potential_check.specs.Certificates.SheetView.{sheet_of}
 use Rattle.tuner_theory.specs.declared.size_event.SizeEvent.{SizeEvent}
-use Rattle.class_tuner.specs.Fits.Timelines.Found.{IsBetween, IsLeastFit}
-use Rattle.class_tuner.specs.declared.fits.timelines.fitting.Found.{Found}
+use Rattle.class_tuner.specs.{Fits.Timelines.Found.{IsBetween, IsLeastFit}, declared.fits.timelines.fitting.Found.{Found}}
 use Rattle.class_tuner.specs.declared.fits.timelines.fitting.Found.TheVariants.{Between, Least}
 
 -- What is found in `made` rounds, where at most so many are to be made, but for the first.

@@ -1,19 +1,13 @@
 -- The rounds of a fit over a timeline. Each fits the history of some moments; the next one has further moments, at which most blocks of the
 -- table are live. All of them are determined.
+use Rattle.std.specs.{List.{Contains}, List.Sorted.{IsStrictlyIncreasing}}
 use Rattle.std.specs.Prelude.{◌≡◌, ◌↔◌, ◌⊎◌, ℕ, zero, suc, ◌+◌, ◌<◌, ◌≤◌, Bool, if◌then◌else◌, nat_le, List, [], ◌∷◌, length}
-use Rattle.std.specs.List.{Contains}
-use Rattle.std.specs.List.Sorted.{IsStrictlyIncreasing}
 use Rattle.class_table.specs.Sizes.{largest_counted}
 use Rattle.class_tuner.specs.Fits.Fitted.{IsFitOf}
-use Rattle.history_count.specs.Timelines.LiveBlocks.{AreFirsts}
-use Rattle.history_count.specs.Timelines.Requests.{IsFirstLive, IsLargest}
+use Rattle.history_count.specs.Timelines.{LiveBlocks.{AreFirsts}, Requests.{IsFirstLive, IsLargest}}
 use Rattle.potential_check.specs.Footprints.CallCounts.{span_count}
-use Rattle.tuner_theory.specs.Histories.{peaks}
-use Rattle.tuner_theory.specs.Served.{served}
-use Rattle.tuner_theory.specs.Sheets.{Sheet}
-use Rattle.tuner_theory.specs.Spans.{places}
-use Rattle.tuner_theory.specs.Timelines.{footprint_over, history_at, requested}
-use Rattle.tuner_theory.specs.declared.most_snapshots.TheConstants.{MOST_SNAPSHOTS}
+use Rattle.tuner_theory.specs.{Histories.{peaks}, Served.{served}, Sheets.{Sheet}, Spans.{places}}
+use Rattle.tuner_theory.specs.{Timelines.{footprint_over, history_at, requested}, declared.most_snapshots.TheConstants.{MOST_SNAPSHOTS}}
 use Rattle.tuner_theory.specs.declared.size_event.SizeEvent.{SizeEvent}
 
 -- The first moment at which a block of the largest requested size is live, of those that are counted; 0 if none is requested.

@@ -64,6 +64,7 @@ pub(crate) fn round_over(
     let fitted = fit(alloc, &history, limit, step, forced)?;
     let evaluations = fitted.evaluations();
     let fit = fitted.into_sheet();
+    // the call tells the proof that the table is legal
     let _classes = fit.table.len();
     let taken = index.footprint(alloc, &fit.table)?;
     Ok(Round {

@@ -1,9 +1,39 @@
-use Rattle.std.proofs.Common.{subst, Option, List}
-use Rattle.std.proofs.lemmas.Result.{err_from_is_err_and}
-use Rattle.clap.specs.Words.{Row, Text}
-use Rattle.command_words.specs.Calls.{IsCall, IsNoCall}
-use Rattle.command_words.proofs.PlainWords.{found_in, refused_in}
+use Rattle.std.proofs.{Common.{subst, Option, List, ◌≡◌, [], ap, inl, inr, refl, sym, true, ◌∙◌}, lemmas.Result.{err_from_is_err_and}}
+use Rattle.clap.{proofs.OnLiterals.{clap_on_literals}, specs.Kinds.{HasKind, IsAmong}, specs.declared.error.Error.{Error}}
+use Rattle.clap.specs.Words.{subcommand_of, subcommand_rows_of, kind_of, Row, Text, App, HasMatchesOf, fault_of, is_simple}
+use Rattle.clap.specs.{Words.{is_simple_and_free}, declared.parser.matches.ArgMatches.{ArgMatches}}
+use Rattle.command_words.specs.{AcceptedWords.{program}, Calls.{IsCall, IsNoCall}, Words.{AreRefused, IsFromClap}}
+use Rattle.command_words.specs.declared.refusal.{Refusal.{Refusal}, Refusal.TheVariants.{OutOfMemory, Words, Options}}
 use Rattle.command_words.proofs.words.read_call.Goals as goal
+
+-- The program's words are plain enough for clap to say what it makes of any words.
+program_is_simple : is_simple program ≡ true
+unfolding clap_on_literals
+program_is_simple = refl
+
+program_is_free : is_simple_and_free program ≡ true
+unfolding clap_on_literals
+program_is_free = refl
+
+-- what a parse of the program's words found
+found_in : (app : App) (words : List Text) (m : ArgMatches) → app ≡ program
+    → (is_simple_and_free app ≡ true → fault_of app words ≡ []) → HasMatchesOf app words m →
+    (fault_of program words ≡ []) × (subcommand_rows_of m ≡ subcommand_of program words)
+found_in app words m same faults found = (
+  subst (λ (a : App). fault_of a words ≡ []) same (faults (ap is_simple_and_free same ∙ program_is_free)),
+  (found (ap is_simple same ∙ program_is_simple)).1 ∙ ap (λ (a : App). subcommand_of a words) same,
+)
+
+-- what a parse of them says that fails
+refused_in : (app : App) (words : List Text) (error : Error) (refusal : Refusal) → app ≡ program
+    → (is_simple_and_free app ≡ true → HasKind (fault_of app words) error) → IsFromClap error refusal → AreRefused words refusal
+refused_in app words error OutOfMemory same kinds from = tt
+refused_in app words error (Words e) same kinds from = elim (kinds (ap is_simple_and_free same ∙ program_is_free)) [
+  | inl memory ↦ absurd (from.1 memory)
+  | inr among ↦ subst (λ (a : App). IsAmong (kind_of e) (fault_of a words)) same
+      (subst (λ (x : Error). IsAmong (kind_of x) (fault_of app words)) (sym from.0) among)
+]
+refused_in app words error (Options fault) same kinds from = absurd from
 
 pub returns-in_err-call_of : goal.returns-in_err-call_of
 returns-in_err-call_of c =

@@ -1,7 +1,7 @@
 //! Lines, words and numbers.
 use crate::tests::support::same;
 use line_text::{
-    Number, SignedNumber, hex_byte_in, hex_digits, lines_in, number_in, signed_in, words_in,
+    Number, SignedNumber, hex_byte_in, lines_in, number_in, signed_in, words_in,
 };
 use std::process::Abort;
 
@@ -117,33 +117,6 @@ fn numbers(rt: HostRuntime) {
     }
 }
 
-// lines, the number at their front, and the word that is next then
-const NEXT_NUMBERS: &[(&str, Option<u64>, Option<&[u8]>)] = &[
-    ("7", Some(7), None),
-    ("7 08", Some(7), Some(b"08")),
-    ("0 ", Some(0), Some(b"")),
-    (
-        "9999999999999999999 a",
-        Some(9_999_999_999_999_999_999),
-        Some(b"a"),
-    ),
-    ("", None, Some(b"")),
-    (" 7", None, Some(b"")),
-    ("08 7", None, Some(b"08")),
-    ("7a 8", None, Some(b"7a")),
-    ("-7", None, Some(b"-7")),
-    ("10000000000000000000", None, Some(b"10000000000000000000")),
-];
-
-#[test]
-fn next_numbers(rt: HostRuntime) {
-    for (line, number, after) in NEXT_NUMBERS {
-        let mut words = words_in(line.as_bytes());
-        same(&rt, &words.next_number(), number, line);
-        same(&rt, &words.next(), after, line);
-    }
-}
-
 // texts, the two numbers of their first lines, and the line that is next then
 const PAIRS: &[(&str, Option<(u64, u64)>, Option<&[u8]>)] = &[
     ("16 3\n40 1\n", Some((16, 3)), Some(b"40 1")),
@@ -225,5 +198,4 @@ fn hex_bytes(rt: HostRuntime) {
     for (word, byte) in HEX_BYTES {
         same(&rt, &hex_byte_in(word.as_bytes()), byte, word);
     }
-    same(&rt, &hex_digits(0xA1), &[b'a', b'1'], &"0xA1");
 }

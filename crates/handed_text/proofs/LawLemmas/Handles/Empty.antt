@@ -1,32 +1,17 @@
 -- `empty` makes a handle that owns nothing.
-use mathlib.Core.Path.{◌≡◌, refl, subst}
-use mathlib.Core.List.{List, [], ◌∷◌}
+use mathlib.Core.{List.{List, [], ◌∷◌}, Path.{◌≡◌, refl, subst}}
 use seplogic.Ra.Ura.{Ura}
-use mir.Syntax.{Fn, Callee, aggregate, assign, int, local, place, return, seq, value_local, w64}
-use mir.Val.{Val, vstruct, vnil, vcons}
-use base.Logic.{ent, emp, id⊢}
-use base.Fml.{Fml, ftrue}
-use prog.Model.{Model}
-use prog.Wp.{WpFn, Closed}
-use types.Logic.{Logic, sem}
-use contract.Monad.{fact}
-use contract.Running.{Running, MachineTables, tables}
+use mir.{Syntax.{Fn, Callee, aggregate, assign, int, local, place, return, seq, value_local, w64}, Val.{Val, vstruct, vnil, vcons}}
+use base.{Fml.{Fml, ftrue}, Logic.{ent, emp, id⊢}}
+use prog.{Model.{Model}, Wp.{WpFn, Closed}}
+use types.{ByLocal.{alloc_all, pass_all, free_all, look_at, sets}, Logic.{Logic, sem}, Part.{agg}}
 use types.Kit.{‵, raw, ◌⊛◌, ◌$◌, ◌∵◌, !, qed, move, keep, drop, use1, split, fjoin, fpack, feq_i, suffices, done}
-use types.Part.{agg}
 use types.Run.{enter, returns, no_more, and_then, lit}
-use types.ByLocal.{alloc_all, pass_all, free_all, look_at, sets}
-use denote.RattleType.{Valss}
-use denote.RawPtr.{RawPtr, null_ptr, ptr_val}
-use denote.Signature.{plain}
-use denote.Steps.{nothing}
-use denote.Struct.Owning.{shape}
-use denote.Struct.Struct.{within}
-use denote.Triple.Clauses.{Ended, Clauses, closing}
-use denote.Triple.Spec.{Meets}
-use denote.Triple.Statement.{Contract}
+use contract.{Monad.{fact}, Running.{Running, MachineTables, tables}}
+use denote.{RattleType.{Valss}, RawPtr.{RawPtr, null_ptr, ptr_val}, Signature.{plain}, Steps.{nothing}, Struct.Owning.{shape}}
+use denote.{Struct.Struct.{within}, Triple.Clauses.{Ended, Clauses, closing}, Triple.Spec.{Meets}, Triple.Statement.{Contract}}
 use denote.Triple.Walked.{says, Stays, walk_of, ends_at}
-use Rattle.std.proofs.Common.{Option, None, lit<}
-use Rattle.std.proofs.raw_atomic.Walks.{proved_at}
+use Rattle.std.proofs.{Common.{Option, None, lit<}, raw_atomic.Walks.{proved_at}}
 use Rattle.handed_text.proofs.LawLemmas.Handles.{HandleOf, X, the_type, Handle, owns_parts, owns_made, handle_ty}
 
 module _ (K : HandleOf) where

@@ -1,39 +1,22 @@
 -- `into_parts` moves a pointer, and what it leads to goes with it.
-use mathlib.Core.Path.{◌≡◌, refl, sym, subst}
-use mathlib.Core.List.{List, [], ◌∷◌, ◌++◌}
+use mathlib.Core.{List.{List, [], ◌∷◌, ◌++◌}, Path.{◌≡◌, refl, sym, subst}}
 use seplogic.Ra.Ura.{Ura}
-use mir.Raw.{raw as bare}
-use mir.Syntax.{Fn, Callee, aggregate, assign, copy, field, local, place, return, rv_opd, seq, ty_ptr, value_local}
+use mir.{Raw.{raw as bare}, Syntax.{Fn, Callee, aggregate, assign, copy, field, local, place, return, rv_opd, seq, ty_ptr, value_local}}
 use mir.Val.{Val, vptr, vstruct, vnil, vcons, of_list}
-use base.Logic.{ent, id⊢, fst∗, never}
-use base.Fml.{ftrue, fsep}
-use prog.Model.{Model}
-use prog.Wp.{WpFn, Closed}
-use types.Logic.{Logic, sem}
-use contract.Monad.{fact}
-use contract.Running.{Running, MachineTables, tables}
-use types.Kit.{Item, ‵, raw, ◌⊛◌, ◌$◌, ◌∵◌, !, qed, by, move, keep, drop, use1, join, split, fsplit, fjoin, fpick, feq_l, rewrite, suffices, done}
-use types.Part.{whole, sub, agg}
-use types.Run.{stop, fld, no_more, and_then, of_opd, returns, enter}
-use types.ByLocal.{alloc_all, pass_all, free_all, look_at, get, get_in, sets}
-use denote.Exit.{yes}
-use denote.Param.{layout}
-use denote.RawPtr.{Ptr, block_ptr, null_ptr, ptr_val, in_a_block}
-use denote.Signature.{plain}
-use denote.Steps.{heard, nothing}
-use denote.Triple.Clauses.{Ended, Clauses, closing}
-use denote.Triple.Spec.{Meets}
-use denote.Triple.Statement.{Contract}
+use base.{Fml.{ftrue, fsep}, Logic.{ent, id⊢, fst∗, never}}
+use prog.{Model.{Model}, Wp.{WpFn, Closed}}
+use types.{ByLocal.{alloc_all, pass_all, free_all, look_at, get, get_in, sets}, Logic.{Logic, sem}, Part.{whole, sub, agg}}
+use types.Kit.{done, Item, ‵, raw, ◌⊛◌, ◌$◌, ◌∵◌, !, qed, by, move, keep, drop, use1, join, split, fsplit, fjoin, fpick, feq_l, rewrite}
+use types.{Kit.{suffices}, Run.{stop, fld, no_more, and_then, of_opd, returns, enter}}
+use contract.{Monad.{fact}, Running.{Running, MachineTables, tables}}
+use denote.{Exit.{yes}, Param.{layout}, RawPtr.{Ptr, block_ptr, null_ptr, ptr_val, in_a_block}, Signature.{plain}, Steps.{heard, nothing}}
+use denote.Triple.{Clauses.{Ended, Clauses, closing}, Spec.{Meets}, Statement.{Contract}}
 use denote.Triple.Walked.{says, Stays, stay_dropped, walk_of, ends_at, Goes-dropped}
-use Rattle.std.proofs.Common.{Option, Some, None, IsSome}
-use Rattle.std.proofs.alloc.Calls.{token, handle_tells}
-use Rattle.std.proofs.raw_atomic.Walks.{proved_at}
-use Rattle.std_alloc.specs.Box.Ownership.{box_owns}
-use Rattle.std_alloc.proofs.BoxSteps.Form.{D, P, R, τ, word, box_typed}
-use Rattle.std_alloc.proofs.BoxSteps.Steps.{box_in}
-use Rattle.std_heap.specs.contracts.Global as Heap
-use Rattle.handed_text.specs.Ownership.{handle_owns}
+use Rattle.std.proofs.{Common.{Option, Some, None, IsSome}, alloc.Calls.{token, handle_tells}, raw_atomic.Walks.{proved_at}}
+use Rattle.std_alloc.{proofs.BoxSteps.Form.{D, P, R, τ, word, box_typed}, proofs.BoxSteps.Steps.{box_in}, specs.Box.Ownership.{box_owns}}
 use Rattle.handed_text.proofs.LawLemmas.Handles.{HandleOf, X, Held, E, Handle, Parts, FromHandle, FromGlobal, handle_ty}
+use Rattle.handed_text.specs.Ownership.{handle_owns}
+use Rattle.std_heap.specs.contracts.Global as Heap
 
 module _ (K : HandleOf) where
   abbrev pub function : Fn

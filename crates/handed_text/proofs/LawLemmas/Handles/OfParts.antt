@@ -1,38 +1,21 @@
 -- `of_parts` moves a pointer, and what it leads to goes with it.
-use mathlib.Core.Path.{◌≡◌, refl, sym, subst}
-use mathlib.Core.List.{List, [], ◌∷◌, ◌++◌}
+use mathlib.Core.{List.{List, [], ◌∷◌, ◌++◌}, Path.{◌≡◌, refl, sym, subst}}
 use seplogic.Ra.Ura.{Ura}
 use mir.Syntax.{Fn, Callee, aggregate, assign, copy, field, local, place, return, rv_opd, seq, ty_ptr, value_local}
 use mir.Val.{Val, vptr, vstruct, vnil, vcons}
-use base.Logic.{ent, emp, id⊢}
-use base.Fml.{Fml, ftrue, fsep}
-use prog.Model.{Model}
-use prog.Wp.{WpFn, Closed}
-use types.Logic.{Logic, sem}
-use contract.Monad.{fact}
-use contract.Running.{Running, MachineTables, tables}
+use base.{Fml.{Fml, ftrue, fsep}, Logic.{ent, emp, id⊢}}
+use prog.{Model.{Model}, Wp.{WpFn, Closed}}
+use types.{ByLocal.{alloc_all, pass_all, free_all, look_at, get, get_in, sets}, Logic.{Logic, sem}, Part.{whole, sub, agg}}
 use types.Kit.{Item, ‵, raw, ◌⊛◌, ◌$◌, ◌∵◌, !, qed, by, keep, drop, use1, join, split, fsplit, fjoin, fpack, feq_i, suffices, done}
-use types.Part.{whole, sub, agg}
 use types.Run.{stop, fld, no_more, and_then, of_opd, returns, enter}
-use types.ByLocal.{alloc_all, pass_all, free_all, look_at, get, get_in, sets}
-use denote.Exit.{yes}
-use denote.Param.{layout}
-use denote.RattleType.{Valss}
-use denote.RawPtr.{RawPtr, block_ptr}
-use denote.Signature.{plain}
-use denote.Steps.{nothing}
-use denote.Struct.Owning.{shape}
-use denote.Struct.Struct.{within}
-use denote.Triple.Clauses.{Ended, Clauses, closing}
-use denote.Triple.Spec.{Meets}
-use denote.Triple.Statement.{Contract}
-use denote.Triple.Walked.{says, Stays, stay_dropped, walk_of, ends_at, Goes-dropped}
-use Rattle.std.proofs.Common.{Option, Some}
-use Rattle.std.proofs.raw_atomic.Walks.{proved_at}
-use Rattle.std_alloc.proofs.BoxSteps.Form.{D, B, word, box_typed}
-use Rattle.std_alloc.proofs.BoxSteps.Steps.{box_out}
-use Rattle.handed_text.specs.Ownership.{handle_owns}
+use contract.{Monad.{fact}, Running.{Running, MachineTables, tables}}
+use denote.{Exit.{yes}, Param.{layout}, RattleType.{Valss}, RawPtr.{RawPtr, block_ptr}, Signature.{plain}, Steps.{nothing}}
+use denote.{Struct.Owning.{shape}, Struct.Struct.{within}, Triple.Clauses.{Ended, Clauses, closing}, Triple.Spec.{Meets}}
+use denote.Triple.{Statement.{Contract}, Walked.{says, Stays, stay_dropped, walk_of, ends_at, Goes-dropped}}
+use Rattle.std.proofs.{Common.{Option, Some}, raw_atomic.Walks.{proved_at}}
+use Rattle.std_alloc.proofs.BoxSteps.{Form.{D, B, word, box_typed}, Steps.{box_out}}
 use Rattle.handed_text.proofs.LawLemmas.Handles.{HandleOf, X, Held, E, the_type, Handle, Parts, FromParts, owns_parts, owns_made, handle_ty}
+use Rattle.handed_text.specs.Ownership.{handle_owns}
 
 module _ (K : HandleOf) where
   abbrev pub function : Fn

@@ -106,7 +106,7 @@ fn is_accessed(rt: &impl Abort, machine: &mut Machine, step: Step) -> bool {
 
 fn is_mapped(rt: &impl Abort, machine: &mut Machine, address: u64, len: usize) -> bool {
     assert!(rt; 1 <= len && len <= 64);
-    let stored = machine.store(address, &[0xa5; 64][..len]);
+    let stored = machine.store_run(address, len, 0xa5);
     let (ended, loaded) = load(rt, machine, address, len);
     machine.mapped(address, len)
         && stored == Ok(())
@@ -116,7 +116,7 @@ fn is_mapped(rt: &impl Abort, machine: &mut Machine, address: u64, len: usize) -
 
 fn is_unmapped(rt: &impl Abort, machine: &mut Machine, address: u64, len: usize) -> bool {
     assert!(rt; 1 <= len && len <= 64);
-    let stored = machine.store(address, &[0xa5; 64][..len]);
+    let stored = machine.store_run(address, len, 0xa5);
     let (ended, loaded) = load(rt, machine, address, len);
     !machine.mapped(address, len)
         && stored == Err(Fault::Unmapped)

@@ -1,6 +1,5 @@
 use Rattle.std.proofs.Common.{◌≡◌, ℕ, ◌<◌, ◌++◌, List, [], ◌∷◌, length, slice_index_or, slice_set, sym, ap, ◌∙◌, Vec}
-use Rattle.std.specs.declared.alloc.Global.{Global}
-use Rattle.std.proofs.lemmas.List.{get_or-map, map-set}
+use Rattle.std.{proofs.lemmas.List.{get_or-map, map-set}, specs.declared.alloc.Global.{Global}}
 use Rattle.tuner_theory.specs.Lists.{lists_of}
 use Rattle.history_count.proofs.counted_lines.push_count.Goals as goal
 

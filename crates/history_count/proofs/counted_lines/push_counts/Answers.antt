@@ -1,6 +1,5 @@
 use Rattle.std.proofs.Common.{length, ap, sym, ◌∙◌, arith, take}
-use Rattle.tuner_theory.specs.Lists.{lists_of}
-use Rattle.tuner_theory.proofs.Lists.{lists-length}
+use Rattle.tuner_theory.{proofs.Lists.{lists-length}, specs.Lists.{lists_of}}
 use Rattle.history_count.proofs.SpreadLines.{each_more-length, each_more-more, each_more-none}
 use Rattle.history_count.proofs.counted_lines.push_counts.Goals as goal
 

@@ -1,6 +1,5 @@
 use Rattle.std.proofs.Common.{◌≤◌, slice_index, add-one, arith}
-use Rattle.tuner_theory.specs.Profiles.{greatest_count}
-use Rattle.tuner_theory.proofs.Sums.{sum_below-more}
+use Rattle.tuner_theory.{proofs.Sums.{sum_below-more}, specs.Profiles.{greatest_count}}
 use Rattle.history_count.proofs.footprint.blocks_between.Goals as goal
 
 pub loop-k-preserved : goal.loop-k-preserved

@@ -1,6 +1,5 @@
 use Rattle.std.proofs.Common.{◌≡◌, ◌+◌, ◌-◌, ◌*◌, ◌≤◌, slice_index}
-use Rattle.tuner_theory.specs.Profiles.{greatest_count}
-use Rattle.tuner_theory.specs.Waste.{sum_below}
+use Rattle.tuner_theory.specs.{Profiles.{greatest_count}, Waste.{sum_below}}
 use Rattle.history_count.proofs.footprint.blocks_between.Given as goal
 
 abbrev pub invariant-loop-k : goal.invariant-loop-k

@@ -1,11 +1,7 @@
-use Rattle.std.proofs.Common.{◌≡◌, ℕ, ◌<◌, ◌+◌, [], ◌∷◌, length, get_or, drop, max, refl, ap, ◌∙◌, arith, add-one}
-use Rattle.std.proofs.Math.Seq.{drop-cons}
-use Rattle.std.specs.Ordering.{nat_cmp, ord_max}
-use Rattle.std.proofs.lemmas.Bool.Decides.{nat_tests}
-use Rattle.tuner_theory.specs.Histories.{most}
+use Rattle.std.proofs.{Common.{◌≡◌, ℕ, ◌<◌, ◌+◌, [], ◌∷◌, length, get_or, drop, max, refl, ap, ◌∙◌, arith, add-one}, Math.Seq.{drop-cons}}
+use Rattle.std.{proofs.lemmas.Bool.Decides.{nat_tests}, specs.Ordering.{nat_cmp, ord_max}}
+use Rattle.tuner_theory.{proofs.Lists.{lists-length, row-read_at}, specs.Histories.{most}, specs.Lists.{lists_of}}
 use Rattle.history_count.specs.Histories.{blocks_from}
-use Rattle.tuner_theory.specs.Lists.{lists_of}
-use Rattle.tuner_theory.proofs.Lists.{lists-length, row-read_at}
 use Rattle.history_count.proofs.footprint.most_between.Goals as goal
 
 pub blocks_between-requires-clause-size : goal.blocks_between-requires-clause-size

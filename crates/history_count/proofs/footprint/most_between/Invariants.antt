@@ -1,8 +1,6 @@
 use Rattle.std.proofs.Common.{◌≡◌, ◌-◌, ◌*◌, ◌≤◌, max, drop}
-use Rattle.tuner_theory.specs.Histories.{most}
-use Rattle.tuner_theory.specs.Profiles.{greatest_count}
+use Rattle.tuner_theory.specs.{Histories.{most}, Lists.{lists_of}, Profiles.{greatest_count}}
 use Rattle.history_count.specs.Histories.{blocks_from}
-use Rattle.tuner_theory.specs.Lists.{lists_of}
 use Rattle.history_count.proofs.footprint.most_between.Given as goal
 
 abbrev pub invariant-loop-t : goal.invariant-loop-t

@@ -1,8 +1,7 @@
-use Rattle.std.proofs.Common.{arith}
-use Rattle.std.proofs.lemmas.Option.{get_or_from_slice_get, slice_get_within}
+use Rattle.std.proofs.{Common.{arith}, lemmas.Option.{get_or_from_slice_get, slice_get_within}}
 use Rattle.tuner_theory.specs.Lists.{lists_of}
-use Rattle.history_count.proofs.CutLines.{few-lines}
 use Rattle.history_count.proofs.ClassByClass.{by_lines-all, by_lines-below, by_lines-end, by_lines-more, by_lines-none, by_lines-small}
+use Rattle.history_count.proofs.CutLines.{few-lines}
 use Rattle.history_count.proofs.footprint.table_bytes.Goals as goal
 
 pub loop-number-init : goal.loop-number-init

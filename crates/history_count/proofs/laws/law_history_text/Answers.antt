@@ -1,5 +1,4 @@
-use Rattle.history_count.proofs.ReadIsSpelled.{history_is_spelled}
-use Rattle.history_count.proofs.SpelledIsRead.{spelled_history_is_read}
+use Rattle.history_count.proofs.{ReadIsSpelled.{history_is_spelled}, SpelledIsRead.{spelled_history_is_read}}
 use Rattle.history_count.proofs.laws.law_history_text.Goals as goal
 
 pub returns-clause-read : goal.returns-clause-read

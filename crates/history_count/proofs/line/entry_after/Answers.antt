@@ -1,10 +1,6 @@
-use Rattle.std.proofs.Common.{◌≡◌, ℕ, List, length, map, Option, Some}
-use Rattle.history_count.proofs.Entries.{IsFilled, filled-ok}
-use Rattle.history_count.specs.HistoryText.{entry_with, entry_with_numbers}
-use Rattle.history_count.specs.LineView.{GivesEntry, capped}
-use Rattle.history_count.specs.declared.fault.HistoryFault.{HistoryFault}
-use Rattle.history_count.specs.declared.line.Subject.{Subject}
-use Rattle.std.specs.Prelude.{Result}
+use Rattle.std.{proofs.Common.{◌≡◌, ℕ, List, length, map, Option, Some}, specs.Prelude.{Result}}
+use Rattle.history_count.{proofs.Entries.{IsFilled, filled-ok}, specs.HistoryText.{entry_with, entry_with_numbers}}
+use Rattle.history_count.specs.{LineView.{GivesEntry, capped}, declared.fault.HistoryFault.{HistoryFault}, declared.line.Subject.{Subject}}
 use Rattle.history_count.proofs.line.entry_after.Goals as goal
 
 -- the entry of a line by the counts that were filled in

@@ -1,8 +1,5 @@
-use Rattle.std.proofs.Common.{◌+◌, ◌*◌, ◌/◌, ◌%◌, ◌^◌, ◌∙◌, sym, ap}
-use Rattle.std.specs.Int.Bits.{bit_and}
-use Rattle.std.proofs.lemmas.Int.Digits.{digits_value_is}
-use Rattle.line_text.proofs.DigitWords.{IsDigitWord, four_digits, values}
-use Rattle.line_text.proofs.JoinedDigits.{joined_four}
+use Rattle.std.{proofs.Common.{◌+◌, ◌*◌, ◌/◌, ◌%◌, ◌^◌, ◌∙◌, sym, ap}, proofs.lemmas.Int.Digits.{digits_value_is}, specs.Int.Bits.{bit_and}}
+use Rattle.line_text.proofs.{DigitWords.{IsDigitWord, four_digits, values}, JoinedDigits.{joined_four}}
 use Rattle.line_text.proofs.digit_words.digits_in_four.Goals as goal
 
 is_word : (c : goal.Else-digits-ne0) → IsDigitWord c.args.bytes.now 4 ((c.from_le_bytes-digits.result + 3486502864) % 2 ^ 32)

@@ -1,7 +1,5 @@
 use Rattle.std.proofs.Common.{◌≡◌, ℕ, ◌+◌, ◌-◌, ◌%◌, ◌^◌, ◌<◌, leb, List, [], ◌∷◌, map, replicate, refl, ap, ◌∙◌, arith, w8, Fits}
-use Rattle.std.specs.Simd.Lanes.{Each1, mask_l, zip2}
-use Rattle.std.proofs.lemmas.Bool.Decides.{nat_tests}
-use Rattle.std.proofs.lemmas.List.{length-map}
+use Rattle.std.{proofs.lemmas.Bool.Decides.{nat_tests}, proofs.lemmas.List.{length-map}, specs.Simd.Lanes.{Each1, mask_l, zip2}}
 use Rattle.std.proofs.lemmas.Simd.{map-map, mask_l-mod, tops_compared, zip2_splat, zip2_splat_left}
 use Rattle.line_text.specs.Numbers.{is_no_digit}
 use Rattle.line_text.proofs.digit_words.no_digits.Goals as goal

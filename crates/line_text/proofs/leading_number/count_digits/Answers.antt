@@ -1,6 +1,5 @@
 use Rattle.std.proofs.Common.{◌+◌, sym, ◌∙◌, arith}
-use Rattle.line_text.proofs.Digits.{one_more, digits_more, room_for_one}
-use Rattle.line_text.proofs.LeadingDigits.{leading_up_to, reaches}
+use Rattle.line_text.proofs.{Digits.{one_more, digits_more, room_for_one}, LeadingDigits.{leading_up_to, reaches}}
 use Rattle.line_text.proofs.leading_number.count_digits.Goals as goal
 
 pub returns-then-end-eq-SHORT_DIGITS : goal.returns-then-end-eq-SHORT_DIGITS

@@ -1,11 +1,8 @@
-use Rattle.std.proofs.Common.{◌<◌, ◌∙◌, refl, sym, ap, inl, inr, Some, arith, ne_eqb}
-use Rattle.std.proofs.lemmas.Grind.{common_steps}
-use Rattle.std.proofs.lemmas.List.Sums.{prefix_len-le-length}
-use Rattle.std.specs.Char.{is_ascii_digit}
-use Rattle.std.specs.List.{prefix_len}
+use Rattle.std.proofs.{Common.{◌<◌, ◌∙◌, refl, sym, ap, inl, inr, Some, arith, ne_eqb}, lemmas.Grind.{common_steps}}
+use Rattle.std.{proofs.lemmas.List.Sums.{prefix_len-le-length}, specs.Char.{is_ascii_digit}, specs.List.{prefix_len}}
 use Rattle.line_text.proofs.LeadingDigits.{are_digits, no_number, a_number}
-use Rattle.line_text.proofs.leading_number.leading_number.Goals as goal
 use Rattle.line_text.proofs.leading_number.leading_number.Goals.{then-end-eq0-via-then-end-eq0, then-end-eq0-via-else-end-eq0+then-end-gt1}
+use Rattle.line_text.proofs.leading_number.leading_number.Goals as goal
 
 pub returns-then-end-eq0-clause-number : goal.returns-then-end-eq0-clause-number
 returns-then-end-eq0-clause-number c =

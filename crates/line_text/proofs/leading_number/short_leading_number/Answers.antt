@@ -1,13 +1,8 @@
 use Rattle.std.proofs.Common.{◌≡◌, ◌^◌, ◌<◌, ◌≤◌, ◌∙◌, ℕ, List, min, take, length, refl, sym, ap, inl, inr, Some, arith, ne_eqb}
-use Rattle.std.proofs.lemmas.Grind.{common_steps}
-use Rattle.std.proofs.lemmas.List.{length-take-le, take-take}
-use Rattle.std.proofs.lemmas.List.Sums.{prefix_len-le-length}
-use Rattle.std.proofs.lemmas.Str.Parse.{digits_value_short}
-use Rattle.std.specs.Char.{is_ascii_digit}
-use Rattle.std.specs.List.{prefix_len}
+use Rattle.std.proofs.lemmas.{Grind.{common_steps}, List.{length-take-le, take-take}, List.Sums.{prefix_len-le-length}}
+use Rattle.std.{proofs.lemmas.Str.Parse.{digits_value_short}, specs.Char.{is_ascii_digit}, specs.List.{prefix_len}}
 use Rattle.std.specs.Str.Parse.{digits_value}
-use Rattle.line_text.proofs.Digits.{own}
-use Rattle.line_text.proofs.LeadingDigits.{are_digits, a_number, prefix_len-take}
+use Rattle.line_text.proofs.{Digits.{own}, LeadingDigits.{are_digits, a_number, prefix_len-take}}
 use Rattle.line_text.proofs.leading_number.short_leading_number.Goals as goal
 
 -- so many digits are in front of a text, and this is their value

@@ -1,9 +1,19 @@
-use Rattle.std.proofs.Common.{◌≡◌, ℕ, ◌-◌, ◌∙◌, get_or, take_all, true, ap, sym, arith}
+use Rattle.std.proofs.Common.{◌≡◌, ℕ, ◌-◌, ◌∙◌, get_or, take_all, true, ap, sym, arith, ◌+◌, ◌%◌, ◌^◌, ◌<◌, ◌≤◌, false}
 use Rattle.std.specs.Char.{is_ascii_digit}
-use Rattle.line_text.proofs.Digits.{one_more, digits_more, room_for_one}
-use Rattle.line_text.proofs.LeadingDigits.{ends_at}
-use Rattle.line_text.proofs.DigitDistance.{distance, near_digit, far_digit}
+use Rattle.line_text.proofs.{Digits.{one_more, digits_more, room_for_one}, LeadingDigits.{ends_at}}
 use Rattle.line_text.proofs.near_digits.last_digits.Goals as goal
+
+-- A byte as a digit, by its distance from `0` in 64 bits.
+
+-- the distance, which is large for a byte below `0`
+abbrev distance : ℕ → ℕ
+distance byte = (byte + (2 ^ 64 - 48)) % 2 ^ 64
+
+near_digit : (byte : ℕ) → byte < 2 ^ 64 → distance byte ≤ 9 → (is_ascii_digit byte ≡ true) × (distance byte ≡ byte - 48)
+near_digit byte small near = grind arith
+
+far_digit : (byte : ℕ) → byte < 2 ^ 64 → 9 < distance byte → is_ascii_digit byte ≡ false
+far_digit byte small far = grind arith
 
 pub returns-then-digit-gt9 : goal.returns-then-digit-gt9
 returns-then-digit-gt9 c =

@@ -1,8 +1,5 @@
-use Rattle.std.proofs.Common.{◌≡◌, ℕ, ◌∙◌, List, take, ap, arith}
-use Rattle.std.specs.Char.{is_ascii_digit}
-use Rattle.std.specs.List.{prefix_len}
-use Rattle.std.specs.Str.Parse.{digits_value}
-use Rattle.std.proofs.lemmas.List.{take-take}
+use Rattle.std.{proofs.Common.{◌≡◌, ℕ, ◌∙◌, List, take, ap, arith}, proofs.lemmas.List.{take-take}, specs.Char.{is_ascii_digit}}
+use Rattle.std.specs.{List.{prefix_len}, Str.Parse.{digits_value}}
 use Rattle.line_text.proofs.LeadingDigits.{prefix_len-take}
 use Rattle.line_text.proofs.near_digits.near_digits.Goals as goal
 

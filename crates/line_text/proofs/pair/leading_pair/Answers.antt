@@ -1,8 +1,7 @@
-use Rattle.std.proofs.Common.{◌≡◌, ◌<◌, ◌∙◌, ℕ, ◌∷◌, ◌++◌, List, length, refl, sym, ap, arith, eqb-true}
-use Rattle.std.proofs.lemmas.Bool.Decides.{nat_tests}
+use Rattle.std.proofs.{Common.{◌≡◌, ◌<◌, ◌∙◌, ℕ, ◌∷◌, ◌++◌, List, length, refl, sym, ap, arith, eqb-true}, lemmas.Bool.Decides.{nat_tests}}
 use Rattle.std.specs.Option.{option_map}
-use Rattle.line_text.specs.Numbers.{leading_digits}
 use Rattle.line_text.proofs.FirstPairs.{no_first, no_space, no_second, no_end, pair_ends, after_pair, nothing_left}
+use Rattle.line_text.specs.Numbers.{leading_digits}
 use Rattle.line_text.proofs.pair.leading_pair.Goals as goal
 
 onto_space : (text tail more : List ℕ) → text ≡ leading_digits text ++ tail → tail ≡ 32 ∷ more → text ≡ leading_digits text ++ 32 ∷ more

@@ -1,7 +1,5 @@
 use Rattle.std.proofs.Common.{◌≡◌, ◌-◌, ◌^◌, ◌<◌, ℕ, min, List, [], ◌∷◌, length, take, refl, sym, arith, eqb-true, Option, None, Some}
-use Rattle.std.proofs.lemmas.Grind.{common_steps}
-use Rattle.std.proofs.lemmas.List.{take_more_set}
-use Rattle.std.proofs.lemmas.Option.{same_Some}
+use Rattle.std.proofs.lemmas.{Grind.{common_steps}, List.{take_more_set}, Option.{same_Some}}
 use Rattle.std.specs.Option.{option_map}
 use Rattle.line_text.proofs.FirstRows.{after-ended, after-last, row-ended, row-first, row-last, row-more}
 use Rattle.line_text.proofs.row.leading_row.Goals as goal

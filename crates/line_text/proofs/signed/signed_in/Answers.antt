@@ -1,5 +1,4 @@
-use Rattle.line_text.specs.Numbers.{number_of}
-use Rattle.line_text.proofs.Signs.{signed_of-minus, signed_of-other}
+use Rattle.line_text.{proofs.Signs.{signed_of-minus, signed_of-other}, specs.Numbers.{number_of}}
 use Rattle.line_text.proofs.signed.signed_in.Goals as goal
 
 pub returns-in-Some : goal.returns-in-Some

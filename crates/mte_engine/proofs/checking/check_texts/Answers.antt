@@ -1,20 +1,13 @@
-use Rattle.std.proofs.Common.{List, ℕ, ◌+◌, length, Result}
-use Rattle.std.proofs.lemmas.Result.{err_from_is_err_and}
+use Rattle.std.proofs.{Common.{List, ℕ, ◌+◌, length, Result}, lemmas.Result.{err_from_is_err_and}}
 use Rattle.byte_streams.specs.TextLeft.{text_left}
 use Rattle.line_text.specs.Lines.{lines}
 use Rattle.profile_count.specs.ProfileText.{profile_of}
-use Rattle.potential_check.specs.SheetText.{sheet_of_lines}
+use Rattle.potential_check.specs.{Certificates.SheetView.{sheet_of}, Leading.{leading_lines, lines_after}, SheetText.{sheet_of_lines}}
 use Rattle.potential_check.specs.declared.cost.Cost.TheVariants.{Waste}
-use Rattle.potential_check.specs.Certificates.SheetView.{sheet_of}
-use Rattle.potential_check.specs.Leading.{leading_lines, lines_after}
-use Rattle.tuner_theory.specs.Profiles.{Profile as Counted}
-use Rattle.tuner_theory.specs.Sheets.{Sheet}
-use Rattle.mte_engine.specs.Check.{IsChecked}
-use Rattle.mte_engine.specs.Outcome.{Answer}
-use Rattle.mte_engine.specs.Parts.{profile_part, sheet_part, whole_sheet_part}
-use Rattle.mte_engine.specs.declared.fault.InputFault.{InputFault}
+use Rattle.tuner_theory.specs.{Profiles.{Profile as Counted}, Sheets.{Sheet}}
+use Rattle.mte_engine.{proofs.TwoParts.{first_refused, others_refused, part_alone, part_refused, then_answered}, specs.Check.{IsChecked}}
+use Rattle.mte_engine.specs.{Outcome.{Answer}, Parts.{profile_part, sheet_part, whole_sheet_part}, declared.fault.InputFault.{InputFault}}
 use Rattle.mte_engine.specs.declared.fault.InputFault.TheVariants.{BadSheet}
-use Rattle.mte_engine.proofs.TwoParts.{first_refused, others_refused, part_alone, part_refused, then_answered}
 use Rattle.mte_engine.proofs.checking.check_texts.Goals as goal
 
 abbrev says : Sheet × Counted → Answer → Type 0

@@ -1,8 +1,6 @@
-use Rattle.std.proofs.Common.{List, sym, ◌∙◌, Err, Result}
-use Rattle.std.proofs.lemmas.Result.{err_from_is_err_and}
+use Rattle.std.proofs.{Common.{List, sym, ◌∙◌, Err, Result}, lemmas.Result.{err_from_is_err_and}}
 use Rattle.tuner_theory.specs.declared.size_event.SizeEvent.{SizeEvent}
-use Rattle.mte_engine.specs.declared.fault.AnswerError.{AnswerError}
-use Rattle.mte_engine.proofs.CountsInput.{counts_failed, text_kept, timeline_ended}
+use Rattle.mte_engine.{proofs.CountsInput.{counts_failed, text_kept, timeline_ended}, specs.declared.fault.AnswerError.{AnswerError}}
 use Rattle.mte_engine.proofs.counts_input.read_counts.Goals as goal
 
 pub returns-in_err-end_timeline : goal.returns-in_err-end_timeline

@@ -1,7 +1,30 @@
-use Rattle.std.proofs.Common.{rules}
+use Rattle.std.proofs.{Common.{rules, ◌≡◌, ℕ, ◌≤◌, false, ltb, List, ◌++◌, length, Result, Ok, Err, arith, subst}, lemmas.Bool.{le-ltb}}
 use Rattle.std.proofs.lemmas.Result.{err_from_is_err_and}
-use Rattle.mte_engine.proofs.Outcomes.{write_failed}
+use Rattle.byte_streams.specs.{Streams.{SinkState, SourceState}, Transfer.{HasEnded, HasGiven, HasTaken, most_input}}
+use Rattle.mte_engine.specs.{Outcome.{Answer, AnswersGiven, Reports}, declared.engine.Status.{Status}}
+use Rattle.mte_engine.specs.declared.fault.{InputFault.{InputFault}, ToolFault.TheVariants.{WriteFault}}
 use Rattle.mte_engine.proofs.engine.run_engine.Goals as goal
+
+-- From what the two loops did to what a call of an engine wrote.
+
+-- an answer to all that a source gave
+answers_given : (answers : List ℕ → Result Answer InputFault → Type 0) (source source' : SourceState) (input : List ℕ)
+    (answer : Result Answer InputFault) → HasGiven source source' input → length input ≤ most_input → HasEnded source' → answers input answer
+    → AnswersGiven answers source source' answer
+answers_given answers source source' input answer gave short ended given =
+    let fits : ltb most_input (length input) ≡ false = le-ltb most_input (length input) (omega arith) in
+    (input, gave, rw fits given, λ _. ended)
+
+-- a write failed: the sink took a prefix of the text of the answer
+write_failed : (answers : List ℕ → Result Answer InputFault → Type 0) (source source' : SourceState) {W : Type 0} (state : W → SinkState)
+    (sink sink' : W) (input text : List ℕ) (status : Status)
+    (written rest : List ℕ) → length input ≤ most_input → HasGiven source source' input → HasEnded source'
+    → answers input (Ok (record { text = text; status = status })) → text ≡ written ++ rest
+    → HasTaken (state sink) (state sink') written → Reports answers source source' state sink sink' (Err WriteFault)
+write_failed answers source source' state sink sink' input text status written rest short gave ended given parts taken =
+    let prefix : answers input (Ok (record { text = written ++ rest; status = status })) =
+    subst (λ (t : List ℕ). answers input (Ok (record { text = t; status = status }))) parts given in
+    (written, rest, status, answers_given answers source source' input _ gave short ended prefix, taken)
 
 pub returns-in_err-write_all : goal.returns-in_err-write_all
 returns-in_err-write_all g c =

@@ -1,23 +1,15 @@
-use Rattle.std.proofs.Common.{List, ℕ, ◌+◌, length, Err, sym, ◌∙◌, Result}
-use Rattle.std.proofs.lemmas.Result.{err_from_is_err_and}
+use Rattle.std.proofs.{Common.{List, ℕ, ◌+◌, length, Err, sym, ◌∙◌, Result}, lemmas.Result.{err_from_is_err_and}}
 use Rattle.byte_streams.specs.TextLeft.{text_left}
-use Rattle.history_count.specs.Histories.{History}
-use Rattle.history_count.specs.HistoryText.{history_of}
-use Rattle.history_count.specs.Timelines.TimelineText.{timeline_of}
+use Rattle.history_count.specs.{Histories.{History}, HistoryText.{history_of}, Timelines.TimelineText.{timeline_of}}
 use Rattle.line_text.specs.Lines.{lines}
-use Rattle.potential_check.specs.Certificates.SheetView.{sheet_of}
-use Rattle.potential_check.specs.Leading.{leading_lines, lines_after}
-use Rattle.potential_check.specs.SheetText.{fit_of_lines}
+use Rattle.potential_check.specs.{Certificates.SheetView.{sheet_of}, Leading.{leading_lines, lines_after}, SheetText.{fit_of_lines}}
 use Rattle.potential_check.specs.declared.cost.Cost.TheVariants.{Footprint}
-use Rattle.tuner_theory.specs.Sheets.{Sheet}
-use Rattle.tuner_theory.specs.declared.size_event.SizeEvent.{SizeEvent}
-use Rattle.mte_engine.specs.CheckFit.{ChecksFitParts, IsFitChecked}
+use Rattle.tuner_theory.specs.{Sheets.{Sheet}, declared.size_event.SizeEvent.{SizeEvent}}
+use Rattle.mte_engine.proofs.TwoParts.{either_refused, first_refused, other_answers, others_refused, part_alone, part_refused}
+use Rattle.mte_engine.{proofs.TwoParts.{then_answered, one_answers}, specs.CheckFit.{ChecksFitParts, IsFitChecked}, specs.Outcome.{Answer}}
 use Rattle.mte_engine.specs.CheckFitOver.{ChecksOverParts, IsCheckedOver, begins_moments, whole_moments_part}
-use Rattle.mte_engine.specs.Outcome.{Answer}
 use Rattle.mte_engine.specs.Parts.{both_parts, history_part, sheet_part, timeline_part, whole_sheet_part}
-use Rattle.mte_engine.specs.declared.fault.InputFault.{InputFault}
-use Rattle.mte_engine.specs.declared.fault.InputFault.TheVariants.{BadFit}
-use Rattle.mte_engine.proofs.TwoParts.{either_refused, first_refused, other_answers, others_refused, part_alone, part_refused, then_answered, one_answers}
+use Rattle.mte_engine.specs.declared.fault.{InputFault.{InputFault}, InputFault.TheVariants.{BadFit}}
 use Rattle.mte_engine.proofs.fit_checking.check_fit_texts.Goals as goal
 
 abbrev over : Sheet × (List ℕ × List SizeEvent) → Answer → Type 0

@@ -1,16 +1,11 @@
-use Rattle.std.proofs.Common.{◌≡◌, ◌+◌, ◌∷◌, List, ℕ, sym, ◌∙◌}
-use Rattle.std.proofs.lemmas.Result.{err_from_is_err_and}
+use Rattle.std.proofs.{Common.{◌≡◌, ◌+◌, ◌∷◌, List, ℕ, sym, ◌∙◌}, lemmas.Result.{err_from_is_err_and}}
 use Rattle.byte_streams.specs.TextLeft.{text_left}
 use Rattle.history_count.specs.Timelines.TimelineText.{timeline_of_lines}
 use Rattle.line_text.specs.Lines.{lines}
-use Rattle.potential_check.specs.Certificates.SheetView.{sheet_of}
-use Rattle.potential_check.specs.Footprints.Timelines.MomentsLine.{moments_of}
-use Rattle.tuner_theory.specs.Sheets.{Sheet}
-use Rattle.tuner_theory.specs.declared.size_event.SizeEvent.{SizeEvent}
-use Rattle.mte_engine.specs.CheckFitOver.{IsCheckedOver, moments_part}
-use Rattle.mte_engine.specs.Outcome.{Answer}
-use Rattle.mte_engine.specs.Parts.{timeline_part}
-use Rattle.mte_engine.proofs.TwoParts.{first_refused, then_answered}
+use Rattle.potential_check.specs.{Certificates.SheetView.{sheet_of}, Footprints.Timelines.MomentsLine.{moments_of}}
+use Rattle.tuner_theory.specs.{Sheets.{Sheet}, declared.size_event.SizeEvent.{SizeEvent}}
+use Rattle.mte_engine.{proofs.TwoParts.{first_refused, then_answered}, specs.CheckFitOver.{IsCheckedOver, moments_part}}
+use Rattle.mte_engine.specs.{Outcome.{Answer}, Parts.{timeline_part}}
 use Rattle.mte_engine.proofs.fit_checking_over.check_after_moments.Goals as goal
 
 abbrev says : Sheet → List ℕ × List SizeEvent → Answer → Type 0

@@ -1,10 +1,8 @@
-use Rattle.std.proofs.Common.{◌≡◌, ◌+◌, ◌∷◌, arith, sym, ◌∙◌}
-use Rattle.std.proofs.lemmas.Result.{err_from_is_err_and}
+use Rattle.std.proofs.{Common.{◌≡◌, ◌+◌, ◌∷◌, arith, sym, ◌∙◌}, lemmas.Result.{err_from_is_err_and}}
 use Rattle.line_text.specs.Lines.{lines}
 use Rattle.potential_check.specs.Footprints.Timelines.MomentsLine.{moments_of}
-use Rattle.mte_engine.specs.CheckFitOver.{moments_part}
+use Rattle.mte_engine.{proofs.TwoParts.{others_refused, part_alone, part_refused}, specs.CheckFitOver.{moments_part}}
 use Rattle.mte_engine.specs.declared.fault.InputFault.TheVariants.{BadFit}
-use Rattle.mte_engine.proofs.TwoParts.{others_refused, part_alone, part_refused}
 use Rattle.mte_engine.proofs.fit_checking_over.read_whole_moments.Goals as goal
 
 pub returns-in_err-numbers : goal.returns-in_err-numbers

@@ -1,12 +1,7 @@
-use Rattle.std.proofs.Common.{Ok}
-use Rattle.std.proofs.lemmas.Result.{err_from_is_err_and}
+use Rattle.std.proofs.{Common.{Ok}, lemmas.Result.{err_from_is_err_and}}
 use Rattle.line_text.specs.Lines.{lines}
-use Rattle.mte_engine.specs.Fit.{FitAnswers}
-use Rattle.mte_engine.specs.FitOver.{FitOverAnswers}
-use Rattle.mte_engine.specs.SheetLeft.{sheet_left}
-use Rattle.mte_engine.specs.Timelines.{begins_timeline}
-use Rattle.mte_engine.proofs.CountsInput.{counts_refused}
-use Rattle.mte_engine.proofs.TwoParts.{one_answers, other_answers}
+use Rattle.mte_engine.{proofs.CountsInput.{counts_refused}, proofs.TwoParts.{one_answers, other_answers}, specs.Fit.{FitAnswers}}
+use Rattle.mte_engine.specs.{FitOver.{FitOverAnswers}, SheetLeft.{sheet_left}, Timelines.{begins_timeline}}
 use Rattle.mte_engine.proofs.fitting.fit_either.Goals as goal
 
 pub returns-in_err-timeline : goal.returns-in_err-timeline

@@ -1,16 +1,10 @@
 use Rattle.std.proofs.Common.{◌∙◌, ap, subst, List, ℕ}
-use Rattle.potential_check.specs.Certificates.SheetView.{sheet_of}
-use Rattle.potential_check.specs.SheetText.{fit_text}
-use Rattle.potential_check.specs.declared.cost.OfFootprint.{OfFootprint}
+use Rattle.potential_check.specs.{Certificates.SheetView.{sheet_of}, SheetText.{fit_text}, declared.cost.OfFootprint.{OfFootprint}}
 use Rattle.potential_check.specs.declared.certificates.certificate.Certificate.{Certificate}
-use Rattle.tuner_theory.proofs.FootprintLawLemmas.{peaks_are_counts}
-use Rattle.tuner_theory.specs.Served.{served}
-use Rattle.tuner_theory.proofs.LawLemmas.{few_places}
-use Rattle.tuner_theory.proofs.Served.{served_are_counts}
+use Rattle.tuner_theory.proofs.{FootprintLawLemmas.{peaks_are_counts}, LawLemmas.{few_places}, Served.{served_are_counts}}
+use Rattle.tuner_theory.specs.{Histories.{AreSnapshots, peaks}, Served.{served}}
 use Rattle.history_count.specs.Histories.{History}
-use Rattle.tuner_theory.specs.Histories.{AreSnapshots, peaks}
-use Rattle.mte_engine.specs.declared.engine.Status.TheVariants.{Done}
-use Rattle.mte_engine.proofs.RowLines.{short_rows}
+use Rattle.mte_engine.{proofs.RowLines.{short_rows}, specs.declared.engine.Status.TheVariants.{Done}}
 use Rattle.mte_engine.proofs.fitting.fit_text.Goals as goal
 
 pub of_sheet-requires : goal.of_sheet-requires

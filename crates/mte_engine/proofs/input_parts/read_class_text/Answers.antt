@@ -1,11 +1,8 @@
-use Rattle.std.proofs.Common.{◌≡◌, ◌∷◌, sym, ◌∙◌}
-use Rattle.std.proofs.lemmas.Result.{err_from_is_err_and}
-use Rattle.class_table.specs.ClassLine.{table_of_line}
-use Rattle.class_table.specs.declared.fault.TableError.TheVariants.{BadLine}
+use Rattle.std.proofs.{Common.{◌≡◌, ◌∷◌, sym, ◌∙◌}, lemmas.Result.{err_from_is_err_and}}
+use Rattle.class_table.specs.{ClassLine.{table_of_line}, declared.fault.TableError.TheVariants.{BadLine}}
 use Rattle.line_text.specs.Lines.{lines}
-use Rattle.mte_engine.specs.Parts.{table_part}
+use Rattle.mte_engine.{proofs.TwoParts.{others_refused, part_alone, part_refused}, specs.Parts.{table_part}}
 use Rattle.mte_engine.specs.declared.fault.InputFault.TheVariants.{Table}
-use Rattle.mte_engine.proofs.TwoParts.{others_refused, part_alone, part_refused}
 use Rattle.mte_engine.proofs.input_parts.read_class_text.Goals as goal
 
 pub returns-in_err-table : goal.returns-in_err-table

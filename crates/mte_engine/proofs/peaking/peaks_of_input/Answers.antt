@@ -1,5 +1,4 @@
-use Rattle.mte_engine.specs.CountsInput.{HasTakenCounts}
-use Rattle.mte_engine.proofs.CountsInput.{line_and_rest}
+use Rattle.mte_engine.{proofs.CountsInput.{line_and_rest}, specs.CountsInput.{HasTakenCounts}}
 use Rattle.mte_engine.proofs.peaking.peaks_of_input.Goals as goal
 
 pub returns : goal.returns

@@ -1,7 +1,6 @@
 use Rattle.byte_streams.specs.TextLeft.{text_left}
-use Rattle.std.proofs.Common.{◌≡◌, ap, ◌∙◌, List, ℕ, ◌++◌}
+use Rattle.std.proofs.{Common.{◌≡◌, ap, ◌∙◌, List, ℕ, ◌++◌}, lemmas.Result.{err_from_is_err_and}}
 use Rattle.profile_count.specs.ProfileText.{profile_text}
-use Rattle.std.proofs.lemmas.Result.{err_from_is_err_and}
 use Rattle.mte_engine.proofs.TracePieces.{profile_refused, profile_written}
 use Rattle.mte_engine.proofs.profiling.profile_of_trace.Goals as goal
 

@@ -1,6 +1,5 @@
 use Rattle.std.proofs.lemmas.Result.{err_from_is_err_and}
-use Rattle.mte_engine.specs.ReportLeft.{report_left}
-use Rattle.mte_engine.proofs.LineAndTrace.{line_refused, line_replayed}
+use Rattle.mte_engine.{proofs.LineAndTrace.{line_refused, line_replayed}, specs.ReportLeft.{report_left}}
 use Rattle.mte_engine.proofs.replaying.answer_to_parts.Goals as goal
 
 pub returns-in_err-table : goal.returns-in_err-table

@@ -1,8 +1,6 @@
 use Rattle.std.proofs.lemmas.Result.{err_from_is_err_and}
 use Rattle.line_text.specs.Lines.{lines}
-use Rattle.mte_engine.specs.Replay.{replay_answer_on}
-use Rattle.mte_engine.specs.ReportLeft.{report_left}
-use Rattle.mte_engine.proofs.LineAndTrace.{class_refused, class_replayed}
+use Rattle.mte_engine.{proofs.LineAndTrace.{class_refused, class_replayed}, specs.Replay.{replay_answer_on}, specs.ReportLeft.{report_left}}
 use Rattle.mte_engine.proofs.replaying.answer_to_texts.Goals as goal
 
 pub returns-in_err-table : goal.returns-in_err-table

@@ -1,8 +1,5 @@
-use Rattle.std.proofs.lemmas.Result.{err_from_is_err_and}
-use Rattle.std.proofs.Common.{ap, ◌∙◌, List, ℕ, ◌++◌}
-use Rattle.mte_engine.specs.Replay.{report_on}
-use Rattle.mte_engine.specs.ReportLeft.{report_left}
-use Rattle.mte_engine.proofs.LineAndTrace.{report_written, trace_is_refused}
+use Rattle.std.proofs.{Common.{ap, ◌∙◌, List, ℕ, ◌++◌}, lemmas.Result.{err_from_is_err_and}}
+use Rattle.mte_engine.{proofs.LineAndTrace.{report_written, trace_is_refused}, specs.Replay.{report_on}, specs.ReportLeft.{report_left}}
 use Rattle.mte_engine.proofs.replaying.report_over.Goals as goal
 
 pub returns-in_err-end : goal.returns-in_err-end

@@ -1,7 +1,5 @@
-use Rattle.std.proofs.Common.{◌≡◌, ◌++◌, ◌∙◌, ap, [], drop, take, arith}
-use Rattle.std.proofs.lemmas.List.{drop_all}
-use Rattle.mte_engine.specs.ReportFrom.{report_from}
-use Rattle.mte_engine.proofs.Reporting.{reported_all}
+use Rattle.std.proofs.{Common.{◌≡◌, ◌++◌, ◌∙◌, ap, [], drop, take, arith}, lemmas.List.{drop_all}}
+use Rattle.mte_engine.{proofs.Reporting.{reported_all}, specs.ReportFrom.{report_from}}
 use Rattle.mte_engine.proofs.report.fill.Goals as goal
 
 pub returns-then-is_whole-clause-report : goal.returns-then-is_whole-clause-report

@@ -1,8 +1,7 @@
 use Rattle.std.proofs.Common.{◌≡◌, ◌+◌, ◌∙◌, ap, refl, drop, length-drop, take, arith}
 use Rattle.trace_event.specs.declared.event.Event.{Event}
 use Rattle.replay_core.specs.ReplayState.{Stored, stored_after}
-use Rattle.mte_engine.proofs.InFront.{in_front}
-use Rattle.mte_engine.proofs.Reporting.{events_after, reported_more}
+use Rattle.mte_engine.proofs.{InFront.{in_front}, Reporting.{events_after, reported_more}}
 use Rattle.mte_engine.proofs.report.write_lines.Goals as goal
 
 one_more : (before after : Stored) (event : Event) → after ≡ stored_after before event → after.totals.events ≡ before.totals.events + 1

@@ -1,13 +1,9 @@
-use Rattle.std.proofs.Common.{◌≡◌, sym, ◌∙◌, List, ℕ, Result}
-use Rattle.std.proofs.lemmas.Result.{err_from_is_err_and}
+use Rattle.std.proofs.{Common.{◌≡◌, sym, ◌∙◌, List, ℕ, Result}, lemmas.Result.{err_from_is_err_and}}
 use Rattle.byte_streams.specs.TextLeft.{text_left}
 use Rattle.tuner_theory.specs.Profiles.{Profile as Counted}
 use Rattle.profile_count.specs.ProfileText.{profile_of_lines}
-use Rattle.mte_engine.specs.Outcome.{Answer}
-use Rattle.mte_engine.specs.Parts.{profile_part}
-use Rattle.mte_engine.specs.Score.{scored}
-use Rattle.mte_engine.specs.declared.fault.InputFault.{InputFault}
-use Rattle.mte_engine.proofs.TwoParts.{no_line, table_refused, table_then}
+use Rattle.mte_engine.{proofs.TwoParts.{no_line, table_refused, table_then}, specs.Outcome.{Answer}, specs.Parts.{profile_part}}
+use Rattle.mte_engine.specs.{Score.{scored}, declared.fault.InputFault.{InputFault}}
 use Rattle.mte_engine.proofs.scoring.score_of_text.Goals as goal
 
 abbrev after : List (List ℕ) → Result Counted InputFault

@@ -1,13 +1,10 @@
-use Rattle.std.proofs.Common.{◌≡◌, List, ℕ}
-use Rattle.std.proofs.lemmas.Result.{err_from_is_err_and}
+use Rattle.std.proofs.{Common.{◌≡◌, List, ℕ}, lemmas.Result.{err_from_is_err_and}}
 use Rattle.byte_streams.specs.TextLeft.{text_left}
 use Rattle.line_text.specs.Lines.{lines}
 use Rattle.profile_count.specs.ProfileText.{profile_of}
 use Rattle.tuner_theory.specs.Profiles.{Profile as Counted}
-use Rattle.mte_engine.specs.Outcome.{Answer}
-use Rattle.mte_engine.specs.Parts.{class_part, profile_part}
+use Rattle.mte_engine.{proofs.TwoParts.{first_refused, then_answered}, specs.Outcome.{Answer}, specs.Parts.{class_part, profile_part}}
 use Rattle.mte_engine.specs.Score.{scored}
-use Rattle.mte_engine.proofs.TwoParts.{first_refused, then_answered}
 use Rattle.mte_engine.proofs.scoring.score_of_texts.Goals as goal
 
 abbrev says : List ℕ × Counted → Answer → Type 0

@@ -1,5 +1,4 @@
-use Rattle.std.proofs.Common.{◌≤◌, ◌∷◌, ap, arith, length}
-use Rattle.std.proofs.lemmas.List.{length-append}
+use Rattle.std.proofs.{Common.{◌≤◌, ◌∷◌, ap, arith, length}, lemmas.List.{length-append}}
 use Rattle.trace_reader.specs.TraceLine.{event_line}
 use Rattle.mte_engine.proofs.CountedLines.{one_line_more}
 use Rattle.mte_engine.proofs.trace_counting.count_lines.Goals as goal

@@ -1,5 +1,4 @@
-use Rattle.std.proofs.Common.{◌≡◌, ◌<◌, List, ◌++◌, ◌∷◌, [], length, arith, sym, ap, ◌∙◌}
-use Rattle.std.proofs.lemmas.List.{length-append}
+use Rattle.std.proofs.{Common.{◌≡◌, ◌<◌, List, ◌++◌, ◌∷◌, [], length, arith, sym, ap, ◌∙◌}, lemmas.List.{length-append}}
 use Rattle.replay_theory.specs.Losses.{requested_sizes}
 use Rattle.trace_event.specs.declared.event.Event.{Event}
 use Rattle.profile_count.specs.Requests.{profile_of_sizes}

@@ -1,13 +1,8 @@
 use Rattle.std.proofs.Common.{◌∙◌, ap, List, ℕ}
-use Rattle.potential_check.specs.Certificates.SheetView.{sheet_of}
-use Rattle.potential_check.specs.SheetText.{sheet_text}
-use Rattle.potential_check.specs.declared.cost.OfWaste.{OfWaste}
+use Rattle.potential_check.specs.{Certificates.SheetView.{sheet_of}, SheetText.{sheet_text}, declared.cost.OfWaste.{OfWaste}}
 use Rattle.potential_check.specs.declared.certificates.certificate.Certificate.{Certificate}
-use Rattle.tuner_theory.specs.Served.{served}
-use Rattle.tuner_theory.proofs.LawLemmas.{few_places}
-use Rattle.tuner_theory.proofs.Served.{served_are_counts}
-use Rattle.mte_engine.specs.declared.engine.Status.TheVariants.{Done}
-use Rattle.mte_engine.proofs.RowLines.{short_rows}
+use Rattle.tuner_theory.{proofs.LawLemmas.{few_places}, proofs.Served.{served_are_counts}, specs.Served.{served}}
+use Rattle.mte_engine.{proofs.RowLines.{short_rows}, specs.declared.engine.Status.TheVariants.{Done}}
 use Rattle.mte_engine.proofs.tuning.tune_text.Goals as goal
 
 pub of_sheet-requires : goal.of_sheet-requires

@@ -1,12 +1,25 @@
-use Rattle.std.proofs.Common.{◌≡◌, ◌∙◌, List, ap, arith, length, rules, subst, take}
-use Rattle.mte_step.proofs.Room.{granules_of_replay}
-use Rattle.mte_step.specs.Picture.{IsDrawn}
+use Rattle.std.proofs.Common.{◌≡◌, ◌∙◌, List, ap, arith, length, rules, subst, take, ℕ, Ok}
+use Rattle.mte_step.{proofs.picture.picture_after.Goals.{then-tags-granules-via-then-tags-granules}, specs.Picture.{IsDrawn}}
+use Rattle.mte_step.proofs.picture.picture_after.Goals.{then-tags-granules-via-else-tags-granules+then-kinds-granules}
 use Rattle.mte_step.specs.Pictured.{read_of}
-use Rattle.heap_theory.specs.Config.{layout_for}
+use Rattle.heap_theory.specs.{Config.{layout_for, IsConfig}, Sound.{IsSoundHeap}, declared.config.Config.{Config}}
+use Rattle.replay_theory.proofs.{Answered.{stored_part}, LayoutStays.{layout_of_run}, RunKept.{IsRunWith-run}}
 use Rattle.replay_theory.specs.Replay.{Replay, first_replay, replay_of}
 use Rattle.trace_event.specs.declared.event.Event.{Event}
-use Rattle.mte_step.proofs.picture.picture_after.Goals.{then-tags-granules-via-then-tags-granules, then-tags-granules-via-else-tags-granules+then-kinds-granules}
+use Rattle.class_table.{proofs.LawLemmas.{read_line_is_spelled}, specs.ClassLine.{table_of_line}, specs.Layout.{IsPartition, Partition}}
 use Rattle.mte_step.proofs.picture.picture_after.Goals as goal
+
+-- A heap in a replay has as many granules as its configuration says.
+granules_of_replay : (config : Config) (line table : List ℕ) (events : List Event) → IsConfig config → table_of_line line ≡ Ok table
+    → length (replay_of (first_replay (layout_for config table) config.seed config.quarantine) events).heap.memory ≡ config.granules
+granules_of_replay config line table events is spelled =
+    let layout : Partition = layout_for config table in
+    let partition : IsPartition layout =
+    record { table = (read_line_is_spelled line table spelled).1; least = is.granules.0; most = is.granules.1 } in
+    let sound =
+    subst (λ (r : Replay). IsSoundHeap r.heap) (stored_part layout config.seed config.quarantine events)
+    (IsRunWith-run layout config.seed config.quarantine events partition).sound.heap in
+    sound.long ∙ ap (λ (l : Partition). l.granules) (layout_of_run layout config.seed config.quarantine events)
 
 pub returns-then-tags-granules-clause-pictured : goal.returns-then-tags-granules-clause-pictured
 returns-then-tags-granules-clause-pictured c =

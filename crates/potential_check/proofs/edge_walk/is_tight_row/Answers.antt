@@ -1,6 +1,4 @@
-use Rattle.std.proofs.Common.{◌≡◌, ◌-◌, ◌<◌, length, arith, inl, inr}
-use Rattle.std.proofs.lemmas.Grind.{common_steps}
-use Rattle.std.proofs.lemmas.Bool.{cases_lt, false≢true}
+use Rattle.std.proofs.{Common.{◌≡◌, ◌-◌, ◌<◌, length, arith, inl, inr}, lemmas.Bool.{cases_lt, false≢true}, lemmas.Grind.{common_steps}}
 use Rattle.potential_check.proofs.TightEnds.{walked-all, walked-end, walked-more}
 use Rattle.potential_check.proofs.edge_walk.is_tight_row.Goals as goal
 

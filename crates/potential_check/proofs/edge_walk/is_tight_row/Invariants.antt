@@ -1,9 +1,7 @@
 use Rattle.std.proofs.Common.{◌≡◌, ℕ, ◌<◌, ◌≤◌, length}
-use Rattle.potential_check.specs.RowConditions.{HasTightEnd}
-use Rattle.potential_check.specs.EdgeWalk.{IsEnd, IsStart}
-use Rattle.potential_check.proofs.TightEnds.{IsWalked}
-use Rattle.potential_check.proofs.edge_walk.is_tight_row.Given as goal
+use Rattle.potential_check.{proofs.TightEnds.{IsWalked}, specs.EdgeWalk.{IsEnd, IsStart}, specs.RowConditions.{HasTightEnd}}
 use Rattle.tuner_theory.specs.Spans.{places}
+use Rattle.potential_check.proofs.edge_walk.is_tight_row.Given as goal
 
 abbrev pub invariant-loop-place : goal.invariant-loop-place
 invariant-loop-place l = record {

@@ -1,6 +1,21 @@
-use Rattle.std.proofs.Common.{◌+◌, ◌-◌, ◌*◌, ℕ, ap, arith}
-use Rattle.potential_check.proofs.EdgeSides.{sides_are}
+use Rattle.std.proofs.Common.{◌+◌, ◌-◌, ◌*◌, ℕ, ap, arith, ◌≡◌, ◌^◌, ◌<◌, ◌≤◌, List}
+use Rattle.potential_check.{proofs.CertificateLemmas.LawLemmas.{payload_fits, span_balance}, specs.Certificates.Spanned.{Spanned}}
+use Rattle.potential_check.specs.{EdgeWalk.{IsEnd, IsStart}, RowConditions.{edge_bound}, declared.edge_walk.End.{End}}
+use Rattle.potential_check.specs.declared.edge_walk.Start.{Start}
 use Rattle.potential_check.proofs.edge_walk.sides.Goals as goal
+
+-- The two sides of an edge, with what is at hand of its two places.
+record AreSides (s : Spanned) (before : List ℕ) (start : Start) (end : End) : Type 0 where
+  pub product : end.payload * start.requests < 2 ^ 58
+  pub bytes : start.bytes ≤ end.bytes
+  pub bytes_fit : end.bytes < 2 ^ 58
+  pub reach : end.reach ≡ edge_bound s before start.place end.place + (end.payload * start.requests + (end.bytes - start.bytes))
+
+sides_are : (s : Spanned) (before row : List ℕ) (start : Start) (end : End) → start.place < end.place → IsStart s row start
+    → IsEnd s before end → AreSides s before start end
+sides_are s before row start end lt from to =
+    let sums = span_balance s to.spanned start.place end.place lt to.within in
+    grind (arith, payload_fits)
 
 pub overflow_mul-more : goal.overflow_mul-more
 overflow_mul-more c =

@@ -1,9 +1,7 @@
-use Rattle.std.proofs.Common.{◌≡◌, ◌<◌, ◌≤◌, slice_index, ap, arith, inl, inr}
-use Rattle.std.proofs.lemmas.Bool.{both_ways, cases_lt}
-use Rattle.potential_check.specs.RowConditions.{edge_bound}
-use Rattle.potential_check.proofs.TightEnds.{exceeding}
+use Rattle.std.proofs.{Common.{◌≡◌, ◌<◌, ◌≤◌, slice_index, ap, arith, inl, inr}, lemmas.Bool.{both_ways, cases_lt}}
+use Rattle.potential_check.proofs.{TightEnds.{exceeding}, edge_walk.tight_end.Goals.{else-next-end-via-then-next-end+else-exceeds_edge}}
+use Rattle.potential_check.{proofs.edge_walk.tight_end.Goals.{else-next-end-via-else-next-end}, specs.RowConditions.{edge_bound}}
 use Rattle.potential_check.proofs.edge_walk.tight_end.Goals as goal
-use Rattle.potential_check.proofs.edge_walk.tight_end.Goals.{else-next-end-via-then-next-end+else-exceeds_edge, else-next-end-via-else-next-end}
 
 pub end-preserved : goal.end-preserved
 end-preserved c =

@@ -1,6 +1,5 @@
 use Rattle.std.proofs.Common.{ℕ, ◌<◌, ◌≤◌, slice_index}
-use Rattle.potential_check.specs.RowConditions.{edge_bound}
-use Rattle.potential_check.specs.EdgeWalk.{IsEnd}
+use Rattle.potential_check.specs.{EdgeWalk.{IsEnd}, RowConditions.{edge_bound}}
 use Rattle.potential_check.proofs.edge_walk.tight_end.Given as goal
 
 abbrev pub invariant-end : goal.invariant-end

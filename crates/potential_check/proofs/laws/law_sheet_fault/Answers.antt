@@ -1,5 +1,4 @@
-use Rattle.potential_check.proofs.ReadIsSpelled.{read_is_spelled}
-use Rattle.potential_check.proofs.SheetFaults.{fault_is_first, first_fault_is_reported}
+use Rattle.potential_check.proofs.{ReadIsSpelled.{read_is_spelled}, SheetFaults.{fault_is_first, first_fault_is_reported}}
 use Rattle.potential_check.specs.SheetText.{SpellsBy, read_in}
 use Rattle.potential_check.proofs.laws.law_sheet_fault.Goals as goal
 

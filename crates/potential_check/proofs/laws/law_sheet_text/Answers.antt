@@ -1,5 +1,4 @@
-use Rattle.potential_check.proofs.ReadIsSpelled.{read_is_spelled}
-use Rattle.potential_check.proofs.SpelledIsRead.{spelled_is_read}
+use Rattle.potential_check.proofs.{ReadIsSpelled.{read_is_spelled}, SpelledIsRead.{spelled_is_read}}
 use Rattle.potential_check.proofs.laws.law_sheet_text.Goals as goal
 
 pub returns-clause-read : goal.returns-clause-read

@@ -1,6 +1,6 @@
 use Rattle.std.proofs.lemmas.Result.{err_from_is_err_and}
-use Rattle.potential_check.specs.SheetText.{cost_number, forced_number, limit_in, table_in}
-use Rattle.potential_check.proofs.HeadLines.{all_read, fault_given, line_at-none, line_at-some, no_cost, no_forced, no_limit, no_step, no_table}
+use Rattle.potential_check.proofs.HeadLines.{all_read, fault_given, line_at-none, line_at-some, no_cost, no_forced, no_limit, no_step}
+use Rattle.potential_check.{proofs.HeadLines.{no_table}, specs.SheetText.{cost_number, forced_number, limit_in, table_in}}
 use Rattle.potential_check.proofs.reading.head_in.Goals as goal
 
 pub returns-in_err-table : goal.returns-in_err-table

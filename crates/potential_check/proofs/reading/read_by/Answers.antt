@@ -1,7 +1,5 @@
-use Rattle.std.proofs.Common.{sym, ◌∙◌, arith}
-use Rattle.std.proofs.lemmas.Result.{err_from_is_err_and}
-use Rattle.potential_check.proofs.LeadingLines.{all_fault_given, all_read, line_after}
-use Rattle.potential_check.proofs.ReadIsSpelled.{read_is_spelled}
+use Rattle.std.proofs.{Common.{sym, ◌∙◌, arith}, lemmas.Result.{err_from_is_err_and}}
+use Rattle.potential_check.proofs.{LeadingLines.{all_fault_given, all_read, line_after}, ReadIsSpelled.{read_is_spelled}}
 use Rattle.potential_check.proofs.reading.read_by.Goals as goal
 
 pub returns-in_err-leading-clause-exact : goal.returns-in_err-leading-clause-exact

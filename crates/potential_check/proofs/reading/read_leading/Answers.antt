@@ -1,7 +1,6 @@
-use Rattle.std.proofs.Common.{sym, ap, ◌∙◌, drop, arith}
-use Rattle.std.proofs.lemmas.Result.{err_from_is_err_and}
-use Rattle.potential_check.specs.declared.reading.Head.{Head}
+use Rattle.std.proofs.{Common.{sym, ap, ◌∙◌, drop, arith}, lemmas.Result.{err_from_is_err_and}}
 use Rattle.potential_check.proofs.LeadingLines.{head-is_found, head_fault_given, leading-read, row_fault_given}
+use Rattle.potential_check.specs.declared.reading.Head.{Head}
 use Rattle.potential_check.proofs.reading.read_leading.Goals as goal
 
 pub returns-in_err-head : goal.returns-in_err-head

@@ -1,6 +1,5 @@
 use Rattle.std.proofs.Common.{◌≡◌, ◌<◌, [], ◌∷◌, add-one, ◌++◌, refl, sym, ◌∙◌, length, arith, ap, length-append}
-use Rattle.std.proofs.lemmas.Grind.{common_steps}
-use Rattle.std.proofs.lemmas.List.{length-map, map-append}
+use Rattle.std.proofs.lemmas.{Grind.{common_steps}, List.{length-map, map-append}}
 use Rattle.class_table.specs.declared.table.TheConstants.{MOST_CLASSES}
 use Rattle.tuner_theory.specs.Lists.{lists_of}
 use Rattle.potential_check.proofs.LeadingLines.{drop-line, rows_of-row}

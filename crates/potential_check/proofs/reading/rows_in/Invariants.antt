@@ -1,9 +1,7 @@
-use Rattle.std.proofs.Common.{◌≡◌, ◌+◌, ◌-◌, length, drop}
-use Rattle.std.specs.List.{take_while}
+use Rattle.std.{proofs.Common.{◌≡◌, ◌+◌, ◌-◌, length, drop}, specs.List.{take_while}}
 use Rattle.class_table.specs.declared.table.TheConstants.{MOST_CLASSES}
-use Rattle.potential_check.specs.Leading.{is_row_line}
+use Rattle.potential_check.{proofs.RowLines.{RowsSoFar}, specs.Leading.{is_row_line}}
 use Rattle.tuner_theory.specs.Lists.{lists_of}
-use Rattle.potential_check.proofs.RowLines.{RowsSoFar}
 use Rattle.potential_check.proofs.reading.rows_in.Given as goal
 
 abbrev pub invariant-loop-words : goal.invariant-loop-words

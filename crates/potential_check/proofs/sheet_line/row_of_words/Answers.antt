@@ -1,7 +1,8 @@
 use Rattle.std.proofs.Common.{◌≡◌, ◌<◌, length, sym, ◌∙◌, arith}
 use Rattle.class_table.specs.declared.sizes.TheConstants.{MOST_NEEDS}
 use Rattle.line_text.specs.Numbers.{number_of}
-use Rattle.potential_check.proofs.RowNumbers.{next_word, no_next_word, no_value_passes, row_on-no_number, row_on-full, row_on-more, row_on-end, value_passes}
+use Rattle.potential_check.proofs.RowNumbers.{next_word, no_next_word, no_value_passes, row_on-no_number, row_on-full, row_on-more}
+use Rattle.potential_check.proofs.RowNumbers.{row_on-end, value_passes}
 use Rattle.potential_check.proofs.sheet_line.row_of_words.Goals as goal
 
 pub returns-in_default-read : goal.returns-in_default-read

@@ -1,7 +1,5 @@
-use Rattle.std.proofs.Common.{arith}
-use Rattle.std.proofs.lemmas.Bool.{both_ways, false≢true}
-use Rattle.potential_check.specs.RowConditions.{EdgesHold}
-use Rattle.potential_check.proofs.RowConditions.{adjacent, adjacent-more}
+use Rattle.std.proofs.{Common.{arith}, lemmas.Bool.{both_ways, false≢true}}
+use Rattle.potential_check.{proofs.RowConditions.{adjacent, adjacent-more}, specs.RowConditions.{EdgesHold}}
 use Rattle.potential_check.proofs.sheet_on_spans.all_edges_hold.Goals as goal
 
 pub returns-then-not-edges_hold : goal.returns-then-not-edges_hold

@@ -1,9 +1,6 @@
-use Rattle.std.proofs.Common.{[], ◌∷◌, codes}
-use Rattle.std.proofs.lemmas.Result.{on_ok_weaker}
-use Rattle.class_table.specs.ClassLine.{class_line}
-use Rattle.class_table.specs.NamedLines.{named_line}
-use Rattle.potential_check.specs.SheetText.{forced_lines, step_lines, word_of}
-use Rattle.potential_check.proofs.Appended.{head-appended}
+use Rattle.std.proofs.{Common.{[], ◌∷◌, codes}, lemmas.Result.{on_ok_weaker}}
+use Rattle.class_table.specs.{ClassLine.{class_line}, NamedLines.{named_line}}
+use Rattle.potential_check.{proofs.Appended.{head-appended}, specs.SheetText.{forced_lines, step_lines, word_of}}
 use Rattle.potential_check.proofs.writing.append_head.Goals as goal
 
 pub returns-clause-written : goal.returns-clause-written

@@ -1,10 +1,7 @@
 use Rattle.std.proofs.Common.{◌≡◌, ℕ, List, [], ◌∷◌, ◌++◌, length, refl, sym, ap, ◌∙◌, append_assoc, append-nil, length-append, arith}
-use Rattle.std.proofs.lemmas.Grind.{common_steps}
-use Rattle.std.proofs.lemmas.List.{take-append-drop}
-use Rattle.std.proofs.lemmas.List.Concat.{flat_map-append}
-use Rattle.potential_check.specs.Spaced.{spaced}
+use Rattle.std.proofs.lemmas.{Grind.{common_steps}, List.{take-append-drop}, List.Concat.{flat_map-append}}
+use Rattle.potential_check.{proofs.Appended.{named_line-spaced}, specs.Spaced.{spaced}}
 use Rattle.line_text.proofs.LawLemmas.{prefix_of_prefix}
-use Rattle.potential_check.proofs.Appended.{named_line-spaced}
 use Rattle.potential_check.proofs.writing.append_line.Goals as goal
 
 spaced-parts : (next later : List ℕ) → spaced (next ++ later) ≡ spaced next ++ spaced later

@@ -1,8 +1,6 @@
-use Rattle.std.proofs.Common.{codes, map, take, append_assoc, arith}
-use Rattle.std.proofs.lemmas.List.{take_all}
-use Rattle.line_text.specs.Lines.{text_of}
+use Rattle.std.proofs.{Common.{codes, map, take, append_assoc, arith}, lemmas.List.{take_all}}
+use Rattle.line_text.{proofs.LawLemmas.{prefix_of_prefix}, specs.Lines.{text_of}}
 use Rattle.class_table.specs.NamedLines.{named_line}
-use Rattle.line_text.proofs.LawLemmas.{prefix_of_prefix}
 use Rattle.potential_check.proofs.Appended.{rows_text-more}
 use Rattle.potential_check.proofs.writing.append_rows.Goals as goal
 

@@ -1,7 +1,5 @@
-use Rattle.std.proofs.Common.{rules, ◌≡◌, ℕ, suc, ◌+◌, ◌-◌, ◌<◌, ◌≤◌, List, ◌++◌, length, get_or, take, drop, refl, ◌∙◌, arith, add-one, drop-cons, length-drop}
-use Rattle.std.proofs.Math.ListN.{set}
-use Rattle.std.proofs.lemmas.Fmt.{length-decimal-le}
-use Rattle.std.proofs.lemmas.List.{drop-set, take_all}
+use Rattle.std.proofs.Common.{rules, ◌≡◌, ℕ, suc, ◌+◌, ◌-◌, ◌<◌, ◌≤◌, List, ◌++◌, length, get_or, take, drop, refl, ◌∙◌, arith, add-one}
+use Rattle.std.proofs.{Common.{drop-cons, length-drop}, Math.ListN.{set}, lemmas.Fmt.{length-decimal-le}, lemmas.List.{drop-set, take_all}}
 use Rattle.std.specs.Fmt.{decimal}
 use Rattle.potential_check.specs.Spaced.{spaced}
 use Rattle.potential_check.proofs.writing.append_spaced.Goals as goal

@@ -1,11 +1,10 @@
 -- The line that names the moments of a fit: `moments M1 M2 ..`, 1 to 1,024 numbers up to 1,000,000,000, strictly ascending.
-use Rattle.std.specs.Prelude.{ℕ, suc, ◌&&◌, Bool, List, [], ◌∷◌, length, codes, Option, Some, None, is_some, option_and_then, nat_le, if◌then◌else◌}
 use Rattle.std.specs.Option.{option_map}
+use Rattle.std.specs.Prelude.{if◌then◌else◌, ℕ, suc, ◌&&◌, Bool, List, [], ◌∷◌, length, codes, Option, Some, None, is_some, option_and_then}
+use Rattle.std.specs.Prelude.{nat_le}
 use Rattle.class_table.specs.NamedLines.{named_line, words_after}
-use Rattle.line_text.specs.Lines.{words}
-use Rattle.line_text.specs.Numbers.{number_of}
-use Rattle.tuner_theory.specs.Profiles.{greatest_count}
-use Rattle.tuner_theory.specs.declared.most_snapshots.TheConstants.{MOST_SNAPSHOTS}
+use Rattle.line_text.specs.{Lines.{words}, Numbers.{number_of}}
+use Rattle.tuner_theory.specs.{Profiles.{greatest_count}, declared.most_snapshots.TheConstants.{MOST_SNAPSHOTS}}
 
 abbrev pub moments_name : List ℕ
 moments_name = codes "moments"

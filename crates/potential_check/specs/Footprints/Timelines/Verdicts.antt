@@ -1,17 +1,13 @@
 -- The verdict on a fit over a timeline. The fit names some moments: over their history it is checked as any fit, and its table has to serve
 -- the whole timeline and to take no more over it.
 use Rattle.std.specs.Prelude.{◌≡◌, ℕ, ◌⊎◌, List}
-use Rattle.tuner_theory.specs.Histories.{peaks}
-use Rattle.tuner_theory.specs.Sheets.{IsFitVerdict, Sheet}
-use Rattle.tuner_theory.specs.Timelines.{AreMoments, footprint_over, history_at, moments}
-use Rattle.tuner_theory.specs.Waste.{Serves}
-use Rattle.tuner_theory.specs.declared.size_event.SizeEvent.{SizeEvent}
-use Rattle.tuner_theory.specs.declared.verdict.Refusal.{Refusal}
-use Rattle.tuner_theory.specs.declared.verdict.Refusal.TheVariants.{NotServing, WasteWrong}
-use Rattle.tuner_theory.specs.declared.verdict.Verdict.TheVariants.{Optimal, Refused}
+use Rattle.tuner_theory.specs.{Histories.{peaks}, Sheets.{IsFitVerdict, Sheet}, Timelines.{AreMoments, footprint_over, history_at, moments}}
+use Rattle.tuner_theory.specs.{Waste.{Serves}, declared.size_event.SizeEvent.{SizeEvent}, declared.verdict.Refusal.{Refusal}}
+use Rattle.tuner_theory.specs.declared.verdict.{Refusal.TheVariants.{NotServing, WasteWrong}, Verdict.TheVariants.{Optimal, Refused}}
 use Rattle.potential_check.specs.declared.footprints.timelines.verdict.OverRefusal.TheVariants.{NotMoments, OfFit}
 use Rattle.potential_check.specs.declared.footprints.timelines.verdict.OverVerdict.{OverVerdict}
-use Rattle.potential_check.specs.declared.footprints.timelines.verdict.OverVerdict.TheVariants.{Optimal as OptimalOver, Refused as RefusedOver}
+use Rattle.potential_check.specs.declared.footprints.timelines.verdict.OverVerdict.TheVariants.{Optimal as OptimalOver}
+use Rattle.potential_check.specs.declared.footprints.timelines.verdict.OverVerdict.TheVariants.{Refused as RefusedOver}
 
 -- What breaks only over the whole timeline.
 abbrev pub IsBrokenBeyond : List SizeEvent → Sheet → Refusal → Type 0

@@ -34,6 +34,7 @@ pub fn check_over(
     if let Verdict::Refused(refusal) = check_fit(alloc, &history, fit)? {
         return Ok(OverVerdict::Refused(OverRefusal::OfFit(refusal)));
     }
+    // the call tells the proof that the table is legal
     let _classes = fit.table.len();
     if !index.serves(&fit.table) {
         return Ok(OverVerdict::Refused(OverRefusal::OfFit(Refusal::NotServing)));

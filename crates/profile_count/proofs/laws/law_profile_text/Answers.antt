@@ -1,5 +1,4 @@
-use Rattle.profile_count.proofs.ReadIsSpelled.{profile_is_spelled}
-use Rattle.profile_count.proofs.SpelledIsRead.{spelled_profile_is_read}
+use Rattle.profile_count.proofs.{ReadIsSpelled.{profile_is_spelled}, SpelledIsRead.{spelled_profile_is_read}}
 use Rattle.profile_count.proofs.laws.law_profile_text.Goals as goal
 
 pub returns-clause-read : goal.returns-clause-read

@@ -1,5 +1,4 @@
-use Rattle.std.proofs.Common.{◌≡◌, ℕ, ◌+◌, ◌-◌, ◌≤◌, ◌∙◌, List, length, None, sym, ap, inl, inr, arith}
-use Rattle.std.proofs.lemmas.Bool.{cases_lt}
+use Rattle.std.proofs.{Common.{◌≡◌, ℕ, ◌+◌, ◌-◌, ◌≤◌, ◌∙◌, List, length, None, sym, ap, inl, inr, arith}, lemmas.Bool.{cases_lt}}
 use Rattle.profile_count.proofs.Unserved.{none_after, not_counted_up_to, skips_served, unserved_after, unserved_here}
 use Rattle.profile_count.specs.Counts.{IsNextCounted, unserved_of}
 use Rattle.profile_count.proofs.waste_and_unserved.first_unserved.Goals as goal

@@ -1,7 +1,6 @@
 use Rattle.std.proofs.Common.{◌≡◌, ◌-◌, ◌*◌, ◌<◌, ◌≤◌, length, slice_index, sym, ap, ◌∙◌, arith, add-one}
 use Rattle.class_table.specs.Sizes.{largest_counted}
-use Rattle.tuner_theory.specs.Profiles.{greatest_count}
-use Rattle.tuner_theory.proofs.Sums.{sum_below-more}
+use Rattle.tuner_theory.{proofs.Sums.{sum_below-more}, specs.Profiles.{greatest_count}}
 use Rattle.profile_count.proofs.Waste.{small_term}
 use Rattle.profile_count.proofs.waste_and_unserved.losses_between.Goals as goal
 

@@ -1,7 +1,6 @@
 use Rattle.std.proofs.Common.{◌≡◌, ℕ, ◌+◌, ◌-◌, ◌*◌, ◌<◌, ◌≤◌, slice_index}
 use Rattle.class_table.specs.Sizes.{largest_counted}
-use Rattle.tuner_theory.specs.Profiles.{greatest_count}
-use Rattle.tuner_theory.specs.Waste.{sum_below}
+use Rattle.tuner_theory.specs.{Profiles.{greatest_count}, Waste.{sum_below}}
 use Rattle.profile_count.proofs.waste_and_unserved.losses_between.Given as goal
 
 abbrev pub invariant-loop-n : goal.invariant-loop-n

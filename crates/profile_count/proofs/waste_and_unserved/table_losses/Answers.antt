@@ -1,6 +1,5 @@
 use Rattle.std.proofs.Common.{◌≤◌, length, sym, ◌∙◌, arith}
-use Rattle.tuner_theory.specs.Waste.{waste_at}
-use Rattle.tuner_theory.proofs.Sums.{sum_below-none}
+use Rattle.tuner_theory.{proofs.Sums.{sum_below-none}, specs.Waste.{waste_at}}
 use Rattle.profile_count.proofs.FirstServing.{class_at, ends_ascend, next_class, next_ready, none_left, some_end}
 use Rattle.profile_count.proofs.Waste.{sum_up_to_the_rest, waste_in_class, waste_in_none}
 use Rattle.profile_count.proofs.waste_and_unserved.table_losses.Goals as goal

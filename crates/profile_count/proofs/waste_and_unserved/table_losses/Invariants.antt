@@ -1,8 +1,6 @@
-use Rattle.std.proofs.Common.{◌≡◌, ◌+◌, ◌-◌, ◌*◌, ◌<◌, ◌≤◌, length, get_or}
-use Rattle.std.specs.List.{position_or_len}
+use Rattle.std.{proofs.Common.{◌≡◌, ◌+◌, ◌-◌, ◌*◌, ◌<◌, ◌≤◌, length, get_or}, specs.List.{position_or_len}}
 use Rattle.class_table.specs.Sizes.{largest_counted, serves}
-use Rattle.tuner_theory.specs.Profiles.{greatest_count}
-use Rattle.tuner_theory.specs.Waste.{sum_below, waste_at}
+use Rattle.tuner_theory.specs.{Profiles.{greatest_count}, Waste.{sum_below, waste_at}}
 use Rattle.profile_count.proofs.waste_and_unserved.table_losses.Given as goal
 
 abbrev pub invariant-loop-number : goal.invariant-loop-number

@@ -1,11 +1,9 @@
 use Rattle.std.proofs.Common.{◌≡◌, ◌+◌, ◌<◌, ◌≤◌, ◌++◌, length, get_or, refl, sym, ◌∙◌, arith, append_assoc, append-nil}
 use Rattle.std.specs.Fmt.{decimal}
-use Rattle.line_text.specs.Lines.{ended}
-use Rattle.profile_count.specs.ProfileText.{size_line}
-use Rattle.line_text.proofs.LawLemmas.{prefix_of_prefix}
-use Rattle.profile_count.proofs.SizeLines.{text_from, text_from-counted, text_from-end, text_from-zero}
-use Rattle.profile_count.proofs.writing.append_sizes.Goals as goal
+use Rattle.line_text.{proofs.LawLemmas.{prefix_of_prefix}, specs.Lines.{ended}}
+use Rattle.profile_count.{proofs.SizeLines.{text_from, text_from-counted, text_from-end, text_from-zero}, specs.ProfileText.{size_line}}
 use Rattle.profile_count.proofs.writing.append_sizes.Goals.{then-count-gt0+in_ok-append_line, else-count-gt0}
+use Rattle.profile_count.proofs.writing.append_sizes.Goals as goal
 
 pub loop-size-preserved : goal.loop-size-preserved
 loop-size-preserved c =

@@ -1,8 +1,6 @@
 use Rattle.std.proofs.Common.{◌≡◌, ◌++◌}
-use Rattle.line_text.specs.Lines.{text_of}
-use Rattle.line_text.specs.Prefixes.{IsPrefix}
-use Rattle.profile_count.specs.ProfileText.{size_lines}
-use Rattle.profile_count.proofs.SizeLines.{text_from}
+use Rattle.line_text.specs.{Lines.{text_of}, Prefixes.{IsPrefix}}
+use Rattle.profile_count.{proofs.SizeLines.{text_from}, specs.ProfileText.{size_lines}}
 use Rattle.profile_count.proofs.writing.append_sizes.Given as goal
 
 abbrev pub invariant-loop-size : goal.invariant-loop-size

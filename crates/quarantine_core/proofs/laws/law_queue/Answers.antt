@@ -1,8 +1,6 @@
 use Rattle.class_table.specs.Layout.{slot_count}
-use Rattle.heap_theory.specs.Region.{next_in}
-use Rattle.heap_theory.proofs.ListSearch.{few_below}
-use Rattle.quarantine_core.proofs.LawLemmas.{one_queue_is_shown}
-use Rattle.quarantine_core.proofs.TheoryLemmas.{each_once, links_stay}
+use Rattle.heap_theory.{proofs.ListSearch.{few_below}, specs.Region.{next_in}}
+use Rattle.quarantine_core.proofs.{LawLemmas.{one_queue_is_shown}, TheoryLemmas.{each_once, links_stay}}
 use Rattle.quarantine_core.proofs.laws.law_queue.Goals as goal
 
 pub returns-clause-one : goal.returns-clause-one

@@ -1,6 +1,5 @@
 use Rattle.std.proofs.Common.{◌∙◌, arith}
-use Rattle.raw_region.proofs.Windows.{overlaid_twice}
-use Rattle.raw_region.proofs.Written.{filled_twice}
+use Rattle.raw_region.proofs.{Windows.{overlaid_twice}, Written.{filled_twice}}
 use Rattle.raw_region.proofs.short_fill.fill_then_clear.Goals as goal
 
 pub returns-then-to-from-le-HALF : goal.returns-then-to-from-le-HALF

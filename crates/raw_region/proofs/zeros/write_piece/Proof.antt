@@ -1,20 +1,22 @@
 -- `write_piece` writes the bytes from the first on. The rest is room.
-use Rattle.raw_region.proofs.Names.{◌≡◌, ℕ, ◌+◌, ◌-◌, ◌<◌, ◌≤◌, ◌++◌, List, [], ◌∷◌, length, replicate, zero, suc, refl, sym, ap, ◌∙◌, ◌^◌, lit<, arith, w8, w64, ty_int, ty_array, proved, full_share, id⊢, ent, sep, sem, Logic, Ura, SProp, fat, froom, Val, vint, vptr, vunit, tables, Item, ‵, raw, ◌⊛◌, prop, at_ret, ◌$◌, ◌∵◌, !, qed, by, done, move, keep, drop, use1, use2, split, join, fjoin, feq_i, rewrite, regoal, suffices, group, enter, of_opd, lit, unit_lit, bin, init, stop, first, blocks, branches, skips, assigns_last, exec, returns, alloc_all, pass_all, free_all, look_at, get, through, sets, sets_last, env, Array, u8, usize, yes, uint_vals, uint_Tells, uint_in, row, part_at, Ptr, RawPtr, block_ptr, lies_at, in_a_block, plain, nothing, on_entry, Stays, walk_of, stay_dropped, Goes-dropped, ends_at, after}
-use mathlib.Core.WellFounded.InvImage
+use Rattle.raw_region.proofs.Names.{◌≡◌, ℕ, ◌+◌, ◌-◌, ◌<◌, ◌≤◌, ◌++◌, List, [], ◌∷◌, length, replicate, zero, suc, refl, sym, ap, ◌∙◌, ◌^◌}
+use Rattle.raw_region.proofs.Names.{lit<, arith, w8, w64, ty_int, ty_array, proved, full_share, id⊢, ent, sep, sem, Logic, Ura, SProp, fat}
+use Rattle.raw_region.proofs.Names.{froom, Val, vint, vptr, vunit, tables, Item, ‵, raw, ◌⊛◌, prop, at_ret, ◌$◌, ◌∵◌, !, qed, by, done}
+use Rattle.raw_region.proofs.Names.{move, keep, drop, use1, use2, split, join, fjoin, feq_i, rewrite, regoal, suffices, group, enter}
+use Rattle.raw_region.proofs.Names.{of_opd, lit, unit_lit, bin, init, stop, first, blocks, branches, skips, assigns_last, exec, returns}
+use Rattle.raw_region.proofs.Names.{alloc_all, pass_all, free_all, look_at, get, through, sets, sets_last, env, Array, u8, usize, yes}
+use Rattle.raw_region.proofs.Names.{uint_vals, uint_Tells, uint_in, row, part_at, Ptr, RawPtr, block_ptr, lies_at, in_a_block, plain}
+use Rattle.raw_region.proofs.Names.{nothing, on_entry, Stays, walk_of, stay_dropped, Goes-dropped, ends_at, after}
+use Rattle.raw_region.proofs.zeros.write_piece.Statement.{statement}
 use native.Mathlib.Nat.{add_comm, add-zero}
-use lib.Dec.{ltb→lt, nltb→le}
-use lib.ListN.{length-replicate}
-use lib.WfN.{lt-wf_rel}
+use lib.{Dec.{ltb→lt, nltb→le}, ListN.{length-replicate}, WfN.{lt-wf_rel}}
 use prog.Wp.{Env, Out, Wp, WpFn, Tables, at_return, after_block, after_seq, after_turn}
 use contract.Running.{tables_of}
-use types.Kit.{Sq, any_q, runs}
-use types.Run.{jumps, loops, again, Below}
-use types.ByLocal.{holding, forget_but, take_at, give_at}
-use denote.RawPtr.{rawptr_vals, rawptr_Tells, room_for}
-use denote.RawPtr.Bytes.{bytes_glue, bytes_whole}
+use types.{ByLocal.{holding, forget_but, take_at, give_at}, Kit.{Sq, any_q, runs}, Run.{jumps, loops, again, Below}}
+use denote.{RawPtr.{rawptr_vals, rawptr_Tells, room_for}, RawPtr.Bytes.{bytes_glue, bytes_whole}}
 use Rattle.std.specs.Allocator.{array_of}
+use mathlib.Core.WellFounded.InvImage
 use Rattle.raw_region.specs.contracts.zeros.write_piece as f
-use Rattle.raw_region.proofs.zeros.write_piece.Statement.{statement}
 use Rattle.raw_region.proofs.zeros.write_piece.Code as code
 
 abbrev stayed : Stays f.ended.signature.params f.ended.kept

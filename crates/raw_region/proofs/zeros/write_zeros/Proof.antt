@@ -1,32 +1,28 @@
 -- `write_zeros` has the zeros written piece by piece. The rest is room.
-use Rattle.raw_region.proofs.Names.{owned, uint_Makes, calls_at_last, framed, triple_of, await, later, some, pick, fsplit, feq_l, lands_last, unit, lasts, ftrue, nothing, only, subst, ◌≡◌, ℕ, ◌+◌, ◌-◌, ◌<◌, ◌≤◌, ◌++◌, List, [], ◌∷◌, length, replicate, refl, sym, ap, ◌∙◌, ◌^◌, lit<, arith, w8, w64, ty_int, ty_array, proved, full_share, id⊢, ent, sep, sem, Logic, Ura, SProp, froom, Val, vint, vptr, vunit, tables, Item, ‵, raw, ◌⊛◌, prop, at_ret, ◌$◌, ◌∵◌, !, qed, by, done, move, keep, drop, use1, use2, split, join, fjoin, feq_i, rewrite, regoal, suffices, group, enter, of_opd, lit, unit_lit, bin, first, blocks, branches, skips, exec, returns, alloc_all, pass_all, free_all, look_at, get, sets, sets_last, env, Array, u8, usize, yes, uint_vals, uint_Tells, row, Ptr, RawPtr, block_ptr, lies_at, in_a_block, plain, on_entry, Stays, walk_of, stay_dropped, Goes-dropped, ends_at, after, and_then, no_more}
-use mathlib.Core.WellFounded.InvImage
+use Rattle.raw_region.proofs.Names.{owned, uint_Makes, calls_at_last, framed, triple_of, await, later, some, pick, fsplit, feq_l}
+use Rattle.raw_region.proofs.Names.{lands_last, unit, lasts, ftrue, nothing, only, subst, ◌≡◌, ℕ, ◌+◌, ◌-◌, ◌<◌, ◌≤◌, ◌++◌, List, [], ◌∷◌}
+use Rattle.raw_region.proofs.Names.{length, replicate, refl, sym, ap, ◌∙◌, ◌^◌, lit<, arith, w8, w64, ty_int, ty_array, proved, full_share}
+use Rattle.raw_region.proofs.Names.{id⊢, ent, sep, sem, Logic, Ura, SProp, froom, Val, vint, vptr, vunit, tables, Item, ‵, raw, ◌⊛◌, prop}
+use Rattle.raw_region.proofs.Names.{at_ret, ◌$◌, ◌∵◌, !, qed, by, done, move, keep, drop, use1, use2, split, join, fjoin, feq_i, rewrite}
+use Rattle.raw_region.proofs.Names.{regoal, suffices, group, enter, of_opd, lit, unit_lit, bin, first, blocks, branches, skips, exec}
+use Rattle.raw_region.proofs.Names.{returns, alloc_all, pass_all, free_all, look_at, get, sets, sets_last, env, Array, u8, usize, yes}
+use Rattle.raw_region.proofs.Names.{uint_vals, uint_Tells, row, Ptr, RawPtr, block_ptr, lies_at, in_a_block, plain, on_entry, Stays}
+use Rattle.raw_region.proofs.Names.{walk_of, stay_dropped, Goes-dropped, ends_at, after, and_then, no_more}
+use Rattle.raw_region.proofs.zeros.write_zeros.Statement.{statement}
 use native.Mathlib.Nat.{add_comm, add-zero}
-use lib.Dec.{T, ltb→lt, nltb→le}
-use lib.ListN.{length-replicate}
-use lib.WfN.{lt-wf_rel}
-use base.Logic.{guard_i, via}
-use base.Fml.{feq, fsep}
-use mir.Syntax.{ty_unit, int_big, Width}
-use mir.Val.{has_ty, Fits, WT}
-use prog.Wp.{Env, Out, Wp, WpFn, Tables, at_return, after_block, after_seq, after_turn}
-use contract.Running.{tables_of}
-use types.Kit.{Go, Sq, any_q, runs}
-use types.Run.{Opd, jumps, loops, again, Below}
-use types.ByLocal.{holding, forget_but}
-use denote.Triple.Statement.{Contract}
-use denote.RawPtr.{rawptr_vals, rawptr_Tells, room_for}
-use denote.RawPtr.Bytes.{bytes_glue, bytes_whole, bytes_apart}
+use lib.{Dec.{T, ltb→lt, nltb→le}, ListN.{length-replicate}, WfN.{lt-wf_rel}}
+use base.{Fml.{feq, fsep}, Logic.{guard_i, via}}
+use mir.{Syntax.{ty_unit, int_big, Width}, Val.{has_ty, Fits, WT}}
+use prog.{Model.{Model}, Wired.{Wired}, Wp.{Env, Out, Wp, WpFn, Tables, at_return, after_block, after_seq, after_turn}}
+use contract.Running.{tables_of, Running}
+use types.{ByLocal.{holding, forget_but}, Kit.{Go, Sq, any_q, runs}, Run.{Opd, jumps, loops, again, Below}}
+use denote.{RawPtr.{rawptr_vals, rawptr_Tells, room_for}, RawPtr.Bytes.{bytes_glue, bytes_whole, bytes_apart}, Triple.Statement.{Contract}}
 use denote.RawPtr.Room.{room_cut, past, past_bytes}
-use prog.Model.{Model}
-use prog.Wired.{Wired}
-use contract.Running.{Running}
-use Rattle.std.proofs.lemmas.List.{replicate-append-replicate}
-use Rattle.std.specs.Allocator.{array_of}
+use Rattle.std.{proofs.lemmas.List.{replicate-append-replicate}, specs.Allocator.{array_of}}
+use mathlib.Core.WellFounded.InvImage
 use Rattle.raw_region.specs.contracts.zeros.write_zeros as f
 use Rattle.raw_region.specs.contracts.zeros.write_piece as g
 use Rattle.raw_region.proofs.zeros.write_piece.Met as piece
-use Rattle.raw_region.proofs.zeros.write_zeros.Statement.{statement}
 use Rattle.raw_region.proofs.zeros.write_zeros.Code as code
 
 abbrev stayed : Stays f.ended.signature.params f.ended.kept

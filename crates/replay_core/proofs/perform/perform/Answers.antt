@@ -3,8 +3,7 @@ use Rattle.machine_theory.specs.Address.{moved_by}
 use Rattle.heap_theory.specs.HeapTags.{IsTaggedOrUnmapped}
 use Rattle.trace_event.specs.Ranges.{IsInRange}
 use Rattle.replay_theory.specs.Totals.{request_size}
-use Rattle.replay_core.specs.TheoryValues.{TellsRequest}
-use Rattle.replay_core.proofs.Accesses.{near_offset, tagged_or_not_mapped}
+use Rattle.replay_core.{proofs.Accesses.{near_offset, tagged_or_not_mapped}, specs.TheoryValues.{TellsRequest}}
 use Rattle.replay_core.proofs.perform.perform.Goals as goal
 
 pub load-requires-clause-tagged : goal.load-requires-clause-tagged

@@ -1,5 +1,4 @@
-use Rattle.std.proofs.Common.{◌++◌, ◌∙◌, take, ap, sym}
-use Rattle.std.proofs.lemmas.Fmt.{decimal_digit}
+use Rattle.std.proofs.{Common.{◌++◌, ◌∙◌, take, ap, sym}, lemmas.Fmt.{decimal_digit}}
 use Rattle.replay_core.proofs.TwoDigits.{decimal_two}
 use Rattle.replay_core.proofs.put.put_below_100.Goals as goal
 

@@ -1,5 +1,4 @@
-use Rattle.std.proofs.Common.{◌≡◌, ◌+◌, ◌*◌, ◌∙◌, length, ap, arith}
-use Rattle.std.proofs.lemmas.Simd.{length-chunk, take_more_put_chunk}
+use Rattle.std.proofs.{Common.{◌≡◌, ◌+◌, ◌*◌, ◌∙◌, length, ap, arith}, lemmas.Simd.{length-chunk, take_more_put_chunk}}
 use Rattle.replay_core.proofs.DigitsOfBytes.{length_digits}
 use lib.Lanes.{chunk}
 use Rattle.replay_core.proofs.put.put_hex_half.Goals as goal

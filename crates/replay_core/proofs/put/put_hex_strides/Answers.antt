@@ -1,7 +1,5 @@
-use Rattle.std.proofs.Common.{◌≡◌, ℕ, List, ◌+◌, ◌++◌, ◌*◌, ◌∙◌, take, ap, append_assoc, arith}
-use Rattle.std.specs.List.{flat_map}
-use Rattle.std.proofs.Math.Seq.{take-add}
-use Rattle.std.proofs.lemmas.Grind.{flat_map-append}
+use Rattle.std.proofs.{Common.{◌≡◌, ℕ, List, ◌+◌, ◌++◌, ◌*◌, ◌∙◌, take, ap, append_assoc, arith}, Math.Seq.{take-add}}
+use Rattle.std.{proofs.lemmas.Grind.{flat_map-append}, specs.List.{flat_map}}
 use lib.Lanes.{chunk}
 use Rattle.line_text.specs.Hexadecimal.{hex}
 use Rattle.replay_core.proofs.put.put_hex_strides.Goals as goal

@@ -1,5 +1,4 @@
-use Rattle.std.proofs.Common.{◌≡◌, ◌-◌, ◌+◌, ◌*◌, ◌%◌, ◌++◌, ◌≤◌, length, take}
-use Rattle.std.specs.List.{flat_map}
+use Rattle.std.{proofs.Common.{◌≡◌, ◌-◌, ◌+◌, ◌*◌, ◌%◌, ◌++◌, ◌≤◌, length, take}, specs.List.{flat_map}}
 use Rattle.line_text.specs.Hexadecimal.{hex}
 use Rattle.replay_core.proofs.put.put_hex_strides.Given as goal
 

@@ -1,5 +1,4 @@
-use Rattle.std.proofs.Common.{◌≡◌, ◌+◌, ◌*◌, ◌++◌, ◌∙◌, length, take, append_assoc, length-take-le, ap, arith}
-use Rattle.std.specs.List.{flat_map}
+use Rattle.std.{proofs.Common.{◌≡◌, ◌+◌, ◌*◌, ◌++◌, ◌∙◌, length, take, append_assoc, length-take-le, ap, arith}, specs.List.{flat_map}}
 use Rattle.replay_theory.specs.Report.{report_line}
 use Rattle.line_text.specs.Hexadecimal.{hex}
 use Rattle.replay_core.proofs.DigitsOfBytes.{digits_to}

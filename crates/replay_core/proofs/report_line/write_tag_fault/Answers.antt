@@ -1,5 +1,4 @@
-use Rattle.std.proofs.Common.{ap, take, ◌∙◌, ◌++◌}
-use Rattle.std.specs.Fmt.{decimal}
+use Rattle.std.{proofs.Common.{ap, take, ◌∙◌, ◌++◌}, specs.Fmt.{decimal}}
 use Rattle.replay_theory.specs.Report.{report_line}
 use Rattle.replay_core.proofs.Written.{tag_fault_line}
 use Rattle.replay_core.proofs.report_line.write_tag_fault.Goals as goal

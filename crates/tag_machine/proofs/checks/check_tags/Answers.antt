@@ -1,8 +1,6 @@
-use Rattle.std.proofs.Common.{◌+◌, ◌*◌, ◌≤◌, length, sym, ap, inl, inr, arith}
-use Rattle.std.proofs.lemmas.Bool.{cases_lt}
+use Rattle.std.proofs.{Common.{◌+◌, ◌*◌, ◌≤◌, length, sym, ap, inl, inr, arith}, lemmas.Bool.{cases_lt}}
+use Rattle.machine_theory.{proofs.AccessLaws.{inside_succeeds, tag_fault_names}, specs.Access.{IsMapped, IsTagFault, ok_unless}}
 use Rattle.machine_theory.specs.Address.{place_of, region_start}
-use Rattle.machine_theory.specs.Access.{IsMapped, IsTagFault, ok_unless}
-use Rattle.machine_theory.proofs.AccessLaws.{inside_succeeds, tag_fault_names}
 use Rattle.tag_machine.proofs.Touched.{touches, touched_from, touched_to}
 use Rattle.tag_machine.proofs.checks.check_tags.Goals as goal
 

@@ -1,6 +1,5 @@
 use Rattle.std.proofs.Common.{◌≡◌, ℕ, ◌<◌, ◌≤◌}
-use Rattle.machine_theory.specs.Address.{logical_tag, place_of, granule_of}
-use Rattle.machine_theory.specs.Memory.{tag_at}
+use Rattle.machine_theory.specs.{Address.{logical_tag, place_of, granule_of}, Memory.{tag_at}}
 use Rattle.tag_machine.proofs.checks.check_tags.Given as goal
 
 abbrev pub invariant-loop-granule : goal.invariant-loop-granule

@@ -1,6 +1,5 @@
 use Rattle.std.proofs.Common.{◌/◌, ◌%◌, ap, ◌∙◌, arith, get_or}
-use Rattle.tag_machine.specs.declared.mask_bits.TheConstants.{COUNTS}
-use Rattle.tag_machine.proofs.BitTables.{count_of_byte, ones_of_bytes}
+use Rattle.tag_machine.{proofs.BitTables.{count_of_byte, ones_of_bytes}, specs.declared.mask_bits.TheConstants.{COUNTS}}
 use Rattle.tag_machine.proofs.mask_bits.count_set_bits.Goals as goal
 
 pub returns : goal.returns

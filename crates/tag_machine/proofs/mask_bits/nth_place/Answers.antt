@@ -1,8 +1,6 @@
-use Rattle.std.proofs.Common.{ℕ, ◌*◌, ◌/◌, ◌%◌, ◌^◌, ◌<◌, ap, ◌∙◌, arith, length}
-use Rattle.std.proofs.lemmas.Nat.{ones-le}
+use Rattle.std.proofs.{Common.{ℕ, ◌*◌, ◌/◌, ◌%◌, ◌^◌, ◌<◌, ap, ◌∙◌, arith, length}, lemmas.Nat.{ones-le}}
+use Rattle.tag_machine.proofs.{BitTables.{packed_of_byte, unpacked}, MaskBits.{byte_place_below, length-set_bits}}
 use Rattle.tag_machine.specs.MaskBits.{set_bits}
-use Rattle.tag_machine.proofs.BitTables.{packed_of_byte, unpacked}
-use Rattle.tag_machine.proofs.MaskBits.{byte_place_below, length-set_bits}
 use Rattle.tag_machine.proofs.mask_bits.nth_place.Goals as goal
 
 -- a byte has at most eight set bits

@@ -1,9 +1,7 @@
-use Rattle.std.proofs.Common.{◌≡◌, ℕ, ◌+◌, ◌-◌, ◌/◌, ◌%◌, ◌^◌, ◌<◌, ◌≤◌, List, map, refl, ap, subst, sym, ◌∙◌, arith, length, get_or, length-append}
-use Rattle.std.proofs.lemmas.List.{get_or_append_left, get_or-append_right, get_or-map, length-map}
+use Rattle.std.proofs.Common.{◌≡◌, ℕ, ◌+◌, ◌-◌, ◌/◌, ◌%◌, ◌^◌, ◌<◌, ◌≤◌, List, map, refl, ap, subst, sym, ◌∙◌, arith, length, get_or}
+use Rattle.std.proofs.{Common.{length-append}, lemmas.List.{get_or_append_left, get_or-append_right, get_or-map, length-map}}
+use Rattle.tag_machine.{proofs.BitTables.{count_of_byte}, proofs.MaskBits.{length-set_bits, set_bits_of_bytes}, specs.MaskBits.{set_bits}}
 use Rattle.tag_machine.specs.declared.mask_bits.TheConstants.{COUNTS}
-use Rattle.tag_machine.specs.MaskBits.{set_bits}
-use Rattle.tag_machine.proofs.BitTables.{count_of_byte}
-use Rattle.tag_machine.proofs.MaskBits.{length-set_bits, set_bits_of_bytes}
 use Rattle.tag_machine.proofs.mask_bits.nth_set_bit.Goals as goal
 
 -- the set bits of the lower byte are counted

@@ -1,5 +1,4 @@
-use Rattle.std.proofs.Common.{◌+◌, ◌-◌, ap, ◌∙◌, arith}
-use Rattle.std.specs.Int.{rotate_right, w16}
+use Rattle.std.{proofs.Common.{◌+◌, ◌-◌, ap, ◌∙◌, arith}, specs.Int.{rotate_right, w16}}
 use Rattle.tag_machine.proofs.Choice.{allowed_places}
 use Rattle.tag_machine.proofs.tag_choice.allowed_above.Goals as goal
 

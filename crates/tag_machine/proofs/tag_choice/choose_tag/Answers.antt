@@ -1,11 +1,9 @@
-use Rattle.std.proofs.Common.{◌≡◌, ℕ, true, ◌+◌, ◌-◌, ◌%◌, sym, ap, ◌∙◌, arith, slice_index}
-use Rattle.std.specs.Int.Count.{ones}
+use Rattle.std.{proofs.Common.{◌≡◌, ℕ, true, ◌+◌, ◌-◌, ◌%◌, sym, ap, ◌∙◌, arith, slice_index}, specs.Int.Count.{ones}}
 use Rattle.machine_theory.specs.Tags.{is_excluded, choose_tag}
-use Rattle.tag_machine.specs.MaskBits.{set_bits}
-use Rattle.tag_machine.proofs.MaskBits.{length-set_bits}
-use Rattle.tag_machine.proofs.Choice.{mask_some, chosen_none, chosen_here, chosen_on}
+use Rattle.tag_machine.proofs.{Choice.{mask_some, chosen_none, chosen_here, chosen_on}, MaskBits.{length-set_bits}}
+use Rattle.tag_machine.proofs.tag_choice.choose_tag.Goals.{else-offset-eq0-via-then-offset-eq0+else-not-is_excluded}
+use Rattle.tag_machine.{proofs.tag_choice.choose_tag.Goals.{else-offset-eq0-via-else-offset-eq0}, specs.MaskBits.{set_bits}}
 use Rattle.tag_machine.proofs.tag_choice.choose_tag.Goals as goal
-use Rattle.tag_machine.proofs.tag_choice.choose_tag.Goals.{else-offset-eq0-via-then-offset-eq0+else-not-is_excluded, else-offset-eq0-via-else-offset-eq0}
 
 pub returns-then-allowed-eq0-clause-chosen : goal.returns-then-allowed-eq0-clause-chosen
 returns-then-allowed-eq0-clause-chosen c =

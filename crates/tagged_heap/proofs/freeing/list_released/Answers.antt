@@ -1,9 +1,7 @@
 use Rattle.std.proofs.Common.{ℕ, sym, ap, ◌∙◌, arith, slice_index}
 use Rattle.class_table.specs.Layout.{slot_of}
-use Rattle.heap_theory.specs.Header.{Header, header_at}
-use Rattle.heap_theory.specs.Header.Standing.{Freed}
+use Rattle.heap_theory.{proofs.Regions.{header_in-region_of}, specs.Header.{Header, header_at}, specs.Header.Standing.{Freed}}
 use Rattle.heap_theory.specs.Region.{region_of, header_in}
-use Rattle.heap_theory.proofs.Regions.{header_in-region_of}
 use Rattle.tagged_heap.proofs.RewrittenHeaders.{header_written}
 use Rattle.tagged_heap.proofs.TheoryLemmas as laws
 use Rattle.tagged_heap.proofs.freeing.list_released.Goals as goal

@@ -1,7 +1,5 @@
 use Rattle.std.proofs.Common.{refl, sym, subst}
-use Rattle.tagged_heap.specs.Representation.{IsKept}
-use Rattle.tagged_heap.proofs.Kept.{region_is}
-use Rattle.tagged_heap.proofs.ReleasingOldest.{can_be_listed, release_step}
+use Rattle.tagged_heap.{proofs.Kept.{region_is}, proofs.ReleasingOldest.{can_be_listed, release_step}, specs.Representation.{IsKept}}
 use Rattle.tagged_heap.proofs.freeing.release_oldest.Goals as goal
 
 pub next_out_at-requires-clause-region : goal.next_out_at-requires-clause-region

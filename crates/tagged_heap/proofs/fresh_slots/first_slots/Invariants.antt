@@ -1,5 +1,4 @@
-use Rattle.std.proofs.Common.{◌≡◌, map}
-use Rattle.std.specs.List.{range_with_len}
+use Rattle.std.{proofs.Common.{◌≡◌, map}, specs.List.{range_with_len}}
 use Rattle.class_table.specs.Layout.{first_slot}
 use Rattle.tagged_heap.proofs.fresh_slots.first_slots.Given as goal
 

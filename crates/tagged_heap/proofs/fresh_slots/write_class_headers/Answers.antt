@@ -1,16 +1,10 @@
 use Rattle.std.proofs.Common.{◌≡◌, ℕ, ◌+◌, ◌*◌, ◌-◌, ◌<◌, ◌≤◌, Some, refl, sym, ap, ◌∙◌, subst, inl, inr, arith, slice_index}
-use Rattle.std.proofs.lemmas.Bool.{cases_lt}
-use Rattle.std.proofs.lemmas.Option.{slice_get-get_or}
-use Rattle.class_table.specs.Layout.{IsClassOf, Slot, first_slot, share_of, slot_of}
-use Rattle.class_table.proofs.LawLemmas.{slot_by_its_class}
-use Rattle.heap_theory.specs.Header.{Header, class_number}
-use Rattle.heap_theory.specs.Header.Standing.{Fresh as NeverGiven}
+use Rattle.std.proofs.lemmas.{Bool.{cases_lt}, Option.{slice_get-get_or}}
+use Rattle.class_table.{proofs.LawLemmas.{slot_by_its_class}, specs.Layout.{IsClassOf, Slot, first_slot, share_of, slot_of}}
+use Rattle.heap_theory.specs.{Header.{Header, class_number}, Header.Standing.{Fresh as NeverGiven}, Region.{region_of, header_in}}
 use Rattle.heap_theory.specs.State.State.{Fresh}
+use Rattle.tagged_heap.proofs.{NewHeap.{class_is_number}, RewrittenHeaders.{header_written}, Shares.{in_share}}
 use Rattle.tagged_heap.specs.Representation.{header_from}
-use Rattle.heap_theory.specs.Region.{region_of, header_in}
-use Rattle.tagged_heap.proofs.NewHeap.{class_is_number}
-use Rattle.tagged_heap.proofs.RewrittenHeaders.{header_written}
-use Rattle.tagged_heap.proofs.Shares.{in_share}
 use Rattle.tagged_heap.proofs.fresh_slots.write_class_headers.Goals as goal
 
 abbrev fresh_header : ℕ → Header

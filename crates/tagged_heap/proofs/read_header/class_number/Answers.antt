@@ -1,6 +1,5 @@
 use Rattle.std.proofs.Common.{sym, ap, ◌∙◌, arith}
-use Rattle.heap_theory.specs.Header.{Header}
-use Rattle.heap_theory.proofs.Regions.{header_in-region_of}
+use Rattle.heap_theory.{proofs.Regions.{header_in-region_of}, specs.Header.{Header}}
 use Rattle.tagged_heap.proofs.TheoryLemmas as laws
 use Rattle.tagged_heap.proofs.read_header.class_number.Goals as goal
 

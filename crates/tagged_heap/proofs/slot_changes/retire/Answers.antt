@@ -1,17 +1,10 @@
 use Rattle.std.proofs.Common.{◌≡◌, ◌+◌, ◌^◌, ◌<◌, sym, ap, subst, ◌∙◌, bit_or}
-use Rattle.machine_theory.specs.Instructions.{drawn_tag}
-use Rattle.machine_theory.specs.Machine.{Machine}
-use Rattle.machine_theory.specs.Memory.{tagged}
-use Rattle.class_table.specs.Layout.{slot_of}
-use Rattle.class_table.specs.Sizes.{chunk_granules}
-use Rattle.class_table.specs.declared.table.TheConstants.{MOST_CLASSES}
-use Rattle.heap_theory.specs.Calls.{parity_exclude}
-use Rattle.heap_theory.specs.Header.{Header, header_at, with_header}
+use Rattle.machine_theory.specs.{Instructions.{drawn_tag}, Machine.{Machine}, Memory.{tagged}}
+use Rattle.class_table.specs.{Layout.{slot_of}, Sizes.{chunk_granules}, declared.table.TheConstants.{MOST_CLASSES}}
+use Rattle.heap_theory.{proofs.Regions.{header_in-region_of}, specs.Calls.{parity_exclude}, specs.Header.{Header, header_at, with_header}}
 use Rattle.heap_theory.specs.Region.{region_of, header_in}
-use Rattle.heap_theory.proofs.Regions.{header_in-region_of}
-use Rattle.tagged_heap.specs.Chunks.{retired_header, tag_for}
+use Rattle.tagged_heap.{proofs.slot_changes.retire.Goals.{After-memory_mut-memory}, specs.Chunks.{retired_header, tag_for}}
 use Rattle.tagged_heap.proofs.slot_changes.retire.Goals as goal
-use Rattle.tagged_heap.proofs.slot_changes.retire.Goals.{After-memory_mut-memory}
 
 -- the draw of a tag changes no byte of the memory
 same : (c : After-memory_mut-memory) → c.memory_mut-memory.result.now ≡ c.args.machine.now.memory

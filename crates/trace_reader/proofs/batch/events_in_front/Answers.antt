@@ -1,12 +1,7 @@
 use Rattle.std.proofs.Common.{append_assoc, ◌+◌, ◌∙◌, ◌++◌, ◌∷◌, [], List, All, ap, map, refl, take, sym, subst, arith, rules}
-use Rattle.std.proofs.lemmas.Grind.{take-set_at}
-use Rattle.std.proofs.lemmas.List.{map-append}
-use Rattle.std.proofs.lemmas.List.Elements.{All-push}
-use Rattle.trace_event.specs.Ranges.{IsInRange}
-use Rattle.trace_event.specs.declared.event.Event.{Event}
-use Rattle.trace_reader.specs.Kept.{event_of}
-use Rattle.trace_reader.specs.declared.kept_event.KeptEvent.{KeptEvent}
-use Rattle.trace_reader.proofs.SpelledEvents.{one_line_more}
+use Rattle.std.proofs.lemmas.{Grind.{take-set_at}, List.{map-append}, List.Elements.{All-push}}
+use Rattle.trace_event.specs.{Ranges.{IsInRange}, declared.event.Event.{Event}}
+use Rattle.trace_reader.{proofs.SpelledEvents.{one_line_more}, specs.Kept.{event_of}, specs.declared.kept_event.KeptEvent.{KeptEvent}}
 use Rattle.trace_reader.proofs.batch.events_in_front.Goals as goal
 
 pub lines-preserved : goal.lines-preserved

@@ -1,8 +1,6 @@
 use Rattle.std.proofs.Common.{◌≡◌, ◌≤◌, ◌-◌, ◌++◌, All, List, length, take, map}
-use Rattle.trace_event.specs.Ranges.{IsInRange}
-use Rattle.trace_event.specs.declared.event.Event.{Event}
-use Rattle.trace_reader.specs.Kept.{event_of}
-use Rattle.trace_reader.specs.TraceLine.{event_lines}
+use Rattle.trace_event.specs.{Ranges.{IsInRange}, declared.event.Event.{Event}}
+use Rattle.trace_reader.specs.{Kept.{event_of}, TraceLine.{event_lines}}
 use Rattle.trace_reader.proofs.batch.events_in_front.Given as goal
 
 abbrev pub invariant-lines : goal.invariant-lines

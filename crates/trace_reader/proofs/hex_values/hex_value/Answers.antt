@@ -1,7 +1,5 @@
 use Rattle.std.proofs.Common.{◌≡◌, ℕ, ◌-◌, ◌<◌, ap, sym, subst, ◌∙◌, arith, cond, get_or, ltb, map, refl, zero-add}
-use Rattle.std.specs.List.{range_with_len}
-use Rattle.std.specs.Char.{digit_char}
-use Rattle.std.proofs.lemmas.List.FromFn.{get_or-map-range_with_len}
+use Rattle.std.{proofs.lemmas.List.FromFn.{get_or-map-range_with_len}, specs.Char.{digit_char}, specs.List.{range_with_len}}
 use Rattle.trace_reader.specs.declared.hex_values.TheConstants.{VALUES}
 use Rattle.trace_reader.proofs.hex_values.hex_value.Goals as goal
 

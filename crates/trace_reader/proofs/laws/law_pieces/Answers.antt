@@ -1,5 +1,4 @@
-use Rattle.trace_reader.proofs.Feeding.{fed_after_events, finished_after_events, pieces_are_joined}
-use Rattle.trace_reader.proofs.Pieces.{pieces_are_the_text}
+use Rattle.trace_reader.proofs.{Feeding.{fed_after_events, finished_after_events, pieces_are_joined}, Pieces.{pieces_are_the_text}}
 use Rattle.trace_reader.proofs.laws.law_pieces.Goals as goal
 
 pub returns-clause-joined : goal.returns-clause-joined

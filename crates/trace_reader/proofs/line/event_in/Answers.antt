@@ -1,5 +1,4 @@
-use Rattle.trace_reader.proofs.LineRanges.{few_events}
-use Rattle.trace_reader.proofs.SpelledLines.{IfOk-event_of_line}
+use Rattle.trace_reader.proofs.{LineRanges.{few_events}, SpelledLines.{IfOk-event_of_line}}
 use Rattle.trace_reader.proofs.line.event_in.Goals as goal
 
 pub returns-clause-range : goal.returns-clause-range

@@ -1,6 +1,5 @@
 use Rattle.std.proofs.Common.{◌∙◌, ◌++◌, ◌∷◌, ◌/◌, ◌%◌, ◌*◌, ◌+◌, ◌<◌, ◌≤◌, ◌≡◌, List, [], ℕ, ap, arith, drop, get_or, length, refl, take}
-use Rattle.std.specs.Char.{digit_char}
-use Rattle.std.proofs.lemmas.List.{take_more, take_rest}
+use Rattle.std.{proofs.lemmas.List.{take_more, take_rest}, specs.Char.{digit_char}}
 use Rattle.line_text.specs.Hexadecimal.{hex}
 use Rattle.trace_reader.proofs.DigitsInFront.{cut_at}
 use Rattle.trace_reader.proofs.one_pass.byte.Goals as goal

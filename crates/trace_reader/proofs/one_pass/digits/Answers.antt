@@ -1,5 +1,4 @@
-use Rattle.std.proofs.Common.{◌+◌, refl}
-use Rattle.std.proofs.lemmas.List.{take_rest}
+use Rattle.std.proofs.{Common.{◌+◌, refl}, lemmas.List.{take_rest}}
 use Rattle.trace_reader.proofs.DigitsInFront.{digits_end}
 use Rattle.trace_reader.proofs.one_pass.digits.Goals as goal
 

@@ -1,5 +1,4 @@
-use Rattle.std.proofs.Common.{◌≤◌, ◌∙◌, arith, refl}
-use Rattle.std.specs.Int.{to_le_bytes, w32}
+use Rattle.std.{proofs.Common.{◌≤◌, ◌∙◌, arith, refl}, specs.Int.{to_le_bytes, w32}}
 use Rattle.trace_reader.proofs.DigitsInFront.{digit_more, eight_digits, few_more, front_four}
 use Rattle.trace_reader.proofs.one_pass.more_digits.Goals as goal
 

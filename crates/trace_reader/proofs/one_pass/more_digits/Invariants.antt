@@ -1,5 +1,4 @@
-use Rattle.std.proofs.Common.{◌≡◌, ◌<◌, ◌^◌, take}
-use Rattle.std.specs.Fmt.{decimal}
+use Rattle.std.{proofs.Common.{◌≡◌, ◌<◌, ◌^◌, take}, specs.Fmt.{decimal}}
 use Rattle.trace_reader.proofs.one_pass.more_digits.Given as goal
 
 abbrev pub invariant-loop-place : goal.invariant-loop-place

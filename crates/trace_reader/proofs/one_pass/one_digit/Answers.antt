@@ -1,5 +1,4 @@
-use Rattle.std.proofs.Common.{arith}
-use Rattle.std.proofs.lemmas.List.{take_rest}
+use Rattle.std.proofs.{Common.{arith}, lemmas.List.{take_rest}}
 use Rattle.trace_reader.proofs.DigitsInFront.{digits_end, first_digit}
 use Rattle.trace_reader.proofs.one_pass.one_digit.Goals as goal
 

@@ -1,5 +1,4 @@
-use Rattle.std.proofs.Common.{◌≡◌, ◌+◌, ◌*◌, ◌≤◌, ap, ◌∙◌, arith}
-use Rattle.std.specs.Fmt.{decimal}
+use Rattle.std.{proofs.Common.{◌≡◌, ◌+◌, ◌*◌, ◌≤◌, ap, ◌∙◌, arith}, specs.Fmt.{decimal}}
 use Rattle.trace_reader.proofs.DigitsInFront.{digit_more, first_digit}
 use Rattle.trace_reader.proofs.one_pass.one_or_four_digits.Goals as goal
 

@@ -1,5 +1,4 @@
-use Rattle.std.proofs.Common.{ℕ, List, ◌∷◌, ◌++◌, ◌∙◌, [], ap, append_assoc}
-use Rattle.std.specs.Fmt.{decimal}
+use Rattle.std.{proofs.Common.{ℕ, List, ◌∷◌, ◌++◌, ◌∙◌, [], ap, append_assoc}, specs.Fmt.{decimal}}
 use Rattle.trace_reader.proofs.one_pass.three_digits.Goals as goal
 
 pub returns-clause-spelled : goal.returns-clause-spelled

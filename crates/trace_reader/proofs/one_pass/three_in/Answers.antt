@@ -1,5 +1,4 @@
-use Rattle.std.proofs.Common.{ℕ, ◌+◌, ◌-◌, ◌*◌, ◌%◌, ◌^◌, ◌∙◌, ◌∷◌, ◌++◌, [], ap, refl, arith}
-use Rattle.std.specs.Fmt.{decimal}
+use Rattle.std.{proofs.Common.{ℕ, ◌+◌, ◌-◌, ◌*◌, ◌%◌, ◌^◌, ◌∙◌, ◌∷◌, ◌++◌, [], ap, refl, arith}, specs.Fmt.{decimal}}
 use Rattle.trace_reader.proofs.ThreeDigits.{AreThree, are_three, three_of}
 use Rattle.trace_reader.proofs.one_pass.three_in.Goals as goal
 

@@ -1,5 +1,4 @@
-use Rattle.std.proofs.Common.{◌≡◌, ◌++◌, map, false}
-use Rattle.std.specs.List.{list_any}
+use Rattle.std.{proofs.Common.{◌≡◌, ◌++◌, map, false}, specs.List.{list_any}}
 use Rattle.line_text.specs.Lines.{words}
 use Rattle.trace_reader.specs.TraceLine.{is_empty_word}
 use Rattle.trace_reader.proofs.words.are_full_words.Given as goal

@@ -1,6 +1,5 @@
 use Rattle.std.proofs.Common.{true}
-use Rattle.tuner_theory.proofs.ForcedSheets.{forced_fit_is_best, forced_sheet_is_best}
-use Rattle.tuner_theory.proofs.Served.{served_waste, serves_largest}
+use Rattle.tuner_theory.proofs.{ForcedSheets.{forced_fit_is_best, forced_sheet_is_best}, Served.{served_waste, serves_largest}}
 use Rattle.tuner_theory.proofs.laws.law_forced_class.Goals as goal
 
 pub returns-clause-serving : goal.returns-clause-serving

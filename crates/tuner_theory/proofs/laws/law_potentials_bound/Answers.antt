@@ -1,6 +1,4 @@
-use Rattle.tuner_theory.proofs.Bound.{potentials_bound_costs}
-use Rattle.tuner_theory.proofs.BoundRests.{rests-bound, waste-rest}
-use Rattle.tuner_theory.proofs.Rounding.{step-positive}
+use Rattle.tuner_theory.proofs.{Bound.{potentials_bound_costs}, BoundRests.{rests-bound, waste-rest}, Rounding.{step-positive}}
 use Rattle.tuner_theory.proofs.Tables.{waste-cost, waste-sum}
 use Rattle.tuner_theory.proofs.laws.law_potentials_bound.Goals as goal
 

@@ -1,42 +1,23 @@
 -- `and_moved` makes a value of no memory, with the ghost values that its clause names.
-use Rattle.std.proofs.Common.{◌+◌, ◌<◌, ◌^◌, [], ◌∷◌, ◌++◌, length, take, refl}
+use Rattle.std.{proofs.Common.{◌+◌, ◌<◌, ◌^◌, [], ◌∷◌, ◌++◌, length, take, refl}, specs.Borrow.{u8}}
 use seplogic.Ra.Ura.{Ura}
-use mir.Syntax.{Fn, named, w64}
-use mir.Val.{Val, vint, vptr}
+use mir.{Syntax.{Fn, named, w64}, Val.{Val, vint, vptr}}
 use base.Logic.{SProp, ent}
-use prog.Memory.{Memory}
-use prog.Routine.{Routine}
-use prog.Wp.{WpFn, Tables}
-use contract.Monad.{Fun}
-use contract.Running.{tables, tables_of}
+use prog.{Memory.{Memory}, Routine.{Routine}, Wp.{WpFn, Tables}}
+use contract.{Monad.{Fun}, Running.{tables, tables_of}}
 use sound.WpLaws.{WpFn-mono}
-use types.Logic.{Logic}
+use types.{ByLocal.{alloc_all, pass_all, free_all, look_at, get, sets}, Logic.{Logic}, Part.{agg}, Run.{enter, returns, and_then, no_more}}
 use types.Kit.{‵, raw, ◌⊛◌, ◌$◌, ◌∵◌, !, qed, move, keep, split, fjoin, suffices, done}
-use types.Part.{agg}
-use types.Run.{enter, returns, and_then, no_more}
-use types.ByLocal.{alloc_all, pass_all, free_all, look_at, get, sets}
-use denote.Exit.{yes}
-use denote.RattleType.{owns}
-use denote.Builtin.{usize, RefOf, SliceRefOf}
-use denote.Plain.{uint_vals, uint_Tells}
-use denote.Ref.{shr_vals, shr_Tells}
-use denote.Slice.{Room, slice_val, shr_slice_vals, shr_slice_Tells}
-use denote.Laws.{Is}
-use denote.Signature.{plain, types_at}
-use denote.Steps.{nothing, owned}
-use denote.Struct.Laws.{makes}
-use denote.Triple.Clauses.{Clauses, Ended, closing}
-use denote.Triple.Entry.{alive}
-use denote.Triple.Spec.{Meets, triple_of}
-use denote.Triple.Table.{entered}
+use denote.{Builtin.{usize, RefOf, SliceRefOf}, Exit.{yes}, Laws.{Is}, Plain.{uint_vals, uint_Tells}, RattleType.{owns}}
+use denote.{Ref.{shr_vals, shr_Tells}, Signature.{plain, types_at}, Slice.{Room, slice_val, shr_slice_vals, shr_slice_Tells}}
+use denote.{Steps.{nothing, owned}, Struct.Laws.{makes}, Triple.Clauses.{Clauses, Ended, closing}, Triple.Entry.{alive}}
+use denote.Triple.{Spec.{Meets, triple_of}, Table.{entered}}
 use denote.Triple.Walked.{says, Stays, stay_dropped, walk_of, ends_at, walked, Goes-dropped, walk_Meets}
+use Rattle.byte_streams.{proofs.HistoryWalks.{none, one, one_made}, specs.Moved.{is_end}}
+use Rattle.byte_streams.specs.contracts.history.History.and_moved.Key.{name as #self}
 use Rattle.std.specs.contracts.marker.PhantomData as Mark
-use Rattle.std.specs.Borrow.{u8}
-use Rattle.byte_streams.specs.Moved.{is_end}
-use Rattle.byte_streams.proofs.HistoryWalks.{none, one, one_made}
 use Rattle.byte_streams.specs.contracts.history.History as History
 use Rattle.byte_streams.specs.contracts.history.History.and_moved as F
-use Rattle.byte_streams.specs.contracts.history.History.and_moved.Key.{name as #self}
 use Rattle.byte_streams.proofs.history.History.and_moved.Statement as stated
 use Rattle.byte_streams.proofs.history.History.and_moved.Code as code
 

@@ -1,36 +1,20 @@
 -- `new` makes a value of no memory, with the ghost values that its clause names.
-use Rattle.std.proofs.Common.{[], ◌∷◌, false, refl}
+use Rattle.std.{proofs.Common.{[], ◌∷◌, false, refl}, specs.Borrow.{u8}}
 use seplogic.Ra.Ura.{Ura}
-use mir.Syntax.{Fn}
-use mir.Val.{Val}
+use mir.{Syntax.{Fn}, Val.{Val}}
 use base.Logic.{SProp, ent}
-use prog.Memory.{Memory}
-use prog.Routine.{Routine}
-use prog.Wp.{Calls, Loops, WpFn, Tables}
-use contract.Monad.{Fun}
-use contract.Running.{tables, tables_of}
+use prog.{Memory.{Memory}, Routine.{Routine}, Wp.{Calls, Loops, WpFn, Tables}}
+use contract.{Monad.{Fun}, Running.{tables, tables_of}}
 use sound.WpLaws.{WpFn-mono}
-use types.Logic.{Logic}
+use types.{ByLocal.{alloc_all, pass_all, free_all, look_at, get, sets}, Logic.{Logic}, Part.{agg}, Run.{enter, returns, and_then, no_more}}
 use types.Kit.{‵, raw, ◌⊛◌, ◌$◌, ◌∵◌, !, qed, move, keep, split, fjoin, suffices, done}
-use types.Part.{agg}
-use types.Run.{enter, returns, and_then, no_more}
-use types.ByLocal.{alloc_all, pass_all, free_all, look_at, get, sets}
-use denote.RattleType.{owns}
-use denote.Laws.{Is}
-use denote.Signature.{types_at}
-use denote.Steps.{nothing, owned}
-use denote.Struct.Laws.{makes}
-use denote.Triple.Clauses.{Clauses, Ended, closing}
-use denote.Triple.Entry.{alive}
-use denote.Triple.Spec.{Meets, triple_of}
-use denote.Triple.Table.{entered}
+use denote.{Laws.{Is}, RattleType.{owns}, Signature.{types_at}, Steps.{nothing, owned}, Struct.Laws.{makes}, Triple.Entry.{alive}}
+use denote.Triple.{Clauses.{Clauses, Ended, closing}, Spec.{Meets, triple_of}, Table.{entered}}
 use denote.Triple.Walked.{says, Stays, walk_of, ends_at, walk_Meets}
+use Rattle.byte_streams.{proofs.HistoryWalks.{none, one, one_made}, specs.contracts.history.History.new.Key.{name as #self}}
 use Rattle.std.specs.contracts.marker.PhantomData as Mark
-use Rattle.std.specs.Borrow.{u8}
-use Rattle.byte_streams.proofs.HistoryWalks.{none, one, one_made}
 use Rattle.byte_streams.specs.contracts.history.History as History
 use Rattle.byte_streams.specs.contracts.history.History.new as F
-use Rattle.byte_streams.specs.contracts.history.History.new.Key.{name as #self}
 use Rattle.byte_streams.proofs.history.History.new.Statement as stated
 use Rattle.byte_streams.proofs.history.History.new.Code as code
 

@@ -1,7 +1,6 @@
 use Rattle.std.proofs.Common.{◌≡◌, ℕ, ◌-◌, List, [], drop, ap, sym, subst, ◌∙◌, arith, slice_index, slice_get}
 use Rattle.heap_theory.specs.Region.{region_of}
-use Rattle.class_lists.specs.Lists.{ShowsList}
-use Rattle.class_lists.proofs.ListChanges.{shown_none}
+use Rattle.class_lists.{proofs.ListChanges.{shown_none}, specs.Lists.{ShowsList}}
 use Rattle.class_lists.proofs.lists.ClassLists.pop_place.Goals as goal
 
 pub returns-then-front-eq0-clause-popped : goal.returns-then-front-eq0-clause-popped

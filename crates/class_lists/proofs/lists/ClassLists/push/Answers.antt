@@ -1,6 +1,5 @@
 use Rattle.std.proofs.Common.{◌<◌, sym, subst, ◌∙◌, slice_index}
-use Rattle.heap_theory.specs.Region.{region_of}
-use Rattle.heap_theory.proofs.Regions.{as_many_headers, length-headers_of, own_link}
+use Rattle.heap_theory.{proofs.Regions.{as_many_headers, length-headers_of, own_link}, specs.Region.{region_of}}
 use Rattle.class_lists.proofs.ListChanges.{shown_beside, shown_pushed}
 use Rattle.class_lists.proofs.lists.ClassLists.push.Goals as goal
 

@@ -1,7 +1,6 @@
 use Rattle.std.proofs.Common.{◌≡◌, ℕ, ◌+◌, List, ◌∷◌, drop, get_or-set_same, ap, sym, subst, ◌∙◌, slice_index, slice_get}
 use Rattle.heap_theory.specs.Region.{next_in, region_of}
-use Rattle.class_lists.specs.Lists.{ShowsList}
-use Rattle.class_lists.proofs.ListChanges.{shown_beside, shown_first, shown_rest, first_not_in_rest}
+use Rattle.class_lists.{proofs.ListChanges.{shown_beside, shown_first, shown_rest, first_not_in_rest}, specs.Lists.{ShowsList}}
 use Rattle.class_lists.proofs.lists.ClassLists.take_first.Goals as goal
 
 pub returns-clause-others : goal.returns-clause-others

@@ -1,7 +1,6 @@
 use Rattle.std.proofs.Common.{◌≤◌, ◌-◌, ap, ◌∙◌, arith}
-use Rattle.class_table.specs.Layout.{IsClassOf, slot_count}
 use Rattle.class_table.proofs.ClassOf.{firsts_of, firsts_of-ascending, class_of_point, class_is, last_of_firsts}
-use Rattle.class_table.proofs.Counted.{count_before, within_counts}
+use Rattle.class_table.{proofs.Counted.{count_before, within_counts}, specs.Layout.{IsClassOf, slot_count}}
 use Rattle.class_table.proofs.layout.Layout.class_of.Goals as goal
 
 pub count_below_last-requires-clause-known : goal.count_below_last-requires-clause-known

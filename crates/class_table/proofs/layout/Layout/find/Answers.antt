@@ -1,11 +1,7 @@
-use Rattle.std.proofs.Common.{◌≡◌, ap, sym, subst, ◌∙◌, arith, slice_index}
-use Rattle.std.specs.List.{position_or_len}
-use Rattle.class_table.specs.Counts.{AreCounts}
-use Rattle.class_table.specs.Layout.{Partition}
-use Rattle.class_table.specs.Sizes.{serves}
-use Rattle.class_table.proofs.LeastClass.{place_by_counts, none_past_counts, number_counted, none_counted}
+use Rattle.std.{proofs.Common.{◌≡◌, ap, sym, subst, ◌∙◌, arith, slice_index}, specs.List.{position_or_len}}
+use Rattle.class_table.{proofs.LeastClass.{place_by_counts, none_past_counts, number_counted, none_counted}, specs.Counts.{AreCounts}}
+use Rattle.class_table.{proofs.layout.Layout.find.Goals.{After-from-number}, specs.Layout.{Partition}, specs.Sizes.{serves}}
 use Rattle.class_table.proofs.layout.Layout.find.Goals as goal
-use Rattle.class_table.proofs.layout.Layout.find.Goals.{After-from-number}
 
 pub returns-then-granules-ge-COUNTS-clause-number : goal.returns-then-granules-ge-COUNTS-clause-number
 returns-then-granules-ge-COUNTS-clause-number c =

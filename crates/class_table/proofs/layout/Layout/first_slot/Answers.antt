@@ -1,6 +1,5 @@
 use Rattle.std.proofs.Common.{length, get_or, arith, ◌∙◌, ap}
-use Rattle.class_table.proofs.ClassOf.{firsts_of, length-firsts_of, get_or-firsts_of}
-use Rattle.class_table.proofs.FirstSlots.{first_slot-few}
+use Rattle.class_table.proofs.{ClassOf.{firsts_of, length-firsts_of, get_or-firsts_of}, FirstSlots.{first_slot-few}}
 use Rattle.class_table.proofs.layout.Layout.first_slot.Goals as goal
 
 pub bounds-deref-number : goal.bounds-deref-number

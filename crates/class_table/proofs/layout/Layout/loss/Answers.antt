@@ -1,10 +1,6 @@
-use Rattle.std.proofs.Common.{◌≡◌, ◌-◌, ◌∙◌, ap, sym, get_or, slice_get, option_and_then}
-use Rattle.std.specs.Option.{option_map_or}
-use Rattle.std.proofs.lemmas.Option.{slice_get-get_or}
-use Rattle.std.proofs.lemmas.Bool.{leb-true}
-use Rattle.class_table.specs.Layout.{Partition}
-use Rattle.class_table.specs.Sizes.{loss_of}
-use Rattle.class_table.proofs.LeastClass.{least_at, number_gives_class}
+use Rattle.std.proofs.{Common.{◌≡◌, ◌-◌, ◌∙◌, ap, sym, get_or, slice_get, option_and_then}, lemmas.Bool.{leb-true}}
+use Rattle.std.{proofs.lemmas.Option.{slice_get-get_or}, specs.Option.{option_map_or}}
+use Rattle.class_table.{proofs.LeastClass.{least_at, number_gives_class}, specs.Layout.{Partition}, specs.Sizes.{loss_of}}
 use Rattle.class_table.proofs.layout.Layout.loss.Goals as goal
 
 pub overflow_sub-result : goal.overflow_sub-result

@@ -1,15 +1,9 @@
-use Rattle.std.proofs.Common.{◌≡◌, ◌+◌, ◌/◌, ◌^◌, length, get_or, arith, sym, ◌∙◌, ap, subst}
-use Rattle.std.proofs.lemmas.Option.{get_or_from_slice_get}
-use Rattle.class_table.specs.Counts.{AreCounts}
-use Rattle.class_table.specs.Layout.{IsPartition, first_slot, slot_count}
-use Rattle.class_table.proofs.Counted.{counts_by_shift}
-use Rattle.class_table.proofs.ClassOf.{firsts_of-ascending}
-use Rattle.class_table.proofs.LeastClass.{ascending_classes}
-use Rattle.class_table.proofs.LayoutSoFar.{IsFilled-more, classes_all, firsts_all, length-numbers}
-use Rattle.class_table.proofs.FirstSlots.{first_slot-few}
-use Rattle.class_table.proofs.Slots.{slots_of_classes_are_all}
+use Rattle.std.proofs.{Common.{◌≡◌, ◌+◌, ◌/◌, ◌^◌, length, get_or, arith, sym, ◌∙◌, ap, subst}, lemmas.Option.{get_or_from_slice_get}}
+use Rattle.class_table.proofs.{ClassOf.{firsts_of-ascending}, Counted.{counts_by_shift}, FirstSlots.{first_slot-few}}
+use Rattle.class_table.proofs.{LayoutSoFar.{IsFilled-more, classes_all, firsts_all, length-numbers}, LeastClass.{ascending_classes}}
+use Rattle.class_table.proofs.{Slots.{slots_of_classes_are_all}, layout.Layout.new.Goals.{After-shift_for-slot_shift}}
+use Rattle.class_table.specs.{Counts.{AreCounts}, Layout.{IsPartition, first_slot, slot_count}}
 use Rattle.class_table.proofs.layout.Layout.new.Goals as goal
-use Rattle.class_table.proofs.layout.Layout.new.Goals.{After-shift_for-slot_shift}
 
 pub push-requires-in-loop-number : goal.push-requires-in-loop-number
 push-requires-in-loop-number c =

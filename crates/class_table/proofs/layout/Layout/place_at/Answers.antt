@@ -1,8 +1,8 @@
 use Rattle.std.proofs.Common.{◌+◌, ◌/◌, ◌%◌, ◌<◌, length, get_or, refl, sym, ◌∙◌}
+use Rattle.class_table.proofs.SlotAt.{none_without_share, none_past_shares, some_in_share, place_in_share, none_after_slots, place_fits}
+use Rattle.class_table.proofs.{SlotAt.{place_after}, layout.Layout.place_at.Goals.{Else-number-classes, Then-slot-first_slot}}
 use Rattle.class_table.specs.Layout.{share_of}
-use Rattle.class_table.proofs.SlotAt.{none_without_share, none_past_shares, some_in_share, place_in_share, none_after_slots, place_fits, place_after}
 use Rattle.class_table.proofs.layout.Layout.place_at.Goals as goal
-use Rattle.class_table.proofs.layout.Layout.place_at.Goals.{Else-number-classes, Then-slot-first_slot}
 
 pub returns-then-share-eq0-clause-none : goal.returns-then-share-eq0-clause-none
 returns-then-share-eq0-clause-none c =

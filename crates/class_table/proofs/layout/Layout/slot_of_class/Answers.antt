@@ -1,7 +1,6 @@
 use Rattle.std.proofs.Common.{ℕ, ◌+◌, ◌-◌, ◌*◌, ◌≤◌, get_or, ◌∙◌, sym, ap, subst, arith}
+use Rattle.class_table.proofs.{ClassOf.{slot_by_its_class, slots_of_classes_are_slots}, Slots.{legal_slots_are_in_order}}
 use Rattle.class_table.specs.Layout.{IsClassOf, IsPartition, Partition, Slot, end_of, first_slot, share_of}
-use Rattle.class_table.proofs.ClassOf.{slot_by_its_class, slots_of_classes_are_slots}
-use Rattle.class_table.proofs.Slots.{legal_slots_are_in_order}
 use Rattle.class_table.proofs.layout.Layout.slot_of_class.Goals as goal
 
 inside : (layout : Partition) (slot number : ℕ) → IsPartition layout → IsClassOf layout slot number →

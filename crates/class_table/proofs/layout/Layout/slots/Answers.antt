@@ -1,6 +1,5 @@
 use Rattle.std.proofs.Common.{sym, ◌∙◌, ap}
-use Rattle.class_table.specs.Layout.{first_slot}
-use Rattle.class_table.proofs.Slots.{slots_of_classes_are_all}
+use Rattle.class_table.{proofs.Slots.{slots_of_classes_are_all}, specs.Layout.{first_slot}}
 use Rattle.class_table.proofs.layout.Layout.slots.Goals as goal
 
 pub returns-clause-slots : goal.returns-clause-slots

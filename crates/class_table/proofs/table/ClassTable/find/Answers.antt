@@ -1,6 +1,5 @@
 use Rattle.std.proofs.Common.{◌≡◌, ◌∙◌, ap}
-use Rattle.class_table.specs.Tables.{class_number_for}
-use Rattle.class_table.proofs.LeastClass.{least_of, none_of}
+use Rattle.class_table.{proofs.LeastClass.{least_of, none_of}, specs.Tables.{class_number_for}}
 use Rattle.class_table.proofs.table.ClassTable.find.Goals as goal
 
 found : (c : goal.After-number_for) → c.number_for.result ≡ class_number_for c.args.self.now c.args.n

@@ -1,9 +1,6 @@
-use Rattle.std.proofs.Common.{◌≡◌, ap, subst, sym, ◌∙◌, true, false, codes}
+use Rattle.std.proofs.{Common.{◌≡◌, ap, subst, sym, ◌∙◌, true, false, codes}, lemmas.Bool.{not-true, not-false}}
 use Rattle.std.specs.Str.{bytes_eq}
-use Rattle.std.proofs.lemmas.Bool.{not-true, not-false}
-use Rattle.class_table.specs.ClassLine.{table_of_line}
-use Rattle.class_table.specs.Faults.{Gives}
-use Rattle.class_table.proofs.Words.{other_name, named, table_of_words}
+use Rattle.class_table.{proofs.Words.{other_name, named, table_of_words}, specs.ClassLine.{table_of_line}, specs.Faults.{Gives}}
 use Rattle.class_table.proofs.table.ClassTable.from_line.Goals as goal
 
 pub returns-in_default-clause-exact : goal.returns-in_default-clause-exact

@@ -1,6 +1,5 @@
 use Rattle.std.proofs.Common.{sym, ap, subst, ◌∙◌}
-use Rattle.class_table.specs.ClassLine.{table_of, table_of_lines}
-use Rattle.class_table.specs.Faults.{Gives}
+use Rattle.class_table.specs.{ClassLine.{table_of, table_of_lines}, Faults.{Gives}}
 use Rattle.class_table.proofs.table.ClassTable.read_line.Goals as goal
 
 pub returns-in_default-clause-exact : goal.returns-in_default-clause-exact

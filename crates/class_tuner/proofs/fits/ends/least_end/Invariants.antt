@@ -1,8 +1,6 @@
 use Rattle.std.proofs.Common.{◌≡◌, ◌+◌, ◌-◌, ◌*◌, ◌/◌, ◌^◌, ◌<◌, ◌≤◌, length, slice_index}
-use Rattle.class_tuner.specs.Fits.Ends.{IsLeastSoFar}
-use Rattle.potential_check.specs.Footprints.Bounds.{AreBounds}
-use Rattle.class_tuner.specs.Fits.PlaceByPlace.{end_cost}
-use Rattle.potential_check.specs.declared.footprints.slack.TheConstants.{BLOCK}
+use Rattle.class_tuner.specs.Fits.{Ends.{IsLeastSoFar}, PlaceByPlace.{end_cost}}
+use Rattle.potential_check.specs.{Footprints.Bounds.{AreBounds}, declared.footprints.slack.TheConstants.{BLOCK}}
 use Rattle.class_tuner.proofs.fits.ends.least_end.Given as goal
 
 abbrev pub invariant-loop-block : goal.invariant-loop-block

@@ -1,5 +1,4 @@
-use Rattle.std.proofs.Common.{◌≡◌, ℕ, slice_index, arith, ap, inl, inr}
-use Rattle.std.proofs.lemmas.Bool.{cases_lt}
+use Rattle.std.proofs.{Common.{◌≡◌, ℕ, slice_index, arith, ap, inl, inr}, lemmas.Bool.{cases_lt}}
 use Rattle.class_tuner.specs.Fits.PlaceByPlace.{end_cost}
 use Rattle.class_tuner.proofs.fits.ends.least_of.Goals as goal
 

@@ -1,6 +1,5 @@
 use Rattle.std.proofs.Common.{◌≡◌, ◌-◌, ◌^◌, ◌<◌, ◌≤◌, ℕ, slice_index}
-use Rattle.class_tuner.specs.Fits.Ends.{IsReached}
-use Rattle.class_tuner.specs.Fits.PlaceByPlace.{end_cost}
+use Rattle.class_tuner.specs.Fits.{Ends.{IsReached}, PlaceByPlace.{end_cost}}
 use Rattle.class_tuner.proofs.fits.ends.least_of.Given as goal
 
 abbrev pub invariant-loop-j : goal.invariant-loop-j

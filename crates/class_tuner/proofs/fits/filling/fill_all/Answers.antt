@@ -1,14 +1,10 @@
-use Rattle.std.proofs.Common.{◌≡◌, ℕ, suc, ◌+◌, ◌-◌, ◌*◌, ◌<◌, ◌≤◌, length, slice_index, arith, ap, sym, ◌∙◌, Vec}
-use Rattle.std.specs.declared.alloc.Global.{Global}
-use Rattle.std.proofs.Math.Nat.{mul-le-mul}
-use Rattle.std.proofs.lemmas.List.{with_items_is}
+use Rattle.std.proofs.{Common.{◌≡◌, ℕ, suc, ◌+◌, ◌-◌, ◌*◌, ◌<◌, ◌≤◌, length, slice_index, arith, ap, sym, ◌∙◌, Vec}, Math.Nat.{mul-le-mul}}
+use Rattle.std.{proofs.lemmas.List.{with_items_is}, specs.declared.alloc.Global.{Global}}
 use Rattle.class_table.specs.declared.sizes.TheConstants.{MOST_NEEDS}
-use Rattle.class_tuner.specs.Fits.PlaceByPlace.{AreLeastRowsFrom}
 use Rattle.class_tuner.proofs.FitLemmas.Places.{all-filled, costs-from, costs-older, least-at_end, ready-at_end, rows-from}
-use Rattle.potential_check.specs.Footprints.CallCounts.{span_count}
-use Rattle.potential_check.proofs.FootprintLemmas.LawLemmas.{spans_of_places}
-use Rattle.tuner_theory.specs.Lists.{lists_of}
-use Rattle.tuner_theory.specs.Rows.{number_at}
+use Rattle.class_tuner.specs.Fits.PlaceByPlace.{AreLeastRowsFrom}
+use Rattle.potential_check.{proofs.FootprintLemmas.LawLemmas.{spans_of_places}, specs.Footprints.CallCounts.{span_count}}
+use Rattle.tuner_theory.specs.{Lists.{lists_of}, Rows.{number_at}}
 use Rattle.class_tuner.proofs.fits.filling.fill_all.Goals as goal
 
 -- spans between so few places

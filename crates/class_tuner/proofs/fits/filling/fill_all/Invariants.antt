@@ -1,8 +1,7 @@
 use Rattle.std.proofs.Common.{◌≡◌, ◌+◌, ◌-◌, ◌<◌, ◌≤◌, ℕ, length, slice_index}
 use Rattle.class_tuner.specs.Fits.PlaceByPlace.{AreLeastRowsFrom, AreReady}
 use Rattle.potential_check.specs.Footprints.CallCounts.{span_count}
-use Rattle.tuner_theory.specs.Lists.{lists_of}
-use Rattle.tuner_theory.specs.Rows.{number_at}
+use Rattle.tuner_theory.specs.{Lists.{lists_of}, Rows.{number_at}}
 use Rattle.class_tuner.proofs.fits.filling.fill_all.Given as goal
 
 abbrev pub invariant-loop-i : goal.invariant-loop-i

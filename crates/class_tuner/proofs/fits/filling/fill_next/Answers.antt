@@ -1,8 +1,7 @@
 use Rattle.std.proofs.Common.{arith, sym}
-use Rattle.class_tuner.proofs.fits.filling.fill_next.Goals as goal
 use Rattle.potential_check.proofs.FootprintLemmas.LawLemmas.{row_bounds-next, row_bounds-same, slack-narrowed}
-use Rattle.tuner_theory.specs.Lists.{lists_of}
-use Rattle.tuner_theory.specs.Rows.{number_at}
+use Rattle.tuner_theory.specs.{Lists.{lists_of}, Rows.{number_at}}
+use Rattle.class_tuner.proofs.fits.filling.fill_next.Goals as goal
 
 pub lower_slack-requires : goal.lower_slack-requires
 lower_slack-requires c = record {

@@ -1,5 +1,4 @@
-use Rattle.std.proofs.Common.{length, arith, ap}
-use Rattle.std.proofs.lemmas.List.{with_items_is}
+use Rattle.std.proofs.{Common.{length, arith, ap}, lemmas.List.{with_items_is}}
 use Rattle.class_tuner.proofs.fits.filling.fill_places.Goals as goal
 
 pub fill_all-requires : goal.fill_all-requires

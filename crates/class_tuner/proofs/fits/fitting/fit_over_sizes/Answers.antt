@@ -1,16 +1,8 @@
 use Rattle.class_tuner.proofs.Tunings.{made-fit, read-later, read-legal, read-made}
-use Rattle.tuner_theory.specs.Lists.{lists_of}
-use Rattle.tuner_theory.specs.Footprint.{footprint_between}
-use Rattle.tuner_theory.specs.Histories.{peaks}
-use Rattle.tuner_theory.specs.Intervals.{span_cost}
-use Rattle.tuner_theory.specs.Measures.{footprint_on}
-use Rattle.tuner_theory.specs.Rows.{IsFilled}
-use Rattle.tuner_theory.specs.Served.{served}
+use Rattle.tuner_theory.proofs.{Footprint.{footprint_is_sum}, FootprintLawLemmas.{peaks_are_counts}, LawLemmas.{few_places}}
+use Rattle.tuner_theory.{proofs.Served.{served_are_counts}, specs.Footprint.{footprint_between}, specs.Histories.{peaks}}
+use Rattle.tuner_theory.specs.{Intervals.{span_cost}, Lists.{lists_of}, Measures.{footprint_on}, Rows.{IsFilled}, Served.{served}}
 use Rattle.tuner_theory.specs.Spans.{places}
-use Rattle.tuner_theory.proofs.Footprint.{footprint_is_sum}
-use Rattle.tuner_theory.proofs.FootprintLawLemmas.{peaks_are_counts}
-use Rattle.tuner_theory.proofs.LawLemmas.{few_places}
-use Rattle.tuner_theory.proofs.Served.{served_are_counts}
 use Rattle.class_tuner.proofs.fits.fitting.fit_over_sizes.Goals as goal
 
 pub fill_places-requires-clause-places : goal.fill_places-requires-clause-places

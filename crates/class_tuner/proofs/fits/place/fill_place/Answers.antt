@@ -1,10 +1,7 @@
 use Rattle.std.proofs.Common.{◌≡◌, ℕ, ◌-◌, ◌<◌, List, [], length, slice_index, slice_index_or, add-one, arith, ap, sym, ◌∙◌}
-use Rattle.tuner_theory.proofs.Lists.{lists-length, row-read}
-use Rattle.class_tuner.proofs.FitLemmas.Places.{place-first, place-more, so_far-set}
-use Rattle.class_tuner.proofs.Rows.{has-place, has-row}
+use Rattle.tuner_theory.{proofs.Lists.{lists-length, row-read}, specs.Lists.{lists_of}, specs.Rows.{number_at}}
+use Rattle.class_tuner.proofs.{FitLemmas.Places.{place-first, place-more, so_far-set}, Rows.{has-place, has-row}}
 use Rattle.potential_check.proofs.FootprintLemmas.LawLemmas.{bounds-same, row_bounds-set}
-use Rattle.tuner_theory.specs.Lists.{lists_of}
-use Rattle.tuner_theory.specs.Rows.{number_at}
 use Rattle.class_tuner.proofs.fits.place.fill_place.Goals as goal
 
 pub least_end_in-number-requires-clause-costs : goal.least_end_in-number-requires-clause-costs

@@ -1,7 +1,6 @@
 use Rattle.potential_check.specs.Footprints.Bounds.{AreRowBounds}
 use Rattle.class_tuner.specs.Fits.PlaceByPlace.{AreRowsSoFar, IsPlaceFilled}
-use Rattle.tuner_theory.specs.Lists.{lists_of}
-use Rattle.tuner_theory.specs.Rows.{number_at}
+use Rattle.tuner_theory.specs.{Lists.{lists_of}, Rows.{number_at}}
 use Rattle.class_tuner.proofs.fits.place.fill_place.Given as goal
 
 abbrev pub invariant-loop-k : goal.invariant-loop-k

@@ -1,6 +1,4 @@
-use Rattle.std.proofs.Common.{arith, slice_index_or}
-use Rattle.std.specs.Vec.{with_items}
-use Rattle.std.proofs.lemmas.List.{with_items_is}
+use Rattle.std.{proofs.Common.{arith, slice_index_or}, proofs.lemmas.List.{with_items_is}, specs.Vec.{with_items}}
 use Rattle.potential_check.proofs.FootprintLemmas.LawLemmas.{row-others, row-same}
 use Rattle.class_tuner.proofs.fits.place.least_end_in.Goals as goal
 

@@ -1,9 +1,6 @@
-use Rattle.std.proofs.Common.{◌≡◌, ℕ, ◌<◌, ◌^◌, Some, ap, arith, pos, rules, ◌∙◌}
-use Rattle.std.specs.Int.{int_max, int_min}
-use Rattle.clap.specs.Words.{Rule, signed_between}
-use Rattle.clap.specs.declared.builder.value_parser.ValueParser.TheVariants.{Signed}
-use mir.Syntax.{w64}
-use mir.Val.{to_z}
+use Rattle.std.{proofs.Common.{◌≡◌, ℕ, ◌<◌, ◌^◌, Some, ap, arith, pos, rules, ◌∙◌}, specs.Int.{int_max, int_min}}
+use Rattle.clap.specs.{Words.{Rule, signed_between}, declared.builder.value_parser.ValueParser.TheVariants.{Signed}}
+use mir.{Syntax.{w64}, Val.{to_z}}
 use Rattle.command_words.proofs.options.NumberOption.number_arg.Goals as goal
 
 within_bounds : (least most : ℕ) → least < 2 ^ 32 → most < 2 ^ 32 →

@@ -1,6 +1,5 @@
 use Rattle.std.proofs.Common.{◌∙◌, ap, sym}
-use Rattle.heap_theory.specs.State.{Heap}
-use Rattle.heap_theory.specs.Calls.{free_step}
+use Rattle.heap_theory.specs.{Calls.{free_step}, State.{Heap}}
 use Rattle.engine_tests.proofs.FreedTwice.{second_free}
 use Rattle.engine_tests.proofs.callers.heap.free_twice.Goals as goal
 

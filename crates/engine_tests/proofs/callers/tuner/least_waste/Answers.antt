@@ -1,6 +1,5 @@
 use Rattle.std.proofs.Common.{ap, ◌∙◌}
-use Rattle.profile_count.specs.Requests.{with_more}
-use Rattle.profile_count.proofs.LawLemmas.{added_requests_are_counted}
+use Rattle.profile_count.{proofs.LawLemmas.{added_requests_are_counted}, specs.Requests.{with_more}}
 use Rattle.tuner_theory.specs.Profiles.{Profile}
 use Rattle.engine_tests.proofs.callers.tuner.least_waste.Goals as goal
 

@@ -2,8 +2,7 @@ use Rattle.std.proofs.Common.{◌≡◌, ℕ, ◌+◌, ◌-◌, ◌*◌, ◌/◌
 use Rattle.std.proofs.lemmas.Bool.{eq-eqb, eqb-true}
 use Rattle.machine_theory.specs.Memory.{Granule, tag_at}
 use Rattle.raw_region.specs.Bytes.{word_at}
-use Rattle.granule_memory.proofs.Granules.{granules_counted, tag_is}
-use Rattle.granule_memory.proofs.TagWords.{tags_compared}
+use Rattle.granule_memory.proofs.{Granules.{granules_counted, tag_is}, TagWords.{tags_compared}}
 use Rattle.granule_memory.proofs.memory.Memory.all_have_tag.Goals as goal
 
 pub returns : goal.returns

@@ -1,10 +1,9 @@
 use Rattle.std.proofs.Common.{◌≡◌, ℕ, ◌+◌, ◌*◌, ◌<◌, ◌≤◌, ◌∙◌, sym, ap, arith, length, List, slice_range}
 use Rattle.std.proofs.lemmas.List.Elements.{All-take, All-drop}
 use Rattle.machine_theory.specs.Memory.{bytes_at, written}
-use Rattle.granule_memory.proofs.Granules.{granules_counted, granules_fit, bytes_are, slice_range_long}
-use Rattle.granule_memory.proofs.Writes.{written_is, written_fits}
-use Rattle.granule_memory.proofs.memory.Memory.copy_bytes.Goals as goal
+use Rattle.granule_memory.proofs.{Granules.{granules_counted, granules_fit, bytes_are, slice_range_long}, Writes.{written_is, written_fits}}
 use Rattle.granule_memory.proofs.memory.Memory.copy_bytes.Goals.{After-copy_within}
+use Rattle.granule_memory.proofs.memory.Memory.copy_bytes.Goals as goal
 
 -- the bytes that are copied
 module _ (c : After-copy_within) where

@@ -1,5 +1,4 @@
-use Rattle.granule_memory.proofs.Granules.{granules_fit}
-use Rattle.granule_memory.proofs.Writes.{tagged_reads, tagged_keeps, tagged_fits}
+use Rattle.granule_memory.proofs.{Granules.{granules_fit}, Writes.{tagged_reads, tagged_keeps, tagged_fits}}
 use Rattle.granule_memory.proofs.memory.Memory.set_tags.Goals as goal
 
 pub invariant_of-self : goal.invariant_of-self

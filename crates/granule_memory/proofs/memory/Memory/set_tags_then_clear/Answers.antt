@@ -1,5 +1,4 @@
-use Rattle.granule_memory.proofs.Granules.{granules_fit}
-use Rattle.granule_memory.proofs.Writes.{cleared_is, cleared_fits}
+use Rattle.granule_memory.proofs.{Granules.{granules_fit}, Writes.{cleared_is, cleared_fits}}
 use Rattle.granule_memory.proofs.memory.Memory.set_tags_then_clear.Goals as goal
 
 pub invariant_of-self : goal.invariant_of-self

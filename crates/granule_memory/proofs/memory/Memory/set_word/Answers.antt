@@ -1,9 +1,7 @@
-use Rattle.std.proofs.Common.{◌+◌, ◌*◌, ◌≤◌, ◌∙◌, ap, arith, length}
-use Rattle.std.specs.Int.{w64, to_le_bytes}
-use Rattle.granule_memory.proofs.Granules.{granules_counted, granules_fit, word_is}
-use Rattle.granule_memory.proofs.Writes.{bytes_below, written_fits, written_keeps}
-use Rattle.granule_memory.proofs.memory.Memory.set_word.Goals as goal
+use Rattle.std.{proofs.Common.{◌+◌, ◌*◌, ◌≤◌, ◌∙◌, ap, arith, length}, specs.Int.{w64, to_le_bytes}}
+use Rattle.granule_memory.proofs.{Granules.{granules_counted, granules_fit, word_is}, Writes.{bytes_below, written_fits, written_keeps}}
 use Rattle.granule_memory.proofs.memory.Memory.set_word.Goals.{After-set_word}
+use Rattle.granule_memory.proofs.memory.Memory.set_word.Goals as goal
 
 -- the word lies in the memory
 inside : (c : After-set_word) → c.start_of_granule.result + 8 * c.args.i + 8 ≤ 16 * length c.args.self.now

@@ -1,7 +1,5 @@
-use Rattle.std.proofs.Common.{◌<◌}
-use Rattle.std.proofs.lemmas.List.Elements.{All-from_get_or}
-use Rattle.granule_memory.proofs.Granules.{granules_fit}
-use Rattle.granule_memory.proofs.Writes.{written_keeps, written_fits}
+use Rattle.std.proofs.{Common.{◌<◌}, lemmas.List.Elements.{All-from_get_or}}
+use Rattle.granule_memory.proofs.{Granules.{granules_fit}, Writes.{written_keeps, written_fits}}
 use Rattle.granule_memory.proofs.memory.Memory.write_bytes.Goals as goal
 
 pub invariant_of-self : goal.invariant_of-self

@@ -1,13 +1,10 @@
 use Rattle.std.proofs.Common.{◌≡◌, ℕ, ◌+◌, ◌-◌, ◌*◌, ◌<◌, ◌≤◌, ◌∙◌, ap, subst, arith, length, List, lit<, replicate}
-use Rattle.std.proofs.lemmas.List.{length-replicate}
-use Rattle.std.proofs.lemmas.List.Elements.{All-replicate}
+use Rattle.std.proofs.lemmas.{List.{length-replicate}, List.Elements.{All-replicate}}
 use Rattle.raw_region.specs.Bytes.{with_bytes}
-use Rattle.granule_memory.specs.BytesOfGranules.{granules_of}
+use Rattle.granule_memory.proofs.{Granules.{granules_fit}, Writes.{written_is, written_fits, written_keeps}}
+use Rattle.granule_memory.{proofs.memory.Memory.zero_granules.Goals.{After-fill}, specs.BytesOfGranules.{granules_of}}
 use Rattle.granule_memory.specs.Changes.{ChangesOnlyBytes}
-use Rattle.granule_memory.proofs.Granules.{granules_fit}
-use Rattle.granule_memory.proofs.Writes.{written_is, written_fits, written_keeps}
 use Rattle.granule_memory.proofs.memory.Memory.zero_granules.Goals as goal
-use Rattle.granule_memory.proofs.memory.Memory.zero_granules.Goals.{After-fill}
 
 -- the zeros are written from the first granule on, and lie in the memory
 module _ (c : After-fill) where

@@ -1,9 +1,8 @@
 -- By the proof of all handles.
+use Rattle.handed_text.proofs.{AsHandle.{K}, LawLemmas.Handles.OfParts.{of_parts}}
 use Rattle.handed_text.specs.contracts.handle.Handle.of_parts.Key.{name as #self}
 use Rattle.handed_text.proofs.handle.Handle.of_parts.Code as code
 use Rattle.handed_text.proofs.handle.Handle.of_parts.Statement as stated
-use Rattle.handed_text.proofs.AsHandle.{K}
-use Rattle.handed_text.proofs.LawLemmas.Handles.OfParts.{of_parts}
 
 pub of_parts_spec : {M : Type 1} → stated.statement M
 of_parts_spec 𝓤 𝓛 𝓜 𝓡 wired = of_parts K 𝓛 𝓜 𝓡 #self (code.unfolded 𝓤 𝓛.H 𝓜 𝓡 wired)

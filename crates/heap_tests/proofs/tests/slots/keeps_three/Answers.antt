@@ -1,9 +1,7 @@
 use Rattle.std.proofs.Common.{ℕ, ◌<◌, ◌∷◌, [], List, subst, ⊎_elim, arith, rules, Contains}
 use Rattle.class_table.specs.Layout.{Partition}
-use Rattle.heap_theory.specs.Region.{Region, region_of}
-use Rattle.heap_theory.proofs.ListSearch.{Contains-cases}
-use Rattle.quarantine_core.specs.Queue.{Queue, AreQueued, IsOutside}
-use Rattle.quarantine_core.proofs.LawLemmas.{one_queue_is_shown}
+use Rattle.heap_theory.{proofs.ListSearch.{Contains-cases}, specs.Region.{Region, region_of}}
+use Rattle.quarantine_core.{proofs.LawLemmas.{one_queue_is_shown}, specs.Queue.{Queue, AreQueued, IsOutside}}
 use Rattle.heap_tests.proofs.tests.slots.keeps_three.Goals as goal
 
 -- the links show one queue alone

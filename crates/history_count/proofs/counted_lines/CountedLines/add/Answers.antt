@@ -1,7 +1,6 @@
 use Rattle.std.proofs.Common.{sym, arith}
 use Rattle.tuner_theory.specs.Lists.{lists_of}
-use Rattle.history_count.proofs.Peaks.{greatest-small}
-use Rattle.history_count.proofs.SpreadLines.{holds-more, spread-more}
+use Rattle.history_count.proofs.{Peaks.{greatest-small}, SpreadLines.{holds-more, spread-more}}
 use Rattle.history_count.proofs.counted_lines.CountedLines.add.Goals as goal
 
 pub set_count-requires-clause-count : goal.set_count-requires-clause-count

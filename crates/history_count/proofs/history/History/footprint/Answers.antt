@@ -1,9 +1,6 @@
 use Rattle.std.proofs.Common.{length, ap, ◌∙◌}
-use Rattle.tuner_theory.specs.Footprint.{footprint_of}
-use Rattle.tuner_theory.specs.Lists.{lists_of}
-use Rattle.history_count.specs.CountedLines.{spread}
-use Rattle.history_count.specs.Histories.{History}
-use Rattle.history_count.proofs.SpreadLines.{lines-few}
+use Rattle.tuner_theory.specs.{Footprint.{footprint_of}, Lists.{lists_of}}
+use Rattle.history_count.{proofs.SpreadLines.{lines-few}, specs.CountedLines.{spread}, specs.Histories.{History}}
 use Rattle.history_count.proofs.history.History.footprint.Goals as goal
 
 pub table_bytes-requires-clause-columns : goal.table_bytes-requires-clause-columns

@@ -1,10 +1,7 @@
 use Rattle.std.proofs.Common.{◌≡◌, ℕ, length, arith, ap, subst}
 use Rattle.profile_count.proofs.LawLemmas.{length-zeros}
-use Rattle.tuner_theory.specs.Lists.{lists_of}
-use Rattle.tuner_theory.proofs.Lists.{lists-length}
-use Rattle.history_count.proofs.CutLines.{few-lines}
-use Rattle.history_count.proofs.Peaks.{zeros-small}
-use Rattle.history_count.proofs.RowPeaks.{ArePeaksTo, peaks_to-none, rows-held}
+use Rattle.tuner_theory.{proofs.Lists.{lists-length}, specs.Lists.{lists_of}}
+use Rattle.history_count.proofs.{CutLines.{few-lines}, Peaks.{zeros-small}, RowPeaks.{ArePeaksTo, peaks_to-none, rows-held}}
 use Rattle.history_count.proofs.history.History.of_rows.Goals as goal
 
 pub loop-line-init : goal.loop-line-init

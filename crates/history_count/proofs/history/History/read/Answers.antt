@@ -1,19 +1,13 @@
 use Rattle.std.proofs.Common.{◌≡◌, ◌+◌, ◌≤◌, ℕ, suc, Bool, Ok, List, length, true, sym, ap, ◌∙◌, arith, add-one, refl}
-use Rattle.std.proofs.lemmas.Bool.{false≢true, leb-true}
-use Rattle.std.proofs.lemmas.List.{with_items_is}
+use Rattle.std.proofs.lemmas.{Bool.{false≢true, leb-true}, List.{with_items_is}}
 use Rattle.line_text.specs.Lines.{words}
 use Rattle.profile_count.proofs.LawLemmas.{length-zeros}
 use Rattle.tuner_theory.specs.Lists.{lists_of}
-use Rattle.history_count.specs.CountedLines.{spread}
-use Rattle.history_count.specs.Histories.{History, with_counts}
-use Rattle.history_count.specs.HistoryText.{Entry, Reading, entry_of, history_from, next_entry}
-use Rattle.history_count.specs.declared.counted_lines.CountedLines.{CountedLines}
-use Rattle.history_count.specs.declared.line.Subject.TheVariants.{Large, Size}
-use Rattle.history_count.proofs.EntryLines.{entry_line-read}
+use Rattle.history_count.proofs.{EntryLines.{entry_line-read}, Peaks.{zeros-small}, RowEntries.{entry-taken, gives-at}}
 use Rattle.history_count.proofs.LineByLine.{entry_read, first_line_read, line_faulty, line_read, no_line, same_history}
-use Rattle.history_count.proofs.Peaks.{zeros-small}
-use Rattle.history_count.proofs.RowEntries.{entry-taken, gives-at}
-use Rattle.history_count.proofs.SpreadLines.{above-more, spread-length}
+use Rattle.history_count.{proofs.SpreadLines.{above-more, spread-length}, specs.CountedLines.{spread}}
+use Rattle.history_count.specs.{Histories.{History, with_counts}, HistoryText.{Entry, Reading, entry_of, history_from, next_entry}}
+use Rattle.history_count.specs.declared.{counted_lines.CountedLines.{CountedLines}, line.Subject.TheVariants.{Large, Size}}
 use Rattle.history_count.proofs.history.History.read.Goals as goal
 
 -- the history of what was read so far

@@ -1,8 +1,7 @@
 use Rattle.std.proofs.Common.{◌≡◌, ◌+◌, ◌<◌, ◌≤◌, ℕ, false, length, slice_index}
 use Rattle.class_table.specs.Sizes.{largest_counted}
 use Rattle.tuner_theory.specs.Lists.{lists_of}
-use Rattle.history_count.specs.CountedLines.{HoldsHistory, spread}
-use Rattle.history_count.specs.HistoryText.{history_from, history_of}
+use Rattle.history_count.specs.{CountedLines.{HoldsHistory, spread}, HistoryText.{history_from, history_of}}
 use Rattle.history_count.proofs.history.History.read.Given as goal
 
 abbrev pub invariant-lines : goal.invariant-lines

@@ -1,9 +1,8 @@
 use Rattle.std.proofs.Common.{arith, get_or, refl, inl, inr}
 use Rattle.tuner_theory.specs.declared.size_event.SizeEvent.TheVariants.{Request}
-use Rattle.history_count.specs.Timelines.Runs.{size_of}
-use Rattle.history_count.proofs.TimelineLemmas.Requests.{least_kept, least_unserved}
+use Rattle.history_count.proofs.TimelineLemmas.{Requests.{least_kept, least_unserved}, TablePeaks.{event_moved}}
 use Rattle.history_count.proofs.TimelineLemmas.Steps.{event_live, event_step, number_gives_none, number_serves, unserved_step}
-use Rattle.history_count.proofs.TimelineLemmas.TablePeaks.{event_moved}
+use Rattle.history_count.specs.Timelines.Runs.{size_of}
 use Rattle.history_count.proofs.timelines.counting.count_event.Goals as goal
 
 pub counted-count-requires-clause-live : goal.counted-count-requires-clause-live

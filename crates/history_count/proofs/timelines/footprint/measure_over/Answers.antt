@@ -1,12 +1,7 @@
-use Rattle.std.proofs.Common.{◌≡◌, ◌*◌, ◌≤◌, length, arith, ap, ◌∙◌}
-use Rattle.std.proofs.lemmas.List.{length-map}
+use Rattle.std.proofs.{Common.{◌≡◌, ◌*◌, ◌≤◌, length, arith, ap, ◌∙◌}, Math.Nat.{mul-le-mul}, lemmas.List.{length-map}}
 use Rattle.std.proofs.lemmas.Option.{slice_get_within}
-use Rattle.std.proofs.Math.Nat.{mul-le-mul}
-use Rattle.tuner_theory.specs.Footprint.{blocks}
-use Rattle.tuner_theory.specs.Histories.{most}
-use Rattle.tuner_theory.specs.Timelines.{moments}
-use Rattle.history_count.proofs.TimelineLemmas.Requests.{none_is_unserved, unserved_is_least}
-use Rattle.history_count.proofs.TimelineLemmas.Steps.{bytes_more}
+use Rattle.tuner_theory.specs.{Footprint.{blocks}, Histories.{most}, Timelines.{moments}}
+use Rattle.history_count.proofs.TimelineLemmas.{Requests.{none_is_unserved, unserved_is_least}, Steps.{bytes_more}}
 use Rattle.history_count.proofs.timelines.footprint.measure_over.Goals as goal
 
 pub loop-number-preserved : goal.loop-number-preserved

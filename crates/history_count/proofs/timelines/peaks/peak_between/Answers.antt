@@ -1,6 +1,5 @@
 use Rattle.std.proofs.Common.{ℕ, ◌+◌, max, cond, ltb, ap, ◌∙◌}
-use Rattle.history_count.specs.Histories.{blocks_from}
-use Rattle.history_count.proofs.TimelineLemmas.Peaks.{peak-more}
+use Rattle.history_count.{proofs.TimelineLemmas.Peaks.{peak-more}, specs.Histories.{blocks_from}}
 use Rattle.history_count.proofs.timelines.peaks.peak_between.Goals as goal
 
 pub loop-k-preserved : goal.loop-k-preserved

@@ -1,7 +1,6 @@
 use Rattle.std.proofs.Common.{◌≡◌}
 use Rattle.tuner_theory.specs.Timelines.{snapshot_at}
-use Rattle.history_count.specs.Histories.{blocks_from}
-use Rattle.history_count.specs.Timelines.Stretches.{IsPeakAfter}
+use Rattle.history_count.specs.{Histories.{blocks_from}, Timelines.Stretches.{IsPeakAfter}}
 use Rattle.history_count.proofs.timelines.peaks.peak_between.Given as goal
 
 abbrev pub invariant-loop-k : goal.invariant-loop-k

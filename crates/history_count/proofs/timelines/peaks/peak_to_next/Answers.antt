@@ -1,12 +1,7 @@
-use Rattle.std.proofs.Common.{◌<◌, ◌+◌, ℕ, [], length, slice_index, arith, ap, sym, subst, ◌∙◌}
-use Rattle.std.proofs.lemmas.List.{get_or_read}
-use Rattle.tuner_theory.specs.Lists.{lists_of}
-use Rattle.tuner_theory.specs.Timelines.{snapshot_at}
-use Rattle.tuner_theory.proofs.Lists.{lists-length, row-read_at}
-use Rattle.history_count.specs.Histories.{blocks_from}
-use Rattle.history_count.specs.Timelines.Stretches.{IsPeakTo}
-use Rattle.history_count.proofs.CutLines.{few-lines}
-use Rattle.history_count.proofs.TimelineLemmas.Peaks.{before-few, live-before, most-within, peak-kept}
+use Rattle.std.proofs.{Common.{◌<◌, ◌+◌, ℕ, [], length, slice_index, arith, ap, sym, subst, ◌∙◌}, lemmas.List.{get_or_read}}
+use Rattle.tuner_theory.{proofs.Lists.{lists-length, row-read_at}, specs.Lists.{lists_of}, specs.Timelines.{snapshot_at}}
+use Rattle.history_count.proofs.{CutLines.{few-lines}, TimelineLemmas.Peaks.{before-few, live-before, most-within, peak-kept}}
+use Rattle.history_count.specs.{Histories.{blocks_from}, Timelines.Stretches.{IsPeakTo}}
 use Rattle.history_count.proofs.timelines.peaks.peak_to_next.Goals as goal
 
 pub blocks_between-requires-clause-size : goal.blocks_between-requires-clause-size

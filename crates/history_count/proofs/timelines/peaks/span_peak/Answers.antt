@@ -1,12 +1,6 @@
-use Rattle.std.proofs.Common.{◌≡◌, ◌<◌, ◌⊎◌, ℕ, length, slice_index, arith, ap, subst, refl, ◌∙◌, inl, inr}
-use Rattle.std.proofs.lemmas.Bool.{cases_lt}
-use Rattle.tuner_theory.specs.Histories.{most}
-use Rattle.tuner_theory.specs.Lists.{lists_of}
-use Rattle.tuner_theory.specs.Timelines.{moments}
-use Rattle.tuner_theory.proofs.Lists.{lists-length}
-use Rattle.history_count.specs.Histories.{blocks_from}
-use Rattle.history_count.specs.Timelines.Stretches.{IsPeakTo}
-use Rattle.history_count.proofs.CutLines.{few-lines}
+use Rattle.std.proofs.{Common.{◌≡◌, ◌<◌, ◌⊎◌, ℕ, length, slice_index, arith, ap, subst, refl, ◌∙◌, inl, inr}, lemmas.Bool.{cases_lt}}
+use Rattle.tuner_theory.{proofs.Lists.{lists-length}, specs.Histories.{most}, specs.Lists.{lists_of}, specs.Timelines.{moments}}
+use Rattle.history_count.{proofs.CutLines.{few-lines}, specs.Histories.{blocks_from}, specs.Timelines.Stretches.{IsPeakTo}}
 use Rattle.history_count.proofs.TimelineLemmas.Peaks.{before-few, blocks_from-none, most-before, peak-all, peak-none}
 use Rattle.history_count.proofs.timelines.peaks.span_peak.Goals as goal
 

@@ -1,6 +1,5 @@
 use Rattle.std.proofs.Common.{slice_index}
-use Rattle.history_count.specs.Histories.{blocks_from}
-use Rattle.history_count.specs.Timelines.Stretches.{IsPeakTo}
+use Rattle.history_count.specs.{Histories.{blocks_from}, Timelines.Stretches.{IsPeakTo}}
 use Rattle.history_count.proofs.timelines.peaks.span_peak.Given as goal
 
 abbrev pub invariant-loop-b : goal.invariant-loop-b

@@ -1,10 +1,8 @@
 use Rattle.std.proofs.Common.{◌≡◌, ◌+◌, ℕ, length, subst, arith, ◌∙◌, sym}
 use Rattle.class_table.specs.Sizes.{largest_counted}
-use Rattle.history_count.specs.Timelines.Requests.{IsLargestSoFar}
-use Rattle.history_count.specs.Timelines.Stretches.{AreLinesBelow, AreSeen}
+use Rattle.history_count.proofs.TimelineLemmas.{Requested.{are-requested, seen-none}, Requests.{largest_none}}
+use Rattle.history_count.specs.Timelines.{Requests.{IsLargestSoFar}, Stretches.{AreLinesBelow, AreSeen}}
 use Rattle.history_count.specs.declared.timelines.largest.Largest.{Largest}
-use Rattle.history_count.proofs.TimelineLemmas.Requested.{are-requested, seen-none}
-use Rattle.history_count.proofs.TimelineLemmas.Requests.{largest_none}
 use Rattle.history_count.proofs.timelines.requested.requested_in.Goals as goal
 
 pub loop-k-init : goal.loop-k-init

@@ -1,6 +1,5 @@
 use Rattle.std.proofs.Common.{◌≡◌}
-use Rattle.history_count.specs.Timelines.Requests.{IsLargestSoFar}
-use Rattle.history_count.specs.Timelines.Stretches.{AreLinesBelow, AreSeen}
+use Rattle.history_count.specs.Timelines.{Requests.{IsLargestSoFar}, Stretches.{AreLinesBelow, AreSeen}}
 use Rattle.history_count.proofs.timelines.requested.requested_in.Given as goal
 
 abbrev pub invariant-loop-k : goal.invariant-loop-k

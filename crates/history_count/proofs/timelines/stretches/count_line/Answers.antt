@@ -1,6 +1,5 @@
 use Rattle.std.proofs.Common.{List, ℕ, length, slice_index, get_or, arith, ap, refl, ◌∙◌}
-use Rattle.tuner_theory.specs.Timelines.{snapshot_at}
-use Rattle.tuner_theory.specs.declared.size_event.SizeEvent.TheVariants.{Request}
+use Rattle.tuner_theory.specs.{Timelines.{snapshot_at}, declared.size_event.SizeEvent.TheVariants.{Request}}
 use Rattle.history_count.proofs.TimelineLemmas.Columns.{bounds-start, column-event, column-large, column-length}
 use Rattle.history_count.proofs.timelines.stretches.count_line.Goals as goal
 

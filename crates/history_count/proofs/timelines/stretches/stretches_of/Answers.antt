@@ -1,8 +1,6 @@
-use Rattle.std.proofs.Common.{◌≡◌, ℕ, List, ◌++◌, [], ◌∷◌, length, replicate, arith, ap, ◌∙◌}
-use Rattle.std.proofs.lemmas.List.{with_items_is}
+use Rattle.std.proofs.{Common.{◌≡◌, ℕ, List, ◌++◌, [], ◌∷◌, length, replicate, arith, ap, ◌∙◌}, lemmas.List.{with_items_is}}
 use Rattle.tuner_theory.specs.Lists.{lists_of}
-use Rattle.history_count.proofs.CutLines.{few-lines}
-use Rattle.history_count.proofs.TimelineLemmas.Columns.{column-none, stretches-more, stretches-none}
+use Rattle.history_count.proofs.{CutLines.{few-lines}, TimelineLemmas.Columns.{column-none, stretches-more, stretches-none}}
 use Rattle.history_count.proofs.timelines.stretches.stretches_of.Goals as goal
 
 pub overflow_mul-len : goal.overflow_mul-len

@@ -1,6 +1,5 @@
 use Rattle.std.proofs.Common.{◌≡◌, ◌-◌, ◌≤◌, length}
-use Rattle.tuner_theory.specs.Lists.{lists_of}
-use Rattle.tuner_theory.specs.Timelines.{snapshot_at}
+use Rattle.tuner_theory.specs.{Lists.{lists_of}, Timelines.{snapshot_at}}
 use Rattle.history_count.specs.Timelines.Stretches.{AreStretchesTo, column_of}
 use Rattle.history_count.proofs.timelines.stretches.stretches_of.Given as goal
 

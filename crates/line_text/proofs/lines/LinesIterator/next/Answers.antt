@@ -1,7 +1,5 @@
-use Rattle.std.proofs.Common.{sym, ◌∙◌, arith, eqb-true}
-use Rattle.std.proofs.lemmas.List.{take_rest}
-use Rattle.line_text.specs.Lines.{lines}
-use Rattle.line_text.proofs.Cuts.{lines_at, line_alone, lines-nil, lacks_all, shorter}
+use Rattle.std.proofs.{Common.{sym, ◌∙◌, arith, eqb-true}, lemmas.List.{take_rest}}
+use Rattle.line_text.{proofs.Cuts.{lines_at, line_alone, lines-nil, lacks_all, shorter}, specs.Lines.{lines}}
 use Rattle.line_text.proofs.lines.LinesIterator.next.Goals as goal
 
 pub returns-then-is_empty-clause-steps : goal.returns-then-is_empty-clause-steps

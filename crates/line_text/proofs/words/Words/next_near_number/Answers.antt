@@ -1,12 +1,11 @@
-use Rattle.std.proofs.Common.{◌≡◌, ℕ, List, refl, ◌∙◌, take, sym, ap, arith, inl, inr, ne_eqb}
-use Rattle.std.proofs.lemmas.Grind.{common_steps}
-use Rattle.std.proofs.lemmas.List.{take-take, take_rest}
-use Rattle.std.specs.Option.{option_map}
-use Rattle.std.specs.Str.Parse.{digits_value}
-use Rattle.line_text.specs.Lines.{words, words_left}
+use Rattle.std.proofs.{Common.{◌≡◌, ℕ, List, refl, ◌∙◌, take, sym, ap, arith, inl, inr, ne_eqb}, lemmas.Grind.{common_steps}}
+use Rattle.std.{proofs.lemmas.List.{take-take, take_rest}, specs.Option.{option_map}, specs.Str.Parse.{digits_value}}
 use Rattle.line_text.proofs.NearNumbers.{IsNear, near_many, near_no_number, near_other, near_short, near_some, near_word}
+use Rattle.line_text.proofs.words.Words.next_near_number.Goals.{then-bytes-size-ne32-via-then-bytes-size-ne32}
+use Rattle.line_text.proofs.words.Words.next_near_number.Goals.{then-bytes-size-ne32-via-else-bytes-size-ne32+then-size-eq0}
+use Rattle.line_text.proofs.words.Words.next_near_number.Goals.{then-bytes-size-ne32-via-else-bytes-size-ne32+else-size-eq0+then-size-gt1}
+use Rattle.line_text.specs.Lines.{words, words_left}
 use Rattle.line_text.proofs.words.Words.next_near_number.Goals as goal
-use Rattle.line_text.proofs.words.Words.next_near_number.Goals.{then-bytes-size-ne32-via-then-bytes-size-ne32, then-bytes-size-ne32-via-else-bytes-size-ne32+then-size-eq0, then-bytes-size-ne32-via-else-bytes-size-ne32+else-size-eq0+then-size-gt1}
 
 near : (c : goal.After-self-2-1) → IsNear c.in_ok-line.line.now c.in_ok-size.size
 near c = record {

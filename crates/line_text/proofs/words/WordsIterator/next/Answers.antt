@@ -1,8 +1,5 @@
-use Rattle.std.proofs.Common.{sym, ap, ◌∙◌}
-use Rattle.std.proofs.lemmas.List.{take_rest}
-use Rattle.std.specs.Option.{option_map}
-use Rattle.line_text.specs.Lines.{words_left}
-use Rattle.line_text.proofs.Cuts.{words_at, words_last, shorter}
+use Rattle.std.{proofs.Common.{sym, ap, ◌∙◌}, proofs.lemmas.List.{take_rest}, specs.Option.{option_map}}
+use Rattle.line_text.{proofs.Cuts.{words_at, words_last, shorter}, specs.Lines.{words_left}}
 use Rattle.line_text.proofs.words.WordsIterator.next.Goals as goal
 
 pub returns-in_default : goal.returns-in_default

@@ -1,6 +1,5 @@
 use Rattle.std.proofs.Common.{◌+◌, ◌*◌}
-use Rattle.machine_theory.specs.Seed.{seed_after}
-use Rattle.machine_theory.proofs.SeedLaws.{Begins-some, next_offset-Begins, seed_after-Begins}
+use Rattle.machine_theory.{proofs.SeedLaws.{Begins-some, next_offset-Begins, seed_after-Begins}, specs.Seed.{seed_after}}
 use Rattle.machine_theory.proofs.laws.seed.law_sequence.Goals as goal
 
 pub returns-clause-offset : goal.returns-clause-offset

@@ -1,9 +1,5 @@
-use Rattle.std.proofs.Common.{◌≡◌, ◌∙◌, [], ap, arith, length, sym}
-use Rattle.std.proofs.lemmas.Option.{get_or_from_slice_get}
-use Rattle.tuner_theory.proofs.LawLemmas.{few_places}
-use Rattle.tuner_theory.specs.Served.{served}
-use Rattle.tuner_theory.proofs.Served.{served_are_counts}
-use Rattle.tuner_theory.specs.Spans.{places}
+use Rattle.std.proofs.{Common.{◌≡◌, ◌∙◌, [], ap, arith, length, sym}, lemmas.Option.{get_or_from_slice_get}}
+use Rattle.tuner_theory.{proofs.LawLemmas.{few_places}, proofs.Served.{served_are_counts}, specs.Served.{served}, specs.Spans.{places}}
 use Rattle.mte_c.proofs.arrays.tuning.row_length.Goals as goal
 
 pub returns-clause-length : goal.returns-clause-length

@@ -1,5 +1,4 @@
-use Rattle.std.proofs.Common.{arith, refl, sym, ◌∙◌}
-use Rattle.std.proofs.lemmas.Grind.{common_steps}
+use Rattle.std.proofs.{Common.{arith, refl, sym, ◌∙◌}, lemmas.Grind.{common_steps}}
 use Rattle.mte_c.proofs.commands.calls.call.Goals as goal
 
 pub returns-then-has_two_texts : goal.returns-then-has_two_texts

@@ -1,6 +1,4 @@
-use Rattle.std.proofs.Common.{◌≡◌, true, arith, sym, ◌∙◌, rules}
-use Rattle.std.proofs.lemmas.Slice.Eq.{bytes_eq-Decides}
-use Rattle.std.specs.Str.{bytes_eq}
+use Rattle.std.{proofs.Common.{◌≡◌, true, arith, sym, ◌∙◌, rules}, proofs.lemmas.Slice.Eq.{bytes_eq-Decides}, specs.Str.{bytes_eq}}
 use Rattle.history_count.specs.Timelines.TimelineText.{head_line}
 use Rattle.mte_engine.proofs.CountsInput.{keeps_begun}
 use Rattle.mte_engine.proofs.counts_input.CountsInput.begin.Goals as goal

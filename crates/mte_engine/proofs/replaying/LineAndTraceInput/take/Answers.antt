@@ -1,8 +1,6 @@
-use Rattle.std.proofs.Common.{◌≡◌, ◌∙◌, ◌++◌, ◌∷◌, ℕ, Bool, true, false, List, ap}
-use Rattle.std.proofs.lemmas.List.{append_assoc}
+use Rattle.std.proofs.{Common.{◌≡◌, ◌∙◌, ◌++◌, ◌∷◌, ℕ, Bool, true, false, List, ap}, lemmas.List.{append_assoc}}
 use Rattle.std.proofs.lemmas.Result.{IfOk-weaker}
-use Rattle.trace_reader.specs.Reading.{Reading, fed, nothing_read}
-use Rattle.trace_reader.proofs.LawLemmas.{pieces_are_joined}
+use Rattle.trace_reader.{proofs.LawLemmas.{pieces_are_joined}, specs.Reading.{Reading, fed, nothing_read}}
 use Rattle.mte_engine.specs.Traces.{KeepsLineAndEvents}
 use Rattle.mte_engine.proofs.replaying.LineAndTraceInput.take.Goals as goal
 

@@ -1,9 +1,7 @@
-use Rattle.std.proofs.Common.{◌≡◌, ◌++◌, length, take, arith, ap, ◌∙◌, List, ℕ}
-use Rattle.std.proofs.lemmas.List.{with_items_is}
+use Rattle.std.proofs.{Common.{◌≡◌, ◌++◌, length, take, arith, ap, ◌∙◌, List, ℕ}, lemmas.List.{with_items_is}}
 use Rattle.replay_core.specs.ReplayState.{Stored}
 use Rattle.heap_theory.specs.Config.{layout_for}
-use Rattle.mte_engine.specs.ReportFrom.{report_from, report_unless}
-use Rattle.mte_engine.proofs.Reporting.{first_events, text_kept, whole_report}
+use Rattle.mte_engine.{proofs.Reporting.{first_events, text_kept, whole_report}, specs.ReportFrom.{report_from, report_unless}}
 use Rattle.mte_engine.proofs.report.Report.new.Goals as goal
 
 pub fill-filled-requires-clause-few : goal.fill-filled-requires-clause-few

@@ -1,6 +1,5 @@
 use Rattle.std.proofs.Common.{◌-◌, ◌∙◌, List, ℕ, take, drop, refl, ap}
-use Rattle.mte_engine.specs.ReportFrom.{report_unless}
-use Rattle.mte_engine.proofs.Reporting.{part_ready}
+use Rattle.mte_engine.{proofs.Reporting.{part_ready}, specs.ReportFrom.{report_unless}}
 use Rattle.mte_engine.proofs.report.ReportOutput.piece.Goals as goal
 
 pub returns-clause-ready : goal.returns-clause-ready

@@ -1,8 +1,7 @@
 use Rattle.std.proofs.Common.{[], sym, ◌∙◌, ap}
 use Rattle.trace_reader.specs.Reading.{Reading}
 use Rattle.profile_count.proofs.LawLemmas.{added_requests_are_counted}
-use Rattle.mte_engine.specs.Traces.{profile_of_events}
-use Rattle.mte_engine.proofs.TracePieces.{nothing_fed}
+use Rattle.mte_engine.{proofs.TracePieces.{nothing_fed}, specs.Traces.{profile_of_events}}
 use Rattle.mte_engine.proofs.running.RunEngineEngine.input.Goals as goal
 
 pub returns : goal.returns

@@ -1,6 +1,5 @@
 use Rattle.std.proofs.Common.{[], ◌∷◌, ◌++◌, ap, ◌∙◌}
-use Rattle.trace_reader.specs.Reading.{Reading, fed, nothing_read}
-use Rattle.trace_reader.proofs.LawLemmas.{pieces_are_joined, pieces_have_few_events}
+use Rattle.trace_reader.{proofs.LawLemmas.{pieces_are_joined, pieces_have_few_events}, specs.Reading.{Reading, fed, nothing_read}}
 use Rattle.mte_engine.proofs.CountedLines.{OnOk_both}
 use Rattle.mte_engine.proofs.running.WholeTraceInput.take.Goals as goal
 

@@ -1,5 +1,4 @@
-use Rattle.std.proofs.Common.{◌∙◌}
-use Rattle.std.proofs.lemmas.Result.{IfOk-weaker}
+use Rattle.std.proofs.{Common.{◌∙◌}, lemmas.Result.{IfOk-weaker}}
 use Rattle.mte_engine.proofs.RowLines.{rows_after}
 use Rattle.mte_engine.proofs.sheet_writing.SheetText.of_sheet.Goals as goal
 

@@ -1,5 +1,4 @@
-use Rattle.std.proofs.Common.{◌≤◌, ◌<◌, [], ◌∷◌, length, arith, ap, ◌∙◌}
-use Rattle.std.proofs.lemmas.List.{length-append}
+use Rattle.std.proofs.{Common.{◌≤◌, ◌<◌, [], ◌∷◌, length, arith, ap, ◌∙◌}, lemmas.List.{length-append}}
 use Rattle.replay_theory.specs.Losses.{requested_sizes}
 use Rattle.profile_count.specs.Requests.{profile_of_sizes}
 use Rattle.mte_engine.proofs.Counting.{length-requested_sizes, one_requested}

@@ -1,7 +1,5 @@
-use Rattle.std.proofs.Common.{◌∙◌, ap}
-use Rattle.std.proofs.lemmas.Result.{IfOk-weaker}
-use Rattle.trace_reader.specs.Reading.{Reading, fed, nothing_read}
-use Rattle.trace_reader.proofs.LawLemmas.{pieces_are_joined}
+use Rattle.std.proofs.{Common.{◌∙◌, ap}, lemmas.Result.{IfOk-weaker}}
+use Rattle.trace_reader.{proofs.LawLemmas.{pieces_are_joined}, specs.Reading.{Reading, fed, nothing_read}}
 use Rattle.mte_engine.proofs.two_texts.TraceEventsInput.take.Goals as goal
 
 pub returns : goal.returns

@@ -1,8 +1,6 @@
-use Rattle.std.proofs.Common.{◌≡◌, ℕ, ◌+◌, ◌-◌, ◌*◌, ◌/◌, ◌<◌, ◌≤◌, List, length, slice_index, arith, inl, inr}
+use Rattle.std.proofs.{Common.{◌≡◌, ℕ, ◌+◌, ◌-◌, ◌*◌, ◌/◌, ◌<◌, ◌≤◌, List, length, slice_index, arith, inl, inr}, lemmas.List.{get_or_past}}
 use Rattle.std.proofs.lemmas.Bool.{cases_lt, false≢true, le-leb, leb-true}
-use Rattle.std.proofs.lemmas.List.{get_or_past}
-use Rattle.potential_check.specs.Footprints.RowConditions.{EdgeHoldsAt}
-use Rattle.potential_check.specs.declared.footprints.slack.TheConstants.{BLOCK}
+use Rattle.potential_check.specs.{Footprints.RowConditions.{EdgeHoldsAt}, declared.footprints.slack.TheConstants.{BLOCK}}
 use Rattle.potential_check.proofs.footprints.row_tests.edge_holds_at.Goals as goal
 
 -- the last end is after all blocks

@@ -1,6 +1,5 @@
 use Rattle.std.proofs.Common.{◌+◌, ◌-◌, ◌*◌, ◌/◌, ◌<◌, ◌≤◌, ℕ, length, slice_index}
-use Rattle.potential_check.specs.Footprints.Bounds.{AreBounds}
-use Rattle.potential_check.specs.declared.footprints.slack.TheConstants.{BLOCK}
+use Rattle.potential_check.specs.{Footprints.Bounds.{AreBounds}, declared.footprints.slack.TheConstants.{BLOCK}}
 use Rattle.potential_check.proofs.footprints.row_tests.edge_holds_at.Given as goal
 
 abbrev pub invariant-loop-block : goal.invariant-loop-block

@@ -1,6 +1,4 @@
-use Rattle.std.proofs.Common.{arith, slice_index_or}
-use Rattle.std.specs.Vec.{with_items}
-use Rattle.std.proofs.lemmas.List.{with_items_is}
+use Rattle.std.{proofs.Common.{arith, slice_index_or}, proofs.lemmas.List.{with_items_is}, specs.Vec.{with_items}}
 use Rattle.potential_check.proofs.FootprintLemmas.Bounds.{row-others, row-same}
 use Rattle.potential_check.proofs.footprints.row_tests.edge_holds_in.Goals as goal
 

@@ -1,12 +1,8 @@
 use Rattle.std.proofs.Common.{◌≡◌, ◌≢◌, ℕ, ◌-◌, ◌<◌, ◌≤◌, [], length, List, slice_index, slice_index_or, arith, ap, ◌∙◌, sym}
-use Rattle.std.proofs.lemmas.Bool.{both_ways, false≢true}
-use Rattle.std.proofs.lemmas.Option.{get_or_from_slice_get}
-use Rattle.tuner_theory.proofs.Lists.{lists-length}
-use Rattle.potential_check.proofs.FootprintLemmas.Bounds.{bounds-same, row_bounds-set}
-use Rattle.potential_check.proofs.FootprintLemmas.RowConditions.{edges-more, edges-one}
+use Rattle.std.proofs.lemmas.{Bool.{both_ways, false≢true}, Option.{get_or_from_slice_get}}
+use Rattle.tuner_theory.{proofs.Lists.{lists-length}, specs.Lists.{lists_of}, specs.Rows.{HasShape, number_at}}
+use Rattle.potential_check.proofs.FootprintLemmas.{Bounds.{bounds-same, row_bounds-set}, RowConditions.{edges-more, edges-one}}
 use Rattle.potential_check.specs.Footprints.Bounds.{AreBounds, AreRowBounds}
-use Rattle.tuner_theory.specs.Lists.{lists_of}
-use Rattle.tuner_theory.specs.Rows.{HasShape, number_at}
 use Rattle.potential_check.proofs.footprints.row_tests.edges_hold_at.Goals as goal
 
 row-length : (rows : List (List ℕ)) (limit d k : ℕ) (row : List ℕ) → HasShape rows limit d → k ≤ limit → 1 ≤ k

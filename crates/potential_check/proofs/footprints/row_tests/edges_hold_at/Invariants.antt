@@ -1,8 +1,6 @@
 use Rattle.std.proofs.Common.{length}
-use Rattle.potential_check.specs.Footprints.Bounds.{AreRowBounds}
-use Rattle.potential_check.specs.Footprints.RowConditions.{EdgesHoldAt}
-use Rattle.tuner_theory.specs.Lists.{lists_of}
-use Rattle.tuner_theory.specs.Rows.{number_at}
+use Rattle.potential_check.specs.Footprints.{Bounds.{AreRowBounds}, RowConditions.{EdgesHoldAt}}
+use Rattle.tuner_theory.specs.{Lists.{lists_of}, Rows.{number_at}}
 use Rattle.potential_check.proofs.footprints.row_tests.edges_hold_at.Given as goal
 
 abbrev pub invariant-loop-k : goal.invariant-loop-k

@@ -1,5 +1,4 @@
-use Rattle.std.proofs.Common.{◌≡◌, ◌≤◌, ℕ, arith, ap, inl, inr, slice_index}
-use Rattle.std.proofs.lemmas.Bool.{cases_lt}
+use Rattle.std.proofs.{Common.{◌≡◌, ◌≤◌, ℕ, arith, ap, inl, inr, slice_index}, lemmas.Bool.{cases_lt}}
 use Rattle.potential_check.proofs.footprints.row_tests.least_of.Goals as goal
 
 pub loop-j-preserved : goal.loop-j-preserved

@@ -1,13 +1,10 @@
 use Rattle.std.proofs.Common.{◌≡◌, ℕ, ◌+◌, ◌-◌, ◌<◌, ◌≤◌, length, slice_index, arith, ap, refl, sym, ◌∙◌, Vec}
-use Rattle.std.specs.declared.alloc.Global.{Global}
-use Rattle.std.proofs.lemmas.List.{with_items_is}
+use Rattle.std.{proofs.lemmas.List.{with_items_is}, specs.declared.alloc.Global.{Global}}
 use Rattle.class_table.specs.declared.sizes.TheConstants.{MOST_NEEDS}
-use Rattle.potential_check.specs.Footprints.CallCounts.{span_count}
 use Rattle.potential_check.proofs.FootprintLemmas.Bounds.{row_bounds-next, row_bounds-none, slack-narrowed}
-use Rattle.potential_check.proofs.FootprintLemmas.CallCounts.{few_spans, more_spans, no_spans}
+use Rattle.potential_check.{proofs.FootprintLemmas.CallCounts.{few_spans, more_spans, no_spans}, specs.Footprints.CallCounts.{span_count}}
 use Rattle.potential_check.proofs.FootprintLemmas.RowConditions.{costs-grow, tests-at_end, tests-at_start, tests-both}
-use Rattle.tuner_theory.specs.Lists.{lists_of}
-use Rattle.tuner_theory.specs.Rows.{number_at}
+use Rattle.tuner_theory.specs.{Lists.{lists_of}, Rows.{number_at}}
 use Rattle.potential_check.proofs.footprints.row_tests.tests_of.Goals as goal
 
 -- ---- the place before another one

@@ -1,9 +1,6 @@
 use Rattle.std.proofs.Common.{◌≡◌, ◌+◌, ◌-◌, ◌<◌, ◌≤◌, ℕ, length, slice_index}
-use Rattle.potential_check.specs.Footprints.Bounds.{AreRowBounds, IsSlack}
-use Rattle.potential_check.specs.Footprints.CallCounts.{span_count}
-use Rattle.potential_check.specs.Footprints.RowConditions.{AreTestsFrom}
-use Rattle.tuner_theory.specs.Lists.{lists_of}
-use Rattle.tuner_theory.specs.Rows.{number_at}
+use Rattle.potential_check.specs.Footprints.{Bounds.{AreRowBounds, IsSlack}, CallCounts.{span_count}, RowConditions.{AreTestsFrom}}
+use Rattle.tuner_theory.specs.{Lists.{lists_of}, Rows.{number_at}}
 use Rattle.potential_check.proofs.footprints.row_tests.tests_of.Given as goal
 
 abbrev pub invariant-loop-i : goal.invariant-loop-i

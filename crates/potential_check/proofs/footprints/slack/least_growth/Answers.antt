@@ -1,5 +1,4 @@
-use Rattle.std.proofs.Common.{◌-◌, ℕ, slice_index, arith, inl, inr}
-use Rattle.std.proofs.lemmas.Bool.{cases_eq, cases_lt}
+use Rattle.std.proofs.{Common.{◌-◌, ℕ, slice_index, arith, inl, inr}, lemmas.Bool.{cases_eq, cases_lt}}
 use Rattle.potential_check.proofs.footprints.slack.least_growth.Goals as goal
 
 pub loop-j-preserved : goal.loop-j-preserved

@@ -1,6 +1,5 @@
 use Rattle.std.proofs.Common.{◌≡◌, ◌≢◌, ◌+◌, ◌-◌, ◌*◌, ◌/◌, ◌<◌, ℕ, List, length, slice_index, slice_set, arith, inl, inr, ◌∙◌}
-use Rattle.std.proofs.lemmas.Bool.{cases_eq}
-use Rattle.std.proofs.lemmas.List.{get_or-set_other, get_or-set_same, length-set}
+use Rattle.std.proofs.lemmas.{Bool.{cases_eq}, List.{get_or-set_other, get_or-set_same, length-set}}
 use Rattle.potential_check.specs.declared.footprints.slack.TheConstants.{BLOCK}
 use Rattle.potential_check.proofs.footprints.slack.lower_slack.Goals as goal
 

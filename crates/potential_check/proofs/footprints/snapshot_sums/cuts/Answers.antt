@@ -1,6 +1,5 @@
 use Rattle.std.proofs.Common.{◌-◌, arith}
-use Rattle.tuner_theory.proofs.LawLemmas.{places_ascend}
-use Rattle.tuner_theory.proofs.Rounding.{step-positive}
+use Rattle.tuner_theory.proofs.{LawLemmas.{places_ascend}, Rounding.{step-positive}}
 use Rattle.potential_check.proofs.footprints.snapshot_sums.cuts.Goals as goal
 
 pub line_from-line-requires-clause-below : goal.line_from-line-requires-clause-below

@@ -1,6 +1,5 @@
 use Rattle.std.proofs.Common.{◌≡◌, ℕ, ◌+◌, ◌-◌, ◌<◌, ◌≤◌, [], ◌∷◌, slice_index, arith}
-use Rattle.potential_check.proofs.FootprintLemmas.Snapshots.{raised-more}
-use Rattle.potential_check.specs.Footprints.SnapshotSums.{raised_to}
+use Rattle.potential_check.{proofs.FootprintLemmas.Snapshots.{raised-more}, specs.Footprints.SnapshotSums.{raised_to}}
 use Rattle.potential_check.proofs.footprints.snapshot_sums.raise_eight.Goals as goal
 
 -- ---- a place in the loop

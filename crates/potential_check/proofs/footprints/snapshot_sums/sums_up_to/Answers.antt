@@ -1,6 +1,5 @@
 use Rattle.std.proofs.Common.{◌≡◌, ◌+◌, ◌≤◌, length, slice_index, sym, arith}
-use Rattle.tuner_theory.specs.Waste.{sum_below}
-use Rattle.tuner_theory.proofs.Sums.{sum_below-none}
+use Rattle.tuner_theory.{proofs.Sums.{sum_below-none}, specs.Waste.{sum_below}}
 use Rattle.potential_check.proofs.FootprintLemmas.UpTo.{sum-grows, sum-small, sums-more, sums-none}
 use Rattle.potential_check.proofs.footprints.snapshot_sums.sums_up_to.Goals as goal
 

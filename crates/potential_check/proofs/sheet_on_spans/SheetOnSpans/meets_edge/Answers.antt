@@ -1,6 +1,5 @@
+use Rattle.potential_check.{proofs.RowConditions.{edges-met, rows-bounded}, specs.Certificates.SheetView.{sheet_of}}
 use mathlib.Core.Logic.Iff
-use Rattle.potential_check.specs.Certificates.SheetView.{sheet_of}
-use Rattle.potential_check.proofs.RowConditions.{edges-met, rows-bounded}
 use Rattle.potential_check.proofs.sheet_on_spans.SheetOnSpans.meets_edge.Goals as goal
 
 pub all_edges_hold-requires : goal.all_edges_hold-requires

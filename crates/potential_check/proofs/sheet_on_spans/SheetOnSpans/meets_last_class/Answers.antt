@@ -1,5 +1,4 @@
-use Rattle.std.proofs.Common.{arith}
-use Rattle.std.proofs.lemmas.Grind.{common_steps}
+use Rattle.std.proofs.{Common.{arith}, lemmas.Grind.{common_steps}}
 use Rattle.potential_check.proofs.sheet_on_spans.SheetOnSpans.meets_last_class.Goals as goal
 
 pub returns-else-is_empty : goal.returns-else-is_empty

@@ -1,6 +1,5 @@
+use Rattle.potential_check.{proofs.RowConditions.{drops-met}, specs.Certificates.SheetView.{sheet_of}}
 use mathlib.Core.Logic.Iff
-use Rattle.potential_check.specs.Certificates.SheetView.{sheet_of}
-use Rattle.potential_check.proofs.RowConditions.{drops-met}
 use Rattle.potential_check.proofs.sheet_on_spans.SheetOnSpans.meets_stage_drop.Goals as goal
 
 pub returns : goal.returns

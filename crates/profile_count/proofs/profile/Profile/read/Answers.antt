@@ -1,6 +1,5 @@
 use Rattle.std.proofs.Common.{◌+◌, ◌∙◌, arith, add-one}
-use Rattle.profile_count.specs.declared.entry.Entry.TheVariants.{Size, Large}
-use Rattle.profile_count.proofs.LineByLine.{entry_read, entry_faulty, no_entry}
+use Rattle.profile_count.{proofs.LineByLine.{entry_read, entry_faulty, no_entry}, specs.declared.entry.Entry.TheVariants.{Size, Large}}
 use Rattle.profile_count.proofs.profile.Profile.read.Goals as goal
 
 pub returns-in-Err : goal.returns-in-Err

@@ -1,6 +1,5 @@
 use Rattle.std.proofs.Common.{◌≡◌, ◌∙◌, ap}
-use Rattle.profile_count.specs.Counts.{unserved_of}
-use Rattle.profile_count.proofs.Unserved.{found, least, serving}
+use Rattle.profile_count.{proofs.Unserved.{found, least, serving}, specs.Counts.{unserved_of}}
 use Rattle.profile_count.proofs.profile.Profile.unserved.Goals as goal
 
 is_least : (c : goal.After-first_unserved) → c.first_unserved.result ≡ unserved_of c.args.self.now.counts c.args.table.now

@@ -1,10 +1,9 @@
 use Rattle.std.proofs.Common.{◌≡◌, ◌≢◌, ◌+◌, ◌-◌, ◌<◌, [], ◌∷◌, ◌++◌, arith, sym, add-one, ap, ◌∙◌, subst}
 use Rattle.class_table.specs.Layout.{slot_count}
 use Rattle.heap_theory.proofs.Regions.{length-headers_of, other_link}
-use Rattle.quarantine_core.proofs.Queued.{last_within, put_first, put_at_end}
-use Rattle.quarantine_core.proofs.TheoryLemmas.{links_stay}
-use Rattle.quarantine_core.proofs.quarantine.Quarantine.put_at.Goals as goal
+use Rattle.quarantine_core.proofs.{Queued.{last_within, put_first, put_at_end}, TheoryLemmas.{links_stay}}
 use Rattle.quarantine_core.proofs.quarantine.Quarantine.put_at.Goals.{then-self-eq0, else-self-eq0}
+use Rattle.quarantine_core.proofs.quarantine.Quarantine.put_at.Goals as goal
 
 pub set_link_at-requires-clause-slot : goal.set_link_at-requires-clause-slot
 set_link_at-requires-clause-slot c =

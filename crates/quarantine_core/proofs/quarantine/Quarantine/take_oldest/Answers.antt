@@ -1,12 +1,9 @@
-use Rattle.std.proofs.Common.{◌∷◌, drop, sym, subst, ◌≡◌, ◌-◌, ◌*◌, ◌≤◌, arith, ap, ◌∙◌, ◌<◌, Contains}
-use Rattle.std.proofs.lemmas.Grind.{common_steps}
+use Rattle.std.proofs.{Common.{◌∷◌, drop, sym, subst, ◌≡◌, ◌-◌, ◌*◌, ◌≤◌, arith, ap, ◌∙◌, ◌<◌, Contains}, lemmas.Grind.{common_steps}}
 use Rattle.class_table.specs.Layout.{block_bytes, slot_count, slot_of}
 use Rattle.heap_theory.proofs.Regions.{other_link}
-use Rattle.quarantine_core.specs.Queue.{AreQueued}
-use Rattle.quarantine_core.proofs.Queued.{first_within, oldest_held, some_held, take_oldest}
-use Rattle.quarantine_core.proofs.TheoryLemmas.{links_stay}
+use Rattle.quarantine_core.proofs.{Queued.{first_within, oldest_held, some_held, take_oldest}, TheoryLemmas.{links_stay}}
+use Rattle.quarantine_core.{proofs.quarantine.Quarantine.take_oldest.Goals.{then-next-eq0, else-next-eq0}, specs.Queue.{AreQueued}}
 use Rattle.quarantine_core.proofs.quarantine.Quarantine.take_oldest.Goals as goal
-use Rattle.quarantine_core.proofs.quarantine.Quarantine.take_oldest.Goals.{then-next-eq0, else-next-eq0}
 
 pub overflow_sub-slot : goal.overflow_sub-slot
 overflow_sub-slot c =

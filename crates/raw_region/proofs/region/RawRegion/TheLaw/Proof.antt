@@ -2,21 +2,14 @@
 use mathlib.Core.Path.{refl}
 use base.Fraction.{full_share}
 use contract.BorrowLft.{⊑_static}
-use denote.Array.{Array, Array-row_laws}
-use denote.Builtin.{u8}
-use denote.Param.Laws.{Laws, of_field}
-use denote.Param.Shared.{copy_shared}
-use denote.RawPtr.{lies_at}
-use denote.Shares.{Shares-less, Shares-Array}
-use denote.Struct.Field.{RawPtr-field, usize-field, u8-field}
-use denote.Struct.Laws.{RawPtr-copy, usize-copy, u8-laws, u8-copy}
-use denote.Struct.Lending.{lent_at, lent_at_shr_laws, Lends-lies, Lends-first, of_Lends}
-use Rattle.std.specs.Allocator.{array_of}
+use denote.{Array.{Array, Array-row_laws}, Builtin.{u8}, Param.Laws.{Laws, of_field}, Param.Shared.{copy_shared}, RawPtr.{lies_at}}
+use denote.{Shares.{Shares-less, Shares-Array}, Struct.Field.{RawPtr-field, usize-field, u8-field}}
+use denote.Struct.{Laws.{RawPtr-copy, usize-copy, u8-laws, u8-copy}, Lending.{lent_at, lent_at_shr_laws, Lends-lies, Lends-first, of_Lends}}
+use Rattle.std.specs.{Allocator.{array_of}, contracts.impls.GlobalAllocator.TheImpl.{ghosts}}
+use Rattle.raw_region.proofs.region.RawRegion.TheLaw.Statement.{statement}
 use Rattle.std.specs.contracts.alloc.Global as Heap
-use Rattle.std.specs.contracts.impls.GlobalAllocator.TheImpl.{ghosts}
 use Rattle.std.proofs.alloc.Global.TheLaws as heap
 use Rattle.raw_region.specs.contracts.region.RawRegion.TheInside as C
-use Rattle.raw_region.proofs.region.RawRegion.TheLaw.Statement.{statement}
 
 byte_laws : Laws u8
 byte_laws = of_field u8-field u8-laws refl (copy_shared u8-field u8-copy)

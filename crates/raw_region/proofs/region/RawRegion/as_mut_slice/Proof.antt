@@ -1,18 +1,18 @@
 -- `as_mut_slice` lends the bytes, and the region follows them.
-use Rattle.raw_region.proofs.Names.{◌≡◌, ℕ, ◌*◌, ◌<◌, ◌^◌, ◌∙◌, List, [], ◌∷◌, length, refl, sym, ap, arith, named, proved, full_share, Ura, Logic, sem, ent, sep, emp, ftrue, fsep, GName, Fml, flft, Val, fact, fact_i, tables, ‵, raw, ◌⊛◌, some, later, at_ret, ◌$◌, ◌∵◌, !, qed, by, done, move, keep, drop, use0, use1, split, split3, join, await, pick, rewrite, fsplit, fsplit3, fjoin, fpack, group, enter, of_opd, load, stop, fld, no_more, and_then, first, blocks, exec, returns, alloc_all, pass_all, free_all, look_at, get, through, sets, sets_last, env, agg, whole, sub, look_in, block_ptr, u8, Array, no, mut_vals, mut_Tells, owns, types_at, plain, nothing, cell_at, row, mem, leaves, Stays, walk_of, stay_dropped, opens}
-use base.Logic.{id⊢}
-use denote.Follow.{follows}
-use denote.FollowSlice.{Elements, lends_Elements}
-use denote.Index.{whole_in, whole_out}
-use denote.Memory.{part_of}
-use denote.Signature.{mut_ref_to}
-use denote.Slice.{MutSlice, slice_val}
-use denote.Triple.Walked.{Goes-spent_ref}
-use types.SemTy.{cells}
+use Rattle.raw_region.proofs.{Fields.{R, Parts, Deed, parts_in, parts_out}, region.RawRegion.as_mut_slice.Statement.{statement}}
+use Rattle.raw_region.proofs.Names.{◌≡◌, ℕ, ◌*◌, ◌<◌, ◌^◌, ◌∙◌, List, [], ◌∷◌, length, refl, sym, ap, arith, named, proved, full_share, Ura}
+use Rattle.raw_region.proofs.Names.{Logic, sem, ent, sep, emp, ftrue, fsep, GName, Fml, flft, Val, fact, fact_i, tables, ‵, raw, ◌⊛◌, some}
+use Rattle.raw_region.proofs.Names.{later, at_ret, ◌$◌, ◌∵◌, !, qed, by, done, move, keep, drop, use0, use1, split, split3, join, await}
+use Rattle.raw_region.proofs.Names.{pick, rewrite, fsplit, fsplit3, fjoin, fpack, group, enter, of_opd, load, stop, fld, no_more, and_then}
+use Rattle.raw_region.proofs.Names.{first, blocks, exec, returns, alloc_all, pass_all, free_all, look_at, get, through, sets, sets_last}
+use Rattle.raw_region.proofs.Names.{env, agg, whole, sub, look_in, block_ptr, u8, Array, no, mut_vals, mut_Tells, owns, types_at, plain}
+use Rattle.raw_region.proofs.Names.{nothing, cell_at, row, mem, leaves, Stays, walk_of, stay_dropped, opens}
 use Rattle.raw_region.specs.declared.region.RawRegion.TheInside.{Inside}
-use Rattle.raw_region.proofs.Fields.{R, Parts, Deed, parts_in, parts_out}
+use base.Logic.{id⊢}
+use denote.{Follow.{follows}, FollowSlice.{Elements, lends_Elements}, Index.{whole_in, whole_out}, Memory.{part_of}, Signature.{mut_ref_to}}
+use denote.{Slice.{MutSlice, slice_val}, Triple.Walked.{Goes-spent_ref}}
+use types.SemTy.{cells}
 use Rattle.raw_region.specs.contracts.region.RawRegion.as_mut_slice as f
-use Rattle.raw_region.proofs.region.RawRegion.as_mut_slice.Statement.{statement}
 use Rattle.raw_region.proofs.region.RawRegion.as_mut_slice.Code as code
 
 abbrev stayed : Stays f.ended.signature.params f.ended.kept

@@ -1,14 +1,15 @@
 -- `as_slice` reads the pointer and the length, and hands on the `&` to the bytes.
-use Rattle.raw_region.proofs.Names.{◌≡◌, ℕ, ◌+◌, ◌*◌, ◌^◌, ◌<◌, ◌≤◌, ◌∙◌, List, [], ◌∷◌, length, refl, ap, arith, named, proved, emp, ftrue, flft, Val, fact, fact_i, tables, ‵, raw, ◌⊛◌, given, learn, at_ret, ◌$◌, ◌∵◌, !, qed, by, move, keep, use0, use1, split, join, fsplit, fjoin, drop, feq_i, flt_i, enter, of_opd, load, look, stop, fld, no_more, and_then, first, blocks, exec, returns, alloc_all, pass_all, free_all, look_at, get, through, sets, sets_last, env, agg, RefOf, yes, shr_vals, shr_Tells, owns, types_at, plain, nothing, leaves, Stays, walk_of, stay_dropped, Goes-dropped, u8, w8}
+use Rattle.raw_region.proofs.{Fields.{R, sees, pointer_twice, length_twice}, region.RawRegion.as_slice.Statement.{statement}}
+use Rattle.raw_region.proofs.Names.{◌≡◌, ℕ, ◌+◌, ◌*◌, ◌^◌, ◌<◌, ◌≤◌, ◌∙◌, List, [], ◌∷◌, length, refl, ap, arith, named, proved, emp, ftrue}
+use Rattle.raw_region.proofs.Names.{flft, Val, fact, fact_i, tables, ‵, raw, ◌⊛◌, given, learn, at_ret, ◌$◌, ◌∵◌, !, qed, by, move, keep}
+use Rattle.raw_region.proofs.Names.{use0, use1, split, join, fsplit, fjoin, drop, feq_i, flt_i, enter, of_opd, load, look, stop, fld}
+use Rattle.raw_region.proofs.Names.{no_more, and_then, first, blocks, exec, returns, alloc_all, pass_all, free_all, look_at, get, through}
+use Rattle.raw_region.proofs.Names.{sets, sets_last, env, agg, RefOf, yes, shr_vals, shr_Tells, owns, types_at, plain, nothing, leaves}
+use Rattle.raw_region.proofs.Names.{Stays, walk_of, stay_dropped, Goes-dropped, u8, w8}
 use borrow.Rule.ByKnown.{shr_slice_Learns}
-use denote.Known.{uint_known}
-use denote.RawPtr.{block_of, count_of}
-use denote.Slice.{ShrSlice, slice_val}
-use Rattle.std.proofs.Common.{Bor, All}
-use Rattle.std.proofs.Words.{pointer_in, pointer_out, word_in, word_out}
-use Rattle.raw_region.proofs.Fields.{R, sees, pointer_twice, length_twice}
+use denote.{Known.{uint_known}, RawPtr.{block_of, count_of}, Slice.{ShrSlice, slice_val}}
+use Rattle.std.proofs.{Common.{Bor, All}, Words.{pointer_in, pointer_out, word_in, word_out}}
 use Rattle.raw_region.specs.contracts.region.RawRegion.as_slice as f
-use Rattle.raw_region.proofs.region.RawRegion.as_slice.Statement.{statement}
 use Rattle.raw_region.proofs.region.RawRegion.as_slice.Code as code
 
 abbrev stayed : Stays f.ended.signature.params f.ended.kept

@@ -1,21 +1,21 @@
 -- `drop` takes the region apart and gives the bytes back as room.
-use Rattle.raw_region.proofs.Names.{◌≡◌, ℕ, ◌<◌, ◌^◌, ◌++◌, List, [], ◌∷◌, length, refl, sym, ap, subst, ◌∙◌, lit<, arith, w8, ty_int, ty_array, proved_at, full_share, ftrue, froom, flft, Val, vunit, tables, ‵, raw, ◌⊛◌, given, later, prop, at_ret, ◌$◌, ◌∵◌, !, qed, done, move, keep, use1, split, join, fsplit, feq_i, learn, await, rewrite, regoal, suffices, group, enter, of_opd, lit, unit_lit, addr, stop, fld, no_more, and_then, first, blocks, exec, returns, alloc_all, pass_all, free_all, look_at, get, get_in, sets, lands_last, env, whole, sub, owns, types_at, plain, yes, Ptr, calls_at_last, alive, framed, nothing, Stays, walk_of, stay_dropped, Goes-dropped, ends_at, ◌*◌}
-use lib.Dec.{T}
-use mir.Syntax.{ty_unit}
-use mir.Val.{has_ty, WT}
-use prog.Capped.{capped_is}
-use prog.Wp.{WpFn}
-use types.Run.{from}
-use types.ByLocal.{take_at, give_at}
-use denote.RawPtr.Bytes.{bytes-room}
-use Rattle.std.specs.Allocator.{array_of}
-use denote.Builtin.{u8}
-use Rattle.std.specs.contracts.impls.GlobalAllocator.TheImpl.{ghosts}
-use Rattle.std.proofs.impls.GlobalAllocator.deallocate.Met.{met}
-use Rattle.raw_region.proofs.Fields.{R, words, parts_out}
 use Rattle.raw_region.proofs.Allocator.{lends_handle, takes_handle, Deallocates, deallocates, deallocate_goes, deallocate_gives}
+use Rattle.raw_region.proofs.{Fields.{R, words, parts_out}, region.RawRegion.drop.Statement.{statement}}
+use Rattle.raw_region.proofs.Names.{◌≡◌, ℕ, ◌<◌, ◌^◌, ◌++◌, List, [], ◌∷◌, length, refl, sym, ap, subst, ◌∙◌, lit<, arith, w8, ty_int}
+use Rattle.raw_region.proofs.Names.{ty_array, proved_at, full_share, ftrue, froom, flft, Val, vunit, tables, ‵, raw, ◌⊛◌, given, later}
+use Rattle.raw_region.proofs.Names.{prop, at_ret, ◌$◌, ◌∵◌, !, qed, done, move, keep, use1, split, join, fsplit, feq_i, learn, await}
+use Rattle.raw_region.proofs.Names.{rewrite, regoal, suffices, group, enter, of_opd, lit, unit_lit, addr, stop, fld, no_more, and_then}
+use Rattle.raw_region.proofs.Names.{first, blocks, exec, returns, alloc_all, pass_all, free_all, look_at, get, get_in, sets, lands_last}
+use Rattle.raw_region.proofs.Names.{env, whole, sub, owns, types_at, plain, yes, Ptr, calls_at_last, alive, framed, nothing, Stays, walk_of}
+use Rattle.raw_region.proofs.Names.{stay_dropped, Goes-dropped, ends_at, ◌*◌}
+use lib.Dec.{T}
+use mir.{Syntax.{ty_unit}, Val.{has_ty, WT}}
+use prog.{Capped.{capped_is}, Wp.{WpFn}}
+use types.{ByLocal.{take_at, give_at}, Run.{from}}
+use denote.{Builtin.{u8}, RawPtr.Bytes.{bytes-room}}
+use Rattle.std.{proofs.impls.GlobalAllocator.deallocate.Met.{met}, specs.Allocator.{array_of}}
+use Rattle.std.specs.contracts.impls.GlobalAllocator.TheImpl.{ghosts}
 use Rattle.raw_region.specs.contracts.region.RawRegion.drop as f
-use Rattle.raw_region.proofs.region.RawRegion.drop.Statement.{statement}
 use Rattle.raw_region.proofs.region.RawRegion.drop.Code as code
 
 abbrev stayed : Stays f.ended.signature.params f.ended.kept

@@ -1,6 +1,4 @@
-use Rattle.std.proofs.Common.{ℕ, rules, arith, ◌-◌, replicate}
-use Rattle.std.proofs.lemmas.Grind.{common_steps}
-use Rattle.std.proofs.lemmas.List.{length-replicate}
+use Rattle.std.proofs.{Common.{ℕ, rules, arith, ◌-◌, replicate}, lemmas.Grind.{common_steps}, lemmas.List.{length-replicate}}
 use Rattle.raw_region.proofs.Written.{changes_only}
 use Rattle.raw_region.proofs.region.RawRegion.fill.Goals as goal
 

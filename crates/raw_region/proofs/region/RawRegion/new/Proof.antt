@@ -1,38 +1,31 @@
 -- `new` asks the heap for the block, writes zeros into it, and makes the region of it.
-use Rattle.raw_region.proofs.Names.{owned, uint_Makes, Is, fsep, ◌≡◌, ◌∙◌, ap, subst, lasts, ℕ, ◌<◌, ◌≤◌, ◌^◌, ◌*◌, List, [], ◌∷◌, length, replicate, refl, sym, lit<, arith, w64, proved, full_share, id⊢, emp, ftrue, flft, SProp, Val, vint, vptr, fact, fact_i, tables, ‵, raw, ◌⊛◌, some, later, at_ret, ◌$◌, ◌∵◌, !, qed, by, move, drop, use0, use1, use2, split, join, fsplit, fjoin, feq_i, feq_l, pick, await, enter, of_opd, lit, addr, stop, fld, no_more, and_then, first, blocks, exec, returns, alloc_all, pass_all, free_all, look_at, get, get_in, sets, sets_last, lands_as, lands_last, env, whole, agg, owns, types_at, plain, yes, block_ptr, lies_at, calls_at, calls_at_last, alive, framed, nothing, only, heard, triple_of, Array, row, u8, unit, usize, uint_vals, uint_Tells, Stays, walk_of, stay_dropped, Goes-dropped, leaves, after}
+use Rattle.raw_region.proofs.Allocator.{Z, lends_handle, takes_handle, Allocates, allocates, allocate_goes, allocate_gives}
+use Rattle.raw_region.proofs.{Fields.{R, Parts, words, parts_in, parts_made}, region.RawRegion.new.Statement.{statement}}
+use Rattle.raw_region.proofs.Names.{owned, uint_Makes, Is, fsep, ◌≡◌, ◌∙◌, ap, subst, lasts, ℕ, ◌<◌, ◌≤◌, ◌^◌, ◌*◌, List, [], ◌∷◌, length}
+use Rattle.raw_region.proofs.Names.{replicate, refl, sym, lit<, arith, w64, proved, full_share, id⊢, emp, ftrue, flft, SProp, Val, vint}
+use Rattle.raw_region.proofs.Names.{vptr, fact, fact_i, tables, ‵, raw, ◌⊛◌, some, later, at_ret, ◌$◌, ◌∵◌, !, qed, by, move, drop, use0}
+use Rattle.raw_region.proofs.Names.{use1, use2, split, join, fsplit, fjoin, feq_i, feq_l, pick, await, enter, of_opd, lit, addr, stop, fld}
+use Rattle.raw_region.proofs.Names.{no_more, and_then, first, blocks, exec, returns, alloc_all, pass_all, free_all, look_at, get, get_in}
+use Rattle.raw_region.proofs.Names.{sets, sets_last, lands_as, lands_last, env, whole, agg, owns, types_at, plain, yes, block_ptr, lies_at}
+use Rattle.raw_region.proofs.Names.{calls_at, calls_at_last, alive, framed, nothing, only, heard, triple_of, Array, row, u8, unit, usize}
+use Rattle.raw_region.proofs.Names.{uint_vals, uint_Tells, Stays, walk_of, stay_dropped, Goes-dropped, leaves, after}
+use Rattle.raw_region.specs.declared.region.RawRegion.TheInside.{Inside}
 use base.Fml.{feq}
-use denote.RawPtr.{room_for}
-use denote.RawPtr.Bytes.{bytes_apart}
-use denote.Signature.{type_at}
-use denote.Struct.Declared as Declared
-use denote.Struct.Struct.{Struct, Struct-Makes}
-use lib.Dec.{T}
-use lib.ListN.{length-replicate}
-use mir.Syntax.{ty_unit}
-use mir.Val.{vstruct, vcons, vnil, has_ty, WT}
-use prog.Capped.{capped_is}
-use prog.Wp.{Wp, after_seq, at_return}
-use types.ByLocal.{get_tag, take_at, give_at}
-use types.Kit.{any_q}
-use types.Match.{live, vrt, in_variant}
-use types.Run.{from, switches_on}
-use Rattle.std.proofs.Handle.{heap_val, heap_Tells}
-use Rattle.std.proofs.ResultValues.{ok_of, err_of}
-use Rattle.std.proofs.VecSteps.Shapes.{arm_body}
-use Rattle.std.proofs.alloc.Calls.{Answered, answers}
-use Rattle.std.proofs.impls.GlobalAllocator.allocate.Met.{met}
-use Rattle.std.specs.Allocator.{array_of}
+use denote.{RawPtr.{room_for}, RawPtr.Bytes.{bytes_apart}, Signature.{type_at}, Struct.Struct.{Struct, Struct-Makes}}
+use lib.{Dec.{T}, ListN.{length-replicate}}
+use mir.{Syntax.{ty_unit}, Val.{vstruct, vcons, vnil, has_ty, WT}}
+use prog.{Capped.{capped_is}, Wp.{Wp, after_seq, at_return}}
+use types.{ByLocal.{get_tag, take_at, give_at}, Kit.{any_q}, Match.{live, vrt, in_variant}, Run.{from, switches_on}}
+use Rattle.std.proofs.{Handle.{heap_val, heap_Tells}, ResultValues.{ok_of, err_of}, VecSteps.Shapes.{arm_body}}
+use Rattle.std.{proofs.alloc.Calls.{Answered, answers}, proofs.impls.GlobalAllocator.allocate.Met.{met}, specs.Allocator.{array_of}}
 use Rattle.std.specs.Prelude.{Ok, Err}
+use denote.Struct.Declared as Declared
 use Rattle.std.specs.contracts.alloc.AllocError as AE
 use Rattle.std.specs.contracts.alloc.Global as HP
-use Rattle.raw_region.proofs.Fields.{R, Parts, words, parts_in, parts_made}
-use Rattle.raw_region.proofs.Allocator.{Z, lends_handle, takes_handle, Allocates, allocates, allocate_goes, allocate_gives}
 use Rattle.raw_region.proofs.region.RawRegion.new.Code as code
-use Rattle.raw_region.proofs.region.RawRegion.new.Statement.{statement}
 use Rattle.raw_region.proofs.zeros.write_zeros.Met as written
 use Rattle.raw_region.specs.contracts.region.RawRegion.new as f
 use Rattle.raw_region.specs.contracts.zeros.write_zeros as g
-use Rattle.raw_region.specs.declared.region.RawRegion.TheInside.{Inside}
 
 abbrev stayed : Stays f.ended.signature.params f.ended.kept
 stayed = (stay_dropped (plain (λ _. HP.the_row)) yes, (stay_dropped (plain (λ _. usize)) yes, tt))

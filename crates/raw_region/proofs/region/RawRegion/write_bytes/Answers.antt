@@ -1,5 +1,4 @@
-use Rattle.std.proofs.Common.{refl, rules, arith}
-use Rattle.std.proofs.lemmas.Grind.{common_steps}
+use Rattle.std.proofs.{Common.{refl, rules, arith}, lemmas.Grind.{common_steps}}
 use Rattle.raw_region.proofs.Written.{changes_only}
 use Rattle.raw_region.proofs.region.RawRegion.write_bytes.Goals as goal
 

@@ -1,7 +1,6 @@
 use Rattle.std.proofs.Common.{◌≡◌, ◌+◌, ◌-◌, ◌/◌, ◌%◌, ◌^◌, ◌≤◌, ◌++◌, ◌∙◌, length, take, ap, sym, append_assoc, length-take-le, arith}
 use Rattle.std.specs.Fmt.{decimal}
-use Rattle.replay_core.proofs.Written.{written_to}
-use Rattle.replay_core.proofs.TwoDigits.{decimal_four_more}
+use Rattle.replay_core.proofs.{TwoDigits.{decimal_four_more}, Written.{written_to}}
 use Rattle.replay_core.proofs.event_numbers.EventNumbers.put_next.Goals as goal
 
 pub returns-then-last-lt10000-clause-text : goal.returns-then-last-lt10000-clause-text

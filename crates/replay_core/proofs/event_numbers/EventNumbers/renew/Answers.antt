@@ -1,7 +1,5 @@
-use Rattle.std.proofs.Common.{◌≡◌, ◌-◌, ◌/◌, ◌%◌, ◌≤◌, ◌∙◌, length, take, ap, sym, subst, length-take-le, arith}
-use Rattle.std.specs.Fmt.{decimal}
-use Rattle.std.proofs.lemmas.Fmt.{length-decimal-le}
-use Rattle.std.proofs.lemmas.List.{take-take}
+use Rattle.std.proofs.{Common.{◌≡◌, ◌-◌, ◌/◌, ◌%◌, ◌≤◌, ◌∙◌, length, take, ap, sym, subst, length-take-le, arith}, lemmas.List.{take-take}}
+use Rattle.std.{proofs.lemmas.Fmt.{length-decimal-le}, specs.Fmt.{decimal}}
 use Rattle.replay_core.proofs.event_numbers.EventNumbers.renew.Goals as goal
 
 pub invariant_of-self : goal.invariant_of-self

@@ -1,12 +1,8 @@
-use Rattle.std.proofs.Common.{ℕ, [], length, sym, ap, ◌∙◌, subst, arith}
-use Rattle.std.proofs.lemmas.List.{length-replicate}
+use Rattle.std.proofs.{Common.{ℕ, [], length, sym, ap, ◌∙◌, subst, arith}, lemmas.List.{length-replicate}}
 use Rattle.class_table.specs.Tables.{IsLegalTable}
-use Rattle.replay_theory.specs.Replay.{first_replay}
-use Rattle.heap_theory.specs.State.{Heap, first_heap}
-use Rattle.replay_theory.specs.Totals.{no_totals}
-use Rattle.heap_theory.specs.Config.{layout_for}
-use Rattle.replay_core.specs.ReplayState.{first_stored}
-use Rattle.replay_core.proofs.StoredMore.{stored_of_none}
+use Rattle.replay_theory.specs.{Replay.{first_replay}, Totals.{no_totals}}
+use Rattle.heap_theory.specs.{Config.{layout_for}, State.{Heap, first_heap}}
+use Rattle.replay_core.{proofs.StoredMore.{stored_of_none}, specs.ReplayState.{first_stored}}
 use Rattle.replay_core.proofs.replay.Replay.new.Goals as goal
 
 pub returns : goal.returns

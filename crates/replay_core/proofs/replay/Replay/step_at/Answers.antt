@@ -1,22 +1,16 @@
-use Rattle.std.proofs.Common.{◌≡◌, ◌+◌, ◌++◌, length, take, sym, ap, ◌∙◌, subst, arith, append-nil}
-use Rattle.std.proofs.lemmas.List.{with_items_is}
-use Rattle.std.specs.Vec.{with_items}
-use Rattle.class_table.specs.Layout.{Partition}
-use Rattle.class_table.specs.Tables.{IsLegalTable}
-use Rattle.replay_theory.specs.Report.{report_line}
-use Rattle.trace_event.specs.declared.event.Event.{Event}
-use Rattle.replay_theory.specs.Replay.{Replay, heap_after, replay_after, variables_after, answer_of}
-use Rattle.replay_theory.specs.Totals.{Totals, request_size, totals_after}
-use Rattle.heap_theory.specs.State.{Heap}
-use Rattle.replay_core.specs.declared.totals.Totals.{Totals as TheTotals}
-use Rattle.replay_core.specs.ReplayFields.{stored, IsKept}
-use Rattle.replay_core.specs.TotalsBounds.{AreBounded}
-use Rattle.replay_core.specs.TheoryValues.{AreVariables, TellsRequest, over, shown, totals_in}
-use Rattle.replay_core.specs.ReplayState.{Stored, IsStored, stored_after}
-use Rattle.replay_theory.proofs.LayoutStays.{layout_after}
+use Rattle.std.proofs.Common.{◌≡◌, ◌⊎◌, inl, inr, ℕ, List, [], ◌+◌, ◌++◌, length, take, sym, ap, ◌∙◌, subst, arith, append-nil}
+use Rattle.std.{proofs.lemmas.List.{with_items_is}, specs.Vec.{with_items}}
 use Rattle.replay_core.proofs.Reached.{null_or_tagged, sound_heap, IsStored-after, stored_in_parts, run_goes_on}
+use Rattle.replay_core.{proofs.replay.Replay.step_at.Goals.{After-perform-answer}, specs.ReplayFields.{stored, IsKept}}
+use Rattle.replay_core.specs.{ReplayState.{Stored, IsStored, stored_after}, TotalsBounds.{AreBounded}, declared.answer.Answer.{Answer}}
+use Rattle.replay_core.specs.TheoryValues.{AreVariables, TellsRequest, over, shown, totals_in}
+use Rattle.replay_core.specs.declared.{answer.Answer.TheVariants.{Silent, Served, Loaded}, totals.Totals.{Totals as TheTotals}}
+use Rattle.class_table.specs.{Layout.{Partition}, Tables.{IsLegalTable}}
+use Rattle.replay_theory.{proofs.LayoutStays.{layout_after}, specs.Replay.{Replay, heap_after, replay_after, variables_after, answer_of}}
+use Rattle.replay_theory.specs.{Report.{report_line}, Totals.{Totals, request_size, totals_after}}
+use Rattle.trace_event.specs.declared.event.Event.{Event}
+use Rattle.heap_theory.specs.State.{Heap}
 use Rattle.replay_core.proofs.replay.Replay.step_at.Goals as goal
-use Rattle.replay_core.proofs.replay.Replay.step_at.Goals.{After-perform-answer}
 
 pub perform-answer-requires-clause-sound : goal.perform-answer-requires-clause-sound
 perform-answer-requires-clause-sound c = sound_heap (stored c.self.inside) c.self.invariant.reached
@@ -71,6 +65,16 @@ module _ (c : After-perform-answer) where
       ≡ totals_after c.perform-answer.new.heap.state.layout.classes (stored c.self.inside).totals
       (c.args.event.now, shown c.perform-answer.new.bytes c.perform-answer.result)
 
+  -- they are, where the answer is known
+  counts_by : (answer : Answer) → c.perform-answer.result ≡ answer → (totals : TheTotals) → ((bytes : List ℕ) →
+      totals_in totals
+      ≡ totals_after c.perform-answer.new.heap.state.layout.classes (stored c.self.inside).totals (c.args.event.now, shown bytes answer))
+      → Counts totals
+  counts_by answer is totals counted =
+      counted c.perform-answer.new.bytes
+      ∙ ap (λ a. totals_after c.perform-answer.new.heap.state.layout.classes (stored c.self.inside).totals
+      (c.args.event.now, shown c.perform-answer.new.bytes a)) (sym is)
+
   stored_is : (totals : TheTotals) → Counts totals → record {
     replay = over c.perform-answer.new.heap.state
         (with_items c.self.inside.variables c.perform-answer.new.variables).items;
@@ -108,6 +112,12 @@ module _ (c : After-perform-answer) where
 
 -- ---- an event that has no line
 
+no_line : (number : ℕ) (bytes : List ℕ) (answer : Answer) → (answer ≡ Silent) ⊎ ((loss : ℕ) × (answer ≡ Served loss)) →
+    report_line number (shown bytes answer) ≡ []
+unfolding report_line
+no_line number bytes answer (inl is) = ap (λ a. report_line number (shown bytes a)) is
+no_line number bytes answer (inr is) = ap (λ a. report_line number (shown bytes a)) is.1
+
 pub count-requires-clause-legal : goal.count-requires-clause-legal
 count-requires-clause-legal c = legal (goal.at.count-requires-clause-legal c).After-perform-answer
 
@@ -115,11 +125,10 @@ pub count-requires-clause-tells : goal.count-requires-clause-tells
 count-requires-clause-tells c = tells (goal.at.count-requires-clause-tells c).After-perform-answer
 
 pub returns-in-Silent-clause-line : goal.returns-in-Silent-clause-line
-unfolding report_line
 returns-in-Silent-clause-line c =
     let front = take c.args.at c.args.text.now in
     sym (append-nil front)
-    ∙ ap (λ answer. front ++ report_line (c.self.inside.totals.events + 1) (shown c.perform-answer.new.bytes answer)) (sym c.in-Silent.is)
+    ∙ ap (λ line. front ++ line) (sym (no_line (c.self.inside.totals.events + 1) c.perform-answer.new.bytes c.perform-answer.result c.in-Silent.is))
     ∙ ap (λ line. front ++ line) (line_is (goal.at.returns-in-Silent-clause-line c).After-perform-answer)
 
 pub returns-in-Silent-clause-stored : goal.returns-in-Silent-clause-stored
@@ -134,6 +143,43 @@ returns-in-Silent-clause-run c run same =
 pub invariant_of-self : goal.invariant_of-self
 invariant_of-self c =
     kept (goal.at.invariant_of-self c).After-perform-answer c.count.new.self (c.count.ensures.counted c.perform-answer.new.bytes) c.count.ensures.bounded
+
+-- ---- a load that succeeds
+
+pub count-requires-in-Loaded-clause-legal : goal.count-requires-in-Loaded-clause-legal
+count-requires-in-Loaded-clause-legal c = legal (goal.at.count-requires-in-Loaded-clause-legal c).After-perform-answer
+
+pub count-requires-in-Loaded-clause-tells : goal.count-requires-in-Loaded-clause-tells
+count-requires-in-Loaded-clause-tells c =
+    let at = (goal.at.count-requires-in-Loaded-clause-tells c).After-perform-answer in
+    subst (TellsRequest c.perform-answer.new.heap.state.layout.classes (request_size c.args.event.now)) c.in-Loaded.is (tells at)
+
+pub returns-in-Loaded-clause-line : goal.returns-in-Loaded-clause-line
+returns-in-Loaded-clause-line c =
+    let at = (goal.at.returns-in-Loaded-clause-line c).After-perform-answer in
+    let counts = counts_by at _ c.in-Loaded.is c.count-in-Loaded.new.self c.count-in-Loaded.ensures.counted in
+    c.write_data.ensures.text ∙ ap (λ line. take c.args.at c.args.text.now ++ line)
+    (ap (λ len. report_line c.count-in-Loaded.new.self.events (shown c.perform-answer.new.bytes (Loaded len))) c.from.ensures
+    ∙ ap (λ n. report_line n (shown c.perform-answer.new.bytes (Loaded c.in-Loaded.len))) (events_are at c.count-in-Loaded.new.self counts)
+    ∙ ap (λ a. report_line (c.self.inside.totals.events + 1) (shown c.perform-answer.new.bytes a)) (sym c.in-Loaded.is)
+    ∙ line_is at)
+
+pub returns-in-Loaded-clause-stored : goal.returns-in-Loaded-clause-stored
+returns-in-Loaded-clause-stored c =
+    let at = (goal.at.returns-in-Loaded-clause-stored c).After-perform-answer in
+    stored_is at _ (counts_by at _ c.in-Loaded.is c.count-in-Loaded.new.self c.count-in-Loaded.ensures.counted)
+    ∙ ap (λ (s : Stored). stored_after s c.args.event.now) c.self.view_is
+
+pub returns-in-Loaded-clause-run : goal.returns-in-Loaded-clause-run
+returns-in-Loaded-clause-run c run same =
+    run_goes_on run c.args.self.now c.args.event.now same ∙ sym (ap (λ (s : Stored). s.replay) (returns-in-Loaded-clause-stored c))
+
+pub invariant_of-self-in-Loaded : goal.invariant_of-self-in-Loaded
+invariant_of-self-in-Loaded c =
+    let at = (goal.at.invariant_of-self-in-Loaded c).After-perform-answer in
+    let counts = counts_by at _ c.in-Loaded.is c.count-in-Loaded.new.self c.count-in-Loaded.ensures.counted in
+    let k = kept at _ counts c.count-in-Loaded.ensures.bounded in
+    record { reached = k.reached; bounded = k.bounded; long = k.long; legal = k.legal; few = k.few }
 
 -- ---- an event that may have one
 

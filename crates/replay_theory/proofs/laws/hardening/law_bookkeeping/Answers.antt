@@ -1,5 +1,4 @@
-use Rattle.replay_theory.proofs.Hardened.{bookkeeping_out_of_reach, null_or_tagged}
-use Rattle.replay_theory.proofs.RunKept.{IsRunWith-run}
+use Rattle.replay_theory.proofs.{Hardened.{bookkeeping_out_of_reach, null_or_tagged}, RunKept.{IsRunWith-run}}
 use Rattle.replay_theory.proofs.laws.hardening.law_bookkeeping.Goals as goal
 
 pub returns-clause-variables : goal.returns-clause-variables

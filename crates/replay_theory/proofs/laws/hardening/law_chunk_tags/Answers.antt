@@ -1,5 +1,4 @@
-use Rattle.replay_theory.proofs.Hardened.{chunk_tags_not_zero, chunk_tags_of_two}
-use Rattle.replay_theory.proofs.RunKept.{IsRunWith-run}
+use Rattle.replay_theory.proofs.{Hardened.{chunk_tags_not_zero, chunk_tags_of_two}, RunKept.{IsRunWith-run}}
 use Rattle.replay_theory.proofs.laws.hardening.law_chunk_tags.Goals as goal
 
 pub returns-clause-not_zero : goal.returns-clause-not_zero

@@ -1,5 +1,4 @@
-use Rattle.replay_theory.proofs.CopiedPointers.{addg_copies, subg_copies}
-use Rattle.replay_theory.proofs.RunKept.{IsRunWith-run}
+use Rattle.replay_theory.proofs.{CopiedPointers.{addg_copies, subg_copies}, RunKept.{IsRunWith-run}}
 use Rattle.replay_theory.proofs.laws.hardening.law_copied_pointer.Goals as goal
 
 pub returns-clause-addg : goal.returns-clause-addg

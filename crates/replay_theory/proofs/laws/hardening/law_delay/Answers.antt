@@ -1,5 +1,4 @@
-use Rattle.replay_theory.proofs.Lives.{reuse_is_delayed}
-use Rattle.replay_theory.proofs.RunKept.{IsRunWith-run}
+use Rattle.replay_theory.proofs.{Lives.{reuse_is_delayed}, RunKept.{IsRunWith-run}}
 use Rattle.replay_theory.proofs.laws.hardening.law_delay.Goals as goal
 
 pub returns : goal.returns

@@ -1,5 +1,4 @@
-use Rattle.replay_theory.proofs.Hardened.{freed_faults}
-use Rattle.replay_theory.proofs.RunKept.{IsRunWith-run}
+use Rattle.replay_theory.proofs.{Hardened.{freed_faults}, RunKept.{IsRunWith-run}}
 use Rattle.replay_theory.proofs.laws.hardening.law_freed.Goals as goal
 
 pub returns : goal.returns

@@ -1,5 +1,4 @@
-use Rattle.replay_theory.proofs.Hardened.{inside_succeeds}
-use Rattle.replay_theory.proofs.RunKept.{IsRunWith-run}
+use Rattle.replay_theory.proofs.{Hardened.{inside_succeeds}, RunKept.{IsRunWith-run}}
 use Rattle.replay_theory.proofs.laws.hardening.law_inside.Goals as goal
 
 pub returns : goal.returns

@@ -1,5 +1,4 @@
-use Rattle.replay_theory.proofs.Lives.{lives_on}
-use Rattle.replay_theory.proofs.RunKept.{IsRunWith-run}
+use Rattle.replay_theory.proofs.{Lives.{lives_on}, RunKept.{IsRunWith-run}}
 use Rattle.replay_theory.proofs.laws.hardening.law_life.Goals as goal
 
 pub returns : goal.returns

@@ -1,5 +1,4 @@
-use Rattle.replay_theory.proofs.Hardened.{neighbours_fault}
-use Rattle.replay_theory.proofs.RunKept.{IsRunWith-run}
+use Rattle.replay_theory.proofs.{Hardened.{neighbours_fault}, RunKept.{IsRunWith-run}}
 use Rattle.replay_theory.proofs.laws.hardening.law_neighbours.Goals as goal
 
 pub returns : goal.returns

@@ -1,5 +1,4 @@
-use Rattle.replay_theory.proofs.Hardened.{live_variables}
-use Rattle.replay_theory.proofs.RunKept.{IsRunWith-run}
+use Rattle.replay_theory.proofs.{Hardened.{live_variables}, RunKept.{IsRunWith-run}}
 use Rattle.replay_theory.proofs.laws.hardening.law_own_pointer.Goals as goal
 
 pub returns-clause-variables : goal.returns-clause-variables

@@ -1,17 +1,12 @@
-use Rattle.std.proofs.Common.{◌≡◌, ℕ, sym, ap, ◌∙◌, arith, Err, None, Result}
-use Rattle.std.proofs.lemmas.Result.{err_from_is_err_and}
+use Rattle.std.proofs.{Common.{◌≡◌, ℕ, sym, ap, ◌∙◌, arith, Err, None, Result}, lemmas.Result.{err_from_is_err_and}}
 use Rattle.std.specs.Option.{ok_or}
 use Rattle.class_table.specs.declared.layout.Slot.{Slot}
-use Rattle.heap_theory.specs.declared.refusal.NullCause.{NullCause}
+use Rattle.heap_theory.specs.{Calls.{given_out}, State.{slot_in}, declared.refusal.NullCause.{NullCause}}
 use Rattle.heap_theory.specs.declared.refusal.NullCause.TheVariants.{Exhausted}
-use Rattle.heap_theory.specs.Calls.{given_out}
-use Rattle.tagged_heap.specs.HeapFields.{state_of, parts_of}
-use Rattle.tagged_heap.specs.HeapAtRest.{shown_heap}
-use Rattle.tagged_heap.proofs.Kept.{class_most}
-use Rattle.tagged_heap.proofs.Giving.{IsTaken, request_refused, has_class, taken, exhausted, taken_room, given_held, given_shown, given_address}
-use Rattle.heap_theory.specs.State.{slot_in}
+use Rattle.tagged_heap.proofs.Giving.{IsTaken, request_refused, has_class, taken, exhausted, taken_room, given_held, given_shown}
+use Rattle.tagged_heap.proofs.{Giving.{given_address}, Kept.{class_most}, heap.Heap.allocate.Goals.{In_ok-slot, After-give_out-address}}
+use Rattle.tagged_heap.specs.{HeapAtRest.{shown_heap}, HeapFields.{state_of, parts_of}}
 use Rattle.tagged_heap.proofs.heap.Heap.allocate.Goals as goal
-use Rattle.tagged_heap.proofs.heap.Heap.allocate.Goals.{In_ok-slot, After-give_out-address}
 
 pub returns-in_err-number-clause-slot : goal.returns-in_err-number-clause-slot
 returns-in_err-number-clause-slot c =

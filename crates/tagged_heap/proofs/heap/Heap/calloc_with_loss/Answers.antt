@@ -1,8 +1,7 @@
 -- The slot that is given has room for its chunk, as in every heap, and decides the answer and the new state.
 use Rattle.std.proofs.Common.{sym}
+use Rattle.tagged_heap.proofs.{CallSteps.{room_given}, Kept.{class_most, size_most}}
 use Rattle.tagged_heap.proofs.TheoryLemmas as laws
-use Rattle.tagged_heap.proofs.CallSteps.{room_given}
-use Rattle.tagged_heap.proofs.Kept.{class_most, size_most}
 use Rattle.tagged_heap.proofs.heap.Heap.calloc_with_loss.Goals as goal
 
 pub zero_chunk-requires-clause-size : goal.zero_chunk-requires-clause-size

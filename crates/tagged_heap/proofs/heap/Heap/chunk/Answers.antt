@@ -1,18 +1,13 @@
-use Rattle.std.proofs.Common.{◌≡◌, inl, inr, sym, ap, ◌∙◌, Some, slice_get}
-use Rattle.std.proofs.lemmas.Option.{slice_get_within, get_or_from_slice_get}
+use Rattle.std.proofs.{Common.{◌≡◌, inl, inr, sym, ap, ◌∙◌, Some, slice_get}, lemmas.Option.{slice_get_within, get_or_from_slice_get}}
 use Rattle.class_table.specs.Layout.{slot_of}
 use Rattle.chunk_header.specs.HeaderView.{seen as header_seen, standing_seen}
-use Rattle.heap_theory.specs.Header.{Header, Standing, class_number}
+use Rattle.heap_theory.specs.{Header.{Header, Standing, class_number}, Region.{region_of, header_in, next_in}, State.{state_at}}
 use Rattle.heap_theory.specs.Header.Standing.{Fresh as IsFresh, Live as IsLive, Quarantined as IsQuarantined, Freed as IsFreed}
-use Rattle.heap_theory.specs.Region.{region_of, header_in, next_in}
-use Rattle.heap_theory.specs.State.{state_at}
-use Rattle.tagged_heap.specs.HeapFields.{state_of}
+use Rattle.tagged_heap.proofs.{Kept.{region_is, class_few}, NamedChunks.{misplaced, chunk_not_live, chunk_wrong_tag, chunk_live, live}}
+use Rattle.tagged_heap.{proofs.heap.Heap.chunk.Goals.{After-header-header, After-from-number}, specs.HeapFields.{state_of}}
 use Rattle.tagged_heap.specs.Representation.{header_from}
 use Rattle.tagged_heap.proofs.TheoryLemmas as laws
-use Rattle.tagged_heap.proofs.Kept.{region_is, class_few}
-use Rattle.tagged_heap.proofs.NamedChunks.{misplaced, chunk_not_live, chunk_wrong_tag, chunk_live, live}
 use Rattle.tagged_heap.proofs.heap.Heap.chunk.Goals as goal
-use Rattle.tagged_heap.proofs.heap.Heap.chunk.Goals.{After-header-header, After-from-number}
 
 -- the header of the slot that the pointer names
 shows : (c : After-header-header) →

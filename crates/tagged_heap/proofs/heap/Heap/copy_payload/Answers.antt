@@ -1,13 +1,10 @@
 use Rattle.std.proofs.Common.{◌*◌, List, ℕ, length, sym, ap, ◌∙◌, arith}
-use Rattle.machine_theory.specs.Memory.{bytes_at}
-use Rattle.machine_theory.proofs.ByteLaws.{bytes_at-below, length-bytes_at}
+use Rattle.machine_theory.{proofs.ByteLaws.{bytes_at-below, length-bytes_at}, specs.Memory.{bytes_at}}
 use Rattle.class_table.specs.Layout.{slot_of}
-use Rattle.heap_theory.specs.Calls.{with_payload}
-use Rattle.heap_theory.specs.State.{payload_start}
-use Rattle.tagged_heap.specs.HeapFields.{state_of}
+use Rattle.heap_theory.specs.{Calls.{with_payload}, State.{payload_start}}
 use Rattle.tagged_heap.proofs.PayloadWritten.{HasPayload, payload_within, payload_seen, payload_kept, payload_shown}
+use Rattle.tagged_heap.{proofs.heap.Heap.copy_payload.Goals.{After-self-1}, specs.HeapFields.{state_of}}
 use Rattle.tagged_heap.proofs.heap.Heap.copy_payload.Goals as goal
-use Rattle.tagged_heap.proofs.heap.Heap.copy_payload.Goals.{After-self-1}
 
 pub copy_bytes-requires-clause-source : goal.copy_bytes-requires-clause-source
 copy_bytes-requires-clause-source c =

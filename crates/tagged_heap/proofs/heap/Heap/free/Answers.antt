@@ -1,10 +1,7 @@
 -- The chunk that the pointer names decides the answer and the new state; where it names none, nothing changes.
-use Rattle.std.proofs.Common.{refl, ap}
-use Rattle.std.proofs.lemmas.Bool.{ne_eqb}
-use Rattle.std.proofs.lemmas.Result.{err_from_is_err_and}
+use Rattle.std.proofs.{Common.{refl, ap}, lemmas.Bool.{ne_eqb}, lemmas.Result.{err_from_is_err_and}}
 use Rattle.heap_theory.specs.Calls.{free_step}
-use Rattle.tagged_heap.specs.HeapAtRest.{HeapAndFrees}
-use Rattle.tagged_heap.proofs.CallSteps.{free_accepted}
+use Rattle.tagged_heap.{proofs.CallSteps.{free_accepted}, specs.HeapAtRest.{HeapAndFrees}}
 use Rattle.tagged_heap.proofs.heap.Heap.free.Goals as goal
 
 pub returns-in_err-chunk-clause-answer : goal.returns-in_err-chunk-clause-answer

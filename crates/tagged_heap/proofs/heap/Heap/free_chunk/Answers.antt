@@ -1,13 +1,9 @@
 use Rattle.std.proofs.Common.{◌≡◌, ◌+◌, ◌*◌, ap, sym, ◌∙◌, arith}
-use Rattle.heap_theory.specs.Header.{Header}
-use Rattle.heap_theory.specs.Calls.{freed}
-use Rattle.tagged_heap.specs.HeapFields.{state_of}
-use Rattle.tagged_heap.specs.HeapAtRest.{shown_heap}
-use Rattle.tagged_heap.specs.Representation.{IsKept}
-use Rattle.tagged_heap.proofs.Kept.{class_most}
+use Rattle.heap_theory.specs.{Calls.{freed}, Header.{Header}}
+use Rattle.tagged_heap.{proofs.Kept.{class_most}, proofs.heap.Heap.free_chunk.Goals.{After-put_at, After-from}, specs.HeapFields.{state_of}}
 use Rattle.tagged_heap.proofs.TakingBack.{live_fits, live_header, retire_room, can_be_put, kept_freed, freed_held, freed_shown}
+use Rattle.tagged_heap.specs.{HeapAtRest.{shown_heap}, Representation.{IsKept}}
 use Rattle.tagged_heap.proofs.heap.Heap.free_chunk.Goals as goal
-use Rattle.tagged_heap.proofs.heap.Heap.free_chunk.Goals.{After-put_at, After-from}
 
 pub overflow_mul-bytes : goal.overflow_mul-bytes
 overflow_mul-bytes c =

@@ -2,8 +2,7 @@
 use Rattle.std.proofs.Common.{◌≡◌, length, refl, sym, ap, ◌∙◌, subst, inl, inr, OnOk}
 use Rattle.machine_theory.specs.Access.{access_fault, ok_unless, loaded}
 use Rattle.heap_theory.proofs.HeadersAgree.{header_words_stay}
-use Rattle.tagged_heap.specs.HeapFields.{state_of}
-use Rattle.tagged_heap.proofs.PayloadWritten.{tagged_access, load_seen, fault_cases}
+use Rattle.tagged_heap.{proofs.PayloadWritten.{tagged_access, load_seen, fault_cases}, specs.HeapFields.{state_of}}
 use Rattle.tagged_heap.proofs.heap.Heap.load.Goals as goal
 
 pub returns-clause-ok : goal.returns-clause-ok

@@ -1,8 +1,7 @@
 -- An access that succeeds touches no header, so it reads what is seen.
 use Rattle.std.proofs.Common.{◌≡◌, take, sym, ap, ◌∙◌, subst, inl, inr, OnOk}
 use Rattle.machine_theory.specs.Access.{access_fault, ok_unless, loaded}
-use Rattle.tagged_heap.specs.HeapFields.{state_of}
-use Rattle.tagged_heap.proofs.PayloadWritten.{tagged_access, load_seen, fault_cases}
+use Rattle.tagged_heap.{proofs.PayloadWritten.{tagged_access, load_seen, fault_cases}, specs.HeapFields.{state_of}}
 use Rattle.tagged_heap.proofs.heap.Heap.load_into.Goals as goal
 
 pub returns-clause-ok : goal.returns-clause-ok

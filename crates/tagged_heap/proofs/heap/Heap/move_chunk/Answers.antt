@@ -1,11 +1,10 @@
 -- The slot that is given is no live one, and has room for as many bytes as both sizes have; so has the chunk's own.
 use Rattle.std.proofs.Common.{◌≡◌, refl, sym, ap, arith}
-use Rattle.heap_theory.specs.Calls.{moved}
+use Rattle.heap_theory.specs.{Calls.{moved}, State.{chunk_granules_of, state_at}}
 use Rattle.class_table.specs.Sizes.{chunk_granules}
-use Rattle.heap_theory.specs.State.{chunk_granules_of, state_at}
 use Rattle.machine_theory.proofs.ByteLaws.{bytes_under_tags}
-use Rattle.tagged_heap.proofs.TheoryLemmas as laws
 use Rattle.tagged_heap.proofs.CallSteps.{payload_given, live_apart, chunk_stays, chunk_written, same_slot}
+use Rattle.tagged_heap.proofs.TheoryLemmas as laws
 use Rattle.tagged_heap.proofs.heap.Heap.move_chunk.Goals as goal
 
 pub copy_payload-requires-clause-apart : goal.copy_payload-requires-clause-apart

@@ -2,8 +2,7 @@ use Rattle.std.proofs.Common.{◌≡◌, replicate, sym, ap, ◌∙◌}
 use Rattle.machine_theory.specs.Memory.{new_granule}
 use Rattle.class_table.specs.Layout.{Partition}
 use Rattle.heap_theory.specs.State.{first_heap, without_headers}
-use Rattle.tagged_heap.specs.HeapAtRest.{shown_heap}
-use Rattle.tagged_heap.proofs.NewHeap.{shown_first, held_first}
+use Rattle.tagged_heap.{proofs.NewHeap.{shown_first, held_first}, specs.HeapAtRest.{shown_heap}}
 use Rattle.tagged_heap.proofs.heap.Heap.new.Goals as goal
 
 memory_seen : (c : goal.After-new-2) →

@@ -1,16 +1,12 @@
 -- What the header of the slot over a granule says decides what the granule is.
 use Rattle.std.proofs.Common.{◌≡◌, ◌≢◌, ◌≤◌, sym, ap, ◌∙◌, inl, inr, arith}
 use Rattle.chunk_header.specs.HeaderView.{standing_seen, seen}
-use Rattle.heap_theory.specs.Header.{Header}
-use Rattle.heap_theory.specs.GranuleKinds.{place_kind}
+use Rattle.heap_theory.specs.{GranuleKinds.{place_kind}, Header.{Header}, Region.{region_of, header_in}, State.{IsSlot}}
 use Rattle.class_table.specs.Sizes.{chunk_granules}
-use Rattle.heap_theory.specs.State.{IsSlot}
-use Rattle.tagged_heap.specs.HeapFields.{state_of}
-use Rattle.heap_theory.specs.Region.{region_of, header_in}
 use Rattle.tagged_heap.proofs.GranuleKinds.{kind_outside, in_range, start_kind, size_few, tail_kind, chunk_granule_kind, kind_by}
-use Rattle.tagged_heap.proofs.Kept.{region_is, class_few}
+use Rattle.tagged_heap.proofs.{Kept.{region_is, class_few}, heap.Heap.place_kind.Goals.{In-Some, After-header-header, After-chunk_granules}}
+use Rattle.tagged_heap.specs.HeapFields.{state_of}
 use Rattle.tagged_heap.proofs.heap.Heap.place_kind.Goals as goal
-use Rattle.tagged_heap.proofs.heap.Heap.place_kind.Goals.{In-Some, After-header-header, After-chunk_granules}
 
 -- the header that is read
 shown : (c : After-header-header) →

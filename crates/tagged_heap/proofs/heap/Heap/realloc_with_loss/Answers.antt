@@ -1,19 +1,12 @@
 -- The chunk that the pointer names, and whether the bytes are of its class, decide which of the four cases it is.
-use Rattle.std.proofs.Common.{◌≡◌, ◌∙◌, refl, arith, Ok, Err}
-use Rattle.std.specs.Result.{result_map_both}
-use Rattle.std.proofs.lemmas.Bool.{ne_eqb}
+use Rattle.std.{proofs.Common.{◌≡◌, ◌∙◌, refl, arith, Ok, Err}, proofs.lemmas.Bool.{ne_eqb}, specs.Result.{result_map_both}}
 use Rattle.std.proofs.lemmas.Result.{err_from_is_err_and, IfOk-at_ok, IfErr-at_err}
-use Rattle.heap_theory.specs.declared.refusal.FreeError.{FreeError}
+use Rattle.heap_theory.specs.{Calls.{realloc_step}, Lookups.{chunk_at}, declared.refusal.FreeError.{FreeError}}
 use Rattle.heap_theory.specs.declared.refusal.ReallocError.TheVariants.{Null, Refused}
-use Rattle.heap_theory.specs.Calls.{realloc_step}
-use Rattle.heap_theory.specs.Lookups.{chunk_at}
-use Rattle.tagged_heap.specs.declared.freeing.Chunk.{Chunk as Found}
-use Rattle.tagged_heap.specs.Chunks.{IsChunk}
-use Rattle.tagged_heap.specs.Frees.{frees_of_realloc}
-use Rattle.tagged_heap.proofs.CallSteps.{realloc_accepted, err_named, ok_named, addresses_named, IsMove, moves}
-use Rattle.tagged_heap.proofs.Kept.{class_most}
+use Rattle.tagged_heap.proofs.{CallSteps.{realloc_accepted, err_named, ok_named, addresses_named, IsMove, moves}, Kept.{class_most}}
+use Rattle.tagged_heap.{proofs.heap.Heap.realloc_with_loss.Goals.{In_ok-chunk, In_err-chunk, After-move_chunk}, specs.Chunks.{IsChunk}}
+use Rattle.tagged_heap.specs.{Frees.{frees_of_realloc}, declared.freeing.Chunk.{Chunk as Found}}
 use Rattle.tagged_heap.proofs.heap.Heap.realloc_with_loss.Goals as goal
-use Rattle.tagged_heap.proofs.heap.Heap.realloc_with_loss.Goals.{In_ok-chunk, In_err-chunk, After-move_chunk}
 
 -- the chunk that the pointer names
 found : (c : In_ok-chunk) →

@@ -1,11 +1,8 @@
 use Rattle.std.proofs.Common.{◌≡◌}
 use Rattle.heap_theory.specs.Calls.{resized}
-use Rattle.tagged_heap.specs.HeapFields.{state_of}
-use Rattle.tagged_heap.specs.HeapAtRest.{shown_heap}
-use Rattle.tagged_heap.proofs.InPlace.{resized_held, resized_shown}
-use Rattle.tagged_heap.proofs.Kept.{has_room}
+use Rattle.tagged_heap.proofs.{InPlace.{resized_held, resized_shown}, Kept.{has_room}, heap.Heap.resize.Goals.{After-resize}}
+use Rattle.tagged_heap.specs.{HeapAtRest.{shown_heap}, HeapFields.{state_of}}
 use Rattle.tagged_heap.proofs.heap.Heap.resize.Goals as goal
-use Rattle.tagged_heap.proofs.heap.Heap.resize.Goals.{After-resize}
 
 pub resize-requires : goal.resize-requires
 resize-requires c =

@@ -1,13 +1,35 @@
-use Rattle.std.proofs.Common.{◌≡◌, Some, sym, ◌∙◌}
+use Rattle.std.{proofs.Common.{◌≡◌, Some, sym, ◌∙◌, ℕ, ap}, specs.Option.{option_map}}
 use Rattle.chunk_header.specs.HeaderView.{seen}
 use Rattle.class_table.specs.Layout.{slot_over}
-use Rattle.heap_theory.specs.Header.{header_for}
-use Rattle.heap_theory.specs.Region.{next_in, region_of}
-use Rattle.tagged_heap.specs.HeapFields.{state_of}
-use Rattle.tagged_heap.proofs.Kept.{class_few, kept_said, region_is}
-use Rattle.tagged_heap.proofs.ToldSlots.{is_slot, told}
+use Rattle.heap_theory.specs.{Header.{header_for, Header, code_of}, Region.{next_in, region_of}, State.{Heap, IsSlot, slot_in}}
+use Rattle.tagged_heap.proofs.{Kept.{class_few, kept_said, region_is}, heap.Heap.slot_facts.Goals.{In_ok-number}}
+use Rattle.tagged_heap.specs.{HeapFields.{state_of}, Representation.{Parts, IsKept}, Slots.{facts_of}, declared.slots.SlotFacts.{SlotFacts}}
 use Rattle.tagged_heap.proofs.heap.Heap.slot_facts.Goals as goal
-use Rattle.tagged_heap.proofs.heap.Heap.slot_facts.Goals.{In_ok-number}
+use Rattle.tagged_heap.proofs.TheoryLemmas as laws
+
+-- What is told of a slot is what its header says.
+is_slot : {h : Heap} {p : Parts} (k : IsKept h p) (g s : ℕ) → slot_over h.layout g ≡ Some s → IsSlot h s
+is_slot {h} k g s there = ((laws.covers 1 h.layout g s k.sound.partition.table).0 there).0
+
+module _ (h : Heap) (g s next : ℕ) (x : Header) (start granules : ℕ) (there : slot_over h.layout g ≡ Some s) (shown : x ≡ header_for h s next)
+    (from : start ≡ (slot_in h s).start) (wide : granules ≡ (slot_in h s).class) where
+  abbrev facts : SlotFacts
+  facts = record { number = s; start = start; granules = granules; state = code_of x.standing; size = x.size; tag = x.tag }
+
+  same : facts ≡ facts_of h s
+  unfolding header_for
+  same = λ i. record {
+    number = s;
+    start = from i;
+    granules = wide i;
+    state = code_of (shown i).standing;
+    size = (shown i).size;
+    tag = (shown i).tag;
+  }
+
+  told : Some (record { number = s; start = start; granules = granules; state = code_of x.standing; size = x.size; tag = x.tag })
+      ≡ option_map (facts_of h) (slot_over h.layout g)
+  told = ap Some same ∙ sym (ap (option_map (facts_of h)) there)
 
 there : (c : In_ok-number) → slot_over c.self.inside.layout c.args.granule ≡ Some c.in_ok-number.number
 there c = sym c.slot_at.ensures ∙ c.in_ok-number.was

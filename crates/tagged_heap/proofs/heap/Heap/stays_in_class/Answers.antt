@@ -1,8 +1,7 @@
 -- The class of a request and a slot's are the same exactly where their numbers are.
 use Rattle.std.proofs.Common.{◌∙◌, sym}
 use Rattle.class_table.specs.Layout.{slot_of}
-use Rattle.tagged_heap.specs.HeapFields.{state_of}
-use Rattle.tagged_heap.proofs.RequestClasses.{stays_is, room_in_class, class_in}
+use Rattle.tagged_heap.{proofs.RequestClasses.{stays_is, room_in_class, class_in}, specs.HeapFields.{state_of}}
 use Rattle.tagged_heap.proofs.heap.Heap.stays_in_class.Goals as goal
 
 pub returns-clause-test : goal.returns-clause-test

@@ -1,10 +1,9 @@
-use Rattle.std.proofs.Common.{◌*◌, ◌<◌, ℕ, length, replicate, ap, arith}
-use Rattle.std.proofs.lemmas.List.{length-replicate}
+use Rattle.std.proofs.{Common.{◌*◌, ◌<◌, ℕ, length, replicate, ap, arith}, lemmas.List.{length-replicate}}
 use Rattle.std.proofs.lemmas.List.Elements.{All-replicate}
 use Rattle.class_table.specs.Sizes.{chunk_granules}
 use Rattle.tagged_heap.proofs.PayloadWritten.{HasPayload, payload_within, payload_kept, payload_shown}
-use Rattle.tagged_heap.proofs.heap.Heap.zero_chunk.Goals as goal
 use Rattle.tagged_heap.proofs.heap.Heap.zero_chunk.Goals.{After-self-1}
+use Rattle.tagged_heap.proofs.heap.Heap.zero_chunk.Goals as goal
 
 pub zero_granules-requires : goal.zero_granules-requires
 zero_granules-requires c =

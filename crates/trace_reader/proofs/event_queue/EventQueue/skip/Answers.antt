@@ -1,8 +1,6 @@
-use Rattle.std.proofs.Common.{◌∙◌, List, ap, drop, map, sym}
-use Rattle.std.proofs.lemmas.List.{drop-drop, drop-map}
+use Rattle.std.proofs.{Common.{◌∙◌, List, ap, drop, map, sym}, lemmas.List.{drop-drop, drop-map}}
 use Rattle.trace_event.specs.declared.event.Event.{Event}
-use Rattle.trace_reader.specs.Kept.{event_of}
-use Rattle.trace_reader.specs.declared.kept_event.KeptEvent.{KeptEvent}
+use Rattle.trace_reader.specs.{Kept.{event_of}, declared.kept_event.KeptEvent.{KeptEvent}}
 use Rattle.trace_reader.proofs.event_queue.EventQueue.skip.Goals as goal
 
 pub returns : goal.returns

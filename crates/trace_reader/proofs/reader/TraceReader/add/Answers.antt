@@ -1,5 +1,4 @@
-use Rattle.std.proofs.Common.{refl, sym, ◌∙◌, arith}
-use Rattle.std.proofs.lemmas.Grind.{common_steps}
+use Rattle.std.proofs.{Common.{refl, sym, ◌∙◌, arith}, lemmas.Grind.{common_steps}}
 use Rattle.trace_reader.proofs.Reaching.{judged_event, judged_fault, judged_memory, not_pushed, pushed}
 use Rattle.trace_reader.proofs.reader.TraceReader.add.Goals as goal
 

@@ -1,10 +1,7 @@
-use Rattle.std.proofs.Common.{◌∙◌, [], Err, sym, ap}
-use Rattle.std.proofs.lemmas.Result.{err_from_is_err_and}
+use Rattle.std.proofs.{Common.{◌∙◌, [], Err, sym, ap}, lemmas.Result.{err_from_is_err_and}}
 use Rattle.line_text.proofs.LawLemmas.{equal_is_prefix, prefix_of_prefix}
-use Rattle.trace_reader.specs.Reached.{answer_of}
-use Rattle.trace_reader.specs.Reading.{Reading, fed, line_ended}
 use Rattle.trace_reader.proofs.Ending.{IsPrefix-ended, is_open-kept, line_ended-kept, line_ended-long, reached_from}
-use Rattle.trace_reader.proofs.Reaching.{IsPrefix-fed, came}
+use Rattle.trace_reader.{proofs.Reaching.{IsPrefix-fed, came}, specs.Reached.{answer_of}, specs.Reading.{Reading, fed, line_ended}}
 use Rattle.trace_reader.proofs.reader.TraceReader.end_line.Goals as goal
 
 pub returns-in_err-keep-clause-reached : goal.returns-in_err-keep-clause-reached

@@ -1,9 +1,7 @@
-use Rattle.std.proofs.Common.{◌∙◌, sym, ap, Err, refl, rules}
-use Rattle.std.proofs.lemmas.Result.{err_from_is_err_and}
-use Rattle.trace_reader.specs.Reached.{answer_of}
-use Rattle.trace_reader.specs.Reading.{Reading, fed}
-use Rattle.trace_reader.proofs.Ending.{failed_on_the_way, fed-failed, line_on_the_way, reached_on_the_way, state_failed, unchanged_if_failed, unfinished_after, way_after_way}
-use Rattle.trace_reader.proofs.Reaching.{IsPrefix-fed, came}
+use Rattle.std.proofs.{Common.{◌∙◌, sym, ap, Err, refl, rules}, lemmas.Result.{err_from_is_err_and}}
+use Rattle.trace_reader.proofs.Ending.{failed_on_the_way, fed-failed, line_on_the_way, reached_on_the_way, state_failed}
+use Rattle.trace_reader.proofs.{Ending.{unchanged_if_failed, unfinished_after, way_after_way}, Reaching.{IsPrefix-fed, came}}
+use Rattle.trace_reader.specs.{Reached.{answer_of}, Reading.{Reading, fed}}
 use Rattle.trace_reader.proofs.reader.TraceReader.feed_observed.Goals as goal
 
 pub returns-in-Failed-clause-reached : goal.returns-in-Failed-clause-reached

@@ -1,13 +1,9 @@
-use Rattle.std.proofs.Common.{◌≡◌, ◌≤◌, ◌∙◌, Err, Ok, sym, ap, true, eqb-true, length, rules, arith}
-use Rattle.std.proofs.lemmas.Result.{err_from_is_err_and}
-use Rattle.trace_reader.specs.Reached.{HasReached}
-use Rattle.trace_reader.specs.Reading.{Reading, finished, is_open}
-use Rattle.trace_reader.specs.Reading.State.{Finished}
-use Rattle.trace_reader.specs.TraceLine.{most_events}
-use Rattle.trace_reader.proofs.Ending.{finish_empty, finish_failed, finish_line, finished-failed, finished_after, not_empty, state_failed, unchanged_if_failed}
-use Rattle.trace_reader.proofs.Reaching.{IsPrefix-finished, came}
-use Rattle.trace_reader.proofs.reader.TraceReader.finish_observed.Goals as goal
+use Rattle.std.proofs.{Common.{◌≡◌, ◌≤◌, ◌∙◌, Err, Ok, sym, ap, true, eqb-true, length, rules, arith}, lemmas.Result.{err_from_is_err_and}}
+use Rattle.trace_reader.proofs.Ending.{finish_empty, finish_failed, finish_line, finished-failed, finished_after, not_empty, state_failed}
+use Rattle.trace_reader.{proofs.Ending.{unchanged_if_failed}, proofs.Reaching.{IsPrefix-finished, came}, specs.Reached.{HasReached}}
 use Rattle.trace_reader.proofs.reader.TraceReader.finish_observed.Goals.{then-not-is_empty+in_ok-judge_rest, else-not-is_empty}
+use Rattle.trace_reader.specs.{Reading.{Reading, finished, is_open}, Reading.State.{Finished}, TraceLine.{most_events}}
+use Rattle.trace_reader.proofs.reader.TraceReader.finish_observed.Goals as goal
 
 pub returns-in-Failed-clause-reached : goal.returns-in-Failed-clause-reached
 returns-in-Failed-clause-reached g c =

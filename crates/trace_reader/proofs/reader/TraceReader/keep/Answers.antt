@@ -1,5 +1,4 @@
-use Rattle.std.proofs.Common.{◌<◌, ◌++◌, length, sym, ◌∙◌, arith}
-use Rattle.std.proofs.lemmas.List.{length-append}
+use Rattle.std.proofs.{Common.{◌<◌, ◌++◌, length, sym, ◌∙◌, arith}, lemmas.List.{length-append}}
 use Rattle.trace_reader.proofs.Reaching.{extended, keeps, keeps_not, not_extended}
 use Rattle.trace_reader.proofs.reader.TraceReader.keep.Goals as goal
 

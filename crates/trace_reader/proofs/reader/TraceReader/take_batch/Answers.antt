@@ -1,14 +1,9 @@
 use Rattle.std.proofs.Common.{◌≡◌, ◌+◌, ◌≤◌, ◌∙◌, ◌++◌, List, Err, length, take, ap, map, sym, subst, refl, arith}
-use Rattle.std.proofs.lemmas.Grind.{common_steps}
-use Rattle.std.proofs.lemmas.List.{length-map, length-take}
+use Rattle.std.proofs.lemmas.{Grind.{common_steps}, List.{length-map, length-take}}
 use Rattle.trace_event.specs.declared.event.Event.{Event}
-use Rattle.trace_reader.specs.Kept.{event_of}
+use Rattle.trace_reader.proofs.{Reaching.{IsPrefix-fed, fields, not_pushed, pushed, ran_out}, SpelledEvents.{batch_taken, lines_are_long}}
+use Rattle.trace_reader.specs.{Kept.{event_of}, Reached.{IsOnTheWay}, Reading.{Reading, fed}, Reading.State.{Failed}}
 use Rattle.trace_reader.specs.declared.fault.TraceError.TheVariants.{OutOfMemory}
-use Rattle.trace_reader.specs.Reached.{IsOnTheWay}
-use Rattle.trace_reader.specs.Reading.{Reading, fed}
-use Rattle.trace_reader.specs.Reading.State.{Failed}
-use Rattle.trace_reader.proofs.Reaching.{IsPrefix-fed, fields, not_pushed, pushed, ran_out}
-use Rattle.trace_reader.proofs.SpelledEvents.{batch_taken, lines_are_long}
 use Rattle.trace_reader.proofs.reader.TraceReader.take_batch.Goals as goal
 
 pub returns-then-is_err-clause-way : goal.returns-then-is_err-clause-way

@@ -1,5 +1,4 @@
-use Rattle.std.proofs.Common.{arith}
-use Rattle.std.proofs.lemmas.Grind.{common_steps}
+use Rattle.std.proofs.{Common.{arith}, lemmas.Grind.{common_steps}}
 use Rattle.trace_reader.proofs.reader.TraceReader.take_events.Goals as goal
 
 pub loop-count-preserved : goal.loop-count-preserved

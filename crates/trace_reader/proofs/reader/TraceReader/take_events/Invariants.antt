@@ -1,6 +1,5 @@
 use Rattle.std.proofs.Common.{◌≡◌, ◌≤◌, length, true}
-use Rattle.trace_reader.specs.Reached.{IsOnTheWay}
-use Rattle.trace_reader.specs.Reading.{is_at_start}
+use Rattle.trace_reader.specs.{Reached.{IsOnTheWay}, Reading.{is_at_start}}
 use Rattle.trace_reader.proofs.reader.TraceReader.take_events.Given as goal
 
 abbrev pub invariant-loop-count : goal.invariant-loop-count

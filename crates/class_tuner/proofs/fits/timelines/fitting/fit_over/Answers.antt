@@ -1,8 +1,8 @@
-use Rattle.std.proofs.Common.{◌≡◌, max, refl, sym, arith, ◌∙◌}
-use Rattle.std.proofs.lemmas.Bool.{true≢false}
-use Rattle.class_tuner.proofs.FitLemmas.TimelineLemmas.Rounds.{AreReady, IsMade, IsSetting, costs-fit, firsts-within, ready-first, ready-next, so_far-first, so_far-more, tight-first, tight-more}
-use Rattle.class_tuner.proofs.fits.timelines.fitting.fit_over.Goals as goal
+use Rattle.std.proofs.{Common.{◌≡◌, max, refl, sym, arith, ◌∙◌}, lemmas.Bool.{true≢false}}
+use Rattle.class_tuner.proofs.FitLemmas.TimelineLemmas.Rounds.{AreReady, IsMade, IsSetting, costs-fit, firsts-within, ready-first}
+use Rattle.class_tuner.proofs.FitLemmas.TimelineLemmas.Rounds.{ready-next, so_far-first, so_far-more, tight-first, tight-more}
 use Rattle.class_tuner.proofs.fits.timelines.fitting.fit_over.Goals.{In_ok-best, In_ok-next, In_ok-numbers}
+use Rattle.class_tuner.proofs.fits.timelines.fitting.fit_over.Goals as goal
 
 setting : (c : In_ok-numbers) → IsSetting c.events-events.result.now c.largest_moment-decisive.result
 setting c = record {

@@ -1,12 +1,10 @@
-use Rattle.std.proofs.Common.{◌≡◌, ◌<◌, ◌≤◌, ℕ, List, length, slice_index, arith, inl, inr}
+use Rattle.std.proofs.{Common.{◌≡◌, ◌<◌, ◌≤◌, ℕ, List, length, slice_index, arith, inl, inr}, lemmas.Bool.{cases_lt}}
+use Rattle.std.proofs.lemmas.{List.{get_or_default}, List.Kept.{AllPairs-from_increasing}}
 use Rattle.std.specs.List.Sorted.{IsStrictlyIncreasing}
-use Rattle.std.proofs.lemmas.Bool.{cases_lt}
-use Rattle.std.proofs.lemmas.List.{get_or_default}
-use Rattle.std.proofs.lemmas.List.Kept.{AllPairs-from_increasing}
-use Rattle.class_tuner.proofs.FitLemmas.TimelineLemmas.Ascending.{insert-ascends}
-use Rattle.class_tuner.proofs.FitLemmas.TimelineLemmas.Unions.{insert-union}
+use Rattle.class_tuner.proofs.FitLemmas.TimelineLemmas.{Ascending.{insert-ascends}, Unions.{insert-union}}
+use Rattle.class_tuner.proofs.fits.timelines.moments.add_moment.Goals.{else-place-len-via-then-place-len+else-index-moment}
+use Rattle.class_tuner.proofs.fits.timelines.moments.add_moment.Goals.{else-place-len-via-else-place-len}
 use Rattle.class_tuner.proofs.fits.timelines.moments.add_moment.Goals as goal
-use Rattle.class_tuner.proofs.fits.timelines.moments.add_moment.Goals.{else-place-len-via-then-place-len+else-index-moment, else-place-len-via-else-place-len}
 
 pub returns-clause-union : goal.returns-clause-union
 returns-clause-union c =

@@ -1,5 +1,4 @@
-use Rattle.std.proofs.Common.{rules, ltb, arith}
-use Rattle.std.proofs.lemmas.Bool.{ltb-false, ltb-true}
+use Rattle.std.proofs.{Common.{rules, ltb, arith}, lemmas.Bool.{ltb-false, ltb-true}}
 use Rattle.std.proofs.lemmas.List.Sorted.{IsPartitionPoint-from_clause, IsPartitionedBy-ltb}
 use Rattle.class_tuner.proofs.FitLemmas.TimelineLemmas.Ascending.{ascending-rises}
 use Rattle.class_tuner.proofs.fits.timelines.moments.place_of.Goals as goal

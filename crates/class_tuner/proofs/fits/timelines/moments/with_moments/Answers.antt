@@ -1,7 +1,5 @@
-use Rattle.std.proofs.Common.{◌≤◌, [], All, inl, inr, arith, refl}
-use Rattle.std.specs.List.{Contains}
-use Rattle.std.specs.List.Sorted.{IsStrictlyIncreasing}
-use Rattle.std.proofs.lemmas.List.Elements.{All-cons, All-contains, All-nil}
+use Rattle.std.proofs.{Common.{◌≤◌, [], All, inl, inr, arith, refl}, lemmas.List.Elements.{All-cons, All-contains, All-nil}}
+use Rattle.std.specs.{List.{Contains}, List.Sorted.{IsStrictlyIncreasing}}
 use Rattle.class_tuner.proofs.FitLemmas.TimelineLemmas.Unions.{added-all, added-more, added-none}
 use Rattle.class_tuner.proofs.fits.timelines.moments.with_moments.Goals as goal
 

@@ -1,5 +1,4 @@
-use Rattle.std.proofs.Common.{◌+◌, ◌≤◌, All, length}
-use Rattle.std.specs.List.{Contains}
+use Rattle.std.{proofs.Common.{◌+◌, ◌≤◌, All, length}, specs.List.{Contains}}
 use Rattle.class_tuner.proofs.FitLemmas.TimelineLemmas.Unions.{AreAdded}
 use Rattle.class_tuner.proofs.fits.timelines.moments.with_moments.Given as goal
 

@@ -1,5 +1,4 @@
-use Rattle.std.proofs.Common.{◌∙◌, arith, refl}
-use Rattle.std.proofs.lemmas.Grind.{common_steps}
+use Rattle.std.proofs.{Common.{◌∙◌, arith, refl}, lemmas.Grind.{common_steps}}
 use Rattle.command_words.proofs.Tables.{option_more}
 use Rattle.command_words.proofs.commands.shared_help.Words.command.Goals as goal
 

@@ -1,7 +1,6 @@
 use Rattle.std.proofs.Common.{fold, take}
 use Rattle.clap.specs.Words.{new_app}
-use Rattle.command_words.specs.AcceptedWords.{HasWords}
-use Rattle.command_words.specs.Options.{with_option}
+use Rattle.command_words.specs.{AcceptedWords.{HasWords}, Options.{with_option}}
 use Rattle.command_words.proofs.commands.shared_help.Words.command.Given as goal
 
 abbrev pub invariant-loop-option : goal.invariant-loop-option

@@ -1,9 +1,7 @@
 use Rattle.std.proofs.Common.{◌≡◌, ◌*◌, ℕ, List, [], ◌∷◌, length, length-append, slice_index, arith, ap, sym, subst, ◌∙◌}
-use Rattle.tuner_theory.specs.Footprint.{blocks}
-use Rattle.tuner_theory.specs.Histories.{most}
-use Rattle.tuner_theory.specs.Timelines.{moments}
-use Rattle.history_count.specs.Timelines.LiveBlocks.{IsFirst}
+use Rattle.tuner_theory.specs.{Footprint.{blocks}, Histories.{most}, Timelines.{moments}}
 use Rattle.history_count.proofs.TimelineLemmas.ClassSpans.{class-firsts, class-next, class-product, class-sum}
+use Rattle.history_count.specs.Timelines.LiveBlocks.{IsFirst}
 use Rattle.history_count.proofs.timelines.index.TimelineIndex.footprint.Goals as goal
 
 pub overflow_mul-taken : goal.overflow_mul-taken

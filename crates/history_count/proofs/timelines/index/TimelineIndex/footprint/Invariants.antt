@@ -1,10 +1,6 @@
 use Rattle.std.proofs.Common.{◌≡◌, ℕ, ◌*◌, ◌^◌, ◌<◌, ◌≤◌, length, slice_index, take, sum_by}
-use Rattle.tuner_theory.specs.Footprint.{blocks}
-use Rattle.tuner_theory.specs.Histories.{most}
-use Rattle.tuner_theory.specs.Timelines.{moments}
-use Rattle.history_count.specs.CountedLines.{IsCutAt}
-use Rattle.history_count.specs.Timelines.LiveBlocks.{IsFirst, class_bytes}
-use Rattle.history_count.specs.Timelines.Stretches.{class_start}
+use Rattle.tuner_theory.specs.{Footprint.{blocks}, Histories.{most}, Timelines.{moments}}
+use Rattle.history_count.specs.{CountedLines.{IsCutAt}, Timelines.LiveBlocks.{IsFirst, class_bytes}, Timelines.Stretches.{class_start}}
 use Rattle.history_count.proofs.timelines.index.TimelineIndex.footprint.Given as goal
 
 abbrev pub invariant-loop-number : goal.invariant-loop-number

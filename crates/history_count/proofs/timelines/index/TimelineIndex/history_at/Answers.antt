@@ -1,13 +1,8 @@
-use Rattle.std.proofs.Common.{◌≡◌, [], ◌∷◌, ℕ, List, Vec, arith, ap, subst, ◌∙◌}
-use Rattle.std.specs.Result.{IfOk}
-use Rattle.std.specs.declared.alloc.Global.{Global}
-use Rattle.std.proofs.lemmas.List.{map-append, take_all}
-use Rattle.tuner_theory.specs.Lists.{lists_of}
-use Rattle.tuner_theory.specs.Timelines.{history_at}
+use Rattle.std.proofs.{Common.{◌≡◌, [], ◌∷◌, ℕ, List, Vec, arith, ap, subst, ◌∙◌}, lemmas.List.{map-append, take_all}}
+use Rattle.std.specs.{Result.{IfOk}, declared.alloc.Global.{Global}}
+use Rattle.tuner_theory.{proofs.Timelines.{moments_are_snapshots}, specs.Lists.{lists_of}, specs.Timelines.{history_at}}
 use Rattle.tuner_theory.specs.declared.size_event.SizeEvent.{SizeEvent}
-use Rattle.tuner_theory.proofs.Timelines.{moments_are_snapshots}
-use Rattle.history_count.specs.CountedLines.{spread}
-use Rattle.history_count.proofs.TimelineLemmas.Columns.{rows-few, rows-more, rows-spread, rows_at}
+use Rattle.history_count.{proofs.TimelineLemmas.Columns.{rows-few, rows-more, rows-spread, rows_at}, specs.CountedLines.{spread}}
 use Rattle.history_count.proofs.timelines.index.TimelineIndex.history_at.Goals as goal
 
 pub loop-i-preserved : goal.loop-i-preserved

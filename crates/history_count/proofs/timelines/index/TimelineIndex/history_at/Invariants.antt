@@ -1,6 +1,5 @@
 use Rattle.std.proofs.Common.{◌≡◌, map, take}
-use Rattle.tuner_theory.specs.Lists.{lists_of}
-use Rattle.tuner_theory.specs.Timelines.{snapshot_at}
+use Rattle.tuner_theory.specs.{Lists.{lists_of}, Timelines.{snapshot_at}}
 use Rattle.history_count.specs.Timelines.Stretches.{column_of}
 use Rattle.history_count.proofs.timelines.index.TimelineIndex.history_at.Given as goal
 

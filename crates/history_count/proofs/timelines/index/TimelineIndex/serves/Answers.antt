@@ -1,7 +1,6 @@
 use Rattle.std.proofs.Common.{◌≡◌, ◌↔◌, ◌<◌, ◌-◌, Option, Some, None, List, ℕ, length, refl, arith, sym, ◌∙◌, IsSome, IfSome, slice_index}
 use Rattle.class_table.specs.Tables.{IsLeastServing, class_for, class_number_for}
-use Rattle.history_count.proofs.TimelineLemmas.Requests.{largest_serves}
-use Rattle.history_count.proofs.TimelineLemmas.Steps.{number_gives_none, number_serves}
+use Rattle.history_count.proofs.TimelineLemmas.{Requests.{largest_serves}, Steps.{number_gives_none, number_serves}}
 use Rattle.history_count.proofs.timelines.index.TimelineIndex.serves.Goals as goal
 
 -- the number of a class says whether there is one

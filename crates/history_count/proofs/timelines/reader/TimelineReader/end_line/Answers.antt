@@ -1,7 +1,6 @@
 use Rattle.std.proofs.Common.{◌≡◌, ◌++◌, ◌∷◌, [], subst, sym, ◌∙◌}
 use Rattle.line_text.specs.Lines.{lines}
-use Rattle.history_count.specs.Timelines.Pieces.{IsFed, Reading}
-use Rattle.history_count.proofs.TimelineLemmas.Pieces.{fed_newline, is_unfailed}
+use Rattle.history_count.{proofs.TimelineLemmas.Pieces.{fed_newline, is_unfailed}, specs.Timelines.Pieces.{IsFed, Reading}}
 use Rattle.history_count.proofs.timelines.reader.TimelineReader.end_line.Goals as goal
 
 pub returns-clause-fed : goal.returns-clause-fed

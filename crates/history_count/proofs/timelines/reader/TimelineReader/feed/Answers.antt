@@ -1,5 +1,4 @@
-use Rattle.std.proofs.Common.{◌≡◌, ◌++◌, ◌∷◌, [], List, ℕ, ap, append_assoc, sym, ◌∙◌}
-use Rattle.std.proofs.lemmas.Result.{IfOk-weaker}
+use Rattle.std.proofs.{Common.{◌≡◌, ◌++◌, ◌∷◌, [], List, ℕ, ap, append_assoc, sym, ◌∙◌}, lemmas.Result.{IfOk-weaker}}
 use Rattle.history_count.proofs.TimelineLemmas.Pieces.{fed_reading, fed_then}
 use Rattle.history_count.proofs.timelines.reader.TimelineReader.feed.Goals as goal
 

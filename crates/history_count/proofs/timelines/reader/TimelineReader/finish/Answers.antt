@@ -1,8 +1,8 @@
 use Rattle.std.proofs.Common.{◌≡◌, [], List, Ok, ap, subst, sym, ◌∙◌}
 use Rattle.line_text.specs.Lines.{lines}
 use Rattle.tuner_theory.specs.declared.size_event.SizeEvent.{SizeEvent}
-use Rattle.history_count.specs.Timelines.Pieces.{IsReadingOf, Reading, going_on}
 use Rattle.history_count.proofs.TimelineLemmas.Pieces.{ends_open, last_is_taken, stopped}
+use Rattle.history_count.specs.Timelines.Pieces.{IsReadingOf, Reading, going_on}
 use Rattle.history_count.proofs.timelines.reader.TimelineReader.finish.Goals as goal
 
 pub returns-in-Some : goal.returns-in-Some

@@ -1,9 +1,8 @@
 use Rattle.std.proofs.Common.{◌≡◌, ◌<◌, ◌++◌, Some, arith, refl, subst, sym, ◌∙◌, false, length, length-append}
 use Rattle.std.proofs.lemmas.List.Elements.{All-append}
 use Rattle.line_text.specs.Lines.{is_newline}
-use Rattle.history_count.specs.Timelines.Pieces.{IsFed, Reading}
+use Rattle.history_count.{proofs.TimelineLemmas.Pieces.{fed_too_long, is_unfailed}, specs.Timelines.Pieces.{IsFed, Reading}}
 use Rattle.history_count.specs.declared.timelines.fault.TimelineFault.TheVariants.{BadTimeline}
-use Rattle.history_count.proofs.TimelineLemmas.Pieces.{fed_too_long, is_unfailed}
 use Rattle.history_count.proofs.timelines.reader.TimelineReader.keep.Goals as goal
 
 pub returns-then-bytes-len : goal.returns-then-bytes-len

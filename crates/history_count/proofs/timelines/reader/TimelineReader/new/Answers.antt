@@ -1,5 +1,4 @@
-use Rattle.std.proofs.Common.{◌≡◌, arith, false, refl}
-use Rattle.std.proofs.lemmas.List.Elements.{All-nil}
+use Rattle.std.proofs.{Common.{◌≡◌, arith, false, refl}, lemmas.List.Elements.{All-nil}}
 use Rattle.line_text.specs.Lines.{is_newline}
 use Rattle.history_count.proofs.TimelineLemmas.Runs.{live_counts-none, run-none}
 use Rattle.history_count.proofs.timelines.reader.TimelineReader.new.Goals as goal

@@ -1,6 +1,5 @@
 use Rattle.std.proofs.Common.{List, subst}
-use Rattle.history_count.proofs.TimelineLemmas.Runs.{timeline_of_run}
-use Rattle.history_count.specs.Timelines.Runs.{IsRun}
+use Rattle.history_count.{proofs.TimelineLemmas.Runs.{timeline_of_run}, specs.Timelines.Runs.{IsRun}}
 use Rattle.tuner_theory.specs.declared.size_event.SizeEvent.{SizeEvent}
 use Rattle.history_count.proofs.timelines.timeline.Timeline.events.Goals as goal
 

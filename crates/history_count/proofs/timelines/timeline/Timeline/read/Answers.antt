@@ -1,9 +1,7 @@
-use Rattle.std.proofs.Common.{◌≡◌, ◌++◌, [], ◌∷◌, true, ap, sym, ◌∙◌, rules}
-use Rattle.std.specs.Str.{bytes_eq}
+use Rattle.std.{proofs.Common.{◌≡◌, ◌++◌, [], ◌∷◌, true, ap, sym, ◌∙◌, rules}, specs.Str.{bytes_eq}}
 use Rattle.line_text.specs.Lines.{ended, lines}
+use Rattle.history_count.proofs.TimelineLemmas.{LineByLine.{head_read}, Pieces.{after_head, nothing_is_read}}
 use Rattle.history_count.specs.Timelines.TimelineText.{events_from, head_line, timeline_of}
-use Rattle.history_count.proofs.TimelineLemmas.LineByLine.{head_read}
-use Rattle.history_count.proofs.TimelineLemmas.Pieces.{after_head, nothing_is_read}
 use Rattle.history_count.proofs.timelines.timeline.Timeline.read.Goals as goal
 
 pub returns : goal.returns

@@ -1,13 +1,11 @@
-use Rattle.std.proofs.Common.{◌≡◌, ◌≤◌, [], slice_index, add-one, arith, ◌∙◌}
-use Rattle.std.proofs.lemmas.Bool.{both_ways}
-use Rattle.std.proofs.Math.Nat.{mul-le-mul}
+use Rattle.std.proofs.{Common.{◌≡◌, ◌≤◌, [], slice_index, add-one, arith, ◌∙◌}, Math.Nat.{mul-le-mul}, lemmas.Bool.{both_ways}}
 use Rattle.class_table.specs.Sizes.{largest_counted}
-use Rattle.tuner_theory.specs.Profiles.{greatest_count}
-use Rattle.potential_check.specs.Certificates.Spanned.{last_need}
-use Rattle.tuner_theory.specs.Spans.{rounded_need}
-use Rattle.potential_check.proofs.CertificateLemmas.SpansBuilt.{HasPlace, built-add, built-end, built-none, built-skips, built-small, place-new, place-same}
+use Rattle.tuner_theory.specs.{Profiles.{greatest_count}, Spans.{rounded_need}}
+use Rattle.potential_check.proofs.CertificateLemmas.SpansBuilt.{HasPlace, built-add, built-end, built-none, built-skips, built-small}
+use Rattle.potential_check.{proofs.CertificateLemmas.SpansBuilt.{place-new, place-same}, specs.Certificates.Spanned.{last_need}}
+use Rattle.potential_check.proofs.certificates.spans.Spans.new.Goals.{then-not-is_last+in_ok-push+in_ok-push-2+in_ok-push-3}
+use Rattle.potential_check.proofs.certificates.spans.Spans.new.Goals.{else-not-is_last}
 use Rattle.potential_check.proofs.certificates.spans.Spans.new.Goals as goal
-use Rattle.potential_check.proofs.certificates.spans.Spans.new.Goals.{then-not-is_last+in_ok-push+in_ok-push-2+in_ok-push-3, else-not-is_last}
 
 pub loop-n-init : goal.loop-n-init
 loop-n-init c =

@@ -1,7 +1,7 @@
 use Rattle.std.proofs.Common.{◌-◌, ◌<◌, ◌≤◌, length, slice_index}
 use Rattle.potential_check.proofs.CertificateLemmas.SpansBuilt.{IsBuilt}
-use Rattle.potential_check.proofs.certificates.spans.Spans.new.Given as goal
 use Rattle.tuner_theory.specs.Profiles.{AreCounts}
+use Rattle.potential_check.proofs.certificates.spans.Spans.new.Given as goal
 
 abbrev pub invariant-loop-n : goal.invariant-loop-n
 invariant-loop-n l = record {

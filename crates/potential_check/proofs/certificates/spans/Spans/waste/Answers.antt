@@ -1,7 +1,6 @@
 use Rattle.std.proofs.Common.{◌^◌, ◌<◌, arith, subst, sym}
-use Rattle.tuner_theory.proofs.LawLemmas.{spans_fit}
+use Rattle.tuner_theory.{proofs.LawLemmas.{spans_fit}, specs.Spans.{span_waste}}
 use Rattle.potential_check.proofs.CertificateLemmas.SpanSums.{HasSpanSums, span_sums}
-use Rattle.tuner_theory.specs.Spans.{span_waste}
 use Rattle.potential_check.proofs.certificates.spans.Spans.waste.Goals as goal
 
 facts : (c : goal.After-bytes_up_to-bytes) →

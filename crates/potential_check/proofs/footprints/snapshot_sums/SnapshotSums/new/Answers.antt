@@ -1,15 +1,10 @@
 use Rattle.std.proofs.Common.{◌≡◌, ℕ, ◌<◌, ◌≤◌, [], List, length, slice_index, slice_index_or, ap, arith, Vec}
 use Rattle.std.specs.declared.alloc.Global.{Global}
-use Rattle.history_count.specs.CountedLines.{AreLinesOf, CountsSizes}
-use Rattle.history_count.proofs.LawLemmas.{column-few, few-lines}
-use Rattle.potential_check.specs.Footprints.SnapshotSums.{HoldsSnapshots}
-use Rattle.potential_check.proofs.FootprintLemmas.Snapshots.{small-spans, spans-grow}
+use Rattle.history_count.{proofs.LawLemmas.{column-few, few-lines}, specs.CountedLines.{AreLinesOf, CountsSizes}}
+use Rattle.potential_check.{proofs.FootprintLemmas.Snapshots.{small-spans, spans-grow}, specs.Footprints.SnapshotSums.{HoldsSnapshots}}
 use Rattle.potential_check.proofs.FootprintLemmas.UpTo.{column-sums, cuts-ascend, first-all, first-more}
-use Rattle.tuner_theory.proofs.Lists.{lists-length, row-read}
-use Rattle.tuner_theory.proofs.Rounding.{step-positive}
-use Rattle.tuner_theory.specs.Histories.{AreSnapshots}
-use Rattle.tuner_theory.specs.Lists.{lists_of}
-use Rattle.tuner_theory.specs.Profiles.{greatest_count}
+use Rattle.tuner_theory.{proofs.Lists.{lists-length, row-read}, proofs.Rounding.{step-positive}, specs.Histories.{AreSnapshots}}
+use Rattle.tuner_theory.specs.{Lists.{lists_of}, Profiles.{greatest_count}}
 use Rattle.potential_check.proofs.footprints.snapshot_sums.SnapshotSums.new.Goals as goal
 
 -- the column of a snapshot

@@ -1,6 +1,5 @@
 use Rattle.std.proofs.Common.{arith}
-use Rattle.tuner_theory.proofs.Lists.{lists-length, row-read_at}
-use Rattle.tuner_theory.specs.Lists.{lists_of}
+use Rattle.tuner_theory.{proofs.Lists.{lists-length, row-read_at}, specs.Lists.{lists_of}}
 use Rattle.potential_check.proofs.FootprintLemmas.Snapshots.{sums-at}
 use Rattle.potential_check.proofs.footprints.snapshot_sums.SnapshotSums.sums_at.Goals as goal
 

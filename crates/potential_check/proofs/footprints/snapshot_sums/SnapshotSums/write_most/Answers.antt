@@ -1,7 +1,6 @@
 use Rattle.std.proofs.Common.{arith}
-use Rattle.tuner_theory.proofs.Lists.{lists-length}
+use Rattle.tuner_theory.{proofs.Lists.{lists-length}, specs.Lists.{lists_of}}
 use Rattle.potential_check.proofs.FootprintLemmas.Snapshots.{most-all, most-raised}
-use Rattle.tuner_theory.specs.Lists.{lists_of}
 use Rattle.potential_check.proofs.footprints.snapshot_sums.SnapshotSums.write_most.Goals as goal
 
 pub loop-t-preserved : goal.loop-t-preserved

@@ -1,14 +1,8 @@
-use Rattle.std.proofs.Common.{◌≡◌, List, ℕ, inr, sym, subst, ◌∙◌}
-use Rattle.std.proofs.lemmas.Bool.{false≢true}
+use Rattle.std.proofs.{Common.{◌≡◌, List, ℕ, inr, sym, subst, ◌∙◌}, lemmas.Bool.{false≢true}}
 use Rattle.potential_check.specs.Certificates.SheetView.{sheet_of}
-use Rattle.tuner_theory.specs.Histories.{peaks}
-use Rattle.tuner_theory.specs.Sheets.{IsFitVerdict, Sheet}
-use Rattle.tuner_theory.specs.Timelines.{AreMoments, history_at, moments}
-use Rattle.tuner_theory.specs.Waste.{Serves}
-use Rattle.tuner_theory.specs.declared.size_event.SizeEvent.{SizeEvent}
-use Rattle.tuner_theory.specs.declared.verdict.Verdict.{Verdict}
-use Rattle.tuner_theory.specs.declared.verdict.Verdict.TheVariants.{Optimal}
-use Rattle.tuner_theory.proofs.Timelines.{least_over_timeline}
+use Rattle.tuner_theory.{proofs.Timelines.{least_over_timeline}, specs.Histories.{peaks}, specs.Sheets.{IsFitVerdict, Sheet}}
+use Rattle.tuner_theory.specs.{Timelines.{AreMoments, history_at, moments}, Waste.{Serves}, declared.size_event.SizeEvent.{SizeEvent}}
+use Rattle.tuner_theory.specs.declared.verdict.{Verdict.{Verdict}, Verdict.TheVariants.{Optimal}}
 use Rattle.potential_check.proofs.footprints.timelines.checker.check_over.Goals as goal
 
 -- a verdict over a history, at what both are

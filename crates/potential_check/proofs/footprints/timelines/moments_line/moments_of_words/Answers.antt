@@ -1,8 +1,8 @@
-use Rattle.std.proofs.Common.{◌≡◌, ◌<◌, ◌++◌, [], ◌∷◌, ◌==◌, vec_len, ℕ, Bool, true, false, None, Option, length, arith, ap, sym, length-append}
-use Rattle.std.proofs.lemmas.Bool.Decides.{nat_tests}
+use Rattle.std.proofs.Common.{◌≡◌, ◌<◌, ◌++◌, [], ◌∷◌, ◌==◌, vec_len, ℕ, Bool, true, false, None, Option, length, arith, ap, sym}
+use Rattle.std.proofs.{Common.{length-append}, lemmas.Bool.Decides.{nat_tests}}
 use Rattle.line_text.specs.Numbers.{number_of}
-use Rattle.potential_check.specs.Footprints.Timelines.MomentsLine.{moment_of}
-use Rattle.potential_check.proofs.FootprintLemmas.TimelineLemmas.Moments.{read-all, read-empty, read-faulty, read-long, read-more, read-none}
+use Rattle.potential_check.proofs.FootprintLemmas.TimelineLemmas.Moments.{read-all, read-empty, read-faulty, read-long, read-more}
+use Rattle.potential_check.{proofs.FootprintLemmas.TimelineLemmas.Moments.{read-none}, specs.Footprints.Timelines.MomentsLine.{moment_of}}
 use Rattle.potential_check.proofs.footprints.timelines.moments_line.moments_of_words.Goals as goal
 
 empty : (is : Bool) (n : ℕ) → is ≡ (n == 0) → is ≡ true → n ≡ 0
