@@ -208,6 +208,7 @@ static int read_ring(int k) {
   struct ring *ring = &stream->rings[k];
   struct reading *reading = &readings[k];
   uint64_t start = __atomic_load_n(&ring->start, __ATOMIC_ACQUIRE);
+  if (!start) return notes->spoiled = 1, 0;  // only the reader takes it away
   if (reading->start != start) begin_ring(k, start);
   uint64_t from = reading->read, whole = __atomic_load_n(&ring->next, __ATOMIC_ACQUIRE), end = whole, i = from, ahead = from;
   if (ring->overrun) return 0;
@@ -271,7 +272,7 @@ static void end_ring(int k) {
   if (strcmp(wanted, "all") && !(reading->is_main && has_next)) named_as(ring->name)->requests += reading->requests;  // not what ran before in its place
   if ((reading->is_main || reading->is_counted) && ring->executed && !has_next) notes->executed++;
   if (reading->is_main && !has_next) main_process = -1;  // another one may get its number
-  if (ring->overrun || ring->next != ring->read) memset(reading->records, 0, RING * 8);
+  if (reading->records && (ring->overrun || ring->next != ring->read)) memset(reading->records, 0, RING * 8);
   ring->start = ring->next = ring->read = ring->overrun = ring->executed = 0, memset(ring->name, 0, sizeof ring->name);
   *reading = (struct reading){.records = reading->records};
   __atomic_store_n(&ring->process, 0, __ATOMIC_RELEASE);
@@ -281,8 +282,8 @@ static void end_ring(int k) {
 // is over.
 static uint64_t read_all(void) {
   static int order[RINGS];
-  uint64_t more = 0;
-  int number = 0, last = stream->turn < number_of_rings ? stream->turn : number_of_rings;
+  uint64_t more = 0, turn = __atomic_load_n(&stream->turn, __ATOMIC_RELAXED);  // once: the program can change it
+  int number = 0, last = turn < number_of_rings ? turn : number_of_rings;
   if (stream->form != FORM || stream->number != number_of_rings) notes->spoiled = 1;
   for (int k = 0; k < last && !notes->spoiled; k++) {
     if (!stream->rings[k].start) continue;
@@ -296,6 +297,7 @@ static uint64_t read_all(void) {
     int was_over = is_over(k, last);  // before it is read to its end
     uint64_t before = readings[k].start == ring->start ? readings[k].read : 0;
     for (int n = 0; n < 64 && read_ring(k); n++) ;
+    if (notes->spoiled) break;
     more += readings[k].read - before + was_over;
     if (!was_over) continue;
     if (readings[k].read == ring->next || ring->overrun) end_ring(k);
