@@ -1,8 +1,6 @@
 //! Lines, words and numbers.
 use crate::tests::support::same;
-use line_text::{
-    Number, SignedNumber, hex_byte_in, lines_in, number_in, signed_in, words_in,
-};
+use line_text::{Number, SignedNumber, hex_byte_in, lines_in, number_in, signed_in, words_in};
 use std::process::Abort;
 
 // texts, and their lines
