@@ -1,6 +1,6 @@
 -- An input that is refused for its table or for its profile has its first fault in the line of the refusal.
 use Rattle.std.proofs.Common.{◌≡◌, ℕ, suc, ◌+◌, ◌-◌, ◌<◌, ◌≤◌, List, [], ◌∷◌, ◌++◌, take, drop, codes, All, length, Option, Some, None}
-use Rattle.std.proofs.{Common.{Result, Ok, Err, refl, sym, ap, ◌∙◌, append_assoc, arith}, lemmas.Fmt.{decimal_digit}}
+use Rattle.std.proofs.{Common.{MatchResult, Result, Ok, Err, refl, sym, ap, ◌∙◌, append_assoc, arith}, lemmas.Fmt.{decimal_digit}}
 use Rattle.std.proofs.lemmas.{List.{drop-take, length-drop, take-take}, List.Elements.{All-take, All-drop, All-head, All-tail}}
 use Rattle.std.{proofs.lemmas.Option.{same_Some}, specs.Fmt.{decimal}}
 use Rattle.line_text.proofs.LawLemmas.{line_in_front_is_read, lines_are_lines, written_lines_are_read}
@@ -22,7 +22,7 @@ use Rattle.tuner_theory.specs.{Profiles.{Profile as Counted}, Sheets.{Sheet}}
 use Rattle.mte_engine.proofs.SheetLinesSettled.{after_alike, leading_lines-cut, leading_lines-lines, leading_lines-settled}
 use Rattle.mte_engine.specs.{Check.{CheckAnswers}, FaultText.{in_line, shown_input_fault}, Outcome.{Answer}, Traces.{events_unless}}
 use Rattle.mte_engine.specs.FaultLines.{IsAtFirstFault, SpellsLeadingAnd, SpellsSheetAndProfile, SpellsTableAnd, line_of_fault}
-use Rattle.mte_engine.specs.{Parts.{profile_part, table_and}, Replay.{replay_answer, replay_of_lines, report_on}}
+use Rattle.mte_engine.specs.{Parts.{class_part, profile_part}, Replay.{replay_answer, replay_of_lines, report_on}}
 use Rattle.mte_engine.specs.declared.{engine.Status.TheVariants.{Done}, fault.InputFault.{InputFault}}
 use Rattle.mte_engine.specs.declared.fault.InputFault.TheVariants.{TooLong, Table, BadSheet, BadFit, Profile, History, Timeline, Trace}
 use Rattle.history_count.specs.{FaultText.{shown_history_fault}, Timelines.FaultText.{shown_timeline_fault}}
@@ -146,14 +146,16 @@ module _ {A F : Type 0} (Spells : List ℕ → A → Type 0) (read : List (List 
       }
 
   -- the part after a table
-  pub after_table_at_first : (text : List ℕ) (fault : InputFault) → table_and (λ ls. part 1 (read ls)) (lines text) ≡ Err fault
+  -- the lines of an input are refused by the fault of its class line, or of the part after it
+  abbrev refused_by : InputFault → List (List ℕ) → Type 0
+  refused_by fault ls =
+      MatchResult (class_part (take 1 ls)) (λ table. part 1 (read (drop 1 ls)) ≡ Err fault)
+      (λ refused. ◌≡◌ {A = Result Answer InputFault} (Err fault) (Err refused))
+
+  pub after_table_at_first : (text : List ℕ) (fault : InputFault) → refused_by fault (lines text)
       → IsAtFirstFault (SpellsTableAnd Spells) text fault
   after_table_at_first text fault e = go (lines text) refl e
     where
-      went_on : (table : List ℕ) (r : Result A InputFault) → ◌>>=◌ {B = List ℕ × A} r (λ x. Ok (table, x)) ≡ Err fault → r ≡ Err fault
-      went_on table (Ok x) e = absurd cc
-      went_on table (Err other) e = cc
-
       after : (line table : List ℕ) (ls : List (List ℕ)) (result : Result A (ℕ × F)) → lines text ≡ line ∷ ls
           → table_of_line line ≡ Ok table → read ls ≡ result → part 1 result ≡ Err fault → IsAtFirstFault (SpellsTableAnd Spells) text fault
       after line table ls (Ok x) parts is_table is e = absurd (ok_or_err x fault (sym (is_part.whole 1 x) ∙ e))
@@ -167,16 +169,14 @@ module _ {A F : Type 0} (Spells : List ℕ → A → Type 0) (read : List (List 
           )
 
       with_line : (line : List ℕ) (ls : List (List ℕ)) (result : Result (List ℕ) TableError) → lines text ≡ line ∷ ls
-          → table_of_line line ≡ result → table_and (λ ls. part 1 (read ls)) (line ∷ ls) ≡ Err fault
-          → IsAtFirstFault (SpellsTableAnd Spells) text fault
+          → table_of_line line ≡ result → refused_by fault (line ∷ ls) → IsAtFirstFault (SpellsTableAnd Spells) text fault
       with_line line ls (Ok table) parts is e =
-          after line table ls (read ls) parts is refl (went_on table (part 1 (read ls)) (rw is at e))
+          after line table ls (read ls) parts is refl (rw is at e)
       with_line line ls (Err refused) parts is e =
           let is_fault : fault ≡ Table refused = (let same = rw is at e in cc) in
           (1, rw is_fault refl, first_line text (table_refused text line ls refused parts is))
 
-      go : (ls : List (List ℕ)) → lines text ≡ ls → table_and (λ ls. part 1 (read ls)) ls ≡ Err fault
-          → IsAtFirstFault (SpellsTableAnd Spells) text fault
+      go : (ls : List (List ℕ)) → lines text ≡ ls → refused_by fault ls → IsAtFirstFault (SpellsTableAnd Spells) text fault
       go [] parts e =
           let is_fault : fault ≡ Table BadLine = cc in
           (1, rw is_fault refl, first_line text (missing_line_is_first_fault text parts))

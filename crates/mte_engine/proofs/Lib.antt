@@ -9,9 +9,9 @@ pub mod KnownInput
 pub mod LawLemmas
 pub mod LineAndTrace
 pub mod OneAnswer
-pub mod PeaksParts
 pub mod Reporting
 pub mod RowLines
 pub mod SheetLinesSettled
+pub mod TableParts
 pub mod TracePieces
 pub mod TwoParts

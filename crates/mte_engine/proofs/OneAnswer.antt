@@ -32,28 +32,16 @@ module _ (limit step : ℕ) (forced : Bool) (text : List ℕ) where
       let same = one_sheet p.counts step limit forced first.sheet second.sheet first.tuned second.tuned in
       first.written ∙ ap (λ (s : Sheet). record { text = sheet_text s; status = Done }) same ∙ sym second.written
 
-  tuned : (a : Result Answer InputFault) → TuneAnswers limit step forced text a
-      → AnswersPart (profile_part 0 (profile_of text)) (IsTunedText limit step forced) a
-  tuned (Ok a) answers = answers
-  tuned (Err fault) answers = answers
-
   pub one_tune : (a b : Result Answer InputFault) → TuneAnswers limit step forced text a → TuneAnswers limit step forced text b → a ≡ b
-  one_tune a b first second =
-      one_answer (profile_part 0 (profile_of text)) (IsTunedText limit step forced) tune_written a b (tuned a first) (tuned b second)
+  one_tune = one_answer (profile_part 0 (profile_of text)) (IsTunedText limit step forced) tune_written
 
   fit_written : (h : History) (a b : Answer) → IsFitText limit step forced h a → IsFitText limit step forced h b → a ≡ b
   fit_written h a b first second =
       let same = one_fit h.snapshots step limit forced first.fit second.fit first.fitted second.fitted in
       first.written ∙ ap (λ (s : Sheet). record { text = fit_text s; status = Done }) same ∙ sym second.written
 
-  fitted : (a : Result Answer InputFault) → FitAnswers limit step forced text a
-      → AnswersPart (history_part 0 (history_of text)) (IsFitText limit step forced) a
-  fitted (Ok a) answers = answers
-  fitted (Err fault) answers = answers
-
   pub one_fitted : (a b : Result Answer InputFault) → FitAnswers limit step forced text a → FitAnswers limit step forced text b → a ≡ b
-  one_fitted a b first second =
-      one_answer (history_part 0 (history_of text)) (IsFitText limit step forced) fit_written a b (fitted a first) (fitted b second)
+  one_fitted = one_answer (history_part 0 (history_of text)) (IsFitText limit step forced) fit_written
 
   over_written : (events : List SizeEvent) (a b : Answer) → IsFoundText limit step forced events a → IsFoundText limit step forced events b → a ≡ b
   over_written events a b (inl first) (inl second) =
@@ -71,17 +59,11 @@ module _ (limit step : ℕ) (forced : Bool) (text : List ℕ) where
       second.between in
       first.written ∙ (rw (same.0, same.1, same.2) refl ∙ sym second.written)
 
-  fitted_over : (a : Result Answer InputFault) → FitOverAnswers limit step forced text a
-      → AnswersPart (timeline_part 0 (timeline_of text)) (IsFoundText limit step forced) a
-  fitted_over (Ok a) answers = answers
-  fitted_over (Err fault) answers = answers
-
   by_first_line : (over : Bool) (a b : Result Answer InputFault)
       → MatchBool over (FitOverAnswers limit step forced text a) (FitAnswers limit step forced text a)
       → MatchBool over (FitOverAnswers limit step forced text b) (FitAnswers limit step forced text b) → a ≡ b
-  by_first_line true a b first second =
-      one_answer (timeline_part 0 (timeline_of text)) (IsFoundText limit step forced) over_written a b (fitted_over a first) (fitted_over b second)
-  by_first_line false a b first second = one_fitted a b first second
+  by_first_line true = one_answer (timeline_part 0 (timeline_of text)) (IsFoundText limit step forced) over_written
+  by_first_line false = one_fitted
 
   pub one_either : (a b : Result Answer InputFault) → FitEitherAnswers limit step forced text a → FitEitherAnswers limit step forced text b → a ≡ b
   one_either = by_first_line (begins_timeline (lines text))
@@ -94,11 +76,5 @@ module _ (limit step : ℕ) (config : Config) (text : List ℕ) where
       first.written ∙ ap (λ (s : Sheet). record { text = sheet_text s ++ report_on config s.table events; status = Done }) same
       ∙ sym second.written
 
-  ran : (a : Result Answer InputFault) → RunAnswers limit step config text a
-      → AnswersPart (trace_part 0 (trace_of text)) (IsTunedRun limit step config) a
-  ran (Ok a) answers = answers
-  ran (Err fault) answers = answers
-
   pub one_run : (a b : Result Answer InputFault) → RunAnswers limit step config text a → RunAnswers limit step config text b → a ≡ b
-  one_run a b first second =
-      one_answer (trace_part 0 (trace_of text)) (IsTunedRun limit step config) run_written a b (ran a first) (ran b second)
+  one_run = one_answer (trace_part 0 (trace_of text)) (IsTunedRun limit step config) run_written

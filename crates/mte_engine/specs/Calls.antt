@@ -6,6 +6,7 @@ use Rattle.mte_engine.specs.{Replay.{ReplayAnswers, ReplayOnAnswers}, Score.{Sco
 use Rattle.mte_engine.specs.{TwoTexts.{answers_beside_blocks, answers_beside_profile}, declared.fault.InputFault.{InputFault}}
 use Rattle.tool_call.specs.declared.call.Call.{Call}
 use Rattle.tool_call.specs.declared.call.Call.TheVariants.{Score, Tune, Check, Footprint, Fit, CheckFit, Peaks, Profile, Replay, Run}
+use Rattle.mte_engine.specs.declared.table_command.TableCommand.TheVariants as table
 use Rattle.mte_engine.specs.declared.two_texts.BlocksCommand.TheVariants as blocks
 use Rattle.mte_engine.specs.declared.two_texts.ProfileCommand.TheVariants as profile
 
@@ -26,8 +27,8 @@ answers_of (Run limits config) = RunAnswers limits.limit limits.step config
 abbrev pub answers_on : Call → List ℕ → List ℕ → Result Answer InputFault → Type 0
 answers_on Score first = answers_beside_profile profile.Score first
 answers_on Check first = answers_beside_profile profile.Check first
-answers_on Footprint first = answers_beside_blocks blocks.Footprint first
+answers_on Footprint first = answers_beside_blocks (blocks.OfTable table.Footprint) first
 answers_on CheckFit first = answers_beside_blocks blocks.CheckFit first
-answers_on Peaks first = answers_beside_blocks blocks.Peaks first
+answers_on Peaks first = answers_beside_blocks (blocks.OfTable table.Peaks) first
 answers_on (Replay config) first = ReplayOnAnswers config first
 answers_on call first = answers_of call

@@ -1,10 +1,10 @@
 -- The answers of `fit`: the table of least footprint over a history, with its certificate.
-use Rattle.std.specs.Prelude.{◌≡◌, ℕ, Bool, List, Result, Ok, Err}
+use Rattle.std.specs.Prelude.{◌≡◌, ℕ, Bool, List, Result}
 use Rattle.class_tuner.specs.Fits.Fitted.{IsFitOf}
 use Rattle.history_count.specs.{Histories.{History}, HistoryText.{history_of}}
 use Rattle.potential_check.specs.SheetText.{fit_text}
 use Rattle.tuner_theory.specs.Sheets.{Sheet}
-use Rattle.mte_engine.specs.{Outcome.{Answer}, Parts.{history_part}, declared.engine.Status.TheVariants.{Done}}
+use Rattle.mte_engine.specs.{Outcome.{Answer}, Parts.{AnswersPart, history_part}, declared.engine.Status.TheVariants.{Done}}
 use Rattle.mte_engine.specs.declared.fault.InputFault.{InputFault}
 
 -- The text of the fit of a history, a limit and a step, and whether the largest class is forced.
@@ -15,6 +15,4 @@ pub record IsFitText (limit step : ℕ) (forced : Bool) (history : History) (ans
 
 -- The whole text is a history. The answer is the fit's text, or the history's first fault.
 abbrev pub FitAnswers : ℕ → ℕ → Bool → List ℕ → Result Answer InputFault → Type 0
-FitAnswers limit step forced text (Ok answer) =
-    (history : History) × (history_part 0 (history_of text) ≡ Ok history) × IsFitText limit step forced history answer
-FitAnswers limit step forced text (Err fault) = history_part 0 (history_of text) ≡ Err fault
+FitAnswers limit step forced text answer = AnswersPart (history_part 0 (history_of text)) (IsFitText limit step forced) answer

@@ -1,12 +1,12 @@
 -- The answers of `fit` to a timeline: the table of least footprint over every moment, with its certificate; or a table and a bound.
-use Rattle.std.specs.Prelude.{◌≡◌, ◌⊎◌, ◌≤◌, ℕ, Bool, List, [], ◌∷◌, ◌++◌, codes, MatchBool, Result, Ok, Err}
+use Rattle.std.specs.Prelude.{◌≡◌, ◌⊎◌, ◌≤◌, ℕ, Bool, List, [], ◌∷◌, ◌++◌, codes, MatchBool, Result}
 use Rattle.class_table.specs.{ClassLine.{class_line}, NamedLines.{named_line}}
 use Rattle.line_text.specs.Lines.{ended, lines, text_of}
 use Rattle.potential_check.specs.{Footprints.Timelines.MomentsLine.{moments_line}, SheetText.{fit_text}}
 use Rattle.history_count.specs.Timelines.TimelineText.{timeline_of}
 use Rattle.class_tuner.specs.Fits.Timelines.Found.{IsBetween, IsLeastFit}
 use Rattle.tuner_theory.specs.{Sheets.{Sheet}, declared.size_event.SizeEvent.{SizeEvent}}
-use Rattle.mte_engine.specs.{Fit.{FitAnswers}, Outcome.{Answer}, Parts.{timeline_part}, Timelines.{begins_timeline}}
+use Rattle.mte_engine.specs.{Fit.{FitAnswers}, Outcome.{Answer}, Parts.{AnswersPart, timeline_part}, Timelines.{begins_timeline}}
 use Rattle.mte_engine.specs.declared.{engine.Status.TheVariants.{Done, No}, fault.InputFault.{InputFault}}
 
 -- The text of a fit, and the line of its moments.
@@ -41,9 +41,7 @@ IsFoundText limit step forced events answer = IsLeastText limit step forced even
 
 -- The whole text is a timeline. The answer is what was found, or the timeline's first fault.
 abbrev pub FitOverAnswers : ℕ → ℕ → Bool → List ℕ → Result Answer InputFault → Type 0
-FitOverAnswers limit step forced text (Ok answer) =
-    (events : List SizeEvent) × (timeline_part 0 (timeline_of text) ≡ Ok events) × IsFoundText limit step forced events answer
-FitOverAnswers limit step forced text (Err fault) = timeline_part 0 (timeline_of text) ≡ Err fault
+FitOverAnswers limit step forced text answer = AnswersPart (timeline_part 0 (timeline_of text)) (IsFoundText limit step forced) answer
 
 -- The answers to any input: a timeline, or else a history.
 abbrev pub FitEitherAnswers : ℕ → ℕ → Bool → List ℕ → Result Answer InputFault → Type 0

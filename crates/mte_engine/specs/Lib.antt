@@ -20,6 +20,7 @@ pub mod RowLines
 pub mod Run
 pub mod Score
 pub mod SheetLeft
+pub mod TableCommands
 pub mod Timelines
 pub mod Traces
 pub mod Tune

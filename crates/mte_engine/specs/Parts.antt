@@ -1,6 +1,6 @@
 -- The parts of an input but a trace, which Traces.antt has. A fault has the number of its line in the whole input, counted from 1.
-use Rattle.std.specs.Prelude.{◌≡◌, ◌≢◌, ℕ, ◌+◌, ◌<◌, ◌^◌, List, [], ◌∷◌, drop, length, take, Result, Ok, Err, ⊤}
-use Rattle.line_text.specs.FirstFault.{◌>>=◌}
+use Rattle.std.specs.Prelude.{◌≡◌, ◌≢◌, ℕ, ◌+◌, ◌<◌, ◌^◌, List, [], ◌∷◌, drop, length, take, MatchResult, Result, Ok, Err, ⊤}
+use Rattle.line_text.specs.{FirstFault.{◌>>=◌}, Lines.{lines}}
 use Rattle.class_table.specs.{ClassLine.{table_of_line}, declared.fault.TableError.{TableError}}
 use Rattle.class_table.specs.declared.fault.TableError.TheVariants.{BadLine}
 use Rattle.potential_check.specs.{SheetText.{read_by}, declared.cost.Cost.{Cost}, declared.cost.Cost.TheVariants.{Waste, Footprint}}
@@ -69,9 +69,16 @@ both_parts first second = do
   y ← second
   Ok (x, y)
 
--- A class line, and what is read of the lines after it.
-abbrev pub table_and : {A : Type 0} → (List (List ℕ) → Result A InputFault) → List (List ℕ) → Result (List ℕ × A) InputFault
-table_and after ls = both_parts (class_part (take 1 ls)) (after (drop 1 ls))
+-- The answers to a class line, and to the lines after it, which follow this many of their input: those to its table and these lines, or its
+-- fault.
+abbrev pub AfterTable : (List ℕ → ℕ → List (List ℕ) → Result Answer InputFault → Type 0) → List (List ℕ) → ℕ → List (List ℕ) →
+    Result Answer InputFault → Type 0
+AfterTable after class before ls answer =
+    MatchResult (class_part class) (λ table. after table before ls answer) (λ fault. answer ≡ Err fault)
+
+-- The same of one text.
+abbrev pub AfterLine : (List ℕ → ℕ → List (List ℕ) → Result Answer InputFault → Type 0) → List ℕ → Result Answer InputFault → Type 0
+AfterLine after text answer = AfterTable after (take 1 (lines text)) 1 (drop 1 (lines text)) answer
 
 -- The answers to what follows a part: what is said of it, or its fault.
 abbrev pub AnswersPart : {A : Type 0} → Result A InputFault → (A → Answer → Type 0) → Result Answer InputFault → Type 0

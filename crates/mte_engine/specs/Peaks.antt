@@ -1,11 +1,11 @@
 -- The answers of `peaks`: what the blocks of a table come to over a timeline, or the least requested size that the table does not serve.
-use Rattle.std.specs.Prelude.{◌≡◌, ◌⊎◌, ℕ, List, [], ◌∷◌, codes, drop, take, Result}
+use Rattle.std.specs.Prelude.{◌≡◌, ◌⊎◌, ℕ, List, [], ◌∷◌, codes, Result}
 use Rattle.class_table.specs.NamedLines.{named_line}
-use Rattle.line_text.specs.Lines.{lines, text_of}
+use Rattle.line_text.specs.Lines.{text_of}
 use Rattle.history_count.specs.Timelines.{LiveBlocks.{AreFirsts, most_blocks}, TablePeaks.{live_bytes, most_freed}}
 use Rattle.history_count.specs.Timelines.TimelineText.{timeline_of_lines}
 use Rattle.tuner_theory.specs.{Histories.{most, peaks}, Timelines.{moments}, Waste.{Serves}, declared.size_event.SizeEvent.{SizeEvent}}
-use Rattle.mte_engine.specs.{FootprintOver.{IsUnservedText}, Outcome.{Answer}, Parts.{AnswersPart, both_parts, class_part, timeline_part}}
+use Rattle.mte_engine.specs.{FootprintOver.{IsUnservedText}, Outcome.{Answer}, Parts.{AfterLine, AnswersPart, timeline_part}}
 use Rattle.mte_engine.specs.declared.{engine.Status.TheVariants.{Done}, fault.InputFault.{InputFault}}
 
 -- For each class the most of its live blocks, and the first moment of so many; of all together the most live bytes, and the most freed blocks.
@@ -27,12 +27,10 @@ pub record IsPeaksText (table : List ℕ) (events : List SizeEvent) (answer : An
 abbrev pub ArePeaks : List ℕ → List SizeEvent → Answer → Type 0
 ArePeaks table events answer = IsPeaksText table events answer ⊎ IsUnservedText table events answer
 
--- The lines of a class line, and those of a timeline, which come after this many of their input. The answer is what the table comes to, or the
--- first fault of the two.
-abbrev pub PeaksParts : List (List ℕ) → ℕ → List (List ℕ) → Result Answer InputFault → Type 0
-PeaksParts class before ls answer =
-    AnswersPart (both_parts (class_part class) (timeline_part before (timeline_of_lines ls))) (λ parts text. ArePeaks parts.0 parts.1 text) answer
+-- The answers to a table, for the lines of a timeline, which come after this many of their input.
+abbrev pub PeaksCounts : List ℕ → ℕ → List (List ℕ) → Result Answer InputFault → Type 0
+PeaksCounts table before ls answer = AnswersPart (timeline_part before (timeline_of_lines ls)) (ArePeaks table) answer
 
 -- One text: a class line, and then a timeline.
 abbrev pub PeaksAnswers : List ℕ → Result Answer InputFault → Type 0
-PeaksAnswers text answer = PeaksParts (take 1 (lines text)) 1 (drop 1 (lines text)) answer
+PeaksAnswers text answer = AfterLine PeaksCounts text answer

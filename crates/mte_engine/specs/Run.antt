@@ -1,6 +1,6 @@
 -- The headline: the answers of `run`. It tunes a class table for the requests of a trace, and replays the trace on the heap over that
 -- table.
-use Rattle.std.specs.Prelude.{◌≡◌, ℕ, false, ◌≤◌, List, ◌++◌, length, zip, Result, Ok, Err}
+use Rattle.std.specs.Prelude.{◌≡◌, ℕ, false, ◌≤◌, List, ◌++◌, length, zip, Result}
 use Rattle.class_table.specs.Tables.{IsLegalTable, rounding_loss}
 use Rattle.class_tuner.specs.Tuned.{IsTuned}
 use Rattle.replay_theory.specs.{AccessLaws.{AccessesAreAnswered}, Losses.{ServesEach, counted_sizes, refused_reallocs}}
@@ -11,8 +11,8 @@ use Rattle.potential_check.specs.SheetText.{sheet_text}
 use Rattle.heap_theory.specs.{Config.{layout_for}, declared.config.Config.{Config}}
 use Rattle.trace_reader.specs.TraceText.{trace_of}
 use Rattle.tuner_theory.specs.Sheets.{Sheet}
-use Rattle.mte_engine.specs.{Outcome.{Answer}, Traces.{profile_of_events, trace_part}, declared.engine.Status.TheVariants.{Done}}
-use Rattle.mte_engine.specs.declared.fault.InputFault.{InputFault}
+use Rattle.mte_engine.specs.{Outcome.{Answer}, Parts.{AnswersPart}, Traces.{profile_of_events, trace_part}}
+use Rattle.mte_engine.specs.declared.{engine.Status.TheVariants.{Done}, fault.InputFault.{InputFault}}
 
 -- ---- the tables in question
 
@@ -69,6 +69,4 @@ pub record IsTunedRun (limit step : ℕ) (config : Config) (events : List Event)
 
 -- The whole text is a trace. The answer is the headline for its events, or the trace's first fault.
 abbrev pub RunAnswers : ℕ → ℕ → Config → List ℕ → Result Answer InputFault → Type 0
-RunAnswers limit step config text (Ok answer) =
-    (events : List Event) × (trace_part 0 (trace_of text) ≡ Ok events) × IsTunedRun limit step config events answer
-RunAnswers limit step config text (Err fault) = trace_part 0 (trace_of text) ≡ Err fault
+RunAnswers limit step config text answer = AnswersPart (trace_part 0 (trace_of text)) (IsTunedRun limit step config) answer

@@ -1,10 +1,10 @@
 -- The answers of `score`: the waste of a table on a profile, or the least counted size that the table doesn't serve.
-use Rattle.std.specs.Prelude.{◌≡◌, ℕ, List, [], ◌∷◌, codes, drop, take, Option, Some, None, Result}
-use Rattle.line_text.specs.Lines.{lines, ended}
+use Rattle.std.specs.Prelude.{◌≡◌, ℕ, List, [], ◌∷◌, codes, Option, Some, None, Result}
+use Rattle.line_text.specs.Lines.{ended}
 use Rattle.class_table.specs.NamedLines.{named_line}
 use Rattle.profile_count.specs.{Counts.{unserved_of}, ProfileText.{profile_of_lines}}
 use Rattle.tuner_theory.specs.{Profiles.{Profile as Counted}, Waste.{waste_of}}
-use Rattle.mte_engine.specs.{Outcome.{Answer}, Parts.{AnswersPart, both_parts, class_part, profile_part}}
+use Rattle.mte_engine.specs.{Outcome.{Answer}, Parts.{AfterLine, AnswersPart, profile_part}}
 use Rattle.mte_engine.specs.declared.{engine.Status.TheVariants.{Done, No}, fault.InputFault.{InputFault}}
 
 -- The line of a name and a number, or `not serving N` with the status of a no, where N is the least counted size without a class.
@@ -19,13 +19,11 @@ score_text unserved waste = named_or_unserved (codes "waste") unserved waste
 abbrev pub scored : List ℕ → Counted → Answer
 scored table profile = score_text (unserved_of profile.counts table) (waste_of profile.counts table)
 
--- The lines of a class line, and those of a profile, which come after this many of their input. The answer is the waste, or the first fault
--- of the two.
-abbrev pub ScoresParts : List (List ℕ) → ℕ → List (List ℕ) → Result Answer InputFault → Type 0
-ScoresParts class before ls answer =
-    AnswersPart (both_parts (class_part class) (profile_part before (profile_of_lines ls))) (λ parts text. text ≡ scored parts.0 parts.1)
-    answer
+-- The answers to a table, for the lines of a profile, which come after this many of their input.
+abbrev pub ScoresProfile : List ℕ → ℕ → List (List ℕ) → Result Answer InputFault → Type 0
+ScoresProfile table before ls answer =
+    AnswersPart (profile_part before (profile_of_lines ls)) (λ profile text. text ≡ scored table profile) answer
 
 -- One text: a class line, and then a profile.
 abbrev pub ScoreAnswers : List ℕ → Result Answer InputFault → Type 0
-ScoreAnswers text answer = ScoresParts (take 1 (lines text)) 1 (drop 1 (lines text)) answer
+ScoreAnswers text answer = AfterLine ScoresProfile text answer

@@ -1,10 +1,10 @@
 -- The options and the answers of `tune`: the sheet that is tuned for a profile.
-use Rattle.std.specs.Prelude.{◌≡◌, ℕ, Bool, List, Result, Ok, Err}
+use Rattle.std.specs.Prelude.{◌≡◌, ℕ, Bool, List, Result}
 use Rattle.class_tuner.specs.Tuned.{IsTuned}
 use Rattle.potential_check.specs.SheetText.{sheet_text}
 use Rattle.profile_count.specs.ProfileText.{profile_of}
 use Rattle.tuner_theory.specs.{Profiles.{Profile as Counted}, Sheets.{Sheet}}
-use Rattle.mte_engine.specs.{Outcome.{Answer}, Parts.{profile_part}, declared.engine.Status.TheVariants.{Done}}
+use Rattle.mte_engine.specs.{Outcome.{Answer}, Parts.{AnswersPart, profile_part}, declared.engine.Status.TheVariants.{Done}}
 use Rattle.mte_engine.specs.declared.fault.InputFault.{InputFault}
 pub use Rattle.tool_call.specs.Options.{AreTuneOptions}
 
@@ -16,6 +16,4 @@ pub record IsTunedText (limit step : ℕ) (forced : Bool) (profile : Counted) (a
 
 -- The whole text is a profile. The answer is the tuned sheet's text, or the profile's first fault.
 abbrev pub TuneAnswers : ℕ → ℕ → Bool → List ℕ → Result Answer InputFault → Type 0
-TuneAnswers limit step forced text (Ok answer) =
-    (profile : Counted) × (profile_part 0 (profile_of text) ≡ Ok profile) × IsTunedText limit step forced profile answer
-TuneAnswers limit step forced text (Err fault) = profile_part 0 (profile_of text) ≡ Err fault
+TuneAnswers limit step forced text answer = AnswersPart (profile_part 0 (profile_of text)) (IsTunedText limit step forced) answer

@@ -16,6 +16,7 @@ use crate::profiling::profile;
 use crate::replaying::replay;
 use crate::running::run;
 use crate::scoring::score;
+use crate::table_command::TableCommand;
 use crate::tuning::tune;
 use crate::two_texts::{BesideBlocks, BesideProfile, BesideTrace, BlocksCommand, ProfileCommand};
 use byte_streams::{ByteSink, ByteSource};
@@ -68,9 +69,15 @@ pub fn run_call_on<R: ByteSource, W: ByteSink>(
     match call {
         Call::Score => beside_profile(alloc, ProfileCommand::Score, first, source, sink),
         Call::Check => beside_profile(alloc, ProfileCommand::Check, first, source, sink),
-        Call::Footprint => beside_blocks(alloc, BlocksCommand::Footprint, first, source, sink),
+        Call::Footprint => {
+            let command = BlocksCommand::OfTable(TableCommand::Footprint);
+            beside_blocks(alloc, command, first, source, sink)
+        }
         Call::CheckFit => beside_blocks(alloc, BlocksCommand::CheckFit, first, source, sink),
-        Call::Peaks => beside_blocks(alloc, BlocksCommand::Peaks, first, source, sink),
+        Call::Peaks => {
+            let command = BlocksCommand::OfTable(TableCommand::Peaks);
+            beside_blocks(alloc, command, first, source, sink)
+        }
         Call::Replay(config) => {
             let engine = BesideTrace {
                 config,

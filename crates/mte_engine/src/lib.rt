@@ -26,6 +26,7 @@ mod report;
 mod running;
 mod scoring;
 mod sheet_writing;
+mod table_command;
 mod trace_counting;
 mod trace_feeding;
 mod tuning;

@@ -1,20 +1,20 @@
 //! `footprint`: what a table takes of memory over a history, or over every moment of a timeline.
 ghost use Rattle.std.specs.Prelude.{◌≡◌, IfOk, List, ℕ};
 ghost use Rattle.line_text.specs.Lines.{lines};
-ghost use Rattle.mte_engine.specs.CountsInput.{HasTakenCounts, IsLineAndRest, KeepsLineAnd};
+ghost use Rattle.mte_engine.specs.CountsInput.{HasTakenCounts};
 ghost use Rattle.mte_engine.specs.Footprint.{measured};
-ghost use Rattle.mte_engine.specs.FootprintOver.{FootprintEitherAnswers, MeasuresCounts, MeasuresEitherParts};
+ghost use Rattle.mte_engine.specs.FootprintOver.{FootprintEitherAnswers, MeasuresCounts};
 ghost use Rattle.mte_engine.specs.Parts.{AreFewLines};
 ghost use Rattle.mte_engine.specs.Outcome.{GivesAnswer, Runs};
 ghost use Rattle.byte_streams.specs.TextLeft.{text_left};
 
 use crate::counts_input::{Counts, CountsInput, read_counts};
-use crate::engine::{Engine, Status, run_engine};
+use crate::engine::{Status, run_engine};
 use crate::fault::{AnswerError, ToolFault};
-use crate::input_parts::{read_class_text, read_history, read_table};
-use crate::line_and_counts::LineAndCounts;
+use crate::input_parts::read_history;
 use crate::measuring_over::footprint_of_timeline;
 use crate::scoring::numbered_line;
+use crate::table_command::{OverLine, TableCommand};
 use byte_streams::{ByteSink, ByteSource, Text};
 use class_table::ClassTable;
 use history_count::History;
@@ -33,69 +33,14 @@ pub fn footprint<R: ByteSource, W: ByteSink>(
 ) -> Result<Status, ToolFault>
     ensures { Runs FootprintEitherAnswers (R.state source.old) (R.state source.new) W.state sink.old sink.new result }
 {
-    run_engine(alloc, &FootprintEngine, source, sink)
+    let engine = OverLine {
+        command: TableCommand::Footprint,
+    };
+    run_engine(alloc, &engine, source, sink)
 }
 
-struct FootprintEngine;
-
-impl Engine for FootprintEngine {
-    type Input = LineAndCounts;
-
-    type Output = Text;
-
-    ghost answers = { λ _. FootprintEitherAnswers };
-
-    fn input(&self, alloc: Global) -> Result<LineAndCounts, AllocError> {
-        LineAndCounts::new(alloc)
-    }
-
-    fn answer(&self, alloc: Global, input: LineAndCounts) -> Result<(Text, Status), AnswerError> {
-        footprint_of_input(alloc, input)
-    }
-}
-
-// the answer to an input
-fn footprint_of_input(alloc: Global, input: LineAndCounts) -> Result<(Text, Status), AnswerError>
-    ensures { (bytes : List ℕ)
-        → KeepsLineAnd input.line_has_ended input.line.items (HasTakenCounts input.counts) bytes
-        → GivesAnswer text_left (FootprintEitherAnswers bytes) result }
-{
-    let LineAndCounts {
-        line,
-        line_has_ended: _,
-        counts,
-    } = input;
-    footprint_of_parts(alloc, &line, counts)
-}
-
-// the answer to a class line, which is empty if the input is, and the counts after it
-fn footprint_of_parts(
-    alloc: Global,
-    line: &[u8],
-    counts: CountsInput,
-) -> Result<(Text, Status), AnswerError>
-    ensures { (bytes rest : List ℕ) → IsLineAndRest bytes line.now rest → HasTakenCounts counts rest
-        → GivesAnswer text_left (FootprintEitherAnswers bytes) result }
-{
-    let table = read_table(line)?;
-    footprint_of_either(alloc, &table, counts, 1)
-}
-
-/// The answer to a class line and a timeline or a history.
-pub(crate) fn footprint_of_texts(
-    alloc: Global,
-    class: &[u8],
-    counts: CountsInput,
-) -> Result<(Text, Status), AnswerError>
-    ensures { (text : List ℕ) → HasTakenCounts counts text
-        → GivesAnswer text_left (MeasuresEitherParts (lines class.now) 0 (lines text)) result }
-{
-    let table = read_class_text(class)?;
-    footprint_of_either(alloc, &table, counts, 0)
-}
-
-// the answer to a table and the timeline or the history that follows this many lines
-fn footprint_of_either(
+/// The answer to a table and the timeline or the history that follows this many lines.
+pub(crate) fn footprint_of_counts(
     alloc: Global,
     table: &ClassTable,
     counts: CountsInput,

@@ -1,20 +1,18 @@
 //! `peaks`: what the blocks of a table come to over every moment of a timeline.
 ghost use Rattle.std.specs.Prelude.{◌≡◌, IfOk, List, ℕ};
 ghost use Rattle.line_text.specs.Lines.{lines, text_of};
-ghost use Rattle.history_count.specs.Timelines.TimelineText.{timeline_of};
-ghost use Rattle.mte_engine.specs.CountsInput.{HasTakenCounts, IsLineAndRest, KeepsLineAnd};
+ghost use Rattle.mte_engine.specs.CountsInput.{HasTakenCounts};
 ghost use Rattle.mte_engine.specs.Outcome.{GivesAnswer, Runs};
-ghost use Rattle.mte_engine.specs.Parts.{AnswersPart, AreFewLines, timeline_part};
-ghost use Rattle.mte_engine.specs.Peaks.{ArePeaks, PeaksAnswers, PeaksParts, peak_lines};
+ghost use Rattle.mte_engine.specs.Parts.{AreFewLines};
+ghost use Rattle.mte_engine.specs.Peaks.{ArePeaks, PeaksAnswers, PeaksCounts, peak_lines};
 ghost use Rattle.byte_streams.specs.TextLeft.{text_left};
 
 use crate::counts_input::{CountsInput, read_as_timeline};
-use crate::engine::{Engine, Status, run_engine};
+use crate::engine::{Status, run_engine};
 use crate::fault::{AnswerError, ToolFault};
 use crate::fitting_over::wide;
-use crate::input_parts::{read_class_text, read_table};
-use crate::line_and_counts::LineAndCounts;
 use crate::scoring::numbered_line;
+use crate::table_command::{OverLine, TableCommand};
 use byte_streams::{ByteSink, ByteSource, Text};
 use class_table::ClassTable;
 use history_count::{TablePeaks, Timeline, table_peaks};
@@ -35,69 +33,14 @@ pub fn peaks<R: ByteSource, W: ByteSink>(
 ) -> Result<Status, ToolFault>
     ensures { Runs PeaksAnswers (R.state source.old) (R.state source.new) W.state sink.old sink.new result }
 {
-    run_engine(alloc, &PeaksEngine, source, sink)
+    let engine = OverLine {
+        command: TableCommand::Peaks,
+    };
+    run_engine(alloc, &engine, source, sink)
 }
 
-struct PeaksEngine;
-
-impl Engine for PeaksEngine {
-    type Input = LineAndCounts;
-
-    type Output = Text;
-
-    ghost answers = { λ _. PeaksAnswers };
-
-    fn input(&self, alloc: Global) -> Result<LineAndCounts, AllocError> {
-        LineAndCounts::new(alloc)
-    }
-
-    fn answer(&self, alloc: Global, input: LineAndCounts) -> Result<(Text, Status), AnswerError> {
-        peaks_of_input(alloc, input)
-    }
-}
-
-// the answer to an input
-fn peaks_of_input(alloc: Global, input: LineAndCounts) -> Result<(Text, Status), AnswerError>
-    ensures { (bytes : List ℕ)
-        → KeepsLineAnd input.line_has_ended input.line.items (HasTakenCounts input.counts) bytes
-        → GivesAnswer text_left (PeaksAnswers bytes) result }
-{
-    let LineAndCounts {
-        line,
-        line_has_ended: _,
-        counts,
-    } = input;
-    peaks_of_parts(alloc, &line, counts)
-}
-
-// the answer to a class line, which is empty if the input is, and the timeline after it
-fn peaks_of_parts(
-    alloc: Global,
-    line: &[u8],
-    counts: CountsInput,
-) -> Result<(Text, Status), AnswerError>
-    ensures { (bytes rest : List ℕ) → IsLineAndRest bytes line.now rest → HasTakenCounts counts rest
-        → GivesAnswer text_left (PeaksAnswers bytes) result }
-{
-    let table = read_table(line)?;
-    peaks_of_counts(alloc, &table, counts, 1)
-}
-
-/// The answer to a class line and a timeline.
-pub(crate) fn peaks_of_texts(
-    alloc: Global,
-    class: &[u8],
-    counts: CountsInput,
-) -> Result<(Text, Status), AnswerError>
-    ensures { (text : List ℕ) → HasTakenCounts counts text
-        → GivesAnswer text_left (PeaksParts (lines class.now) 0 (lines text)) result }
-{
-    let table = read_class_text(class)?;
-    peaks_of_counts(alloc, &table, counts, 0)
-}
-
-// the answer to a table and the timeline that follows this many lines
-fn peaks_of_counts(
+/// The answer to a table and the timeline that follows this many lines.
+pub(crate) fn peaks_of_counts(
     alloc: Global,
     table: &ClassTable,
     counts: CountsInput,
@@ -105,7 +48,7 @@ fn peaks_of_counts(
 ) -> Result<(Text, Status), AnswerError>
     requires { AreFewLines before }
     ensures { (text : List ℕ) → HasTakenCounts counts text
-        → GivesAnswer text_left (AnswersPart (timeline_part before (timeline_of text)) (ArePeaks table.now)) result }
+        → GivesAnswer text_left (PeaksCounts table.now before (lines text)) result }
 {
     let timeline = read_as_timeline(alloc, counts, before)?;
     Ok(peaks_of_timeline(alloc, table, &timeline)?)

@@ -3,9 +3,8 @@ ghost use Rattle.std.specs.Prelude.{◌≡◌, ◌++◌, ◌∷◌, [], IfOk};
 ghost use Rattle.std.specs.Fmt.{decimal};
 ghost use Rattle.line_text.specs.Lines.{lines};
 ghost use Rattle.mte_engine.specs.Outcome.{GivesAnswer, Runs};
-ghost use Rattle.mte_engine.specs.Parts.{AnswersPart, AreFewLines, profile_part};
-ghost use Rattle.mte_engine.specs.Score.{ScoreAnswers, ScoresParts, scored};
-ghost use Rattle.profile_count.specs.ProfileText.{profile_of};
+ghost use Rattle.mte_engine.specs.Parts.{AfterTable, AreFewLines};
+ghost use Rattle.mte_engine.specs.Score.{ScoreAnswers, ScoresProfile, scored};
 ghost use Rattle.byte_streams.specs.TextLeft.{text_left};
 
 use crate::engine::{Engine, Status, run_engine};
@@ -69,7 +68,7 @@ pub(crate) fn score_of_texts(
     class: &[u8],
     text: &[u8],
 ) -> Result<(Text, Status), AnswerError>
-    ensures { GivesAnswer text_left (ScoresParts (lines class.now) 0 (lines text.now)) result }
+    ensures { GivesAnswer text_left (AfterTable ScoresProfile (lines class.now) 0 (lines text.now)) result }
 {
     let table = read_class_text(class)?;
     score_of_counts(alloc, &table, text, 0)
@@ -83,8 +82,7 @@ fn score_of_counts(
     before: u64,
 ) -> Result<(Text, Status), AnswerError>
     requires { AreFewLines before }
-    ensures { GivesAnswer text_left (AnswersPart (profile_part before (profile_of text.now))
-        (λ profile answer. answer ≡ scored table.now profile)) result }
+    ensures { GivesAnswer text_left (ScoresProfile table.now before (lines text.now)) result }
 {
     let profile = read_profile(alloc, text, before)?;
     Ok(score_of_profile(alloc, table, &profile)?)

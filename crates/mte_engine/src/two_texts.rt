@@ -11,11 +11,10 @@ use crate::counts_input::CountsInput;
 use crate::engine::{Engine, Status};
 use crate::fault::AnswerError;
 use crate::fit_checking::check_fit_texts;
-use crate::measuring::footprint_of_texts;
-use crate::peaking::peaks_of_texts;
 use crate::replaying::answer_to_texts;
 use crate::report::Report;
 use crate::scoring::score_of_texts;
+use crate::table_command::{TableCommand, answer_to_both};
 use crate::trace_feeding::feed;
 use byte_streams::{Input, Text, WholeText};
 use replay_core::Config;
@@ -58,9 +57,8 @@ impl<'a> Engine for BesideProfile<'a> {
 /// A command over a timeline or a history, which comes after a first text.
 #[derive(Clone, Copy)]
 pub(crate) enum BlocksCommand {
-    Footprint,
+    OfTable(TableCommand),
     CheckFit,
-    Peaks,
 }
 
 /// Such a command with its first text.
@@ -83,9 +81,8 @@ impl<'a> Engine for BesideBlocks<'a> {
 
     fn answer(&self, alloc: Global, input: CountsInput) -> Result<(Text, Status), AnswerError> {
         match self.command {
-            BlocksCommand::Footprint => footprint_of_texts(alloc, self.first, input),
+            BlocksCommand::OfTable(command) => answer_to_both(command, alloc, self.first, input),
             BlocksCommand::CheckFit => check_fit_texts(alloc, self.first, input),
-            BlocksCommand::Peaks => peaks_of_texts(alloc, self.first, input),
         }
     }
 }

@@ -7,14 +7,11 @@ ghost use Rattle.profile_count.specs.Requests.{CountsRequests, profile_of_sizes}
 ghost use Rattle.tuner_theory.specs.Profiles.{Profile};
 
 /// A text that is read as a profile is that profile's text, and the text is read as the profile.
+/// A text is refused as a profile exactly at its first fault: the lines before it spell a profile, and no text that begins with the lines
+/// up to it spells one. That line is a line of the text, since a profile never lacks a line.
 pub fn law_profile_text()
     ensures read { (text : List ℕ) (p : Profile) → profile_of text ≡ Ok p → SpellsProfile text p }
     ensures written { (text : List ℕ) (p : Profile) → SpellsProfile text p → profile_of text ≡ Ok p }
-{}
-
-/// A text is refused as a profile exactly at its first fault: the lines before it spell a profile, and no text that begins with the lines
-/// up to it spells one. That line is a line of the text, since a profile never lacks a line.
-pub fn law_profile_fault()
     ensures first { (text : List ℕ) (n : ℕ) → IsRefusedAt n text ↔ IsFirstFault SpellsProfile text n }
     ensures line { (text : List ℕ) (n : ℕ) → IsRefusedAt n text → n ≤ length (lines text) }
     ensures before { (text : List ℕ) (n : ℕ) → IsRefusedAt n text

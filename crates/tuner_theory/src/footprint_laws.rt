@@ -20,17 +20,13 @@ pub fn law_optimal_fit_is_least()
 {}
 
 /// With one snapshot the footprint of a table that serves is its waste, the requested bytes, and a granule for each block. So the table of
-/// least footprint is the one of least waste.
-pub fn law_one_snapshot()
+/// least footprint is the one of least waste. Neither a snapshot more nor greater counts lower a footprint.
+pub fn law_footprint()
     ensures footprint { (counts classes : List ℕ) (step : ℕ) → IsStep step → IsLegalTable step classes
         → Serves counts classes → footprint_of (counts ∷ []) classes
         ≡ waste_of counts classes + sum_below (λ n. slice_index counts n * (n + granule_bytes)) (length counts) }
     ensures table { (forced : Bool) (counts classes : List ℕ) (step limit : ℕ) → IsStep step → AreCounts counts
         → IsFitted forced (counts ∷ []) step limit classes → IsCanonical (served forced counts) step limit classes }
-{}
-
-/// Neither a snapshot more nor greater counts lower a footprint.
-pub fn law_larger_histories()
     ensures snapshot { (snapshot : List ℕ) (snapshots : List (List ℕ)) (classes : List ℕ)
         → footprint_of snapshots classes ≤ footprint_of (snapshot ∷ snapshots) classes }
     ensures counts { (fewer more : List (List ℕ)) (classes : List ℕ)
