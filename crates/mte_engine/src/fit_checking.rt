@@ -24,10 +24,10 @@ use potential_check::{Fit, Verdict, check_fit as verdict_on};
 use std::alloc::{AllocError, Global};
 use tuner_theory::FitRefusal;
 
-/// Reads a fit and then a history, or a fit, the line of its moments and then a timeline. It writes `optimal`, or `refused CODE NAME` with the status of a no: the first refusal (39 to 41, 43 to
-/// 47 and 49) of the fit for the history. `optimal` means that no table takes less, of all tables that have at most the fit's limit of
-/// classes, all of them multiples of its step, and that serve each counted size. The fit is the first three lines, or four if the third
-/// begins with `step`, and all lines directly after them whose first word is `row`.
+/// Reads a fit and then a history, or a fit, the line of its moments and then a timeline. It writes `optimal`, or `refused CODE NAME` with
+/// the status of a no: the first refusal (39 to 41, 43 to 47 and 49) of the fit for the history. `optimal` means that no table takes less,
+/// of all tables that have at most the fit's limit of classes, all of them multiples of its step, and that serve each counted size. The fit
+/// is the first three lines, or four if the third begins with `step`, and all lines directly after them whose first word is `row`.
 ///
 /// Faults of the input (`Input`), in this order: that it is too long; the fault of the fit; that of the history. `ToolFault` has the
 /// other faults, and what the sink took when one comes.

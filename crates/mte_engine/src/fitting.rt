@@ -16,18 +16,18 @@ use crate::sheet_writing::SheetText;
 use byte_streams::{ByteSink, ByteSource};
 use std::alloc::{AllocError, Global};
 
-/// Reads a history or a timeline, and writes the fit of its table of least footprint. Of all tables that have at most `limit` (1 to 32) classes, all of
-/// them multiples of `step` (1, 2, 4 or 8 granules), that serve each counted size, and if `forced` have the largest class, so that they serve
-/// each size that any table can, it is the canonical one of those that take least. The
-/// fit's certificate is rows of least footprints: number i of row k, both counted from 1, is the least that at most k classes take for the
-/// blocks whose need is above the i - 1 smallest distinct needs.
+/// Reads a history or a timeline, and writes the fit of its table of least footprint. Of all tables that have at most `limit` (1 to 32)
+/// classes, all of them multiples of `step` (1, 2, 4 or 8 granules), that serve each counted size, and if `forced` have the largest class,
+/// so that they serve each size that any table can, it is the canonical one of those that take least. The fit's certificate is rows of
+/// least footprints: number i of row k, both counted from 1, is the least that at most k classes take for the blocks whose need is above
+/// the i - 1 smallest distinct needs.
 ///
 /// Of a timeline the footprint is that over every moment, the rows are those over the moments that the line after them names, and the table
 /// is the one that would be fitted over all. Where that is not shown after 1,024 rounds, the text is a table with its footprint and what no
 /// table takes less than, with the status of a no. No text of a timeline is kept.
 ///
-/// Faults of the input (`Input`), in this order: that it is too long; the fault of the history or the timeline. `ToolFault` has the other faults, and what
-/// the sink took when one comes.
+/// Faults of the input (`Input`), in this order: that it is too long; the fault of the history or the timeline. `ToolFault` has the other
+/// faults, and what the sink took when one comes.
 pub fn fit<R: ByteSource, W: ByteSink>(
     alloc: Global,
     limit: u8,

@@ -1,8 +1,9 @@
 //! The engines of the tool, each from a source of bytes to a sink of bytes: `score`, `tune` and `check` over profiles, `footprint`, `fit`
-//! and `check_fit` over histories and timelines, `peaks` over timelines, `profile`, `replay` and `run` over traces. A program gives an engine any `ByteSource` and `ByteSink`;
-//! `byte_streams`, of which this crate hands on what a caller needs, has a pair over memory and one over the readers and writers of std.
-//! The contracts say that an engine writes the answer to the bytes that the source gave, and what it has written when a write fails; when a
-//! failed read and a failed write are reported; and that after every fault but that of a write the sink is unchanged.
+//! and `check_fit` over histories and timelines, `peaks` over timelines, `profile`, `replay` and `run` over traces. A program gives an
+//! engine any `ByteSource` and `ByteSink`; `byte_streams`, of which this crate hands on what a caller needs, has a pair over memory and one
+//! over the readers and writers of std. The contracts say that an engine writes the answer to the bytes that the source gave, and what it
+//! has written when a write fails; when a failed read and a failed write are reported; and that after every fault but that of a write the
+//! sink is unchanged.
 #![tactic(auto)]
 
 mod call;
