@@ -1,9 +1,10 @@
 -- Reading a history line by line.
-use Rattle.std.proofs.Common.{◌≡◌, ℕ, ◌+◌, List, [], ◌∷◌, length, Some, Ok, Err, refl, add-one, arith}
+use Rattle.std.proofs.Common.{◌≡◌, ℕ, ◌+◌, List, [], ◌∷◌, length, Some, Ok, Err, refl, arith}
+use Rattle.line_text.proofs.LawLemmas.{line_faulty as lines_faulty, line_read as lines_read, no_line as no_lines}
 use Rattle.line_text.specs.Lines.{lines, words}
 use Rattle.history_count.specs.{Histories.{History}, declared.fault.HistoryFault.{HistoryFault}, declared.line.Subject.{Subject}}
 use Rattle.history_count.specs.HistoryText.{Entry, Reading, entry_of, first_reading, history_from, history_of, next_entry, snapshots_of}
-use Rattle.history_count.specs.HistoryText.{with_entry}
+use Rattle.history_count.specs.HistoryText.{history_steps, with_entry}
 
 -- ---- the first line
 
@@ -15,17 +16,14 @@ first_line_read text line rest count parts is = rw (parts, ← is) refl
 
 pub line_read : (number : ℕ) (r : Reading) (rest new : List (List ℕ)) (line : List ℕ) (entry : Entry) → rest ≡ line ∷ new
     → next_entry r line ≡ Ok entry → history_from number r rest ≡ history_from (number + 1) (with_entry r entry) new
-unfolding history_from
-line_read number r rest new line entry parts is = rw (parts, is, add-one) refl
+line_read number r rest new line entry parts is = rw parts (lines_read history_steps number r (with_entry r entry) line new (rw is refl))
 
 pub line_faulty : (number : ℕ) (r : Reading) (rest new : List (List ℕ)) (line : List ℕ) (fault : HistoryFault) → rest ≡ line ∷ new
     → next_entry r line ≡ Err fault → history_from number r rest ≡ Err (number, fault)
-unfolding history_from
-line_faulty number r rest new line fault parts is = rw (parts, is) refl
+line_faulty number r rest new line fault parts is = rw parts (lines_faulty history_steps number r line new fault (rw is refl))
 
 pub no_line : (number : ℕ) (r : Reading) (rest : List (List ℕ)) → rest ≡ [] → history_from number r rest ≡ Ok r.history
-unfolding history_from
-no_line number r rest none = rw none refl
+no_line number r rest none = rw none (no_lines history_steps number r r.history refl)
 
 pub same_history : (h : History) (snapshots : List (List ℕ)) (large : List ℕ) → h.snapshots ≡ snapshots → h.large ≡ large
     → h ≡ record { snapshots = snapshots; large = large }

@@ -1,16 +1,16 @@
 -- From a text that is read as a history to its spelling: line by line, the rest spells what is counted from there on.
 use Rattle.std.proofs.Common.{◌≡◌, ℕ, suc, ◌+◌, ◌-◌, ◌<◌, ◌≤◌, true, List, [], ◌∷◌, ◌++◌, length, Option, Some, None, Result, Ok, Err}
-use Rattle.std.proofs.{Common.{codes, leb, refl, subst, ap, ◌∙◌, arith}, lemmas.Bool.{and_parts, leb-true}}
+use Rattle.std.proofs.{Common.{codes, leb, refl, subst, sym, ap, ◌∙◌, arith}, lemmas.Bool.{and_parts, false≢true, leb-true}}
 use Rattle.std.proofs.lemmas.Slice.Eq.{bytes_eq-Decides}
 use Rattle.class_table.specs.Sizes.{largest_counted}
-use Rattle.line_text.{proofs.LawLemmas.{text_laws as laws}, specs.Lines.{IsTextOf, lines, words}}
+use Rattle.line_text.{proofs.LawLemmas.{read_has, text_laws as laws}, specs.Lines.{IsTextOf, lines, words}}
 use Rattle.tuner_theory.specs.declared.most_snapshots.TheConstants.{MOST_SNAPSHOTS}
 use Rattle.history_count.proofs.{Columns.{counts_of-other, counts_of-same, with_counts-length}, Peaks.{empty-length, zeros-small}}
 use Rattle.history_count.{proofs.EntryLines.{IsNext, entry_line, entry_line-read}, specs.Histories.{History, IsHistory, counts_of}}
 use Rattle.history_count.{proofs.OpenReadings.{IsOpen, is_open-first, is_open-size, size_entry}, specs.declared.line.Subject.{Subject}}
 use Rattle.history_count.proofs.SizeLines.{counts_lines-none, counts_lines-some, size_lines-counted, size_lines-none, size_lines-passed}
 use Rattle.history_count.{proofs.SizeLines.{size_lines_from, zeros-none}, specs.declared.fault.HistoryFault.{HistoryFault}}
-use Rattle.history_count.specs.HistoryText.{Entry, Reading, SpellsHistory, counts_lines, first_reading, history_after, history_from}
+use Rattle.history_count.specs.HistoryText.{Entry, Reading, SpellsHistory, counts_lines, first_reading, history_after, history_steps}
 use Rattle.history_count.specs.HistoryText.{history_lines, history_of, history_of_lines, is_some_counted, next_entry, snapshots_line}
 use Rattle.history_count.specs.{HistoryText.{snapshots_of, with_entry}, declared.line.Subject.TheVariants.{Large, Size}}
 use Rattle.profile_count.proofs.LawLemmas.{length-zeros}
@@ -56,41 +56,40 @@ spells_rest-size r size counts ls h is_open next rest =
 
 -- ---- all lines
 
-same_history_read : (a b : History) → (let read : Result History (ℕ × HistoryFault) = Ok a in read) ≡ Ok b → a ≡ b
-same_history_read a b e = cc
+-- What lines that are read spell: the rest of a history, and no line where a `large` line came before.
+record IsReading (r : Reading) (ls : List (List ℕ)) (h : History) : Type 0 where
+  is_rest : IsOpen r → SpellsRest r ls h
+  none : r.is_ended ≡ true → (ls ≡ []) × (r.history ≡ h)
 
--- no line follows a `large` line
-nothing_after_large : (number : ℕ) (r : Reading) (ls : List (List ℕ)) (h : History) → r.is_ended ≡ true → history_from number r ls ≡ Ok h
-    → (ls ≡ []) × (r.history ≡ h)
-unfolding history_from
-nothing_after_large number r [] h ended e = (refl, same_history_read r.history h e)
-nothing_after_large number r (line ∷ ls) h ended e = grind arith
+no_line_spells : (r : Reading) (h : History) → history_steps.finish r ≡ Ok h → IsReading r [] h
+no_line_spells r h is = grind (arith, spells_rest-nil)
 
--- lines that are read as a history spell it
-spells_rest-read : (ls : List (List ℕ)) (number : ℕ) (r : Reading) (h : History) → IsOpen r → history_from number r ls ≡ Ok h
-    → SpellsRest r ls h
-unfolding history_from
-spells_rest-read [] number r h is_open e = rw (← same_history_read r.history h e) (spells_rest-nil r is_open)
-spells_rest-read (line ∷ ls) number r h is_open e = go (spells_rest-read ls) (next_entry r line) refl
+line_spells : (r next : Reading) (line : List ℕ) (ls : List (List ℕ)) (h : History) → history_steps.step r line ≡ Ok next
+    → IsReading next ls h → IsReading r (line ∷ ls) h
+line_spells r next line ls h is rest = go (next_entry r line) refl
   where
-    go : ((number : ℕ) (r : Reading) (h : History) → IsOpen r → history_from number r ls ≡ Ok h → SpellsRest r ls h)
-        → (read : Result Entry HistoryFault) → next_entry r line ≡ read → SpellsRest r (line ∷ ls) h
-    go others (Err fault) is = let none = rw is at e in absurd cc
-    go others (Ok entry) is = by_subject others entry.subject entry.counts is
-      where
-        by_subject : ((number : ℕ) (r : Reading) (h : History) → IsOpen r → history_from number r ls ≡ Ok h → SpellsRest r ls h)
-            → (subject : Subject) (counts : List ℕ) → next_entry r line ≡ Ok (record { subject = subject; counts = counts })
-            → SpellsRest r (line ∷ ls) h
-        by_subject others (Size size) counts is =
-            let read = entry_line-read (length r.history.snapshots) r.next r.is_ended line (size_entry size counts) is in
-            let after =
-            others (suc number) (with_entry r (size_entry size counts)) h (is_open-size r size counts is_open read.next_is)
-            (rw is at e) in
-            rw read.spelled (spells_rest-size r size counts ls h is_open read.next_is after)
-        by_subject others Large counts is =
-            let read = entry_line-read (length r.history.snapshots) r.next r.is_ended line (large_entry counts) is in
-            let after = nothing_after_large (suc number) (with_entry r (large_entry counts)) ls h refl (rw is at e) in
-            rw (read.spelled, after.0, ← after.1) (spells_rest-large r counts is_open read.next_is)
+    by_subject : (subject : Subject) (counts : List ℕ) → next_entry r line ≡ Ok (record { subject = subject; counts = counts })
+        → IsReading (with_entry r (record { subject = subject; counts = counts })) ls h → IsReading r (line ∷ ls) h
+    by_subject (Size size) counts e after =
+        let read = entry_line-read (length r.history.snapshots) r.next r.is_ended line (size_entry size counts) e in
+        record {
+          is_rest = λ is_open. rw read.spelled
+              (spells_rest-size r size counts ls h is_open read.next_is (after.is_rest (is_open-size r size counts is_open read.next_is)));
+          none = λ ended. absurd (false≢true (sym read.open_still ∙ ended));
+        }
+    by_subject Large counts e after =
+        let read = entry_line-read (length r.history.snapshots) r.next r.is_ended line (large_entry counts) e in
+        let none = after.none refl in
+        record {
+          is_rest = λ is_open. rw (read.spelled, none.0, ← none.1) (spells_rest-large r counts is_open read.next_is);
+          none = λ ended. absurd (false≢true (sym read.open_still ∙ ended));
+        }
+
+    go : (read : Result Entry HistoryFault) → next_entry r line ≡ read → IsReading r (line ∷ ls) h
+    go (Err fault) e = let none = rw e at is in absurd cc
+    go (Ok entry) e =
+        let same : with_entry r entry ≡ next = (let both = rw e at is in cc) in
+        by_subject entry.subject entry.counts e (rw (← same) at rest)
 
 -- ---- the first line
 
@@ -115,7 +114,8 @@ history_is_spelled text h e = go (lines text) refl e
     after line ls parts None is e = absurd cc
     after line ls parts (Some count) is e =
         let read = snapshots-read line count is in
-        let rest = spells_rest-read ls 2 (first_reading count) h (is_open-first count read.some read.few) e in
+        let reading = read_has history_steps IsReading no_line_spells line_spells ls 2 (first_reading count) h e in
+        let rest = reading.is_rest (is_open-first count read.some read.few) in
         let size : count ≡ length h.snapshots = omega (arith, rest.size, empty-length count) in
         let are : lines text ≡ history_lines h = parts ∙ rw (read.spelled, rest.spelled, ← size) refl in
         record { history = rest.is_history; spelled = subst (IsTextOf text) are (laws.text text) }

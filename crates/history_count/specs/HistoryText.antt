@@ -4,7 +4,7 @@ use Rattle.std.specs.{Fmt.{decimal}, List.{list_all, list_any}, Str.{bytes_eq}}
 use Rattle.std.specs.Prelude.{◌≡◌, ℕ, zero, suc, ◌+◌, ◌&&◌, Bool, true, false, not, List, [], ◌∷◌, ◌++◌, length, codes, Option, Some, None}
 use Rattle.std.specs.Prelude.{Result, Ok, Err, nat_lt, nat_le, ◌==◌, if◌then◌else◌}
 use Rattle.class_table.specs.{NamedLines.{named_line, numbers_of}, Sizes.{largest_counted}}
-use Rattle.line_text.specs.{Lines.{IsTextOf, lines, words}, Numbers.{number_of}}
+use Rattle.line_text.specs.{FirstFault.{◌>>=◌}, Lines.{IsTextOf, lines, words}, LineSteps.{LineSteps, read_lines}, Numbers.{number_of}}
 use Rattle.tuner_theory.specs.{Profiles.{greatest_count}, declared.most_snapshots.TheConstants.{MOST_SNAPSHOTS}}
 use Rattle.profile_count.specs.declared.fault.ProfileFault.TheVariants.{BadLine, NotAscending, CountOutOfRange}
 use Rattle.history_count.specs.{Histories.{History, IsHistory, counts_of, nothing_counted, with_counts}, declared.line.Subject.{Subject}}
@@ -127,16 +127,16 @@ with_entry reading entry = with_subject reading entry.subject entry.counts
 
 -- ---- reading line by line
 
-abbrev pub go_on : {A B : Type 0} → ℕ → Result A HistoryFault → (A → Result B (ℕ × HistoryFault)) → Result B (ℕ × HistoryFault)
-go_on number (Ok x) more = more x
-go_on number (Err fault) more = Err (number, fault)
+abbrev pub history_steps : LineSteps Reading History HistoryFault
+history_steps = record {
+  step = λ reading line. next_entry reading line >>= λ entry. Ok (with_entry reading entry);
+  finish = λ reading. Ok reading.history;
+}
 
 -- What the lines spell, after what was read so far: a history, or the number of the first faulty line and its fault. The first of the lines
 -- has this number.
-unfoldable pub history_from : ℕ → Reading → List (List ℕ) → Result History (ℕ × HistoryFault)
-history_from number reading [] = Ok reading.history
-history_from number reading (line ∷ ls) =
-    go_on number (next_entry reading line) (λ entry. history_from (suc number) (with_entry reading entry) ls)
+abbrev pub history_from : ℕ → Reading → List (List ℕ) → Result History (ℕ × HistoryFault)
+history_from number reading ls = read_lines history_steps number reading ls
 
 -- before the second line
 abbrev pub first_reading : ℕ → Reading

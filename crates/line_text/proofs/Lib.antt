@@ -16,3 +16,4 @@ pub mod NearNumbers
 pub mod Prefixes
 pub mod SignedWord
 mod Signs
+mod Stops

@@ -2,8 +2,10 @@ pub mod FirstFault
 pub mod Hexadecimal
 pub mod Laws
 pub mod Lines
+pub mod LineSteps
 pub mod Numbers
 pub mod Pairs
 pub mod Prefixes
 pub mod Rows
 pub mod Signed
+pub mod Stops

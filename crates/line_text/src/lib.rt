@@ -5,6 +5,7 @@ mod digit_words;
 mod hexadecimal;
 pub mod laws;
 mod leading_number;
+mod line_reader;
 mod lines;
 mod near_digits;
 mod number;
@@ -15,6 +16,7 @@ mod signed;
 mod words;
 
 pub use hexadecimal::hex_byte_in;
+pub use line_reader::{LineReader, Stop, read_lines};
 pub use lines::{Lines, first_line, lines_in};
 pub use number::{Number, capped_number_in, number_in};
 pub use row::short_line;

@@ -4,7 +4,7 @@ use Rattle.std.proofs.{Common.{MatchResult, Result, Ok, Err, refl, sym, ap, ◌�
 use Rattle.std.proofs.lemmas.{List.{drop-take, length-drop, take-take}, List.Elements.{All-take, All-drop, All-head, All-tail}}
 use Rattle.std.{proofs.lemmas.Option.{same_Some}, specs.Fmt.{decimal}}
 use Rattle.line_text.proofs.LawLemmas.{line_in_front_is_read, lines_are_lines, written_lines_are_read}
-use Rattle.line_text.specs.{FirstFault.{◌>>=◌, IsFirstFault}, Lines.{lines, text_of, IsLine}}
+use Rattle.line_text.specs.{FirstFault.{◌>>=◌, IsFirstFault}, Lines.{lines, text_of, IsLine}, LineSteps.{read_lines}}
 use Rattle.class_table.proofs.LawLemmas.{class_line_is_full, first_fault_is_refused as table_fault_is_refused, missing_line_is_first_fault}
 use Rattle.class_table.proofs.LawLemmas.{no_classes_are_legal, read_line_is_spelled, table_line_is_read}
 use Rattle.class_table.specs.{ClassLine.{BeginsWithTable, class_line, table_of_line}, FaultText.{shown_table_error}}
@@ -12,7 +12,7 @@ use Rattle.class_table.specs.declared.fault.{TableError.{TableError}, TableError
 use Rattle.profile_count.proofs.LawLemmas.{first_fault_is_refused as profile_fault_is_refused, lines_before_it_spell, profile_is_spelled}
 use Rattle.profile_count.{proofs.LawLemmas.{refused_line_is_there, spelled_profile_is_read}, specs.Counts.{nothing_counted}}
 use Rattle.profile_count.specs.{FaultText.{shown_profile_fault}, declared.fault.ProfileFault.{ProfileFault}}
-use Rattle.profile_count.specs.ProfileText.{IsRefusedAt, SpellsProfile, profile_from, profile_of, profile_of_lines}
+use Rattle.profile_count.specs.ProfileText.{IsRefusedAt, SpellsProfile, profile_of, profile_of_lines}
 use Rattle.potential_check.{proofs.LawLemmas.{read_is_spelled}, specs.Leading.{leading_lines, lines_after}}
 use Rattle.potential_check.specs.SheetText.{SpellsSheet, sheet_of_lines}
 use Rattle.trace_event.specs.declared.event.Event.{Event}
@@ -185,7 +185,7 @@ module _ {A F : Type 0} (Spells : List ℕ → A → Type 0) (read : List (List 
 -- ---- a profile
 
 nothing_spelled : SpellsProfile [] nothing_counted
-unfolding lines profile_from
+unfolding lines read_lines
 nothing_spelled = profile_is_spelled [] nothing_counted refl
 
 pub profile_is_part : IsPart SpellsProfile profile_of_lines profile_part

@@ -4,10 +4,10 @@ use Rattle.std.proofs.Common.{slice_index_or, if◌then◌else◌, Option, Resul
 use Rattle.std.{proofs.lemmas.Bool.{cases_lt}, proofs.lemmas.List.Elements.{All-append, All-drop, All-take}, specs.Option.{ok_or}}
 use Rattle.std.proofs.lemmas.List.{append-nil, drop-append-le, drop_all, length-take, take-append-le, take-take, take_all}
 use Rattle.line_text.{proofs.LawLemmas.{lines_are_lines, written_lines_are_read}, specs.FirstFault.{◌>>=◌, IsFirstFault}}
-use Rattle.line_text.specs.{Lines.{lines, text_of, words, IsLine}, Numbers.{number_of}}
+use Rattle.line_text.specs.{Lines.{lines, text_of, words, IsLine}, LineSteps.{read_lines}, Numbers.{number_of}}
 use Rattle.history_count.proofs.LawLemmas.{first_fault_is_refused, history_is_spelled, lines_before_it_spell, refused_line_is_there}
 use Rattle.history_count.{proofs.LawLemmas.{spelled_history_is_read}, specs.Histories.{History as CountedHistory, nothing_counted}}
-use Rattle.history_count.specs.HistoryText.{IsRefusedAt, SpellsHistory, history_from, history_of, history_of_lines}
+use Rattle.history_count.specs.HistoryText.{IsRefusedAt, SpellsHistory, history_of, history_of_lines}
 use Rattle.history_count.specs.declared.fault.HistoryFault.{HistoryFault}
 use Rattle.potential_check.{proofs.LawLemmas.{read_is_spelled}, specs.Leading.{head_size, is_row_line, leading_lines, lines_after}}
 use Rattle.potential_check.specs.SheetText.{SpellsFit, cost_in, cost_number, fit_of_lines, forced_at, forced_number, head_of_lines}
@@ -27,7 +27,7 @@ unfolding shortest lines
 shortest_is_line = refl
 
 shortest_spelled : SpellsHistory shortest (nothing_counted 1)
-unfolding shortest lines words number_of history_from
+unfolding shortest lines words number_of read_lines
 shortest_spelled = history_is_spelled shortest (nothing_counted 1) refl
 
 shortest_is_no_row : is_row_line shortest ≡ false

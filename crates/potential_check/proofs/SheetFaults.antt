@@ -1,11 +1,11 @@
 -- The number of a fault, of a sheet or a fit, is that of its first fault.
-use Rattle.std.proofs.Common.{◌≡◌, ℕ, zero, suc, ◌+◌, ◌^◌, ◌<◌, ◌⊎◌, inl, inr, Bool, true, false, List, [], ◌∷◌, Option, Some, None, Result}
-use Rattle.std.proofs.{Common.{Ok, Err, refl, sym, ap, ◌∙◌, arith, codes, All, if◌then◌else◌}, lemmas.Bool.{false≢true}}
-use Rattle.std.{proofs.lemmas.List.Elements.{All-cons, All-nil}, specs.Option.{ok_or, option_map}}
+use Rattle.std.proofs.Common.{◌≡◌, ℕ, zero, suc, ◌^◌, ◌<◌, Bool, true, false, List, [], ◌∷◌, Option, Some, None, Result}
+use Rattle.std.proofs.{Common.{Ok, Err, refl, sym, ap, ◌∙◌, arith, codes, if◌then◌else◌}, lemmas.Bool.{false≢true}}
+use Rattle.std.{specs.Option.{ok_or, option_map}}
 use Rattle.class_table.proofs.LawLemmas.{IsName, class_line_is_full, named_line_is_line, no_classes_are_legal}
 use Rattle.class_table.specs.{ClassLine.{class_line}, NamedLines.{named_line}, declared.table.TheConstants.{MOST_CLASSES}}
-use Rattle.line_text.{proofs.LawLemmas.{IsLineByLine, one_first_fault, refusal_is_first_fault}, specs.FirstFault.{◌>>=◌, IsFirstFault}}
-use Rattle.line_text.specs.Lines.{IsLine, lines}
+use Rattle.line_text.proofs.LawLemmas.{GoesOn, IsFormat, ended_goes_on, goes_on_by, refused_at_first_fault}
+use Rattle.line_text.specs.{FirstFault.{◌>>=◌, IsFirstFault}, Lines.{IsLine, lines}, LineSteps.{LineSteps, at_line, read_lines}}
 use Rattle.potential_check.proofs.{LeadingLines.{forced-written, forced_number-written}, ReadIsSpelled.{read_is_spelled}}
 use Rattle.potential_check.proofs.SheetLines.{cost-not_forced, cost-not_step, cost_in-line, limit_in-line, names, one_small, table_in-line}
 use Rattle.potential_check.{proofs.SpelledIsRead.{spelled_is_read}, specs.declared.cost.Cost.{Cost}, specs.declared.reading.Head.{Head}}
@@ -50,9 +50,11 @@ end_at place = None
 abbrev Reading : Type 0
 Reading = Result Sheet (ℕ × Unit {0})
 
-unfoldable read_from : Cost → ℕ → Place → List (List ℕ) → Reading
-read_from cost number place [] = ok_or (end_at place) (number, tt)
-read_from cost number place (line ∷ ls) = ok_or (next cost place line) (number, tt) >>= λ after. read_from cost (number + 1) after ls
+abbrev steps : Cost → LineSteps Place Sheet (Unit {0})
+steps cost = record { step = λ place line. ok_or (next cost place line) tt; finish = λ place. ok_or (end_at place) tt }
+
+abbrev read_from : Cost → ℕ → Place → List (List ℕ) → Reading
+read_from cost number place ls = read_lines (steps cost) number place ls
 
 line_of_one : (name : List ℕ) (n : ℕ) → IsName name → n < 2 ^ 64 → IsLine (named_line name (n ∷ []))
 line_of_one name n is_name small = named_line_is_line name (n ∷ []) is_name (one_small n small)
@@ -65,15 +67,15 @@ module _ (cost : Cost) where
 
   rows_read : (ls : List (List ℕ)) (number most : ℕ) (finish : List (List ℕ) → Sheet) →
       read_from cost number (Rows finish most) ls ≡ numbered (rows_from number most ls >>= λ rows. Ok (finish rows))
-  unfolding read_from rows_from
+  unfolding read_lines rows_from
   rows_read [] number most finish = refl
   rows_read (line ∷ ls) number zero finish = refl
-  rows_read (line ∷ ls) number (suc most) finish = grind (arith, rows_read ls (number + 1) most)
+  rows_read (line ∷ ls) number (suc most) finish = grind (arith, rows_read ls (suc number) most)
 
   -- one line of the head
   line_read : {A B : Type 0} (read : Option A) (at : A → Place) (number : ℕ) (ls : List (List ℕ)) (after : Place → Reading)
       (head : A × List (List ℕ) → Result B ℕ) (rows : B → Result Sheet ℕ) → ((x : A) → after (at x) ≡ numbered (head (x, ls) >>= rows))
-      → (ok_or (option_map at read) (number, tt) >>= after)
+      → (at_line number (ok_or (option_map at read) tt) >>= after)
       ≡ numbered ((ok_or (option_map (λ (x : A). (x, ls)) read) number >>= head) >>= rows)
   line_read None at number ls after head rows same = refl
   line_read (Some x) at number ls after head rows same = same x
@@ -93,7 +95,7 @@ module _ (cost : Cost) where
 
   cost_read : (table : List ℕ) (limit step : ℕ) (forced : Bool) (ls : List (List ℕ)) (number : ℕ) → number ≡ cost_number step forced
       → read_from cost number (CostOf table limit step forced) ls ≡ numbered (after_forced table limit step forced ls >>= rows_of_head)
-  unfolding read_from
+  unfolding read_lines
   cost_read table limit step forced [] number is = rw is refl
   cost_read table limit step forced (c ∷ ls) number is = go (cost_in cost c) refl
     where
@@ -102,12 +104,11 @@ module _ (cost : Cost) where
           ≡ numbered (after_forced table limit step forced (c ∷ ls) >>= rows_of_head)
       go None none = rw (none, is) refl
       go (Some stated) some =
-          let next : number + 1 ≡ suc (cost_number step forced) = omega (arith, is) in
-          rw (some, next) (rows_read ls (suc (cost_number step forced)) MOST_CLASSES _)
+          rw (some, is) (rows_read ls (suc (cost_number step forced)) MOST_CLASSES _)
 
   forced_read : (table : List ℕ) (limit step : ℕ) (ls : List (List ℕ)) (number : ℕ) → number ≡ forced_number step
       → read_from cost number (Forced table limit step) ls ≡ numbered (after_step table limit step ls >>= rows_of_head)
-  unfolding read_from
+  unfolding read_lines
   forced_read table limit step [] number is = rw is refl
   forced_read table limit step (c ∷ ls) number is = go (is_named (codes "forced") c) refl (forced_in c) refl
     where
@@ -116,12 +117,12 @@ module _ (cost : Cost) where
       go false not o read = rw not (cost_read table limit step false (c ∷ ls) number is)
       go true named None none = rw (named, none, is) refl
       go true named (Some false) some = absurd (false≢true (forced-written c false some))
-      go true named (Some true) some = rw (named, some) (cost_read table limit step true ls (number + 1) (ap (λ n. n + 1) is))
+      go true named (Some true) some = rw (named, some) (cost_read table limit step true ls (suc number) (omega (arith, is)))
 
   step_read : (table : List ℕ) (limit : ℕ) (ls : List (List ℕ))
       → read_from cost 3 (Step table limit) ls
       ≡ numbered ((ok_or (step_at ls) 3 >>= λ step. after_step table limit step.0 step.1) >>= rows_of_head)
-  unfolding read_from
+  unfolding read_lines
   step_read table limit [] = refl
   step_read table limit (c ∷ ls) = go (is_named (codes "step") c) refl (step_in c) refl
     where
@@ -133,65 +134,40 @@ module _ (cost : Cost) where
       go true named (Some step) some = rw (named, some) (forced_read table limit step ls 4 (sym (forced_number-written c step some)))
 
   all_read : (ls : List (List ℕ)) → read_from cost 1 Table ls ≡ numbered (read_by cost ls)
-  unfolding read_from read_by head_of_lines
+  unfolding read_lines read_by head_of_lines
   all_read [] = refl
   all_read (a ∷ []) = line_read (table_in a) Limit 1 [] _ _ _ (λ table. refl)
   all_read (a ∷ b ∷ ls) =
       line_read (table_in a) Limit 1 (b ∷ ls) _ _ _
       (λ table. line_read (limit_in b) (Step table) 2 ls _ _ _ (λ limit. step_read table limit ls))
 
-  -- ---- line by line
+  -- ---- some lines lead from each place to a sheet
 
-  abbrev AtLine : Place → List ℕ → Type 0
-  AtLine place line =
-      ((after : Place) × ((n : ℕ) (ls : List (List ℕ)) → read_from cost n place (line ∷ ls) ≡ read_from cost (n + 1) after ls))
-      ⊎ ((fault : Unit {0}) × ((n : ℕ) (ls : List (List ℕ)) → read_from cost n place (line ∷ ls) ≡ Err (n, fault)))
+  abbrev Goes : Place → Type 0
+  Goes place = GoesOn (steps cost) place
 
-  at_line : (place : Place) (line : List ℕ) → AtLine place line
-  unfolding read_from
-  at_line place line = go (next cost place line) refl
-    where
-      go : (o : Option Place) → next cost place line ≡ o → AtLine place line
-      go None is = inr (tt, λ n ls. rw is refl)
-      go (Some after) is = inl (after, λ n ls. rw is refl)
+  by_line : (place after : Place) (line : List ℕ) → IsLine line → next cost place line ≡ Some after → Goes after → Goes place
+  by_line place after line is_line is on = goes_on_by (steps cost) place after line is_line (rw is refl) on
 
-  abbrev AtEnd : Place → Type 0
-  AtEnd place =
-      ((s : Sheet) × ((n : ℕ) → read_from cost n place [] ≡ Ok s)) ⊎ ((fault : Unit {0}) × ((n : ℕ) → read_from cost n place [] ≡ Err (n, fault)))
-
-  at_end : (place : Place) → AtEnd place
-  unfolding read_from
-  at_end (Rows finish most) = inl (finish [], λ n. refl)
-  at_end place = inr (tt, λ n. refl)
-
-  -- some lines lead from each place to a sheet
-  abbrev GoesOn : Place → Type 0
-  GoesOn place = (ls : List (List ℕ)) × All IsLine ls × (s : Sheet) × ((n : ℕ) → read_from cost n place ls ≡ Ok s)
-
-  by_line : (place after : Place) (line : List ℕ) → IsLine line → next cost place line ≡ Some after → GoesOn after → GoesOn place
-  unfolding read_from
-  by_line place after line is_line is on = (line ∷ on.0, All-cons IsLine line on.0 is_line on.1, on.2, λ n. rw is (on.3 (n + 1)))
-
-  at_rows : (finish : List (List ℕ) → Sheet) (most : ℕ) → GoesOn (Rows finish most)
-  unfolding read_from
-  at_rows finish most = ([], All-nil IsLine, finish [], λ n. refl)
+  at_rows : (finish : List (List ℕ) → Sheet) (most : ℕ) → Goes (Rows finish most)
+  at_rows finish most = ended_goes_on (steps cost) (Rows finish most) (finish [], refl)
 
   cost_line : List ℕ
   cost_line = named_line (word_of cost) (0 ∷ [])
 
-  at_step : (table : List ℕ) (limit : ℕ) → GoesOn (Step table limit)
+  at_step : (table : List ℕ) (limit : ℕ) → Goes (Step table limit)
   unfolding cost_line
   at_step table limit =
       by_line _ (rows_after table limit 1 false 0) cost_line (line_of_one (word_of cost) 0 (names.cost cost) (omega arith))
       (rw (cost-not_step cost 0 (omega arith), cost-not_forced cost 0 (omega arith), cost_in-line cost 0 (omega arith)) refl)
       (at_rows _ MOST_CLASSES)
 
-  at_limit : (table : List ℕ) → GoesOn (Limit table)
+  at_limit : (table : List ℕ) → Goes (Limit table)
   at_limit table =
       by_line _ (Step table 1) (named_line (codes "limit") (1 ∷ [])) (line_of_one (codes "limit") 1 names.limit (omega arith))
       (rw (limit_in-line 1 (omega arith, omega arith)) refl) (at_step table 1)
 
-  goes_on : (place : Place) → GoesOn place
+  goes_on : (place : Place) → Goes place
   unfolding cost_line
   goes_on Table =
       by_line _ (Limit []) (class_line []) (class_line_is_full [] no_classes_are_legal).0 (rw (table_in-line [] no_classes_are_legal) refl)
@@ -206,29 +182,23 @@ module _ (cost : Cost) where
       (rw (cost_in-line cost 0 (omega arith)) refl) (at_rows _ MOST_CLASSES)
   goes_on (Rows finish most) = at_rows finish most
 
-  reads : IsLineByLine (read_from cost)
-  reads = record { at_line = at_line; at_end = at_end; goes_on = goes_on }
-
   -- ---- the first fault
 
-  spelled : (text : List ℕ) (s : Sheet) → read_from cost 1 Table (lines text) ≡ Ok s → SpellsBy cost text s
-  spelled text s e = read_is_spelled cost text s (grind (arith, all_read (lines text)))
-
-  read : (text : List ℕ) (s : Sheet) → SpellsBy cost text s → read_from cost 1 Table (lines text) ≡ Ok s
-  read text s spells = all_read (lines text) ∙ ap numbered (spelled_is_read cost text s spells)
+  format : IsFormat (steps cost) Table (SpellsBy cost)
+  format = record {
+    spelled = λ text s e. read_is_spelled cost text s (grind (arith, all_read (lines text)));
+    read = λ text s spells. all_read (lines text) ∙ ap numbered (spelled_is_read cost text s spells);
+    goes_on = goes_on;
+  }
 
   pub fault_is_first : (text : List ℕ) (number : ℕ) → read_by cost (lines text) ≡ Err number → IsFirstFault (SpellsBy cost) text number
   fault_is_first text number e =
-      refusal_is_first_fault (read_from cost) reads (SpellsBy cost) Table spelled read text number tt
-      (all_read (lines text) ∙ ap numbered e)
+      (refused_at_first_fault (steps cost) Table (SpellsBy cost) format text number).0 (tt, all_read (lines text) ∙ ap numbered e)
 
--- What reports only first faults reports each.
-pub first_fault_is_reported : {A : Type 0} (read : List ℕ → Result A ℕ) (Spells : List ℕ → A → Type 0)
-    → ((text : List ℕ) (x : A) → read text ≡ Ok x → Spells text x)
-    → ((text : List ℕ) (number : ℕ) → read text ≡ Err number → IsFirstFault Spells text number)
-    → (text : List ℕ) (number : ℕ) → IsFirstFault Spells text number → read text ≡ Err number
-first_fault_is_reported {A = A} read Spells spelled first text number is = go (read text) refl
-  where
-    go : (r : Result A ℕ) → read text ≡ r → read text ≡ Err number
-    go (Ok x) e = absurd (is.none text x (spelled text x e) refl)
-    go (Err other) e = e ∙ ap Err (one_first_fault Spells text other number (first text other e) is)
+  pub first_fault_is_reported : (text : List ℕ) (number : ℕ) → IsFirstFault (SpellsBy cost) text number → read_by cost (lines text) ≡ Err number
+  first_fault_is_reported text number first =
+      let refused = (refused_at_first_fault (steps cost) Table (SpellsBy cost) format text number).1 first in
+      same_number (read_by cost (lines text)) number (sym (all_read (lines text)) ∙ refused.1)
+    where
+      same_number : (read : Result Sheet ℕ) (number : ℕ) → numbered read ≡ Err (number, tt) → read ≡ Err number
+      same_number read number e = grind arith

@@ -2,17 +2,13 @@
 use Rattle.std.proofs.{Common.{◌≡◌, ◌≢◌, ℕ, ◌≤◌, List, get_or, set, ◌∙◌, arith}, lemmas.List.{get_or-set_other, length-set}}
 use Rattle.std.proofs.lemmas.List.Elements.{All-set}
 use Rattle.tuner_theory.specs.Profiles.{AreCounts, greatest_count}
-use Rattle.profile_count.{proofs.Zeros.{zeros_are_counts, each_is_zero}, specs.Counts.{nothing_counted}}
-use Rattle.profile_count.specs.{ProfileText.{Reading, IsNext, with_entry}, declared.entry.Entry.TheVariants.{Size}}
+use Rattle.profile_count.proofs.Zeros.{zeros_are_counts, each_is_zero}
+use Rattle.profile_count.specs.{ProfileText.{Reading, IsNext, nothing_read, with_entry}, declared.entry.Entry.TheVariants.{Size}}
 
 pub record IsOpen (reading : Reading) : Type 0 where
   pub counts : AreCounts reading.profile.counts
   pub large : reading.profile.large ≡ 0
   pub none : (k : ℕ) → reading.next ≤ k → get_or reading.profile.counts k 0 ≡ 0
-
--- before the first line
-abbrev pub nothing_read : Reading
-nothing_read = record { profile = nothing_counted; next = 0 }
 
 pub is_open-nothing_read : IsOpen nothing_read
 is_open-nothing_read = grind (arith, zeros_are_counts, each_is_zero)

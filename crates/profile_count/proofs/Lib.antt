@@ -3,7 +3,6 @@ pub mod CountedRequests
 pub mod EntryLines
 pub mod FirstFaults
 pub mod FirstServing
-pub mod LineByLine
 pub mod BeforeLarge
 pub mod ReadIsSpelled
 pub mod RequestLosses

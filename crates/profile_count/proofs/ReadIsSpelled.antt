@@ -1,12 +1,13 @@
 -- From a text that is read as a profile to its spelling: line by line, the rest spells what is counted from there on.
 use Rattle.std.proofs.Common.{◌≡◌, ℕ, suc, ◌<◌, List, [], ◌∷◌, ◌++◌, length, get_or, drop, Result, Ok, Err, refl, subst, ◌∙◌, arith, ne_eqb}
 use Rattle.std.proofs.{Math.Seq.{drop-cons}, lemmas.List.{get_or-drop, get_or-set_same}}
-use Rattle.line_text.{proofs.LawLemmas.{text_laws as laws}, specs.Lines.{lines, words, IsTextOf}}
+use Rattle.line_text.{proofs.LawLemmas.{read_has, text_laws as laws}, specs.Lines.{lines, words, IsTextOf}}
 use Rattle.tuner_theory.specs.Profiles.{Profile, IsProfile}
-use Rattle.profile_count.proofs.BeforeLarge.{IsOpen, nothing_read, is_open-nothing_read, other_count, is_open-size_read}
+use Rattle.profile_count.proofs.BeforeLarge.{IsOpen, is_open-nothing_read, other_count, is_open-size_read}
 use Rattle.profile_count.{proofs.EntryLines.{entry_line, entry_line-read}, specs.Counts.{with_large}, specs.declared.entry.Entry.{Entry}}
 use Rattle.profile_count.proofs.SizeLines.{size_lines_from, size_lines-none, size_lines-counted, size_lines-passed}
-use Rattle.profile_count.specs.ProfileText.{Reading, SpellsProfile, IsNext, large_lines, entry_of, with_entry, profile_from, profile_of}
+use Rattle.profile_count.specs.ProfileText.{Reading, SpellsProfile, IsNext, large_lines, entry_of, with_entry, nothing_read, profile_of}
+use Rattle.profile_count.specs.ProfileText.{profile_steps}
 use Rattle.profile_count.specs.declared.{entry.Entry.TheVariants.{Size, Large}, fault.ProfileFault.{ProfileFault}}
 
 -- After a reading, lines spell a profile: what it counts from the next size on, and its large requests. Below that size it counts what was
@@ -51,51 +52,41 @@ spells_rest-size reading size count ls p is_open next rest =
 
 -- ---- all lines
 
--- what was read is one profile
-abbrev as_read : Profile → Result Profile (ℕ × ProfileFault)
-as_read p = Ok p
+-- What lines that are read spell: the rest of a profile, and no line where a `large` line came before.
+record IsReading (reading : Reading) (ls : List (List ℕ)) (p : Profile) : Type 0 where
+  is_rest : IsOpen reading → SpellsRest reading ls p
+  none : 0 < reading.profile.large → (ls ≡ []) × (reading.profile ≡ p)
 
-same_profile : (a b : Profile) → as_read a ≡ as_read b → a ≡ b
-same_profile a b e = cc
+no_line_spells : (reading : Reading) (p : Profile) → profile_steps.finish reading ≡ Ok p → IsReading reading [] p
+no_line_spells reading p is = grind (arith, spells_rest-nil)
 
--- no line follows a `large` line
-nothing_after_large : (number : ℕ) (reading : Reading) (ls : List (List ℕ)) (p : Profile) → 0 < reading.profile.large →
-    profile_from number reading ls ≡ Ok p
-    → (ls ≡ []) × (reading.profile ≡ p)
-unfolding profile_from
-nothing_after_large number reading [] p some e = (refl, same_profile reading.profile p e)
-nothing_after_large number reading (line ∷ ls) p some e = go (entry_of reading.next reading.profile.large (words line)) refl
+line_spells : (reading next : Reading) (line : List ℕ) (ls : List (List ℕ)) (p : Profile) → profile_steps.step reading line ≡ Ok next
+    → IsReading next ls p → IsReading reading (line ∷ ls) p
+line_spells reading next line ls p is rest = go (entry_of reading.next reading.profile.large (words line)) refl
   where
     go : (read : Result Entry ProfileFault) → entry_of reading.next reading.profile.large (words line) ≡ read →
-        (line ∷ ls ≡ []) × (reading.profile ≡ p)
-    go (Err fault) is = let none = rw is at e in absurd cc
-    go (Ok entry) is = absurd (omega (arith, (entry_line-read reading.next reading.profile.large line entry is).0))
-
--- lines that are read as a profile spell it
-spells_rest-read : (ls : List (List ℕ)) (number : ℕ) (reading : Reading) (p : Profile) → IsOpen reading →
-    profile_from number reading ls ≡ Ok p → SpellsRest reading ls p
-unfolding profile_from
-spells_rest-read [] number reading p is_open e = rw (← same_profile reading.profile p e) (spells_rest-nil reading is_open)
-spells_rest-read (line ∷ ls) number reading p is_open e =
-    go (spells_rest-read ls) (entry_of reading.next reading.profile.large (words line)) refl
-  where
-    go : ((number : ℕ) (reading : Reading) (p : Profile) → IsOpen reading → profile_from number reading ls ≡ Ok p → SpellsRest reading ls p)
-        → (read : Result Entry ProfileFault) → entry_of reading.next reading.profile.large (words line) ≡ read →
-        SpellsRest reading (line ∷ ls) p
-    go others (Err fault) is = let none = rw is at e in absurd cc
-    go others (Ok (Size size count)) is =
-        let read = entry_line-read reading.next reading.profile.large line (Size size count) is in
-        let after =
-        others (suc number) (with_entry reading (Size size count)) p (is_open-size_read reading size count is_open read.1)
-        (rw is at e) in
-        rw read.2 (spells_rest-size reading size count ls p is_open read.1 after)
-    go others (Ok (Large count)) is =
-        let read = entry_line-read reading.next reading.profile.large line (Large count) is in
-        let after = nothing_after_large (suc number) (with_entry reading (Large count)) ls p (omega (arith, read.1)) (rw is at e) in
-        rw (read.2, after.0, ← after.1) (spells_rest-large reading count is_open read.1)
+        IsReading reading (line ∷ ls) p
+    go (Err fault) e = let none = rw e at is in absurd cc
+    go (Ok (Size size count)) e =
+        let read = entry_line-read reading.next reading.profile.large line (Size size count) e in
+        let same : with_entry reading (Size size count) ≡ next = (let both = rw e at is in cc) in
+        let after = rw (← same) at rest in
+        record {
+          is_rest = λ is_open. rw read.2
+              (spells_rest-size reading size count ls p is_open read.1 (after.is_rest (is_open-size_read reading size count is_open read.1)));
+          none = λ some. absurd (omega (arith, read.0));
+        }
+    go (Ok (Large count)) e =
+        let read = entry_line-read reading.next reading.profile.large line (Large count) e in
+        let same : with_entry reading (Large count) ≡ next = (let both = rw e at is in cc) in
+        let after = (rw (← same) at rest).none (omega (arith, read.1)) in
+        record {
+          is_rest = λ is_open. rw (read.2, after.0, ← after.1) (spells_rest-large reading count is_open read.1);
+          none = λ some. absurd (omega (arith, read.0));
+        }
 
 -- What is read as a profile is its text.
 pub profile_is_spelled : (text : List ℕ) (p : Profile) → profile_of text ≡ Ok p → SpellsProfile text p
 profile_is_spelled text p e =
-    let rest = spells_rest-read (lines text) 1 nothing_read p is_open-nothing_read e in
+    let rest = (read_has profile_steps IsReading no_line_spells line_spells (lines text) 1 nothing_read p e).is_rest is_open-nothing_read in
     record { profile = rest.profile; spelled = subst (IsTextOf text) rest.spelled (laws.text text) }

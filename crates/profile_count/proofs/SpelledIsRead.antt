@@ -3,12 +3,13 @@ use Rattle.std.proofs.Common.{◌≡◌, ℕ, zero, suc, ◌+◌, ◌<◌, ◌�
 use Rattle.std.proofs.{Common.{arith, ne_eqb, length-drop, All}, Math.Seq.{drop-cons}, lemmas.Grind.{same_number_lists}}
 use Rattle.std.proofs.lemmas.{List.{get_or-set_same}, List.Elements.{All-nil, All-cons, All-head, All-tail, All-append}}
 use Rattle.class_table.specs.Sizes.{largest_counted}
-use Rattle.line_text.{proofs.LawLemmas.{text_laws as laws}, specs.Lines.{IsFullLine, lines}}
+use Rattle.line_text.{proofs.LawLemmas.{line_read, no_line, text_laws as laws}, specs.{Lines.{IsFullLine, lines}, LineSteps.{read_lines}}}
 use Rattle.tuner_theory.specs.Profiles.{Profile, IsProfile, greatest_count}
-use Rattle.profile_count.proofs.BeforeLarge.{IsOpen, nothing_read, is_open-nothing_read, other_count, is_open-size_read}
+use Rattle.profile_count.proofs.BeforeLarge.{IsOpen, is_open-nothing_read, other_count, is_open-size_read}
 use Rattle.profile_count.proofs.EntryLines.{entry_line, entry_line-is_line, entry_line-some, entry_of-line}
-use Rattle.profile_count.{proofs.LineByLine.{line_read, no_line}, specs.declared.entry.Entry.{Entry}}
-use Rattle.profile_count.specs.ProfileText.{large_lines, profile_lines, with_entry, profile_from, profile_of, Reading, SpellsProfile}
+use Rattle.profile_count.specs.declared.entry.Entry.{Entry}
+use Rattle.profile_count.specs.ProfileText.{large_lines, profile_lines, with_entry, nothing_read, profile_of, profile_steps}
+use Rattle.profile_count.specs.ProfileText.{Reading, SpellsProfile}
 use Rattle.profile_count.specs.{ProfileText.{IsNext, size_lines}, declared.entry.Entry.TheVariants.{Size, Large}}
 
 -- ---- lists that agree below a place
@@ -30,39 +31,41 @@ drop_parts xs rest n x e =
 -- ---- lines are read one by one
 
 -- an entry's line is read, and then the others
-profile_from-entry_line : (number : ℕ) (reading : Reading) (entry : Entry) (ls : List (List ℕ)) → reading.profile.large ≡ 0 →
+read-entry_line : (number : ℕ) (reading : Reading) (entry : Entry) (ls : List (List ℕ)) → reading.profile.large ≡ 0 →
     IsNext reading.next 0 entry
-    → profile_from number reading (entry_line entry ∷ ls) ≡ profile_from (number + 1) (with_entry reading entry) ls
-profile_from-entry_line number reading entry ls none next = grind (arith, line_read, entry_line, entry_of-line)
+    → read_lines profile_steps number reading (entry_line entry ∷ ls) ≡ read_lines profile_steps (number + 1) (with_entry reading entry) ls
+read-entry_line number reading entry ls none next =
+    line_read profile_steps number reading (with_entry reading entry) (entry_line entry) ls
+    (rw (none, entry_of-line reading.next entry next) refl)
 
 -- the `large` line is read last, where there is one
-profile_from-large_lines : (number : ℕ) (reading : Reading) (large : ℕ) → reading.profile.large ≡ 0 → large ≤ greatest_count
-    → profile_from number reading (large_lines large) ≡ Ok (record { counts = reading.profile.counts; large = large })
-profile_from-large_lines number reading zero none small = rw (← none) (no_line number reading [] refl)
-profile_from-large_lines number reading (suc n) none small =
+read-large_lines : (number : ℕ) (reading : Reading) (large : ℕ) → reading.profile.large ≡ 0 → large ≤ greatest_count
+    → read_lines profile_steps number reading (large_lines large) ≡ Ok (record { counts = reading.profile.counts; large = large })
+read-large_lines number reading zero none small = rw (← none) (no_line profile_steps number reading reading.profile refl)
+read-large_lines number reading (suc n) none small =
     rw (ne_eqb (suc n) 0 (λ e. omega arith))
-    (profile_from-entry_line number reading (Large (suc n)) [] none (refl, omega arith, small)
-    ∙ no_line (number + 1) (with_entry reading (Large (suc n))) [] refl)
+    (read-entry_line number reading (Large (suc n)) [] none (refl, omega arith, small)
+    ∙ no_line profile_steps (number + 1) (with_entry reading (Large (suc n))) _ refl)
 
 -- The lines from a size on are read as the profile whose counts of the sizes below were read.
-profile_from-size_lines : (counts : List ℕ) (size number : ℕ) (reading : Reading) (p : Profile) → IsOpen reading → IsProfile p →
+read-size_lines : (counts : List ℕ) (size number : ℕ) (reading : Reading) (p : Profile) → IsOpen reading → IsProfile p →
     reading.next ≤ size
     → AgreeBelow reading.profile.counts p.counts size → drop size p.counts ≡ counts →
-    profile_from number reading (size_lines size counts ++ large_lines p.large) ≡ Ok p
+    read_lines profile_steps number reading (size_lines size counts ++ large_lines p.large) ≡ Ok p
 unfolding size_lines
-profile_from-size_lines [] size number reading p is_open is_profile next same parts =
+read-size_lines [] size number reading p is_open is_profile next same parts =
     let past : length p.counts ≤ size = omega (arith, length-drop size p.counts, ap length parts) in
     let sizes : length reading.profile.counts ≡ length p.counts = is_open.counts.sizes ∙ sym is_profile.counts.sizes in
     let counts : reading.profile.counts ≡ p.counts =
     same_number_lists reading.profile.counts p.counts sizes (λ k within. same k (omega arith)) in
-    profile_from-large_lines number reading p.large is_open.large is_profile.large
+    read-large_lines number reading p.large is_open.large is_profile.large
     ∙ ap (λ counts. Ok (record { counts = counts; large = p.large })) counts
-profile_from-size_lines (zero ∷ counts) size number reading p is_open is_profile next same parts =
+read-size_lines (zero ∷ counts) size number reading p is_open is_profile next same parts =
     let first = drop_parts p.counts counts size 0 parts in
     let here : get_or reading.profile.counts size 0 ≡ get_or p.counts size 0 = is_open.none size next ∙ sym first.1 in
-    profile_from-size_lines counts (suc size) number reading p is_open is_profile (omega arith)
+    read-size_lines counts (suc size) number reading p is_open is_profile (omega arith)
     (one_more reading.profile.counts p.counts size same here) first.2
-profile_from-size_lines (suc n ∷ counts) size number reading p is_open is_profile next same parts =
+read-size_lines (suc n ∷ counts) size number reading p is_open is_profile next same parts =
     let first = drop_parts p.counts counts size (suc n) parts in
     let small : suc n ≤ greatest_count = rw first.1 at (is_profile.counts.in_range size 0 first.0) in
     let may_come : IsNext reading.next 0 (Size size (suc n)) =
@@ -73,11 +76,11 @@ profile_from-size_lines (suc n ∷ counts) size number reading p is_open is_prof
     let below : AgreeBelow (set reading.profile.counts size (suc n)) p.counts size =
     λ k lower. other_count reading.profile.counts size (suc n) k (λ e. omega arith) ∙ same k lower in
     let after =
-    profile_from-size_lines counts (suc size) (number + 1) (with_entry reading (Size size (suc n))) p
+    read-size_lines counts (suc size) (number + 1) (with_entry reading (Size size (suc n))) p
     (is_open-size_read reading size (suc n) is_open may_come) is_profile
     (omega arith) (one_more (set reading.profile.counts size (suc n)) p.counts size below here) first.2 in
     rw (ne_eqb (suc n) 0 (λ e. omega arith))
-    (profile_from-entry_line number reading (Size size (suc n)) (size_lines (suc size) counts ++ large_lines p.large) is_open.large may_come
+    (read-entry_line number reading (Size size (suc n)) (size_lines (suc size) counts ++ large_lines p.large) is_open.large may_come
     ∙ after)
 
 -- ---- the lines of a profile are lines, and not empty
@@ -111,5 +114,5 @@ spelled_profile_is_read text p spells =
     let sizes = size_lines-full p.counts 0 (omega (arith, spells.profile.counts.sizes)) spells.profile.counts.in_range in
     let full = All-append IsFullLine (size_lines 0 p.counts) (large_lines p.large) sizes (large_lines-full p.large spells.profile.large) in
     let is : lines text ≡ profile_lines p = laws.full_lines (profile_lines p) text full spells.spelled in
-    rw is (profile_from-size_lines p.counts 0 1 nothing_read p is_open-nothing_read spells.profile (omega arith)
+    rw is (read-size_lines p.counts 0 1 nothing_read p is_open-nothing_read spells.profile (omega arith)
     (λ k below. absurd (omega arith)) refl)

@@ -1,11 +1,13 @@
 -- A profile's text: a line `SIZE COUNT` for each counted size, ascending, and then a line `large COUNT` where large requests were counted.
 use Rattle.std.specs.{Fmt.{decimal}, Str.{bytes_eq}}
 use Rattle.std.specs.Prelude.{Some, None, Result, Ok, Err, nat_lt, nat_le, ◌==◌, if◌then◌else◌, ◌≡◌, ◌≤◌, ℕ, suc, ◌&&◌, Bool, List, [], ◌∷◌}
-use Rattle.std.specs.Prelude.{◌++◌, codes, Option}
+use Rattle.std.specs.Prelude.{◌++◌, ◌+◌, ◌-◌, codes, Option}
 use Rattle.class_table.specs.{NamedLines.{named_line}, Sizes.{largest_counted}}
-use Rattle.line_text.specs.{Lines.{IsTextOf, lines, words, line_of, text_of}, Numbers.{number_of}}
+use Rattle.line_text.specs.{FirstFault.{◌>>=◌}, Lines.{IsTextOf, lines, words, line_of, text_of}, LineSteps.{LineSteps, read_lines}}
+use Rattle.line_text.specs.Numbers.{number_of}
 use Rattle.tuner_theory.specs.Profiles.{Profile, IsProfile, greatest_count}
 use Rattle.profile_count.specs.{Counts.{nothing_counted, with_count, with_large}, declared.entry.Entry.{Entry}}
+pub use Rattle.profile_count.specs.declared.reading.Reading.{Reading}
 use Rattle.profile_count.specs.declared.{entry.Entry.TheVariants.{Size, Large}, fault.ProfileError.{ProfileError}}
 use Rattle.profile_count.specs.declared.fault.{ProfileError.TheVariants.{OutOfMemory, Line}, ProfileFault.{ProfileFault}}
 use Rattle.profile_count.specs.declared.fault.ProfileFault.TheVariants.{BadLine, NotAscending, CountOutOfRange}
@@ -35,11 +37,6 @@ pub record SpellsProfile (text : List ℕ) (p : Profile) : Type 0 where
   pub spelled : IsTextOf text (profile_lines p)
 
 -- ---- reading a line
-
--- What was counted so far, and the least size that may come next.
-pub record Reading : Type 0 where
-  pub profile : Profile
-  pub next : ℕ
 
 abbrev pub is_count : ℕ → Bool
 is_count count = nat_le 1 count && nat_le count greatest_count
@@ -83,20 +80,22 @@ with_entry reading (Large count) = record { profile = with_large reading.profile
 
 -- ---- reading line by line
 
-abbrev pub go_on : ℕ → Result Entry ProfileFault → (Entry → Result Profile (ℕ × ProfileFault)) → Result Profile (ℕ × ProfileFault)
-go_on number (Ok entry) more = more entry
-go_on number (Err fault) more = Err (number, fault)
+abbrev pub profile_steps : LineSteps Reading Profile ProfileFault
+profile_steps = record {
+  step = λ reading line. entry_of reading.next reading.profile.large (words line) >>= λ entry. Ok (with_entry reading entry);
+  finish = λ reading. Ok reading.profile;
+}
 
--- What the lines spell, after what was read so far: a profile, or the number of the first faulty line and its fault. The first of the lines
--- has this number.
-unfoldable pub profile_from : ℕ → Reading → List (List ℕ) → Result Profile (ℕ × ProfileFault)
-profile_from number reading [] = Ok reading.profile
-profile_from number reading (line ∷ ls) =
-    go_on number (entry_of reading.next reading.profile.large (words line))
-    (λ entry. profile_from (suc number) (with_entry reading entry) ls)
+-- How many lines may come: each has another size, and one may be of the large requests.
+abbrev pub may_come : Reading → ℕ
+may_come reading = if nat_lt 0 reading.profile.large then 0 else suc (largest_counted + 1 - reading.next)
+
+-- before the first line
+abbrev pub nothing_read : Reading
+nothing_read = record { profile = nothing_counted; next = 0 }
 
 abbrev pub profile_of_lines : List (List ℕ) → Result Profile (ℕ × ProfileFault)
-profile_of_lines ls = profile_from 1 (record { profile = nothing_counted; next = 0 }) ls
+profile_of_lines ls = read_lines profile_steps 1 nothing_read ls
 
 -- The profile that a text spells, or its first faulty line's number and fault.
 abbrev pub profile_of : List ℕ → Result Profile (ℕ × ProfileFault)

@@ -2,10 +2,46 @@
 ghost use Rattle.profile_count.specs.ProfileText.{GivesProfile, profile_of};
 
 use crate::entry::{Entry, next_entry};
-use crate::fault::ProfileError;
+use crate::fault::{ProfileError, ProfileFault};
 use crate::profile::Profile;
-use line_text::lines_in;
+use line_text::{LineReader, Lines, Stop, lines_in, read_lines};
 use std::alloc::Global;
+
+/// What was counted so far, and the least size that may come next.
+#[derive(Drop)]
+pub(crate) struct Reading {
+    profile: Profile,
+    next: u32,
+}
+
+impl LineReader for Reading {
+    ghost use Rattle.profile_count.specs.ProfileText.{may_come, profile_steps};
+
+    type Value = Profile;
+
+    type Fault = ProfileFault;
+
+    ghost steps = { profile_steps };
+
+    ghost may_come = { may_come };
+
+    #[inline(always)]
+    fn take(&mut self, lines: &mut Lines<'_>) -> Option<Result<(), Stop<ProfileFault>>> {
+        match next_entry(self.next, self.profile.large(), lines)? {
+            Ok(Entry::Size(size, count)) => {
+                self.profile.set_count(size, count);
+                self.next = size + 1;
+            }
+            Ok(Entry::Large(count)) => self.profile.set_large(count),
+            Err(fault) => return Some(Err(Stop::Fault(fault))),
+        }
+        Some(Ok(()))
+    }
+
+    fn finish(self) -> Result<Profile, ProfileFault> {
+        Ok(self.profile)
+    }
+}
 
 impl Profile {
     /// The profile that a text spells: a line `SIZE COUNT` for each counted size, ascending, then perhaps a line `large COUNT`.
@@ -13,24 +49,11 @@ impl Profile {
     pub fn read(alloc: Global, text: &[u8]) -> Result<Profile, ProfileError>
         ensures { GivesProfile result (profile_of text.now) }
     {
-        let mut profile = Profile::new(alloc)?;
-        let mut next = 0;
-        let mut number = 0;
-        let mut lines = lines_in(text);
-        while let Some(read) = next_entry(next, profile.large(), &mut lines) {
-            number += 1;
-            let entry = match read {
-                Ok(entry) => entry,
-                Err(fault) => return Err(ProfileError::Line(number, fault)),
-            };
-            match entry {
-                Entry::Size(size, count) => {
-                    profile.set_count(size, count);
-                    next = size + 1;
-                }
-                Entry::Large(count) => profile.set_large(count),
-            }
+        let profile = Profile::new(alloc)?;
+        match read_lines(Reading { profile, next: 0 }, 1, lines_in(text)) {
+            Ok(profile) => Ok(profile),
+            Err((Stop::OutOfMemory, _number)) => Err(ProfileError::OutOfMemory),
+            Err((Stop::Fault(fault), number)) => Err(ProfileError::Line(number, fault)),
         }
-        Ok(profile)
     }
 }

@@ -1,32 +1,32 @@
 -- Reading a timeline line by line: what is read is spelled, and what is spelled is read.
-use Rattle.std.proofs.Common.{◌≡◌, ℕ, suc, ◌+◌, ◌<◌, ◌≤◌, Bool, true, false, List, [], ◌∷◌, ◌++◌, length, map, Option, Some, None, Result}
-use Rattle.std.proofs.Common.{Ok, Err, All, refl, sym, ap, ◌∙◌, subst, arith, nat_le, add-one, append_assoc, append-nil, length-append}
+use Rattle.std.proofs.Common.{◌≡◌, ℕ, ◌+◌, ◌<◌, ◌≤◌, Bool, true, false, List, [], ◌∷◌, ◌++◌, length, map, Option, Some, None, Result}
+use Rattle.std.proofs.Common.{Ok, Err, All, refl, sym, ap, ◌∙◌, subst, arith, nat_le, append_assoc, append-nil, length-append}
 use Rattle.std.proofs.lemmas.{Bool.{leb-false, lt-leb}, List.Elements.{All-cons, All-head, All-nil, All-tail}, Slice.Eq.{bytes_eq-Decides}}
 use Rattle.std.specs.Str.{bytes_eq}
 use Rattle.class_table.proofs.LawLemmas.{plain_name}
-use Rattle.line_text.{proofs.LawLemmas.{text_laws as laws}, specs.Lines.{IsFullLine, IsTextOf, lines}}
+use Rattle.line_text.proofs.LawLemmas.{line_faulty as lines_faulty, line_read as lines_read, no_line as no_lines, read_has, text_laws as laws}
+use Rattle.line_text.specs.Lines.{IsFullLine, IsTextOf, lines}
 use Rattle.tuner_theory.specs.{Profiles.{greatest_count}, declared.size_event.SizeEvent.{SizeEvent}}
 use Rattle.history_count.proofs.TimelineLemmas.EventLines.{event_in-line, event_in-read, event_line-full}
 use Rattle.history_count.{proofs.TimelineLemmas.Runs.{run-finds, run-more, run-none}, specs.Timelines.Runs.{IsRun, large_size, size_of}}
 use Rattle.history_count.specs.Timelines.TimelineText.{SpellsTimeline, event_in, event_line, events_from, finds_live, head_line, next_event}
-use Rattle.history_count.specs.Timelines.TimelineText.{timeline_lines, timeline_of}
+use Rattle.history_count.specs.Timelines.TimelineText.{timeline_lines, timeline_of, timeline_steps}
 use Rattle.history_count.specs.declared.timelines.fault.TimelineFault.{TimelineFault}
 
 -- ---- line by line
 
 pub line_read : (number : ℕ) (events : List SizeEvent) (rest new : List (List ℕ)) (line : List ℕ) (event : SizeEvent) → rest ≡ line ∷ new
     → next_event events line ≡ Ok event → events_from number events rest ≡ events_from (number + 1) (events ++ event ∷ []) new
-unfolding events_from
-line_read number events rest new line event parts is = rw (parts, is, add-one) refl
+line_read number events rest new line event parts is =
+    rw parts (lines_read timeline_steps number events (events ++ event ∷ []) line new (rw is refl))
 
 pub line_faulty : (number : ℕ) (events : List SizeEvent) (rest new : List (List ℕ)) (line : List ℕ) (fault : TimelineFault)
     → rest ≡ line ∷ new → next_event events line ≡ Err fault → events_from number events rest ≡ Err (number, fault)
-unfolding events_from
-line_faulty number events rest new line fault parts is = rw (parts, is) refl
+line_faulty number events rest new line fault parts is =
+    rw parts (lines_faulty timeline_steps number events line new fault (rw is refl))
 
 pub no_line : (number : ℕ) (events : List SizeEvent) (rest : List (List ℕ)) → rest ≡ [] → events_from number events rest ≡ Ok events
-unfolding events_from
-no_line number events rest none = rw none refl
+no_line number events rest none = rw none (no_lines timeline_steps number events events refl)
 
 pub head_read : (text line : List ℕ) (rest : List (List ℕ)) → lines text ≡ line ∷ rest → bytes_eq line head_line ≡ true
     → timeline_of text ≡ events_from 2 [] rest
@@ -80,23 +80,24 @@ record SpellsRest (events : List SizeEvent) (ls : List (List ℕ)) (all : List S
   run : IsRun all
   spelled : ls ≡ map event_line rest
 
-as_read : List SizeEvent → Result (List SizeEvent) (ℕ × TimelineFault)
-as_read events = Ok events
+abbrev IsReading : List SizeEvent → List (List ℕ) → List SizeEvent → Type 0
+IsReading events ls all = IsRun events → SpellsRest events ls all
 
-spells_rest : (ls : List (List ℕ)) (number : ℕ) (events all : List SizeEvent) → IsRun events → events_from number events ls ≡ Ok all
-    → SpellsRest events ls all
-unfolding events_from
-spells_rest [] number events all run e =
+no_line_spells : (events all : List SizeEvent) → timeline_steps.finish events ≡ Ok all → IsReading events [] all
+no_line_spells events all is run =
     let same : events ≡ all = cc in
     record { rest = []; are = sym (append-nil events ∙ same); run = rw (← same) run; spelled = refl }
-spells_rest (line ∷ ls) number events all run e = go (spells_rest ls) (next_event events line) refl
+
+line_spells : (events next : List SizeEvent) (line : List ℕ) (ls : List (List ℕ)) (all : List SizeEvent)
+    → timeline_steps.step events line ≡ Ok next → IsReading next ls all → IsReading events (line ∷ ls) all
+line_spells events next line ls all is others run = go (next_event events line) refl
   where
-    go : ((number : ℕ) (events all : List SizeEvent) → IsRun events → events_from number events ls ≡ Ok all → SpellsRest events ls all)
-        → (read : Result SizeEvent TimelineFault) → next_event events line ≡ read → SpellsRest events (line ∷ ls) all
-    go others (Err fault) is = let none = rw is at e in absurd cc
-    go others (Ok event) is =
-        let after = others (suc number) (events ++ event ∷ []) all (next_run events line event run is) (rw is at e) in
-        let line_is = (event_in-read line event (next_event-is events line event is).read).spelled in
+    go : (read : Result SizeEvent TimelineFault) → next_event events line ≡ read → SpellsRest events (line ∷ ls) all
+    go (Err fault) e = let none = rw e at is in absurd cc
+    go (Ok event) e =
+        let same : events ++ event ∷ [] ≡ next = (let both = rw e at is in cc) in
+        let after = (rw (← same) at others) (next_run events line event run e) in
+        let line_is = (event_in-read line event (next_event-is events line event e).read).spelled in
         record {
           rest = event ∷ after.rest;
           are = after.are ∙ append_assoc events (event ∷ []) after.rest;
@@ -112,7 +113,8 @@ timeline_is_spelled text events e = go (lines text) refl
         → SpellsTimeline text events
     by_head line ls parts false is = let none = rw (parts, is) at e in absurd cc
     by_head line ls parts true is =
-        let rest = spells_rest ls 2 [] events run-none (sym (head_read text line ls parts is) ∙ e) in
+        let read = sym (head_read text line ls parts is) ∙ e in
+        let rest = read_has timeline_steps IsReading no_line_spells line_spells ls 2 [] events read run-none in
         let first : line ≡ head_line = grind (arith, bytes_eq-Decides) in
         let are : lines text ≡ timeline_lines events =
         parts ∙ ap (λ (l : List ℕ). l ∷ ls) first
@@ -127,8 +129,7 @@ timeline_is_spelled text events e = go (lines text) refl
 
 read_rest : (rest : List SizeEvent) (number : ℕ) (events : List SizeEvent) → IsRun (events ++ rest)
     → events_from number events (map event_line rest) ≡ Ok (events ++ rest)
-unfolding events_from
-read_rest [] number events run = ap (λ (l : List SizeEvent). Ok l) (sym (append-nil events))
+read_rest [] number events run = no_line number events [] refl ∙ ap (λ (l : List SizeEvent). Ok l) (sym (append-nil events))
 read_rest (event ∷ rest) number events run =
     let parts : events ++ event ∷ rest ≡ (events ++ event ∷ []) ++ rest = sym (append_assoc events (event ∷ []) rest) in
     let on : IsRun ((events ++ event ∷ []) ++ rest) = rw (append_assoc events (event ∷ []) rest) run in
@@ -136,7 +137,8 @@ read_rest (event ∷ rest) number events run =
     All-head (λ event. size_of event ≤ large_size) event rest (All-after events (event ∷ rest) run.sizes) in
     let room : length events < greatest_count = omega (arith, run.few, length-append events (event ∷ rest)) in
     let is = next_event-ok events (event_line event) event (event_in-line event small) room (run-finds events rest event on) in
-    rw is (read_rest rest (suc number) (events ++ event ∷ []) on ∙ ap (λ (l : List SizeEvent). Ok l) (sym parts))
+    line_read number events (map event_line (event ∷ rest)) (map event_line rest) (event_line event) event refl is
+    ∙ read_rest rest (number + 1) (events ++ event ∷ []) on ∙ ap (λ (l : List SizeEvent). Ok l) (sym parts)
   where
     All-after : (xs ys : List SizeEvent) → All (λ event. size_of event ≤ large_size) (xs ++ ys) → All (λ event. size_of event ≤ large_size) ys
     All-after [] ys all = all

@@ -1,10 +1,10 @@
 -- A timeline's text: the line `timeline`; then a line for each event, `N` for a request of N bytes and `-N` for a free, with `large` in the
 -- place of each size above the largest that is counted.
 use Rattle.std.specs.{Fmt.{decimal}, Option.{option_map}, Str.{bytes_eq}}
-use Rattle.std.specs.Prelude.{◌≡◌, ℕ, suc, Bool, true, false, List, [], ◌∷◌, ◌++◌, length, map, codes, Option, Some, None, Result, Ok, Err}
+use Rattle.std.specs.Prelude.{◌≡◌, ℕ, Bool, true, false, List, [], ◌∷◌, ◌++◌, length, map, codes, Option, Some, None, Result, Ok, Err}
 use Rattle.std.specs.Prelude.{nat_lt, nat_le, ◌==◌, if◌then◌else◌}
 use Rattle.class_table.specs.Sizes.{largest_counted}
-use Rattle.line_text.specs.{Lines.{IsTextOf, lines}, Numbers.{number_of}}
+use Rattle.line_text.specs.{FirstFault.{◌>>=◌}, Lines.{IsTextOf, lines}, LineSteps.{LineSteps, read_lines}, Numbers.{number_of}}
 use Rattle.tuner_theory.specs.{Profiles.{greatest_count}, Timelines.{freed, requested}, declared.size_event.SizeEvent.{SizeEvent}}
 use Rattle.tuner_theory.specs.declared.size_event.SizeEvent.TheVariants.{Request, Free}
 use Rattle.history_count.specs.{Timelines.Runs.{IsRun, large_size}, declared.timelines.fault.TimelineError.{TimelineError}}
@@ -73,16 +73,16 @@ next_event events line = may_follow events (event_in line)
 
 -- ---- reading line by line
 
-abbrev pub go_on : {A B : Type 0} → ℕ → Result A TimelineFault → (A → Result B (ℕ × TimelineFault)) → Result B (ℕ × TimelineFault)
-go_on number (Ok x) more = more x
-go_on number (Err fault) more = Err (number, fault)
+abbrev pub timeline_steps : LineSteps (List SizeEvent) (List SizeEvent) TimelineFault
+timeline_steps = record {
+  step = λ events line. next_event events line >>= λ event. Ok (events ++ event ∷ []);
+  finish = λ events. Ok events;
+}
 
 -- What the lines spell, after the events so far: events, or the number of the first faulty line and its fault. The first of the lines has
 -- this number.
-unfoldable pub events_from : ℕ → List SizeEvent → List (List ℕ) → Result (List SizeEvent) (ℕ × TimelineFault)
-events_from number events [] = Ok events
-events_from number events (line ∷ ls) =
-    go_on number (next_event events line) (λ event. events_from (suc number) (events ++ event ∷ []) ls)
+abbrev pub events_from : ℕ → List SizeEvent → List (List ℕ) → Result (List SizeEvent) (ℕ × TimelineFault)
+events_from number events ls = read_lines timeline_steps number events ls
 
 abbrev pub events_after : Bool → List (List ℕ) → Result (List SizeEvent) (ℕ × TimelineFault)
 events_after true ls = events_from 2 [] ls

@@ -1,19 +1,19 @@
 use Rattle.history_count.proofs.TimelineLemmas.LawLemmas.{first_fault_is_refused, spelled_timeline_is_read, timeline_is_spelled}
 use Rattle.history_count.specs.HistoryText.{SpellsHistory, history_of_lines}
-use Rattle.history_count.specs.Timelines.TimelineText.{SpellsTimeline, timeline_of_lines, events_from, head_line}
+use Rattle.history_count.specs.Timelines.TimelineText.{SpellsTimeline, timeline_of_lines, head_line}
 use Rattle.profile_count.specs.ProfileText.{SpellsProfile, profile_of_lines}
 use Rattle.mte_engine.proofs.FaultLines.{after_table_at_first, alone_at_first, check_profile_at_first, profile_is_part, replay_at_first}
 use Rattle.mte_engine.proofs.{FaultLines.{shown_with_line, IsPart}, HistoryFaultLines.{check_fit_history_at_first, history_is_part}}
 use Rattle.mte_engine.specs.{Parts.{history_part, profile_part, timeline_part}, declared.fault.InputFault.TheVariants.{Timeline}}
 use Rattle.std.proofs.Common.{◌≡◌, ◌+◌, [], refl}
-use Rattle.line_text.specs.Lines.{lines}
+use Rattle.line_text.specs.{Lines.{lines}, LineSteps.{read_lines}}
 use Rattle.mte_engine.proofs.laws.law_fault_lines.Goals as goal
 
 -- A timeline as a part of an input: its first fault is in the line of the refusal.
 
 -- the timeline without events
 shortest_spelled : SpellsTimeline head_line []
-unfolding lines events_from
+unfolding lines read_lines
 shortest_spelled = timeline_is_spelled head_line [] refl
 
 timeline_is_part : IsPart SpellsTimeline timeline_of_lines timeline_part

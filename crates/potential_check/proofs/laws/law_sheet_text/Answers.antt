@@ -1,5 +1,5 @@
 use Rattle.potential_check.proofs.{ReadIsSpelled.{read_is_spelled}, SheetFaults.{fault_is_first, first_fault_is_reported}}
-use Rattle.potential_check.{proofs.SpelledIsRead.{spelled_is_read}, specs.SheetText.{SpellsBy, read_in}}
+use Rattle.potential_check.proofs.SpelledIsRead.{spelled_is_read}
 use Rattle.potential_check.proofs.laws.law_sheet_text.Goals as goal
 
 pub returns-clause-read : goal.returns-clause-read
@@ -12,4 +12,4 @@ pub returns-clause-first : goal.returns-clause-first
 returns-clause-first c = fault_is_first
 
 pub returns-clause-reported : goal.returns-clause-reported
-returns-clause-reported c = λ cost. first_fault_is_reported (read_in cost) (SpellsBy cost) (read_is_spelled cost) (fault_is_first cost)
+returns-clause-reported c = first_fault_is_reported

@@ -1,0 +1,67 @@
+//! One reader of lines for all formats.
+ghost use Rattle.std.specs.Prelude.{◌≡◌, ◌<◌, ◌+◌, ◌^◌, ℕ, [], ◌∷◌, List, IfSome, IfNone, OnOk};
+ghost use Rattle.line_text.specs.LineSteps.{read_lines};
+ghost use Rattle.line_text.specs.Stops.{GivesLines};
+
+use crate::lines::Lines;
+
+/// What stops a reader at a line.
+#[derive(Debug, Clone, Copy, PartialEq, Eq)]
+pub enum Stop<F> {
+    /// The allocator refused memory.
+    OutOfMemory,
+    /// What is wrong with the line.
+    Fault(F),
+}
+
+/// What was read of a text, line by line.
+pub trait LineReader {
+    ghost use Rattle.line_text.specs.LineSteps.{LineSteps};
+    ghost use Rattle.line_text.specs.Stops.{Takes};
+
+    /// What a text spells.
+    type Value;
+
+    /// What may be wrong with a line.
+    type Fault;
+
+    ghost steps: { LineSteps Self Self.Value Self.Fault };
+
+    // so many lines may come at most
+    ghost may_come: { Self → ℕ };
+
+    /// Takes the next line. `None` if no line is left.
+    fn take(&mut self, lines: &mut Lines<'_>) -> Option<Result<(), Stop<Self::Fault>>>
+        ensures line { IfSome result
+            (λ read. (line : List ℕ) × (lines.old ≡ line ∷ lines.new) × Takes steps self.old line self.new read) }
+        ensures fewer { IfSome result (λ read. OnOk read (may_come self.new < may_come self.old)) }
+        ensures end { IfNone result ((lines.old ≡ []) × (lines.new ≡ []) × (self.new ≡ self.old)) };
+
+    /// What was read in the end.
+    fn finish(self) -> Result<Self::Value, Self::Fault>
+        ensures { result ≡ steps.finish self };
+}
+
+/// Reads lines, the first of which has this number. Errors, with the number of the line: the first faulty line's fault, or `OutOfMemory`.
+pub fn read_lines<R: LineReader + Drop>(
+    reader: R,
+    first: u32,
+    lines: Lines<'_>,
+) -> Result<R::Value, (Stop<R::Fault>, u32)>
+    requires { first + R.may_come reader < 2 ^ 32 }
+    ensures { GivesLines result (read_lines R.steps first reader lines.entry) }
+{
+    let mut reader = reader;
+    let mut lines = lines;
+    let mut number = first;
+    while let Some(read) = reader.take(&mut lines) {
+        if let Err(stop) = read {
+            return Err((stop, number));
+        }
+        number += 1;
+    }
+    match reader.finish() {
+        Ok(value) => Ok(value),
+        Err(fault) => Err((Stop::Fault(fault), number)),
+    }
+}
