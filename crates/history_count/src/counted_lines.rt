@@ -24,8 +24,8 @@ pub(crate) struct CountedLines {
 }
 
 impl CountedLines {
-    /// No line, for so many snapshots. The only error is that the allocator refuses memory.
-    pub(crate) fn new(alloc: Global, count: usize) -> Result<CountedLines, AllocError>
+    /// No line, for so many snapshots, with room for so many lines. The only error is that the allocator refuses memory.
+    pub(crate) fn new(alloc: Global, count: usize, room: usize) -> Result<CountedLines, AllocError>
         requires some { 1 ≤ count }
         requires few { count ≤ MOST_SNAPSHOTS }
         ensures holds { IfOk result
@@ -36,7 +36,7 @@ impl CountedLines {
     {
         let mut columns = Vec::with_capacity(alloc, count)?;
         for _ in 0..count {
-            columns.push(Vec::new(alloc))?;
+            columns.push(Vec::with_capacity(alloc, room)?)?;
         }
         Ok(CountedLines {
             sizes: Vec::new(alloc),

@@ -1,10 +1,13 @@
 //! How a text spells a history.
+ghost use Rattle.std.specs.Prelude.{◌≤◌};
 ghost use Rattle.history_count.specs.HistoryText.{GivesHistory, history_of};
+ghost use Rattle.tuner_theory.specs.declared.most_snapshots.TheConstants.{MOST_SNAPSHOTS};
 
 use crate::counted_lines::CountedLines;
 use crate::fault::{HistoryError, HistoryFault};
 use crate::history::History;
 use crate::line::{Subject, next_entry, snapshots_in};
+use class_table::LARGEST_COUNTED;
 use line_text::lines_in;
 use profile_count::no_counts;
 use std::alloc::Global;
@@ -23,7 +26,7 @@ impl History {
         let Some(count) = snapshots_in(first) else {
             return Err(HistoryError::Line(1, HistoryFault::BadSnapshots));
         };
-        let mut counted = CountedLines::new(alloc, count)?;
+        let mut counted = CountedLines::new(alloc, count, most_lines(lines.rest().len(), count))?;
         let mut large = no_counts(alloc, count)?;
         let mut counts = no_counts(alloc, count)?;
         let mut next = 0;
@@ -48,4 +51,11 @@ impl History {
         }
         Ok(History::new(counted, large))
     }
+}
+
+// how many lines there may be in so many bytes, each with a count of at least one digit for each snapshot
+fn most_lines(size: usize, count: usize) -> usize
+    requires { count ≤ MOST_SNAPSHOTS }
+{
+    (size / (2 * count + 2)).min(LARGEST_COUNTED as usize) + 1
 }

@@ -22,7 +22,7 @@ record AreClear (x y m : ℕ) : Type 0 where
   pub second : y % 256 < 128
   pub after : bit_and (bit_or (x / 256) (y / 256)) m ≡ 0
 
-clear_byte : (r : ℕ) → r < 256 → bit_and r 128 ≡ 0 → r < 128
+pub clear_byte : (r : ℕ) → r < 256 → bit_and r 128 ≡ 0 → r < 128
 clear_byte r small clear = grind (arith, common_steps, and_high)
 
 are_clear : (x y m : ℕ) → bit_and (bit_or x y) (128 + 256 * m) ≡ 0 → AreClear x y m

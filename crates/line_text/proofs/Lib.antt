@@ -1,6 +1,7 @@
 pub mod LawLemmas
 pub mod Cuts
 pub mod Digits
+mod DigitEnds
 mod DigitWords
 mod JoinedDigits
 pub mod FirstFaults

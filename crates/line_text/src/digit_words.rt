@@ -12,6 +12,11 @@ use std::simd::prelude::*;
 // the byte `0`, eight times
 const ZEROS: u64 = 0x3030_3030_3030_3030;
 
+// the highest bit of each of eight bytes, and what a byte lacks to it if it is 10
+const HIGH_BITS: u64 = 0x8080_8080_8080_8080;
+
+const ABOVE_NINE: u64 = 0x7676_7676_7676_7676;
+
 // the first of each two bytes, and the first two of each four
 const FIRST_BYTES: u64 = 0x00ff_00ff_00ff_00ff;
 
@@ -31,6 +36,21 @@ pub(crate) fn leading_eight(bytes: &[u8; 8]) -> (usize, u64)
         return (0, 0);
     }
     (count, value_of(bytes, count))
+}
+
+/// How many of eight bytes are digits, up to the first that is none; `None` if all are.
+/// The word of the bytes serves `value_of` too.
+#[inline(always)]
+pub(crate) fn digit_count(bytes: &[u8; 8]) -> Option<usize>
+    ensures count { IfSome result (λ count. count ≡ prefix_len is_ascii_digit bytes.now) }
+    ensures few { IfSome result (λ count. count < 8) }
+{
+    let digits = u64::from_le_bytes(*bytes).wrapping_sub(ZEROS);
+    let others = (digits | digits.wrapping_add(ABOVE_NINE)) & HIGH_BITS;
+    if others == 0 {
+        return None;
+    }
+    Some(others.trailing_zeros() as usize / 8)
 }
 
 /// How many of eight bytes are digits, up to the first that is none; `None` if all are. A sign in front of them, `-`, counts as one.

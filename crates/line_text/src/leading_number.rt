@@ -6,7 +6,7 @@ ghost use Rattle.std.specs.List.{prefix_len};
 ghost use Rattle.std.specs.Option.{option_map};
 ghost use Rattle.line_text.specs.Numbers.{AreLeading, leading_digits, leading_number_of};
 
-use crate::digit_words::{leading_eight, signed_count, value_of};
+use crate::digit_words::{digit_count, signed_count, value_of};
 use crate::near_digits::near_digits;
 use crate::number::SHORT_DIGITS;
 
@@ -29,11 +29,12 @@ pub(crate) fn short_leading_number(text: &[u8]) -> Option<(u32, &[u8])>
     ensures number { IfSome result (λ pair. leading_number_of text.now ≡ Some pair.0) }
     ensures after { IfSome result (λ pair. text.now ≡ leading_digits text.now ++ pair.1.now) }
 {
-    let (end, value) = leading_eight(text.first_chunk::<8>()?);
-    if end == 0 || end == 8 || (text[0] == b'0' && 1 < end) {
+    let bytes = text.first_chunk::<8>()?;
+    let end = digit_count(bytes)?;
+    if end == 0 || (text[0] == b'0' && 1 < end) {
         return None;
     }
-    Some((value as u32, &text[end..]))
+    Some((value_of(bytes, end) as u32, &text[end..]))
 }
 
 /// The number of digits at the start of a text, after a `-` if it is signed, and how many bytes both take, at most seven, in a text of at least

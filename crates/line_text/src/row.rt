@@ -1,5 +1,5 @@
 //! A line of many numbers, in one pass over its bytes.
-ghost use Rattle.std.specs.Prelude.{◌≡◌, ◌++◌, ◌-◌, ◌^◌, ◌≤◌, [], true, IfSome, Some, drop, length, min, slice_get, slice_index};
+ghost use Rattle.std.specs.Prelude.{◌≡◌, ◌++◌, ◌∷◌, ◌-◌, ◌^◌, ◌≤◌, [], true, IfSome, Some, drop, length, min, slice_get, slice_index};
 ghost use Rattle.line_text.specs.Lines.{lines};
 ghost use Rattle.line_text.specs.Numbers.{leading_digits, leading_number_of};
 ghost use Rattle.line_text.specs.Rows.{IsRow};
@@ -12,14 +12,14 @@ use crate::pair::after_byte;
 /// The first number of the first line of a text, and the text after that line; the other numbers of the line are then in `numbers`, which
 /// has a place for each of them. A larger number stands as the largest that a place holds. `None` if the line has another word, or more or
 /// fewer numbers, or one of them has more than 19 digits.
-#[inline(always)]
+#[inline(never)]
 pub(crate) fn leading_row<'a>(text: &'a [u8], numbers: &mut [u32]) -> Option<(u64, &'a [u8])>
     ensures row { IfSome result (λ found. IsRow (slice_get (lines text.now) 0) found.0 numbers.new) }
     ensures after { IfSome result (λ found. lines found.1.now ≡ drop 1 (lines text.now)) }
 {
     let (first, mut rest) = leading_number(text)?;
     for place in 0..numbers.len() {
-        let (number, after) = leading_in_place(after_byte(b' ', rest)?)?;
+        let (number, after) = next_in_place(rest)?;
         numbers[place] = number;
         rest = after;
     }
@@ -47,17 +47,31 @@ pub fn short_line(text: &[u8], is_signed: bool) -> Option<(u32, usize)>
     Some((number, end + 1))
 }
 
-// The number at the start of a text, or the largest that a place holds if that is less, and the text after it.
+// The number after a space, or the largest that a place holds if that is less, and the text after it.
 #[inline(always)]
+fn next_in_place(text: &[u8]) -> Option<(u32, &[u8])>
+    ensures space { IfSome result (λ _. text.now ≡ 32 ∷ drop 1 text.now) }
+    ensures number { IfSome result
+        (λ pair. option_map (λ n. min n (2 ^ 32 - 1)) (leading_number_of (drop 1 text.now)) ≡ Some pair.0) }
+    ensures after { IfSome result (λ pair. drop 1 text.now ≡ leading_digits (drop 1 text.now) ++ pair.1.now) }
+{
+    // most numbers are short: then one test serves for the length of the text
+    if 8 < text.len() && text[0] == b' ' {
+        if let Some(short) = short_leading_number(&text[1..]) {
+            return Some(short);
+        }
+    }
+    leading_in_place(after_byte(b' ', text)?)
+}
+
+// The number at the start of a text, or the largest that a place holds if that is less, and the text after it.
+// Not inlined, nor is the loop over the places: in more code the constants of short numbers would not stay in registers.
+#[inline(never)]
 fn leading_in_place(text: &[u8]) -> Option<(u32, &[u8])>
     ensures number { IfSome result
         (λ pair. option_map (λ n. min n (2 ^ 32 - 1)) (leading_number_of text.now) ≡ Some pair.0) }
     ensures after { IfSome result (λ pair. text.now ≡ leading_digits text.now ++ pair.1.now) }
 {
-    // most numbers are short
-    if let Some(short) = short_leading_number(text) {
-        return Some(short);
-    }
     let (number, after) = leading_number(text)?;
     Some((number.min(u64::from(u32::MAX)) as u32, after))
 }

@@ -4,6 +4,7 @@ ghost use Rattle.std.specs.Prelude.{◌≡◌, ◌≢◌, ℕ, ◌+◌, ◌-◌,
 ghost use Rattle.class_tuner.specs.Fits.Ends.{IsBlock, IsLeastSoFar, IsReached};
 ghost use Rattle.class_tuner.specs.Fits.PlaceByPlace.{AreCostsFrom, end_cost};
 ghost use Rattle.potential_check.specs.Footprints.Bounds.{AreBounds, IsSlack};
+ghost use Rattle.potential_check.specs.declared.footprints.slack.TheConstants.{BLOCK};
 ghost use Rattle.tuner_theory.specs.Rows.{IsLeastEnd};
 
 use potential_check::BLOCK;
@@ -56,12 +57,30 @@ fn next_block(bounds: &[u64], slack: &[u64], from: usize, blocks: usize, least: 
     ensures order { from ≤ result }
     ensures past { (b : ℕ) → from ≤ b → b < result → least + slice_index slack.now b < slice_index bounds.now b }
 {
-    for block in from..blocks {
+    let mut block = from;
+    let last = blocks.saturating_sub(3);
+    // (four at once: most blocks are passed over)
+    while block < last {
         if bounds[block] <= least + slack[block] {
             return block;
         }
+        if bounds[block + 1] <= least + slack[block + 1] {
+            return block + 1;
+        }
+        if bounds[block + 2] <= least + slack[block + 2] {
+            return block + 2;
+        }
+        if bounds[block + 3] <= least + slack[block + 3] {
+            return block + 3;
+        }
+        block += 4;
     }
-    from.max(blocks)
+    for next in block..blocks {
+        if bounds[next] <= least + slack[next] {
+            return next;
+        }
+    }
+    block.max(blocks)
 }
 
 // the cost of the hint, if it is an end that costs less than one class for all places above, or else the cost of that
@@ -131,9 +150,27 @@ fn least_of(costs: &[u64], before: &[u64], start: usize, stop: usize) -> u64
     ensures none { stop ≤ start → result ≡ 2 ^ 64 - 1 }
     ensures reached { start < stop → IsReached (end_cost costs.now (slice_index before.now)) start stop result }
 {
+    if stop == start + BLOCK {
+        return least_of_block(costs, before, start);
+    }
     let mut low = u64::MAX;
     for j in start..stop {
         low = low.min(costs[j] + before[j]);
+    }
+    low
+}
+
+// the same of a whole block: so the compiler knows how many ends there are
+#[inline(always)]
+fn least_of_block(costs: &[u64], before: &[u64], start: usize) -> u64
+    requires block { IsBlock costs.now before.now start (start + BLOCK) }
+    ensures low { (j : ℕ) → start ≤ j → j < start + BLOCK
+        → result ≤ end_cost costs.now (slice_index before.now) j }
+    ensures reached { IsReached (end_cost costs.now (slice_index before.now)) start (start + BLOCK) result }
+{
+    let mut low = u64::MAX;
+    for k in 0..BLOCK {
+        low = low.min(costs[start + k] + before[start + k]);
     }
     low
 }

@@ -1,4 +1,4 @@
-ghost use Rattle.std.specs.Prelude.{◌≡◌, ◌↔◌, ◌<◌, ◌≤◌, ◌^◌, IfOk, IsTrue};
+ghost use Rattle.std.specs.Prelude.{◌≡◌, ◌↔◌, ◌<◌, ◌≤◌, ◌-◌, ◌^◌, ℕ, IfOk, IsTrue, length, slice_index};
 ghost use Rattle.potential_check.specs.Certificates.Spanned.{IsSpanned, last_need};
 ghost use Rattle.tuner_theory.specs.Spans.{bytes_up_to, counted_up_to, need_at, places, rounded_need, span_waste};
 ghost use Rattle.class_table.specs.Sizes.{IsBlockSize};
@@ -94,6 +94,15 @@ impl<'a> Spans<'a> {
         ensures in_range { IsBlockSize result }
     {
         self.needs[place - 1]
+    }
+
+    /// The rounded needs at the places from 1 on, in granules.
+    pub(crate) fn needs(&self) -> &[u16]
+        ensures size { length result.now ≡ places self.now.counts self.now.step }
+        ensures needs { (place : ℕ) → 0 < place → place ≤ places self.now.counts self.now.step
+            → slice_index result.now (place - 1) ≡ need_at self.now.counts self.now.step place }
+    {
+        &self.needs
     }
 
     /// The bytes that the requests at the places above `i`, up to `j`, lose in the class that is the need at `j`.

@@ -50,9 +50,30 @@ fn least_growth(older: &[u64], costs: &[u64], start: usize, stop: usize) -> u64
     ensures grown { start < stop
         → (j : ℕ) × (start ≤ j) × (j < stop) × (result ≡ slice_index costs.now j - slice_index older.now j) }
 {
+    if BLOCK <= stop && stop - BLOCK == start {
+        return least_of_block(older, costs, start);
+    }
     let mut growth = u64::MAX;
     for j in start..stop {
         growth = growth.min(costs[j] - older[j]);
+    }
+    growth
+}
+
+// the same of a whole block: so the compiler knows how many costs there are
+#[inline(always)]
+fn least_of_block(older: &[u64], costs: &[u64], start: usize) -> u64
+    requires in_older { start + BLOCK ≤ length older.now }
+    requires in_costs { start + BLOCK ≤ length costs.now }
+    requires grow { (j : ℕ) → start ≤ j → j < start + BLOCK → slice_index older.now j ≤ slice_index costs.now j }
+    ensures least { (j : ℕ) → start ≤ j → j < start + BLOCK
+        → result ≤ slice_index costs.now j - slice_index older.now j }
+    ensures grown { (j : ℕ) × (start ≤ j) × (j < start + BLOCK)
+        × (result ≡ slice_index costs.now j - slice_index older.now j) }
+{
+    let mut growth = u64::MAX;
+    for k in 0..BLOCK {
+        growth = growth.min(costs[start + k] - older[start + k]);
     }
     growth
 }

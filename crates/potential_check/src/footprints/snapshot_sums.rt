@@ -143,8 +143,10 @@ impl<'a> SnapshotSums<'a> {
     {
         let mut most = [0u32; LANES];
         self.raise_some(i, start, stop, &mut most);
+        // (a slice of its own: then the compiler takes some places at once)
+        let needs = self.spans.needs();
         for j in start..stop {
-            costs[j] = u64::from(most[j - start]) * self.class_bytes(j);
+            costs[j] = u64::from(most[j - start]) * need_bytes(needs[j - 1]);
         }
     }
 
@@ -190,7 +192,7 @@ impl<'a> SnapshotSums<'a> {
         requires within { j ≤ places self.now.spans.now.counts self.now.spans.now.step }
         ensures { result ≡ granule_bytes * need_at self.now.spans.now.counts self.now.spans.now.step j }
     {
-        u64::from(GRANULE_BYTES) * u64::from(self.spans.need(j))
+        need_bytes(self.spans.need(j))
     }
 
     // the sums of a snapshot
@@ -210,6 +212,14 @@ impl<'a> SnapshotSums<'a> {
     {
         &self.narrow[t]
     }
+}
+
+// the bytes of so many granules
+#[inline(always)]
+fn need_bytes(need: u16) -> u64
+    ensures { result ≡ granule_bytes * need }
+{
+    u64::from(GRANULE_BYTES) * u64::from(need)
 }
 
 // how many places are written at once: few enough that their numbers stay in the nearest cache

@@ -30,13 +30,21 @@ small text end value short =
     let least = digits_value_short own (take (prefix_len is_ascii_digit text) text) 7 (are_digits text) size in
     omega (arith, short.value_is, ap (λ (n : ℕ). digits_value 10 (take n text)) short.is, least)
 
+-- the bytes of the text itself
+short-end : (text bytes : List ℕ) (end : ℕ) → bytes ≡ take 8 text → end ≡ prefix_len is_ascii_digit bytes → end < 8
+    → (value : ℕ) → value ≡ digits_value 10 (take end bytes) → IsShort text end value
+short-end text bytes end chunk count few value read = is_short text bytes end value chunk count read (λ e. absurd (omega (arith, e, few)))
+
+pub value_of-requires-clause-digits : goal.value_of-requires-clause-digits
+value_of-requires-clause-digits c = rw c.in_ok-end.ensures.count (are_digits c.in_ok-bytes.bytes.now)
+
 pub overflow_cast-result : goal.overflow_cast-result
 overflow_cast-result c =
     omega (
       arith,
-      small c.args.text.now c.leading_eight-end.result.0 c.leading_eight-end.result.1
-          (is_short c.args.text.now c.in_ok-first_chunk.field-0.now _ _ c.in_ok-first_chunk.ensures.cases.same
-          c.leading_eight-end.ensures.count c.leading_eight-end.ensures.value c.if-end-eq8.false),
+      small c.args.text.now c.in_ok-end.end c.value_of.result
+          (short-end c.args.text.now c.in_ok-bytes.bytes.now c.in_ok-end.end c.in_ok-bytes.ensures.cases.same
+          c.in_ok-end.ensures.count c.in_ok-end.ensures.few c.value_of.result c.value_of.ensures),
     )
 
 pub returns-clause-number : goal.returns-clause-number
@@ -44,8 +52,8 @@ returns-clause-number c =
     let text = c.args.text.now in
     let end = prefix_len is_ascii_digit text in
     let short =
-    is_short text c.in_ok-first_chunk.field-0.now c.leading_eight-end.result.0 c.leading_eight-end.result.1 c.in_ok-first_chunk.ensures.cases.same
-    c.leading_eight-end.ensures.count c.leading_eight-end.ensures.value c.if-end-eq8.false in
+    short-end text c.in_ok-bytes.bytes.now c.in_ok-end.end c.in_ok-bytes.ensures.cases.same c.in_ok-end.ensures.count
+    c.in_ok-end.ensures.few c.value_of.result c.value_of.ensures in
     let some : 0 < end = omega (arith, short.is, c.if-end-eq0.false) in
     a_number text end (prefix_len-le-length is_ascii_digit text) (omega (arith, short.is, short.few)) refl (are_digits text) some
     (elim c.if-end-gt1.either [
@@ -58,8 +66,8 @@ pub returns-clause-after : goal.returns-clause-after
 returns-clause-after c =
     let text = c.args.text.now in
     let short =
-    is_short text c.in_ok-first_chunk.field-0.now c.leading_eight-end.result.0 c.leading_eight-end.result.1 c.in_ok-first_chunk.ensures.cases.same
-    c.leading_eight-end.ensures.count c.leading_eight-end.ensures.value c.if-end-eq8.false in
+    short-end text c.in_ok-bytes.bytes.now c.in_ok-end.end c.in_ok-bytes.ensures.cases.same c.in_ok-end.ensures.count
+    c.in_ok-end.ensures.few c.value_of.result c.value_of.ensures in
     let same = short.is in
     grind (arith, common_steps, same)
 

@@ -1,4 +1,4 @@
-use Rattle.std.proofs.Common.{◌≡◌, ◌-◌, ◌^◌, ◌<◌, ℕ, min, List, [], ◌∷◌, length, take, refl, sym, arith, eqb-true, Option, None, Some}
+use Rattle.std.proofs.Common.{◌≡◌, ◌-◌, ◌^◌, ◌<◌, ℕ, min, List, [], ◌∷◌, length, take, drop, refl, sym, arith, eqb-true, Option, None, Some}
 use Rattle.std.proofs.lemmas.{Grind.{common_steps}, List.{take_more_set}, Option.{same_Some}}
 use Rattle.std.specs.Option.{option_map}
 use Rattle.line_text.proofs.FirstRows.{after-ended, after-last, row-ended, row-first, row-last, row-more}
@@ -31,9 +31,9 @@ loop-place-preserved c =
     let inside : c.loop-place.place < length c.loop-place.numbers = omega arith in
     let put = is_put _ c.in_ok-number.number c.in_ok-number.ensures.number in
     rw (take_more_set c.loop-place.numbers c.loop-place.place c.in_ok-number.number inside) (record {
-      row = row-more c.args.text.now c.loop-place.rest.now c.in_ok-after_byte.field-0.now c.in_ok-number.after.now c.in_ok-first.first
+      row = row-more c.args.text.now c.loop-place.rest.now (drop 1 c.loop-place.rest.now) c.in_ok-number.after.now c.in_ok-first.first
           (take c.loop-place.place c.loop-place.numbers) put.n c.in_ok-number.number c.loop-place.invariant.row
-          c.in_ok-after_byte.ensures.first put.is c.in_ok-number.ensures.after put.value;
+          c.in_ok-number.ensures.space put.is c.in_ok-number.ensures.after put.value;
     })
 
 pub returns-then-is_empty-clause-row : goal.returns-then-is_empty-clause-row
@@ -51,10 +51,10 @@ returns-then-is_empty-clause-after c =
 pub returns-clause-row : goal.returns-clause-row
 returns-clause-row c =
     rw (take-all c.loop-place.numbers c.loop-place.place (omega arith)) at (row-ended c.args.text.now c.loop-place.rest.now
-    c.in_ok-first.first (take c.loop-place.place c.loop-place.numbers) c.loop-place.invariant.row c.in_ok-after_byte-2.field-0.now
-    c.in_ok-after_byte-2.ensures.first)
+    c.in_ok-first.first (take c.loop-place.place c.loop-place.numbers) c.loop-place.invariant.row c.in_ok-after_byte.field-0.now
+    c.in_ok-after_byte.ensures.first)
 
 pub returns-clause-after : goal.returns-clause-after
 returns-clause-after c =
     after-ended c.args.text.now c.loop-place.rest.now c.in_ok-first.first (take c.loop-place.place c.loop-place.numbers)
-    c.loop-place.invariant.row c.in_ok-after_byte-2.field-0.now c.in_ok-after_byte-2.ensures.first
+    c.loop-place.invariant.row c.in_ok-after_byte.field-0.now c.in_ok-after_byte.ensures.first

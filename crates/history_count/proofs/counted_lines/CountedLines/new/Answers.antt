@@ -5,9 +5,9 @@ use Rattle.history_count.proofs.counted_lines.CountedLines.new.Goals as goal
 pub returns-clause-holds : goal.returns-clause-holds
 returns-clause-holds c =
     let all : c.loop.counter ≡ c.args.count = omega arith in
-    rw (c.new-2.ensures.items, c.loop.invariant.empty, all, c.in_ok-new.ensures) (holds-none c.args.count c.requires.some c.requires.few)
+    rw (c.new.ensures.items, c.loop.invariant.empty, all, c.in_ok-new.ensures) (holds-none c.args.count c.requires.some c.requires.few)
 
 pub returns-clause-snapshots : goal.returns-clause-snapshots
 returns-clause-snapshots c =
     let all : c.loop.counter ≡ c.args.count = omega arith in
-    rw (c.new-2.ensures.items, c.loop.invariant.empty, all) (spread-none c.args.count)
+    rw (c.new.ensures.items, c.loop.invariant.empty, all) (spread-none c.args.count)
