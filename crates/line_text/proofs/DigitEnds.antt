@@ -141,14 +141,19 @@ digit_end bytes n z eight small is mask some = go bytes eight small is
   where
     below : z < 2 ^ 64
     below = omega (arith, mask, and_le_r (both ((n + 14974415777481871312) % 2 ^ 64)) 9259542123273814144)
+
     place : ℕ
     place = count_trailing_zeros 64 z
+
     lowest : (place < 64) × (bit_at z place ≡ 1) × ((i : ℕ) → i < place → bit_at z i ≡ 0)
     lowest = bit_at-trailing_zeros w64 z (omega (arith, some)) below
+
     cut : 8 * (place / 8) + place % 8 ≡ place
     cut = omega arith
+
     up : IsUpper (place / 8) z
     up = is_upper (place / 8) z (place % 8) (omega arith) (ap (bit_at z) cut ∙ lowest.1) (λ i lt. lowest.2 i (omega (arith, lt, cut)))
+
     go : (bs : List ℕ) → length bs ≡ 8 → ((i : ℕ) → get_or bs i 0 < 256) → n ≡ from_le_bytes w64 bs → place / 8 ≡ prefix_len is_ascii_digit bs
     go (a ∷ b ∷ c ∷ d ∷ e ∷ f ∷ g ∷ h ∷ []) eight small is =
         let bs : List ℕ = a ∷ b ∷ c ∷ d ∷ e ∷ f ∷ g ∷ h ∷ [] in
