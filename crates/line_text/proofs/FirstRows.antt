@@ -1,20 +1,10 @@
 -- The numbers of the first line of a text, read from the front of the text.
 use Rattle.std.proofs.Common.{◌≡◌, ℕ, ◌-◌, ◌^◌, ◌<◌, ◌∙◌, min, List, [], ◌∷◌, ◌++◌, append-nil, append_assoc, length, length-append, drop}
-use Rattle.std.proofs.{Common.{refl, sym, ap, arith, All, Some, slice_get}, lemmas.List.Elements.{All-append, All-cons, All-nil}}
+use Rattle.std.proofs.{Common.{refl, sym, ap, arith, None, Option, Some, slice_get}, lemmas.List.Elements.{All-append, All-cons, All-nil}}
+use Rattle.std.{proofs.lemmas.Option.{same_Some}, specs.Option.{option_map}}
 use Rattle.line_text.proofs.Cuts.{line_alone, line_in_front_is_read, lines-nil, words_make_a_line, written_words_are_read}
-use Rattle.line_text.{proofs.Digits.{none_equal}, proofs.LeadingDigits.{are_digits, short_is_number}, specs.Rows.{IsRow, SpellNumbers}}
+use Rattle.line_text.{proofs.Digits.{none_equal}, proofs.LeadingDigits.{are_digits, short_is_number}, specs.Rows.{IsRow, IsRowSoFar, SpellNumbers}}
 use Rattle.line_text.specs.{Lines.{lines, line_of, IsLine, IsWord}, Numbers.{leading_digits, leading_number_of, number_of}}
-
--- The numbers that were read of the first line, and the rest of the text.
-pub record IsRowSoFar (text rest : List ℕ) (first : ℕ) (numbers : List ℕ) : Type 0 where
-  pub word : List ℕ
-  pub ws : List (List ℕ)
-  pub text_is : text ≡ line_of (word ∷ ws) ++ rest
-  pub are_words : All IsWord (word ∷ ws)
-  pub are_lines : All IsLine (word ∷ ws)
-  pub some : 0 < length word
-  pub first_is : number_of word ≡ Some first
-  pub numbers_are : SpellNumbers ws numbers
 
 digits_are_a_word : (text : List ℕ) → IsWord (leading_digits text)
 digits_are_a_word text = none_equal 32 (omega arith) (leading_digits text) (are_digits text)
@@ -76,6 +66,16 @@ row-more text rest more after first numbers n x row space is cut value =
       first_is = row.first_is;
       numbers_are = SpellNumbers-more row.ws numbers d n x row.numbers_are (short_is_number d n (sym is)) value;
     }
+
+-- a number that was read, as it stands in its place
+pub record IsPut (read : Option ℕ) (x : ℕ) : Type 0 where
+  pub n : ℕ
+  pub is : Some n ≡ read
+  pub value : x ≡ min n (2 ^ 32 - 1)
+
+pub is_put : (read : Option ℕ) (x : ℕ) → option_map (λ n. min n (2 ^ 32 - 1)) read ≡ Some x → IsPut read x
+is_put (Some n) x e = record { n = n; is = refl; value = sym (same_Some _ _ e) }
+is_put None x e = absurd cc
 
 -- the row is a line
 module _ (text rest : List ℕ) (first : ℕ) (numbers : List ℕ) (row : IsRowSoFar text rest first numbers) where

@@ -1,8 +1,9 @@
 //! A line of many numbers, in one pass over its bytes.
-ghost use Rattle.std.specs.Prelude.{◌≡◌, ◌++◌, ◌∷◌, ◌-◌, ◌^◌, ◌≤◌, [], true, IfSome, Some, drop, length, min, slice_get, slice_index};
+ghost use Rattle.std.specs.Prelude.{◌≡◌, ◌++◌, ◌∷◌, ◌-◌, ◌^◌, ◌≤◌, ℕ, List, [], true, IfSome, Some};
+ghost use Rattle.std.specs.Prelude.{drop, length, min, slice_get, slice_index, take};
 ghost use Rattle.line_text.specs.Lines.{lines};
 ghost use Rattle.line_text.specs.Numbers.{leading_digits, leading_number_of};
-ghost use Rattle.line_text.specs.Rows.{IsRow};
+ghost use Rattle.line_text.specs.Rows.{IsRow, IsRowSoFar};
 ghost use Rattle.std.specs.Int.{from_bool};
 ghost use Rattle.std.specs.Option.{option_map};
 
@@ -12,13 +13,42 @@ use crate::pair::after_byte;
 /// The first number of the first line of a text, and the text after that line; the other numbers of the line are then in `numbers`, which
 /// has a place for each of them. A larger number stands as the largest that a place holds. `None` if the line has another word, or more or
 /// fewer numbers, or one of them has more than 19 digits.
+/// Not inlined, nor is what reads a long number: in more code the constants of short numbers would not stay in registers.
 #[inline(never)]
 pub(crate) fn leading_row<'a>(text: &'a [u8], numbers: &mut [u32]) -> Option<(u64, &'a [u8])>
     ensures row { IfSome result (λ found. IsRow (slice_get (lines text.now) 0) found.0 numbers.new) }
     ensures after { IfSome result (λ found. lines found.1.now ≡ drop 1 (lines text.now)) }
 {
     let (first, mut rest) = leading_number(text)?;
-    for place in 0..numbers.len() {
+    let mut place = 0;
+    // most numbers are short
+    while place < numbers.len() {
+        let Some((number, after)) = short_in_place(rest) else {
+            break;
+        };
+        numbers[place] = number;
+        rest = after;
+        place += 1;
+    }
+    rest_of_row(first, rest, numbers, place)
+}
+
+// the same where the first number and those before a place were read
+#[inline(never)]
+fn rest_of_row<'a>(
+    first: u64,
+    rest: &'a [u8],
+    numbers: &mut [u32],
+    from: usize,
+) -> Option<(u64, &'a [u8])>
+    requires { from ≤ length numbers.old }
+    ensures row { (text : List ℕ) → IsRowSoFar text rest.now first (take from numbers.old)
+        → IfSome result (λ found. IsRow (slice_get (lines text) 0) found.0 numbers.new) }
+    ensures after { (text : List ℕ) → IsRowSoFar text rest.now first (take from numbers.old)
+        → IfSome result (λ found. lines found.1.now ≡ drop 1 (lines text)) }
+{
+    let mut rest = rest;
+    for place in from..numbers.len() {
         let (number, after) = next_in_place(rest)?;
         numbers[place] = number;
         rest = after;
@@ -55,23 +85,24 @@ fn next_in_place(text: &[u8]) -> Option<(u32, &[u8])>
         (λ pair. option_map (λ n. min n (2 ^ 32 - 1)) (leading_number_of (drop 1 text.now)) ≡ Some pair.0) }
     ensures after { IfSome result (λ pair. drop 1 text.now ≡ leading_digits (drop 1 text.now) ++ pair.1.now) }
 {
-    // most numbers are short: then one test serves for the length of the text
-    if 8 < text.len() && text[0] == b' ' {
-        if let Some(short) = short_leading_number(&text[1..]) {
-            return Some(short);
-        }
+    if let Some(short) = short_in_place(text) {
+        return Some(short);
     }
-    leading_in_place(after_byte(b' ', text)?)
+    let (number, after) = leading_number(after_byte(b' ', text)?)?;
+    Some((number.min(u64::from(u32::MAX)) as u32, after))
 }
 
-// The number at the start of a text, or the largest that a place holds if that is less, and the text after it.
-// Not inlined, nor is the loop over the places: in more code the constants of short numbers would not stay in registers.
-#[inline(never)]
-fn leading_in_place(text: &[u8]) -> Option<(u32, &[u8])>
+// The same of a number of at most seven digits in a text of at least nine bytes; `None` of any other text.
+#[inline(always)]
+fn short_in_place(text: &[u8]) -> Option<(u32, &[u8])>
+    ensures space { IfSome result (λ _. text.now ≡ 32 ∷ drop 1 text.now) }
     ensures number { IfSome result
-        (λ pair. option_map (λ n. min n (2 ^ 32 - 1)) (leading_number_of text.now) ≡ Some pair.0) }
-    ensures after { IfSome result (λ pair. text.now ≡ leading_digits text.now ++ pair.1.now) }
+        (λ pair. option_map (λ n. min n (2 ^ 32 - 1)) (leading_number_of (drop 1 text.now)) ≡ Some pair.0) }
+    ensures after { IfSome result (λ pair. drop 1 text.now ≡ leading_digits (drop 1 text.now) ++ pair.1.now) }
 {
-    let (number, after) = leading_number(text)?;
-    Some((number.min(u64::from(u32::MAX)) as u32, after))
+    // (one test for the length of the text serves for the space too)
+    if text.len() < 9 || text[0] != b' ' {
+        return None;
+    }
+    short_leading_number(&text[1..])
 }

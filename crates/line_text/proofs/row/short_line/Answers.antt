@@ -1,7 +1,8 @@
 use Rattle.std.proofs.Common.{◌≡◌, ◌+◌, ◌<◌, ℕ, List, [], ◌∷◌, ◌++◌, Some, length, drop, get_or, arith, ap, refl, sym, ◌∙◌, add-one}
 use Rattle.std.{proofs.Common.{drop-cons}, proofs.lemmas.Grind.{common_steps}, proofs.lemmas.List.{drop-drop}, specs.Char.{is_ascii_digit}}
 use Rattle.std.specs.{Int.{from_bool}, List.{prefix_len}}
-use Rattle.line_text.{proofs.FirstRows.{IsRowSoFar, after-ended, row-ended, row-first}, specs.Numbers.{leading_digits, leading_number_of}}
+use Rattle.line_text.{proofs.FirstRows.{after-ended, row-ended, row-first}, specs.Numbers.{leading_digits, leading_number_of}}
+use Rattle.line_text.specs.Rows.{IsRowSoFar}
 use Rattle.line_text.proofs.row.short_line.Goals as goal
 
 -- the digits in front of a text, and what comes after them
