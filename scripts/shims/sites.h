@@ -39,7 +39,9 @@ static uint32_t site_of(uint32_t stack, uint32_t counter) {
 // Writes how many numbers of each kind follow, and these: the events, twice their site and 1 for a free; the sites, a stack and a counter; the
 // words of the stacks, and where each begins in them; and the objects.
 static void write_sites(FILE *to, int events, const struct stacks *stacks) {
-  uint64_t words = stacks->used < STACK_WORDS ? stacks->used : STACK_WORDS, modules = stacks->modules < MODULES ? stacks->modules : MODULES;
+  uint64_t words = __atomic_load_n(&stacks->used, __ATOMIC_RELAXED), modules = __atomic_load_n(&stacks->modules, __ATOMIC_RELAXED);
+  if (words > STACK_WORDS) words = STACK_WORDS;  // loaded once: a process that is left can change them
+  if (modules > MODULES) modules = MODULES;
   uint64_t head[] = {events, sites.number, words, modules, sizeof *stacks->module};
   fwrite(head, sizeof *head, sizeof head / sizeof *head, to);
   fwrite(stacks->words, sizeof *stacks->words, words, to);
