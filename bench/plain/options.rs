@@ -99,7 +99,8 @@ impl Options {
         })
     }
 
-    fn number_of(&self, name: &str) -> Result<u64, Fault> {
+    /// The number of the command's option of this name.
+    pub fn number_of(&self, name: &str) -> Result<u64, Fault> {
         let it = self.numbers.iter().find(|it| it.name == name);
         let it = it.expect("the command has this option");
         in_range(it, self.given(name).or(it.default))

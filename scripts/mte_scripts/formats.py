@@ -1,12 +1,12 @@
 """The numbers of the formats and of the library's interface, and the codes with their words: the one table of them beside the proofs.
 
 scripts/tests/formats compares it with the laws that the crates prove of their numbers, with the texts of the codes that contracts cite, and
-with what the program and the documents say. It writes the parts of include/, library/, python/, rust/, web/, bench/plain and scripts/shims
-that have numbers, sentences, options or a call for each command.
+with what the program and the documents say. It writes the options of crates/tool_call and command_words, and the parts of include/, library/,
+python/, rust/, web/, bench/plain and scripts/shims that have numbers, sentences, options or a call for each command.
 """
 
 import re
-from typing import NamedTuple, Optional
+from typing import Iterable, NamedTuple, Optional
 
 from mte_scripts import claims
 
@@ -50,29 +50,46 @@ NUMBERS = {name: value for name, value in list(globals().items()) if name.isuppe
 
 class Option(NamedTuple):
     """An option of the commands: its range, its default (a limit has none, and has to be given), the bits that its number has in the proved
-    functions' structure, and what it is, with its values where these are not all of the range."""
+    functions' structure, what it is, the letter of its number and what it is in the help, and its values where these are not all of the
+    range."""
 
     least: int
     most: int
     default: Optional[int]
     bits: int
     words: str
+    letter: str
+    help: str
     values: str = ""
 
     def described(self) -> str:
         """What it is, with its values."""
-        return f"{self.words}: {self.values}" if self.values else f"{self.words}, {self.least} to {self.most}"
+        return self.with_values(self.words)
+
+    def with_values(self, words: str) -> str:
+        """Words with its values."""
+        return f"{words}: {self.values}" if self.values else f"{words}, {self.least} to {self.most}"
 
 
 # in the order of mte_tool_options, in which a new one is the last
 OPTIONS = {
-    "granules": Option(FEWEST_GRANULES, MOST_GRANULES, 65_536, 32, "the granules of the heap"),
-    "quarantine": Option(0, MOST_QUARANTINE, 65_536, 32, "the bytes of freed blocks that the heap holds back"),
-    "seed": Option(1, 65_535, 1, 16, "the seed of the random tags"),
-    "limit": Option(1, MOST_CLASSES, None, 8, "the most classes of the table"),
-    "step": Option(1, 8, 1, 8, "the granules that each class is a multiple of", "1, 2, 4 or 8"),
-    "largest_class": Option(0, 1, 0, 8, f"whether the table must have class {LARGEST_CLASS}", "0 or 1"),
+    "granules": Option(FEWEST_GRANULES, MOST_GRANULES, 65_536, 32, "the granules of the heap", "R", "The granules of the heap's region"),
+    "quarantine": Option(0, MOST_QUARANTINE, 65_536, 32, "the bytes of freed blocks that the heap holds back",
+                         "Q", "Bytes of freed blocks held back from reuse"),
+    "seed": Option(1, 65_535, 1, 16, "the seed of the random tags", "N", "What the random tags begin with"),
+    "limit": Option(1, MOST_CLASSES, None, 8, "the most classes of the table", "K", "The most classes that the table may have"),
+    "step": Option(1, 8, 1, 8, "the granules that each class is a multiple of", "S", "Each class is a multiple of S granules", "1, 2, 4 or 8"),
+    "largest_class": Option(0, 1, 0, 8, f"whether the table must have class {LARGEST_CLASS}",
+                            "L", f"Whether the table must have class {LARGEST_CLASS}", "0 or 1"),
 }
+
+# the help lists these first, and then the others as they stand above
+FIRST_IN_HELP = ("limit", "step", "largest_class", "granules", "seed")
+
+
+def in_help(names: "Iterable[str]") -> "list[str]":
+    """Options in the order of the help."""
+    return sorted(names, key=[*FIRST_IN_HELP, *(name for name in OPTIONS if name not in FIRST_IN_HELP)].index)
 
 
 class Command(NamedTuple):

@@ -38,8 +38,20 @@ def read(program: str) -> "Manifest | None":
 
 
 def hash_of(path: "str | bytes") -> str:
-    with open(path, "rb") as file:
-        return hashlib.sha256(file.read()).hexdigest()
+    descriptor = os.open(path, os.O_RDONLY | os.O_CLOEXEC)  # sooner than a file of Python's: there are 1,500 sources
+    try:
+        return hashlib.sha256(b"".join(iter(lambda: os.read(descriptor, 1 << 20), b""))).hexdigest()
+    finally:
+        os.close(descriptor)
+
+
+def files_in(folder: bytes) -> "list[bytes]":
+    """The files in a folder, and in those below it; none where it is not there."""
+    found = []
+    with contextlib.suppress(FileNotFoundError, NotADirectoryError), os.scandir(folder) as entries:
+        for each in entries:
+            found += files_in(each.path) if each.is_dir(follow_symlinks=False) else [each.path]
+    return found
 
 
 def sources_of(root: str) -> str:
@@ -48,8 +60,7 @@ def sources_of(root: str) -> str:
     files = [top + b"crates.txt"]
     for crate in os.listdir(top + b"crates"):
         for part in (b"src", b"specs", b"proofs"):
-            for folder, _, names in os.walk(os.path.join(top, b"crates", crate, part)):
-                files += [os.path.join(folder, name) for name in names]
+            files += files_in(os.path.join(top, b"crates", crate, part))
     listed = hashlib.sha256()
     for path in sorted(files):
         listed.update(f"{hash_of(path)}  ".encode() + path[len(top) :] + b"\n")

@@ -25,6 +25,7 @@ MOST_LINKS = 40
 WAITING = (_signal.SIGINT, _signal.SIGTERM, _signal.SIGHUP)
 LOOK = os.O_PATH | os.O_NOFOLLOW | os.O_CLOEXEC
 LIST = os.O_RDONLY | os.O_DIRECTORY | os.O_NOFOLLOW | os.O_CLOEXEC
+WRITE = os.O_WRONLY | os.O_TRUNC | os.O_CLOEXEC
 CREATE = os.O_WRONLY | os.O_CREAT | os.O_EXCL | os.O_NOFOLLOW | os.O_CLOEXEC
 
 
@@ -199,6 +200,7 @@ def output(path: str, is_new: bool = False) -> Place:
     """A folder that a script is to fill, made if it is missing. It may be in a place that others can change: what stands there is written to
     by the descriptor alone. Raises NotPrivate if it is another user's. One that IS_NEW was not there, and is empty."""
     above, name = os.path.split(os.path.abspath(path))
+    name = name or "."  # of the root, which is there
     if not is_new:
         os.makedirs(above, exist_ok=True)
     with Place(os.open(above, os.O_PATH | os.O_DIRECTORY | os.O_CLOEXEC), above) as place:
@@ -212,6 +214,36 @@ def output(path: str, is_new: bool = False) -> Place:
         made.close()
         raise NotPrivate(path)
     return made
+
+
+def output_file(path: str) -> int:
+    """A descriptor that writes a file from its begin; it is made if it is missing. Where others can change the folder, what another user put
+    there is neither written to nor followed, unless the folder is his own: raises NotPrivate."""
+    for _ in range(MOST_LINKS):
+        above, name = os.path.split(path)
+        with Place(os.open(above or ".", os.O_PATH | os.O_DIRECTORY | os.O_CLOEXEC), above or ".") as place:
+            found = written_or_link(place, name or ".", path)
+        if isinstance(found, int):
+            return found
+        path = os.path.join(above, found)
+    raise OSError(errno.ELOOP, os.strerror(errno.ELOOP), path)
+
+
+def written_or_link(place: Place, name: str, path: str) -> "int | str":
+    """A descriptor that writes what has this name in a folder; where a link has it, the path that it leads to."""
+    try:
+        entry = Place(os.open(name, LOOK, dir_fd=place.descriptor), path)
+    except FileNotFoundError:
+        return os.open(name, CREATE, 0o666, dir_fd=place.descriptor)
+    with entry:
+        status, folder = os.fstat(entry.descriptor), os.fstat(place.descriptor)
+        if is_written_by_others(folder) and not is_owned(status) and status.st_uid != folder.st_uid:
+            raise NotPrivate(path)
+        if not stat.S_ISLNK(status.st_mode):
+            return os.open(f"/proc/self/fd/{entry.descriptor}", WRITE)
+        if status.st_dev == os.stat("/proc").st_dev:  # as /dev/stdout, which leads to what is open and may have no path
+            return os.open(name, WRITE, dir_fd=place.descriptor)
+        return os.readlink("", dir_fd=entry.descriptor)
 
 
 def is_safe(path: str) -> bool:

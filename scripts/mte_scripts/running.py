@@ -15,6 +15,7 @@ import sys
 from _collections_abc import Callable
 
 FAILED, INTERRUPTED = 3, 130
+PATH = "/usr/local/bin:/usr/bin:/bin"  # where none is given: a compiler finds its parts by it
 ENDING = (_signal.SIGTERM, _signal.SIGHUP)
 
 
@@ -139,6 +140,7 @@ def unforeseen(kind: type, error: BaseException, trace: object) -> None:
 
 
 def begin() -> None:
+    os.environ.setdefault("PATH", PATH)
     if _signal.getsignal(_signal.SIGINT) is _signal.default_int_handler:  # and not ignored, as `nohup` and `&` may leave it
         _signal.signal(_signal.SIGINT, quit_quietly)
     sys.excepthook = unforeseen

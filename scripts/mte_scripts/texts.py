@@ -28,6 +28,7 @@ IS_PACKAGED = os.path.exists(os.path.join(ROOT, "mte_tool")) and not os.path.exi
 BUILT = os.path.join(ROOT, "mte_tool" if IS_PACKAGED else "crates/mte_tool/out/mte_tool")
 
 PIECE = 1 << 20
+MOST_TEXT = 1 << 30  # of a text that is read as a whole
 MOST_DIGITS = 4_000  # of a number; Python itself converts 4,300
 
 DIGITS = b"0123456789"
@@ -40,6 +41,7 @@ OTHER_TOOLS = re.compile(
 )
 EVENT_WORDS = (b"malloc", b"calloc", b"realloc", b"free", b"load", b"store", b"addg", b"subg")
 NUMBER = rb" (?:0|[1-9][0-9]{0,19})"
+NUMBERS = re.compile(rb"(?:%b)*" % NUMBER)
 CERTIFICATE = re.compile(
     rb"classes(?:%(n)s)*\nlimit%(n)s\n(?:step%(n)s\n)?(?:forced%(n)s\n)?"
     rb"(?:waste%(n)s\n(?:row(?:%(n)s)*\n)*|footprint%(n)s\n(?:row(?:%(n)s)*\n)*(?:moments(?:%(n)s)+\n)?)" % {b"n": NUMBER}
@@ -121,7 +123,7 @@ def new_folder(path: str, option: str) -> private_folder.Place:
     try:
         return private_folder.output(path, is_new=True)
     except FileExistsError:
-        raise Refused(3, f"{path} is there already: move it away, or name another folder by {option}") from None
+        raise Refused(3, f"{path} is there already: name another folder by {option}") from None
     except private_folder.NotPrivate:
         raise Refused(3, f"another user has put a folder of his in the place of {path}: name another place by {option}") from None
     except OSError as error:
@@ -131,8 +133,10 @@ def new_folder(path: str, option: str) -> private_folder.Place:
 def write_file(path: str, data: "str | bytes") -> None:
     """A file beside what is printed."""
     try:
-        with open(path, "wb") as file:
+        with open(private_folder.output_file(path), "wb") as file:
             file.write(data if isinstance(data, bytes) else data.encode(errors="surrogateescape"))
+    except private_folder.NotPrivate:
+        raise Refused(3, f"{path} can't be written: another user has put a file or a link there; name another place") from None
     except OSError as error:
         raise Refused(3, f"{path} can't be written: {error.strerror}") from None
 
@@ -179,22 +183,25 @@ def read(path: str, most: "int | None" = None) -> bytes:
         return next_piece(file, path, most)
 
 
-def read_some(path: str, most: int = MOST_INPUT, whose: str = "mte_tool reads") -> bytes:
-    """The bytes of a file that has some, and no more than so many. No more are read, whatever it is."""
+def read_some(path: str, most: int = MOST_INPUT, whose: str = "mte_tool reads", if_empty: int = 2) -> bytes:
+    """The bytes of a file that has some, and no more than so many. No more are read, whatever it is. One that is empty has its own status."""
     data, name = read(path, most + 1), printable(named(path))
     if not data:
-        raise Refused(2, f"{name} is empty: did the command that writes it fail?")
+        raise Refused(if_empty, f"{name} is empty: did the command that writes it fail?")
     if len(data) > most:
         raise Refused(2, f"{name} has more than the {most:,} bytes that {whose}")
     return data
 
 
 def next_piece(file: BinaryIO, path: str, most: "int | None" = PIECE) -> bytes:
-    """So many bytes of a file, or all that are left; fewer where it ends."""
+    """So many bytes of a file, or all that are left, which may be MOST_TEXT at most: a source that never ends is refused."""
     try:
-        return file.read(most)
+        data = file.read(MOST_TEXT + 1 if most is None else most)
     except OSError as error:
         raise Refused(2, f"{named(path)} can't be read: {error.strerror}") from None
+    if most is None and len(data) > MOST_TEXT:
+        raise Refused(2, f"{printable(named(path))} has more than the {MOST_TEXT:,} bytes that are read at once")
+    return data
 
 
 def read_profile(path: str) -> dict:
@@ -466,7 +473,7 @@ def parts_of(text: "str | bytes", name: str, kind: str, cost: bytes) -> tuple:
     rows = []
     for at, line in enumerate(lines[1:], 2):
         word, *values = line.split(b" ")
-        has_numbers = all(re.fullmatch(rb"0|[1-9][0-9]{0,19}", value) for value in values)
+        has_numbers = bool(NUMBERS.fullmatch(line, len(word)))
         if has_numbers and word == b"row":
             rows.append(list(map(int, values)))
         elif has_numbers and word in (b"limit", b"step", b"forced", cost) and len(values) == 1 and not rows:
@@ -480,9 +487,14 @@ def parts_of(text: "str | bytes", name: str, kind: str, cost: bytes) -> tuple:
 
 
 def joined(first: "str | bytes", second: "str | bytes", name: str = "the first text") -> bytes:
-    """A class line, a sheet or a fit, and what comes after it, as the one text that the program reads. The first has to be whole and nothing
-    else, and the second may not go on with it, since the program can't see where they were joined. They are joined nowhere else."""
-    lines, second = lines_of(os.fsencode(first)), os.fsencode(second)
+    """A class line, a sheet or a fit, and what comes after it, as the one text that the program reads."""
+    return begin_of(first, os.fsencode(second), name) + os.fsencode(second)
+
+
+def begin_of(first: "str | bytes", second: bytes, name: str = "the first text") -> bytes:
+    """The first of two texts as it stands before the second. It has to be whole and nothing else, and the second may not go on with it, since the
+    program can't see where they were joined. They are joined nowhere else."""
+    lines = lines_of(os.fsencode(first))
     if len(lines) < 2:
         parse_class_line(lines[0] if lines else None, name)
     elif not CERTIFICATE.fullmatch(b"".join(line + b"\n" for line in lines)):
@@ -494,7 +506,7 @@ def joined(first: "str | bytes", second: "str | bytes", name: str = "the first t
         raise Refused(2, f"{name}: line {at + 1}: no {kind} has this line here")
     if first_line(second).split(b" ", 1)[0] in (b"row", b"moments"):
         raise Refused(2, f"what comes after {name} begins with a line of a sheet: {shown(lines_of(second)[0])}")
-    return b"".join(line + b"\n" for line in lines) + second
+    return b"".join(line + b"\n" for line in lines)
 
 
 def output_of(words: "Sequence[Any]", **how: Any) -> bytes:
@@ -515,8 +527,21 @@ def trust() -> claims.Trust:
     """Whether the program that answers is a proved one: no other that MTE_TOOL names, but the one of its manifest."""
     if os.environ.get("MTE_TOOL"):
         return claims.Trust(False, "MTE_TOOL names another program")
-    why = manifest.why_unproved(program(), None if IS_PACKAGED else ROOT)
+    why = why_unproved()
     return claims.Trust(not why, why)
+
+
+@functools.lru_cache(maxsize=None)
+def why_unproved() -> str:
+    """Why the built program is not known to be proved, or an empty text. Where it is not, it is built first, if that has to be."""
+    root = None if IS_PACKAGED else ROOT
+    if not manifest.why_unproved(BUILT, root):
+        return ""
+    launcher = os.path.join(SCRIPTS, "mte_tool")
+    # the launcher says on standard error how far its build is
+    if subprocess.run([launcher, "--version"], stdin=subprocess.DEVNULL, stdout=subprocess.DEVNULL).returncode != 0:
+        raise Refused(3, "the program mte_tool could not run")
+    return manifest.why_unproved(BUILT, root)
 
 
 @functools.lru_cache(maxsize=None)
@@ -526,18 +551,15 @@ def program() -> str:
     if other:
         say("mte_tool", claims.TEMPLATES["program.other"].format(path=other))
         return os.path.abspath(other)
-    launcher = os.path.join(SCRIPTS, "mte_tool")
-    # the launcher says on standard error how far its build is
-    if subprocess.run([launcher, "--version"], stdin=subprocess.DEVNULL, stdout=subprocess.DEVNULL).returncode != 0:
-        raise Refused(3, "the program mte_tool could not run")
+    why_unproved()
     return BUILT
 
 
-def mte_tool(words: list[str], given: bytes = b"") -> tuple[int, bytes, str]:
-    """Runs the program over these bytes: its status, its output, and its standard error as text."""
+def mte_tool(words: list[str], *given: bytes) -> tuple[int, bytes, str]:
+    """Runs the program over these bytes, one after the other: its status, its output, and its standard error as text."""
     try:
         with open(os.memfd_create("given"), "w+b") as file:  # a pipe would take a piece of it at a time
-            file.write(given)
+            file.writelines(given)
             file.seek(0)
             done = subprocess.run([program(), *words], stdin=file, stdout=subprocess.PIPE, stderr=subprocess.PIPE)
     except OSError as error:

@@ -4,17 +4,18 @@
 //
 // FOUND is a descriptor: a page of notes, and then the texts that they give the lengths of. LIBRARIES are those of the program's
 // LD_PRELOAD, stream.c's first. WANTED is `all`: all requests of all processes; or of the first process, with what it runs in its own
-// place: `live`, the blocks live at the peak; `history N`, these and N snapshots; `timeline`, the record of the run, and with `events` after
-// it its events by numbers too; `windows N AT..`, its
-// moments, N windows and those after AT events, a history of the windows' most after that, and AT of each moment; `classes`, its moments for the classes of TABLES alone, class lines with a
-// comma between them; `trace N`, at most N events. With `-` before it a realloc leaves a block where Scudo does. `none`: nothing is followed,
-// and only the most resident memory is noted. ONLY: processes whose program has this name. PATH is the program's file, the words its own.
+// place: `live`, the blocks live at the peak; `history N`, these and N snapshots; `timeline`, the record of the run; `windows N AT..`, its
+// moments, N windows and those after AT events, a history of the windows' most after that, and AT of each moment; `classes`, its moments for
+// the classes of TABLES alone, class lines with a comma between them; `trace N`, at most N events. With `-` before it a realloc leaves a block
+// where Scudo does. `none`: nothing is followed, and only the most resident memory is noted. ONLY: processes whose program has this name. PATH
+// is the program's file, the words its own.
 // Without a program the stream is the file STREAM, of processes that something else starts; or for `-` it is the timeline, of any length, on
 // standard input.
 //
 // The texts are written when the program ends, or at SIGTERM where there is none; and meanwhile at SIGUSR1. Where nothing can be recorded
 // the program runs on, and the notes say why.
 #define _GNU_SOURCE
+#include <dirent.h>
 #include <errno.h>
 #include <fcntl.h>
 #include <limits.h>
@@ -28,7 +29,7 @@
 #include "traced.h"
 
 enum { PATIENCE = 2000, WHILE_FULL = 500, ABOUT_TO_END = 200, SAMPLES = 20, LOOKS = 10, LEFT = 32, NAMED = 16, LOOKED_AT = 8 };  // milliseconds, samples, processes
-enum { PROFILE, WANTED, MOMENTS, UPPER, SITES, EVENTS, TEXTS };  // the texts: of MOMENTS are the numbers; sites.h has SITES, and kept.h EVENTS
+enum { PROFILE, WANTED, MOMENTS, UPPER, SITES, TEXTS };  // the texts: of MOMENTS are the numbers; sites.h has SITES
 // mte_scripts/recording/notes.py reads it
 static struct notes {
   uint64_t version;                            // how often the texts were written; 0 while there are none
@@ -388,7 +389,6 @@ static void write_texts(void) {
   FILE *to = fdopen(fcntl(found, F_DUPFD_CLOEXEC, 0), "w");
   if (!to) give_up("it has no memory");
   setvbuf(to, NULL, _IOFBF, 1 << 20);
-  int is_record = record_of && !kept.is_reduced;
   written = PAGE, number_chosen = 0, notes->events = kept.events, notes->is_cut = kept.is_reduced && record_of == RECORDS;
   write_profile(to, strcmp(wanted, "all") ? NULL : all), end_text(to, PROFILE);
   write_wanted(to), end_text(to, WANTED), notes->snapshots = number_chosen;
@@ -396,10 +396,8 @@ static void write_texts(void) {
   end_text(to, MOMENTS);
   if (windows.wanted && kept.is_reduced) write_moments(to, 1);
   end_text(to, UPPER);
-  WITH_STACKS(if (is_record) write_sites(to, kept.piece, stacks);)
+  WITH_STACKS(if (record_of && !kept.is_reduced) write_sites(to, kept.piece, stacks);)
   end_text(to, SITES);
-  if (is_record && strstr(wanted, "events")) write_events(to);
-  end_text(to, EVENTS);
   if (fclose(to)) give_up("there is no room for what is recorded");
   note();
   __atomic_fetch_add(&notes->version, 1, __ATOMIC_RELEASE);
@@ -469,7 +467,7 @@ static void begin_wanted(const char *words) {
   long number = strtol(wanted + strcspn(wanted, " "), &more, 10);
   if (*wanted == 'h') snapshots = some((number_of_snapshots = number - 1) * sizeof *snapshots + 1);
   if (*wanted == 'w' || !strcmp(wanted, "classes")) record_of = REDUCES;
-  if (!strncmp(wanted, "timeline", 8)) record_of = RECORDS;
+  if (!strcmp(wanted, "timeline")) record_of = RECORDS;
   if (*wanted == 'w' || record_of == RECORDS) {
     windows.wanted = number ? number : USUAL_WINDOWS, begin_table(&tables[number_of_tables++], NULL);
     for (int k = 0; WEIGHED[k]; k++) begin_table(&tables[number_of_tables++], WEIGHED[k]);
@@ -482,9 +480,61 @@ static void begin_wanted(const char *words) {
   begin_kept();
 }
 
+// ---- processes that are left
+
+// When a process began, in ticks since the system did; 0 where it is gone.
+static uint64_t began(const char *process) {
+  char path[64], text[1024], *at;
+  uint64_t start = 0;
+  snprintf(path, sizeof path, "/proc/%.20s/stat", process);
+  FILE *file = fopen(path, "re");
+  text[file ? fread(text, 1, sizeof text - 1, file) : 0] = 0;
+  if (file) fclose(file);
+  if ((at = strrchr(text, ')'))) sscanf(at + 1, " %*c %*s %*s %*s %*s %*s %*s %*s %*s %*s %*s %*s %*s %*s %*s %*s %*s %*s %*s %lu", &start);
+  return start;
+}
+
+// Whether a file of a process in /proc has a line, or a word that ends so, with both texts.
+static int tells(const char *process, const char *name, int end, const char *text, const char *key) {
+  char path[64], *line = NULL;
+  size_t room = 0;
+  int has = 0;
+  snprintf(path, sizeof path, "/proc/%.20s/%s", process, name);
+  FILE *file = fopen(path, "re");
+  while (file && !has && getdelim(&line, &room, end, file) > 0) has = strstr(line, text) && strstr(line, key);
+  if (file) fclose(file);
+  free(line);
+  return has;
+}
+
+static void note_left(pid_t process) {
+  uint64_t left = __atomic_load_n(&notes->left, __ATOMIC_RELAXED);  // loaded once: a program may overwrite it
+  if (left >= LEFT) return;
+  for (uint64_t k = 0; k < left; k++)
+    if (notes->processes[k] == (uint64_t)process) return;
+  notes->processes[left] = process, notes->left = left + 1;
+}
+
+// Notes the younger processes that have the stream, or are to open it: a fork that has made no call yet has no ring.
+static void note_holders(void) {
+  char inode[64], place[64];
+  struct stat status = {0};
+  uint64_t own = began("self");
+  DIR *all = fstat(opened, &status) ? NULL : opendir("/proc");
+  snprintf(inode, sizeof inode, " %lu ", (unsigned long)status.st_ino), snprintf(place, sizeof place, "/proc/%d/fd/%d", getpid(), opened);
+  for (struct dirent *entry; all && (entry = readdir(all));) {
+    pid_t process = atoi(entry->d_name);
+    if (process <= 0 || process == getpid() || began(entry->d_name) < own) continue;
+    if (tells(entry->d_name, "maps", '\n', "/memfd:mte_stream", inode) || tells(entry->d_name, "environ", 0, "MTE_STREAM=", place))
+      note_left(process);
+  }
+  if (all) closedir(all);
+}
+
 // until the program has ended, or one that has no end is told to; then those that are about to end
 static void follow(void) {
   uint64_t ended = 0, sampled = 0;
+  int has_looked = 0;
   for (int idle = 0;;) {
     wait_for_program(WNOHANG), looks %= LOOKS;
     int is_last = ended && now() - ended > ABOUT_TO_END;
@@ -496,7 +546,8 @@ static void follow(void) {
     if (!ended && (child < 0 ? ends != 0 : has_ended)) ended = now();
     int rings = 0;
     for (uint64_t k = 0; k < number_of_rings && !rings; k++) rings = stream->rings[k].process != 0;
-    if (ended && (is_last || (!more && !rings))) break;
+    if (has_ended && !more && !rings && !has_looked) has_looked = 1, note_holders();
+    if (ended && (is_last || (!more && !rings && !notes->left))) break;
     idle = more ? 0 : idle + 1;
     // some way behind the writers, so that they do not share a line of the cache with the reader; but not far
     if (more < (ended ? 1 : RING / 4)) usleep(more ? 2000 : idle < 20 ? 200 : 5000);
@@ -523,10 +574,11 @@ int main(int argc, char **argv) {
   begin_wanted(argv[5]);
   if (is_text) return read_timeline(&ends), write_texts(), 0;
   follow();
+  if (notes->left) notes->left = 0, note_holders();
   for (uint64_t k = 0; k < number_of_rings; k++) {
     pid_t process = stream->rings[k].process;
     if (!stream->rings[k].start || notes->spoiled) continue;
-    if (is_there(process) && notes->left < LEFT) notes->processes[notes->left++] = process;
+    if (is_there(process)) note_left(process);
     end_ring(k);
   }
   stream->closed = 1;

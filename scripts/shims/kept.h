@@ -58,7 +58,7 @@ static void remove_block(struct block *at) {
 #ifndef PIECE
 #define PIECE (1 << 20)
 #endif
-enum { PIECES = 64, MOST_TEXT = MOST_INPUT - (1 << 20), SNAPSHOTS = 64 };
+enum { PIECES = 64, MOST_TEXT = MOST_INPUT - (1 << 20) };
 enum { RECORDS = 1, REDUCES = 2 };
 static struct kept {
   int64_t bytes, most, large, most_large, events, requests;
@@ -169,17 +169,5 @@ static void write_timeline(FILE *to) {
     memcpy(end, lines[is_free][sizes.counters[place]], 8), end += sizes.lines[place] + is_free;
   }
   fwrite(room, 1, end - room, to);
-}
-
-// Writes its events in two bytes each.
-static void write_events(FILE *to) {
-  static uint16_t codes[PIECE];
-  for (int i = 0, number; i < kept.piece; i += number) {
-    for (number = 0; number < PIECE && i + number < kept.piece; number++) {
-      uint16_t code = pieces[i / PIECE][number];
-      codes[number] = sizes.counters[place_in(code)] | (code & FREED);
-    }
-    fwrite(codes, sizeof *codes, number, to);
-  }
 }
 #endif

@@ -267,11 +267,6 @@ def rust_number(number):
     return f"{number:_}" if number > 9999 else str(number)
 
 
-def options_of_proved_rust():
-    """The members of the options, each of its own bits."""
-    return "".join(f"    /// {rust_words(it.described())}\n    pub {name}: u{it.bits},\n" for name, it in OPTIONS.items())
-
-
 def options_of_rust():
     value = lambda it: str(bool(it.default)).lower() if it.most == 1 else rust_number(it.default)
     defaults = ", ".join(name if it.default is None else f"{name}: {value(it)}" for name, it in OPTIONS.items())
@@ -380,6 +375,134 @@ def commands_of_rust():
     ])
 
 
+# ---- the options in the crates
+
+def pascal(name):
+    return "".join(part.capitalize() for part in name.split("_"))
+
+
+def names_in_help():
+    return formats.in_help(OPTIONS)
+
+
+def of_each_name(value):
+    """The lines of a match over the options."""
+    return "".join(f"            OptionName::{pascal(name)} => {value(name, OPTIONS[name])},\n" for name in names_in_help())
+
+
+def rust_row(name, items, kind):
+    """A constant of names, laid out as rt fmt does."""
+    line = ", ".join(items)
+    listed_items = f"&[{line}]" if len(line) <= 60 else "&[\n" + "".join(f"    {item},\n" for item in items) + "]"
+    return f"const {name}: &[{kind}] = {listed_items};\n"
+
+
+def options_of_crates():
+    """The options of the proved program, with the functions that have a case for each."""
+    return (
+        f"//! The options, and which of them each command has. {WRITTEN}\n"
+        "ghost use Rattle.std.specs.Prelude.{◌≡◌, ◌≤◌};\n"
+        "ghost use Rattle.tool_call.specs.OptionTable.{facts, number_of, options_of, with_number};\n\n"
+        "use crate::call::CommandName;\n\n"
+        f"{types_of_options()}\n{functions_of_options()}\n{rows_of_commands()}"
+    )
+
+
+def types_of_options():
+    names = "".join(f"    {pascal(name)},\n" for name in names_in_help())
+    members = "".join(f"    /// {rust_words(it.described())}\n    pub {name}: u{it.bits},\n" for name, it in OPTIONS.items())
+    return (
+        f"/// An option's name, in the order of the help.\n#[derive(Clone, Copy, Debug, PartialEq, Eq)]\npub enum OptionName {{\n{names}}}\n\n"
+        "/// The options of all commands. A command reads those that are its own.\n"
+        f"#[repr(C)]\n#[derive(Clone, Copy, Debug)]\npub struct Options {{\n{members}}}\n"
+    )
+
+
+def functions_of_options():
+    none = "".join(f"        {name}: 0,\n" for name in OPTIONS)
+    defaults = "".join(f"        {name}: {rust_number(it.least if it.default is None else it.default)},\n" for name, it in OPTIONS.items())
+    ranges = of_each_name(lambda name, it: f"({rust_number(it.least)}, {rust_number(it.most)})")
+    number = of_each_name(lambda name, it: f"self.{name}" if it.bits == 32 else f"u32::from(self.{name})")
+    cast = lambda it: "" if it.bits == 32 else f" as u{it.bits}"
+    changed = of_each_name(lambda name, it: f"Options {{\n                {name}: n{cast(it)},\n                ..self\n            }}")
+    return (
+        "impl OptionName {\n    /// The least number that the option takes, and the greatest.\n"
+        "    pub fn range(self) -> (u32, u32)\n        ensures { result ≡ ((facts self).least, (facts self).most) }\n    {\n"
+        f"        match self {{\n{ranges}        }}\n    }}\n}}\n\n"
+        "impl Options {\n    /// All of them 0.\n"
+        f"    pub const NONE: Options = Options {{\n{none}    }};\n\n"
+        "    /// The program's own defaults; what has none is its least number.\n"
+        f"    pub const DEFAULTS: Options = Options {{\n{defaults}    }};\n\n"
+        "    /// The number of an option.\n"
+        "    pub fn number(self, option: OptionName) -> u32\n        ensures { result ≡ number_of option self }\n    {\n"
+        f"        match option {{\n{number}        }}\n    }}\n\n"
+        "    /// The options with this number for one of them, which takes it.\n"
+        "    pub fn with(self, option: OptionName, n: u32) -> Options\n        requires { n ≤ (facts option).most }\n"
+        "        ensures { result ≡ with_number self option n }\n    {\n"
+        f"        match option {{\n{changed}        }}\n    }}\n}}\n"
+    )
+
+
+def rows_of_commands():
+    rows = {name: formats.in_help(it.options) for name, it in COMMANDS.items()}
+    first = {tuple(options): name.upper() for name, options in reversed(rows.items()) if options}  # the first command with these options
+    consts = "\n".join(rust_row(first[options], [f"OptionName::{pascal(option)}" for option in options], "OptionName") for options in reversed(first))
+    arms = "".join(f"        CommandName::{pascal(name)} => {first.get(tuple(options), '&[]')},\n" for name, options in rows.items())
+    return (
+        f"{consts}\n"
+        "/// The options of a command, in the order in which the help lists them.\n"
+        "pub fn options_of(command: CommandName) -> &'static [OptionName]\n    ensures { result.now ≡ options_of command }\n{\n"
+        f"    match command {{\n{arms}    }}\n}}\n"
+    )
+
+
+def definitions_of_options():
+    """The same as definitions."""
+    variants = ", ".join(map(pascal, names_in_help()))
+    table = lambda name, kind, head, value: (
+        f"abbrev pub {name} : {kind}\n" + "".join(f"{head.format(pascal(it))} = {value(it, OPTIONS[it])}\n" for it in names_in_help()))
+    default = lambda it: "None" if it.default is None else f'Some (codes "{it.default}")'
+    rows = "".join(f"options_of command.{pascal(name)} = {' ∷ '.join([*map(pascal, formats.in_help(it.options)), '[]'])}\n" for name, it in COMMANDS.items())
+    return (
+        f"-- The options, and which of them each command has. {WRITTEN}\n"
+        "use Rattle.std.specs.Prelude.{ℕ, List, [], ◌∷◌, Option, Some, None, codes}\n"
+        "use Rattle.tool_call.specs.declared.{call.CommandName.{CommandName}, options.OptionName.{OptionName}, options.Options.{Options}}\n"
+        "use Rattle.tool_call.specs.declared.call.CommandName.TheVariants as command\n"
+        f"use Rattle.tool_call.specs.declared.options.OptionName.TheVariants.{{{variants}}}\n\n"
+        "-- An option's name, the least and the greatest number that it takes, and its default; one without a default may not be left out.\n"
+        "pub record OptionFacts : Type 0 where\n  pub name : List ℕ\n  pub least : ℕ\n  pub most : ℕ\n  pub default : Option (List ℕ)\n\n"
+        + table("facts", "OptionName → OptionFacts", "facts {}", lambda name, it:
+                f'record {{ name = codes "{hyphenated(name)}"; least = {it.least}; most = {it.most}; default = {default(it)} }}') +
+        "\n-- The number of an option.\n"
+        + table("number_of", "OptionName → Options → ℕ", "number_of {} options", lambda name, it: f"options.{name}") +
+        "\n-- The options with another number for one of them.\n"
+        + table("with_number", "Options → OptionName → ℕ → Options", "with_number options {} n", lambda name, it: f"record options {{ {name} = n }}") +
+        "\n-- All of them 0.\nabbrev pub no_options : Options\n"
+        f"no_options = record {{ {'; '.join(f'{name} = 0' for name in OPTIONS)} }}\n\n"
+        "-- The options of a command, in the order in which the help lists them.\n"
+        f"abbrev pub options_of : CommandName → List OptionName\n{rows}"
+    )
+
+
+def words_of_options():
+    """The options as clap gets them."""
+    def words(name, it):
+        default = "None" if it.default is None else f'Some("{it.default}")'
+        members = {"name": f'"{hyphenated(name)}"', "value_name": f'"{it.letter}"', "least": rust_number(it.least), "most": rust_number(it.most),
+                   "default": default, "help": f'"{it.with_values(it.help)}"'}
+        return "NumberOption {\n" + "".join(f"            {member}: {value},\n" for member, value in members.items()) + "        }"
+    arms = "".join(f"        OptionName::{pascal(name)} => {words(name, OPTIONS[name])},\n" for name in names_in_help())
+    return (
+        f"//! The words of each option. {WRITTEN}\n"
+        "ghost use Rattle.std.specs.Prelude.{◌≡◌};\n"
+        "ghost use Rattle.command_words.specs.Options.{facts_of};\n"
+        "ghost use Rattle.tool_call.specs.OptionTable.{facts};\n\n"
+        "use crate::options::NumberOption;\nuse tool_call::OptionName;\n\n"
+        "/// An option as clap gets it.\npub fn number_option(option: OptionName) -> NumberOption\n    ensures { facts_of result ≡ facts option }\n{\n"
+        f"    match option {{\n{arms}    }}\n}}\n"
+    )
+
+
 # ---- the commands in plain Rust
 
 def options_of_plain():
@@ -481,7 +604,9 @@ PARTS = {
     "library/options.h": [(r"(?s).*", options_of_proved())],
     "library/layer.h": [(r"enum \{ SCORE,.*\};", f"enum {{ {', '.join(name.upper() for name in COMMANDS)} }};")],
     "library/pointers.c": [(r"(CALL(_ON)?\(\w+, \w+\)\n)+", calls_of_pointers())],
-    "crates/tool_call/src/options.rt": [(r"(?s)(?<=    // written by scripts/tests/formats\n).*?(?=\})", options_of_proved_rust())],
+    "crates/tool_call/src/options.rt": [(r"(?s).*", options_of_crates())],
+    "crates/tool_call/specs/OptionTable.antt": [(r"(?s).*", definitions_of_options())],
+    "crates/command_words/src/option_table.rt": [(r"(?s).*", words_of_options())],
     "python/mte_tool/_formats.py": [(r"(?s).*", options_of_python())],
     "python/mte_tool/_codes.py": [(r"(?s).*", codes_of_python())],
     "python/mte_tool/_commands.py": [(r"(?s).*", commands_of_python())],

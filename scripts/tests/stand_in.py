@@ -5,6 +5,7 @@ what it does: `refused` is a failed proof, `untried` no answer without one, `slo
 that is edited meanwhile."""
 
 import os
+import re
 import shutil
 import signal
 import subprocess
@@ -66,6 +67,14 @@ chmod +x out/mte_tool
 """
 
 
+MINUTES = re.compile(r"about \d+ minutes?\b")
+
+
+def timeless(said: str) -> str:
+    """What is said, with 2 minutes wherever it says how long a build takes: that goes by the memory that is free, and by what else runs."""
+    return MINUTES.sub("about 2 minutes", said)
+
+
 def alive(process: str) -> bool:
     """Whether a process runs, and is no zombie."""
     try:
@@ -109,6 +118,11 @@ class Repository(commands.Commands):
         got = self.call(self.launcher, *words, **{**self.with_rt, **more})
         expect(f"mte_tool {' '.join(words)}: {status} and {out!r}", (got, self.out.rstrip("\n")) == (status, out), got, self.out, self.err)
 
+    def call(self, *words: str, **more) -> int:
+        status = super().call(*words, **more)
+        self.err = timeless(self.err)
+        return status
+
     def touch(self, *names: str) -> None:
         with open(self.path("repo", *names), "a"):
             os.utime(self.path("repo", *names))
@@ -128,7 +142,7 @@ class Repository(commands.Commands):
         expect(f"cut off by {name}: its build ends", len(children) == 2 and ends, children)
         gone = wait_for(lambda: not os.listdir(self.path("temporary")), 20)
         expect(f"cut off by {name}: no temporary file", gone, os.listdir(self.path("temporary")))
-        return run.returncode, out, err
+        return run.returncode, out, timeless(err or "")
 
     def started(self, *words: str, to: int = subprocess.PIPE) -> subprocess.Popen:
         """The launcher in the background, with a folder of its own for temporary files."""

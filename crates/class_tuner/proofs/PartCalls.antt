@@ -8,11 +8,7 @@ use Rattle.class_tuner.specs.{CallCounts.{AreCallsForPart, tried_within}, declar
 -- a part without places
 pub calls-none : (ends : List ℕ) (part : Range ℕ) (window : Window) (calls : ℕ) → part.end ≤ part.start
     → AreCallsForPart calls calls ends part window
-calls-none ends part window calls none = record {
-  exact = λ b lt. omega (arith, tried-none (slice_index ends) b part.start part.end window.low window.high none);
-  bounded = λ b lt. omega arith;
-  most = omega arith;
-}
+calls-none ends part window calls none = grind (arith, tried-none)
 
 -- a part with places: the calls for the middle one, and those for each half, whose ends stay
 module _ (ends_left ends : List ℕ) (part : Range ℕ) (window : Window) (middle first end calls here left right : ℕ)

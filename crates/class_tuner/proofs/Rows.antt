@@ -30,25 +30,11 @@ least-same cost d before before' i number number' end end' same same_number same
 module _ (cost : ℕ → ℕ → ℕ) (d : ℕ) where
   pub row-first : (row : Row) (costs ends : List ℕ) → row.costs.items ≡ costs → row.ends.items ≡ ends → length costs ≡ d → length ends ≡ d
       → ((i : ℕ) → i < d → slice_index costs i ≡ cost i d) → ((i : ℕ) → i < d → slice_index ends i ≡ d) → IsFirstRow cost d row
-  row-first row costs ends costs_are ends_are costs_size ends_size are last =
-      record {
-        costs_length = ap length costs_are ∙ costs_size;
-        ends_length = ap length ends_are ∙ ends_size;
-        costs = λ i lt. ap (λ (l : List ℕ). slice_index l i) costs_are ∙ are i lt;
-        ends = λ i lt. ap (λ (l : List ℕ). slice_index l i) ends_are ∙ last i lt;
-      }
+  row-first row costs ends costs_are ends_are costs_size ends_size are last = grind arith
 
   pub row-next : (before : List ℕ) (row : Row) (costs ends : List ℕ) → row.costs.items ≡ costs → row.ends.items ≡ ends
       → length costs ≡ d → length ends ≡ d → IsFilledWithin cost d before costs ends 0 d → IsNextRow cost d before row
-  row-next before row costs ends costs_are ends_are costs_size ends_size filled =
-      record {
-        costs_length = ap length costs_are ∙ costs_size;
-        ends_length = ap length ends_are ∙ ends_size;
-        filled = λ i from below.
-            let number = ap (λ (l : List ℕ). slice_index l i) costs_are in
-            let end = ap (λ (l : List ℕ). slice_index l i) ends_are in
-            rw (number, end) (filled i from below);
-      }
+  row-next before row costs ends costs_are ends_are costs_size ends_size filled = grind arith
 
 -- ---- rows
 

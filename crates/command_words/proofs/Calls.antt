@@ -39,5 +39,5 @@ same_command a b same = sym (named_back a) ∙ ap named same ∙ named_back b
 pub no_call : (name : Text) (command : CommandName) (rows : List Row) → name ≡ name_of command
     → ((options : Options) → HasOptions command rows options → ⊥) → (call : Call) → Names name rows call → ⊥
 no_call name command rows is none call names =
-    let same = same_command names.command command (sym names.named ∙ is) in
-    none names.options (subst (λ (c : CommandName). HasOptions c rows names.options) same names.given)
+    let same = same_command call.command command (sym names.named ∙ is) in
+    none call.options (subst (λ (c : CommandName). HasOptions c rows call.options) same names.options)

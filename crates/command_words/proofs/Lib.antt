@@ -1,3 +1,4 @@
 pub mod Calls
+mod GivenOptions
 pub mod Tables
 pub mod LawLemmas

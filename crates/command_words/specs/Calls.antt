@@ -2,21 +2,17 @@
 use Rattle.std.specs.Prelude.{◌≡◌, List, Option, Some, None, Result, Ok, Err}
 use Rattle.clap.specs.Words.{Row, Text}
 use Rattle.command_words.specs.{AcceptedWords.{name_of}, Options.{HasOptions}}
-use Rattle.tool_call.specs.{Options.{call_of}, declared.call.Call.{Call}, declared.call.CommandName.{CommandName}}
-use Rattle.tool_call.specs.declared.options.Options.{Options}
+use Rattle.tool_call.specs.declared.call.{Call.{Call}, CommandName.{CommandName}}
 
 -- The command of this name, or that there is none.
 abbrev pub IsNamed : Text → Option CommandName → Type 0
 IsNamed name (Some command) = name ≡ name_of command
 IsNamed name None = (command : CommandName) → name ≡ name_of command → ⊥
 
--- The words name this call: that of the command of this name, with the numbers that they give its options.
+-- The words name this call: the command has this name, and its options have the numbers that they give them.
 pub record Names (name : Text) (rows : List Row) (call : Call) : Type 0 where
-  pub command : CommandName
-  pub options : Options
-  pub named : name ≡ name_of command
-  pub given : HasOptions command rows options
-  pub is : call ≡ call_of command options
+  pub named : name ≡ name_of call.command
+  pub options : HasOptions call.command rows call.options
 
 -- What was read of them is such a call, or there is none.
 abbrev pub IsCallNamed : {E : Type 0} → Text → List Row → Result Call E → Type 0

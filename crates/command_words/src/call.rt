@@ -22,12 +22,12 @@ pub fn call_of(matches: &ArgMatches<'_>) -> Result<Call, OptionFault>
 }
 
 // the call of the command of this name
-fn call_named(name: &str, options: &ArgMatches<'_>) -> Result<Call, OptionFault>
-    ensures { IsCallNamed name.now (rows_of (found_of options.now)) result }
+fn call_named(name: &str, words: &ArgMatches<'_>) -> Result<Call, OptionFault>
+    ensures { IsCallNamed name.now (rows_of (found_of words.now)) result }
 {
     match command_named(name) {
-        Some(command) => match given_options(command, options) {
-            Ok(given) => Ok(Call::of(command, given)),
+        Some(command) => match given_options(command, words) {
+            Ok(options) => Ok(Call { command, options }),
             Err(fault) => Err(fault),
         },
         None => Err(OptionFault::BadOption),

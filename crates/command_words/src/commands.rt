@@ -4,10 +4,9 @@ ghost use Rattle.command_words.specs.AcceptedWords.{HasWords, name_of, words_of}
 ghost use Rattle.command_words.specs.Calls.{IsNamed};
 
 use self::shared_help::Words;
-use crate::options::options_of;
 use clap::Command;
 use std::alloc::{AllocError, Global};
-use tool_call::CommandName;
+use tool_call::{CommandName, options_of};
 
 pub mod check;
 pub mod check_fit;

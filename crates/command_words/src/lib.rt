@@ -4,6 +4,7 @@
 
 mod call;
 mod commands;
+mod option_table;
 mod options;
 mod refusal;
 mod words;

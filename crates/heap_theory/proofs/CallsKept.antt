@@ -2,13 +2,13 @@
 use Rattle.std.proofs.Common.{arith, ◌≡◌, ℕ, ◌*◌, ◌<◌, Bool, true, false, cond, List, length, get_or, refl, sym, ◌∙◌, subst, Some, None}
 use Rattle.std.proofs.{Common.{Option, Result, Ok, Err, ◌==◌, slice_set, min, replicate}, lemmas.List.{get_or-set_same, get_or-set_other}}
 use Rattle.std.specs.Result.{result_ok}
-use Rattle.machine_theory.specs.{Access.{access_fault}, Address.{logical_tag}, Memory.{written}, declared.fault.Fault.{Fault}}
+use Rattle.machine_theory.specs.{Address.{logical_tag}, Memory.{written}}
 use Rattle.class_table.specs.{Layout.{Partition, slot_count}, Sizes.{chunk_granules}}
 use Rattle.heap_theory.proofs.HeapKept.{in_states, IsSoundHeap-given_out, IsSoundHeap-resized, IsSoundHeap-freed, IsSoundHeap-written}
 use Rattle.heap_theory.proofs.{HeapKept.{IsSoundHeap-with_payload}, Lookups.{slot_for_request-cases, chunk_at-is, room_in_place}}
 use Rattle.heap_theory.specs.Calls.{Step, next_tag, given_out, freed, resized, with_payload, payload_bytes, moved, malloc_with, malloc_step}
 use Rattle.heap_theory.specs.Calls.{calloc_with, calloc_step, free_with, free_step, stays_in_class, slot_if_moved, move_with, realloc_with}
-use Rattle.heap_theory.specs.{Calls.{realloc_step, store_with, store_step}, Sound.{IsSoundHeap}, State.State.{Fresh, Live, Dead}}
+use Rattle.heap_theory.specs.{Calls.{realloc_step, store_step}, Sound.{IsSoundHeap}, State.State.{Fresh, Live, Dead}}
 use Rattle.heap_theory.specs.Lookups.{Chunk, IsReusable, MayBeGiven, IsLiveChunk, slot_for_request, chunk_at}
 use Rattle.heap_theory.specs.{State.{State, Heap, state_at, last_tag, is_fresh}, declared.refusal.FreeError.{FreeError}}
 
@@ -149,8 +149,7 @@ module _ where
     IsSoundHeap-moved = IsSoundHeap-freed copied chunk.slot chunk.size (logical_tag p) sound_copied in_range_copied live_copied
 
     IsKept-moved : IsKept h (moved h chunk s n) (Some s)
-    IsKept-moved =
-        record { sound = IsSoundHeap-moved; change = record { n = n; given = given; kept = KeepsGiven-moved; live = live_moved } }
+    IsKept-moved = grind (arith, IsSoundHeap-moved, KeepsGiven-moved, live_moved)
 
   -- ---- the calls
 
@@ -218,8 +217,4 @@ module _ where
 
   pub IsKept-store : (h : Heap) (address : ℕ) (bytes : List ℕ) → IsSoundHeap h → IsKept h (store_step h address bytes) None
   unfolding store_step
-  IsKept-store h address bytes sound = by_fault (access_fault h.memory address (length bytes))
-    where
-      by_fault : (o : Option Fault) → IsKept h (store_with h address bytes o) None
-      by_fault None = record { sound = IsSoundHeap-written h _ bytes sound; change = KeepsGiven-written h _ bytes }
-      by_fault (Some fault) = IsKept-refl h sound
+  IsKept-store h address bytes sound = grind (arith, IsSoundHeap-written, KeepsGiven-written, IsKept-refl)

@@ -47,8 +47,7 @@ module _ (h : Heap) (sound : IsSoundHeap h) (g : ℕ) where
       ∙ cond-false ((slot_in h s).start == g) Header _ (ne_eqb _ _ (λ is. omega arith))
 
   chunk_in_payload : (s : ℕ) → IsChunkGranule h s g → IsPayloadGranule h s g
-  chunk_in_payload s c =
-      let room = (sound.tagged s c.in_range).room in record { in_range = c.in_range; from = c.from; to = omega (arith, c.to) }
+  chunk_in_payload s c = grind arith
 
   chunk_is : (s : ℕ) → IsChunkGranule h s g → place_kind h g ≡ kind_of_chunk (state_at h s)
   chunk_is s c =

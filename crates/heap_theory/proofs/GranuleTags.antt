@@ -1,5 +1,5 @@
 -- Which tags the granules of a sound heap have.
-use Rattle.std.proofs.Common.{◌≡◌, ◌⊎◌, ℕ, ◌+◌, ◌<◌, ◌≤◌, true, false, refl, sym, ◌∙◌, subst, arith, Some, None, Option}
+use Rattle.std.proofs.Common.{◌≡◌, ◌⊎◌, ℕ, ◌+◌, ◌<◌, ◌≤◌, true, false, refl, sym, ◌∙◌, arith, Some, None, Option}
 use Rattle.std.proofs.lemmas.Bool.{cases_lt, eqb-true, eqb-false, and_cases, leb-false, ltb-false}
 use Rattle.machine_theory.specs.Memory.{tag_at, is_among}
 use Rattle.class_table.{proofs.LawLemmas.{one_slot_covers}, specs.Layout.{Slot, Covers, slot_over}}
@@ -46,13 +46,7 @@ covered_tag h s g t c = grind (arith, cases_lt)
 -- ---- the tags of chunks
 
 pub chunk_has_tag : (h : Heap) (s g : ℕ) → IsSoundHeap h → IsChunkGranule h s g → IsTagOf s (tag_at h.memory g)
-chunk_has_tag h s g sound c = subst (IsTagOf s) (sym (t.chunk g c.from c.to)) (by_state (state_at h s) refl)
-  where
-    t : IsTaggedSlot h.memory s (slot_in h s) (state_at h s)
-    t = sound.tagged s c.in_range
-
-    by_state : (x : State) → state_at h s ≡ x → IsTagOf s t.chunk_tag
-    by_state x0 was = grind arith
+chunk_has_tag h s g sound c = grind arith
 
 pub chunks_tagged : (h : Heap) → IsSoundHeap h → ChunksAreTagged h
 chunks_tagged h sound s g c none = let some : 0 < tag_at h.memory g = (chunk_has_tag h s g sound c).not_zero in omega arith

@@ -1,8 +1,8 @@
 -- A header that is written is read, and says how its slot stands.
-use Rattle.std.proofs.Common.{⊎_elim, ◌≡◌, ◌⊎◌, ℕ, ◌+◌, ◌*◌, ◌%◌, ◌^◌, ◌<◌, ◌≤◌, length, refl, sym, ap, ◌∙◌, inl, inr, arith, Some, None}
+use Rattle.std.proofs.Common.{⊎_elim, ◌≡◌, ◌⊎◌, ℕ, ◌+◌, ◌*◌, ◌%◌, ◌^◌, ◌<◌, ◌≤◌, length, refl, ap, ◌∙◌, arith, Some, None}
 use Rattle.std.proofs.{Common.{Option}, lemmas.Bool.{cases_order, eq-eqb, eqb-true, both_ways}, lemmas.List.Elements.{All-from_recursion}}
 use Rattle.std.proofs.lemmas.{List.Quantifiers.{position-Some}, Option.{slice_get-get_or, slice_get_within}}
-use Rattle.std.specs.{Int.{w64, to_le_bytes, from_le_bytes}, Prelude.{◌==◌, All, slice_get, position, unwrap_or, List, ◌≢◌}}
+use Rattle.std.specs.{Int.{w64, to_le_bytes}, Prelude.{◌==◌, All, slice_get, position, unwrap_or, List, ◌≢◌}}
 use Rattle.machine_theory.specs.{Memory.{IsMemory, word_at, written, Granule, tagged}, declared.sizes.TheConstants.{GRANULE_BYTES}}
 use Rattle.class_table.specs.{Layout.{Partition, slot_count, slot_of}, Sizes.{largest_counted}, Tables.{IsLegalTable}}
 use Rattle.heap_theory.{proofs.ListSearch.{position-None}, specs.Sound.{IfDead, IsChunkTag, IsSoundHeap}}
@@ -41,40 +41,29 @@ bytes_fit n = All-from_recursion (λ b. b < 256) (to_le_bytes w64 n)
 pub with_header-words : (memory : List Granule) (g : ℕ) (header : Header) → with_header memory g header
     ≡ written (GRANULE_BYTES * g + 8) (to_le_bytes w64 (second_word header)) (written (GRANULE_BYTES * g) (to_le_bytes w64 (first_word header)) memory)
 unfolding with_header
-with_header-words memory g header =
-    sym (laws.in_parts (16 * g) (to_le_bytes w64 (first_word header)) (to_le_bytes w64 (second_word header)) memory)
+with_header-words memory g header = grind (arith, laws.in_parts)
 
 pub header_at-with_header : (memory : List Granule) (g : ℕ) (header : Header) → IsMemory memory → g < length memory → FitsWords header →
     header_at (with_header memory g header) g ≡ header
 unfolding header_at word_at
 header_at-with_header memory g header is within fits =
-    let fit = words_fit header fits in
-    let inner_is : IsMemory (written (16 * g) (to_le_bytes w64 (first_word header)) memory) =
-    laws.memory_written (16 * g) (to_le_bytes w64 (first_word header)) memory (bytes_fit (first_word header)) is in
-    let long = laws.written_length (16 * g) (to_le_bytes w64 (first_word header)) memory in
-    let first : word_at (with_header memory g header) (16 * g) ≡ first_word header =
-    ap (λ m. word_at m (16 * g)) (with_header-words memory g header)
-    ∙ ap (from_le_bytes w64)
-    (laws.other_bytes (16 * g + 8) (16 * g) 8 (to_le_bytes w64 (second_word header))
-    (written (16 * g) (to_le_bytes w64 (first_word header)) memory) (inl (omega arith)))
-    ∙ laws.word_read (16 * g) (first_word header) memory is fit.0 (omega arith) in
-    let second : word_at (with_header memory g header) (16 * g + 8) ≡ second_word header =
-    ap (λ m. word_at m (16 * g + 8)) (with_header-words memory g header)
-    ∙ laws.word_read (16 * g + 8) (second_word header) (written (16 * g) (to_le_bytes w64 (first_word header)) memory) inner_is fit.1
-    (omega arith) in
-    (λ i. header_of (first i) (second i)) ∙ header_of-words header fits
+    grind (
+      arith,
+      words_fit,
+      laws.memory_written,
+      bytes_fit,
+      laws.written_length,
+      with_header-words,
+      laws.other_bytes,
+      laws.word_read,
+      header_of-words,
+    )
 
 -- bytes outside of a granule leave its header as it is
 pub header_at-written : (i g : ℕ) (new : List ℕ) (memory : List Granule) →
     (i + length new ≤ GRANULE_BYTES * g) ⊎ (GRANULE_BYTES * g + GRANULE_BYTES ≤ i) → header_at (written i new memory) g ≡ header_at memory g
 unfolding header_at word_at
-header_at-written i g new memory out =
-    λ j. header_of
-    (from_le_bytes w64 (laws.other_bytes i (16 * g) 8 new memory (apart (16 * g) (omega arith, omega arith)) j))
-    (from_le_bytes w64 (laws.other_bytes i (16 * g + 8) 8 new memory (apart (16 * g + 8) (omega arith, omega arith)) j))
-  where
-    apart : (at : ℕ) → (16 * g ≤ at) × (at + 8 ≤ 16 * g + 16) → (at + 8 ≤ i) ⊎ (i + length new ≤ at)
-    apart at inside = ⊎_elim (λ before. inr (omega (arith, inside.0))) (λ after. inl (omega (arith, inside.1))) out
+header_at-written i g new memory out = grind (arith, laws.other_bytes, ⊎_elim)
 
 pub header_at-tagged : (first count tag g : ℕ) (memory : List Granule) → header_at (tagged first count tag memory) g ≡ header_at memory g
 unfolding header_at word_at

@@ -115,8 +115,7 @@ IsTagOf-live h s n t sound in_range live = grind arith
 
 module _ where
   pub length-chunk_tagged : (slot : Slot) (n tag : ℕ) (memory : List Granule) → length (chunk_tagged slot n tag memory) ≡ length memory
-  length-chunk_tagged slot n tag memory =
-      laws.tagged_length _ _ 0 (tagged (payload_start slot) (chunk_granules n) tag memory) ∙ laws.tagged_length _ _ tag memory
+  length-chunk_tagged slot n tag memory = grind (arith, laws.tagged_length)
 
   module _ (slot : Slot) (n tag : ℕ) (memory : List Granule) (room : chunk_granules n < slot.class) (inside : end_of slot ≤ length memory)
     where
@@ -124,14 +123,10 @@ module _ where
       chunk_tagged_others g out = grind (arith, laws.other_tag)
 
       chunk_tagged_chunk : (g : ℕ) → slot.start < g → g ≤ slot.start + chunk_granules n → tag_at (chunk_tagged slot n tag memory) g ≡ tag
-      chunk_tagged_chunk g from to =
-          laws.other_tag _ _ 0 g (tagged (payload_start slot) (chunk_granules n) tag memory) (inl (omega arith))
-          ∙ laws.written_tag _ _ tag g memory (omega arith) (omega arith) (omega arith)
+      chunk_tagged_chunk g from to = grind (arith, laws.other_tag, laws.written_tag)
 
       chunk_tagged_tail : (g : ℕ) → slot.start + chunk_granules n < g → g < end_of slot → tag_at (chunk_tagged slot n tag memory) g ≡ 0
-      chunk_tagged_tail g from to =
-          laws.written_tag _ _ 0 g (tagged (payload_start slot) (chunk_granules n) tag memory) (omega arith) (omega arith)
-          (omega (arith, laws.tagged_length (payload_start slot) (chunk_granules n) tag memory))
+      chunk_tagged_tail g from to = grind (arith, laws.written_tag, laws.tagged_length)
 
   -- a slot that becomes live for n bytes, under a tag that it may take
   IsSoundHeap-live : (h : Heap) (s n tag seed drawn : ℕ) → IsSoundHeap h → s < slot_count h.layout →

@@ -33,8 +33,7 @@ IsLinked-none next front (s ∷ rest) l is = absurd (omega (arith, is, l.0))
 pub IsLinked-first : (next : ℕ → ℕ) (front s : ℕ) (list : List ℕ) → IsLinked next front list → front ≡ suc s →
     (list ≡ s ∷ drop 1 list) × IsLinked next (next s) (drop 1 list)
 IsLinked-first next front s [] l is = absurd (omega (arith, is, l))
-IsLinked-first next front s (r ∷ rest) l is =
-    let same : r ≡ s = omega (arith, is, l.0) in (ap (λ q. q ∷ rest) same, subst (λ q. IsLinked next (next q) rest) same l.1)
+IsLinked-first next front s (r ∷ rest) l is = grind arith
 
 -- the list from each of its slots on
 from_there : (next : ℕ → ℕ) (front : ℕ) (list : List ℕ) (s : ℕ) → IsLinked next front list → Contains list s →
@@ -59,8 +58,7 @@ IsLinked-once next front (s ∷ rest) l =
 pub IsLinked-ends : (next : ℕ → ℕ) (front s : ℕ) (list : List ℕ) → IsLinked next front list → last_link list ≡ suc s → Contains list s
     × (next s ≡ 0)
 IsLinked-ends next front s [] l is = absurd (omega (arith, is))
-IsLinked-ends next front s (r ∷ []) l is =
-    let same : r ≡ s = omega (arith, is) in (subst (Contains (r ∷ [])) same (Contains-head r []), subst (λ q. next q ≡ 0) same l.1)
+IsLinked-ends next front s (r ∷ []) l is = grind (arith, Contains-head)
 IsLinked-ends next front s (r ∷ q ∷ rest) l is =
     let more = IsLinked-ends next (next r) s (q ∷ rest) l.1 is in (Contains-tail r (q ∷ rest) s more.0, more.1)
 
@@ -68,8 +66,7 @@ IsLinked-ends next front s (r ∷ q ∷ rest) l is =
 pub IsLinked-append : (next new : ℕ → ℕ) (front last s : ℕ) (list : List ℕ) → IsLinked next front list → last_link list ≡ suc last →
     ((r : ℕ) → Contains list r → r ≢ last → new r ≡ next r) → new last ≡ suc s → new s ≡ 0 → IsLinked new front (list ++ s ∷ [])
 IsLinked-append next new front last s [] l is others linked ends = absurd (omega (arith, is))
-IsLinked-append next new front last s (r ∷ []) l is others linked ends =
-    grind arith
+IsLinked-append next new front last s (r ∷ []) l is others linked ends = grind arith
 IsLinked-append next new front last s (r ∷ q ∷ rest) l is others linked ends =
     let more =
     IsLinked-append next new (next r) last s (q ∷ rest) l.1 is (λ p there. others p (Contains-tail r (q ∷ rest) p there)) linked ends in

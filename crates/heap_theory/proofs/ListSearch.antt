@@ -87,11 +87,7 @@ pub Contains-tail : {X : Type 0} (y : X) (xs : List X) (x : X) → Contains xs x
 Contains-tail y xs x there = (suc there.0, omega (arith, there.1), there.2)
 
 pub Contains-cases : {X : Type 0} (y : X) (xs : List X) (x : X) → Contains (y ∷ xs) x → (y ≡ x) ⊎ Contains xs x
-Contains-cases {X} y xs x there = at there.0 there.1 there.2
-  where
-    at : (k : ℕ) → k < length (y ∷ xs) → get_or (y ∷ xs) k x ≡ x → (y ≡ x) ⊎ Contains xs x
-    at zero within is = inl is
-    at (suc k) within is = inr (k, omega arith, is)
+Contains-cases {X} y xs x there = grind arith
 
 pub Contains-none : {X : Type 0} (x : X) → Contains [] x → ⊥
 Contains-none x there = omega (arith, there.1)

@@ -1,15 +1,15 @@
 -- The pointer that was given out for a live chunk is accepted by `free` and by `realloc`, and of the others only null is.
-use Rattle.std.proofs.Common.{◌≡◌, ◌≢◌, ℕ, ◌*◌, ◌^◌, ◌<◌, length, List, refl, sym, ap, ◌∙◌, subst, inl, inr, arith, Option, Some, None}
+use Rattle.std.proofs.Common.{◌≡◌, ◌≢◌, ℕ, ◌*◌, ◌^◌, ◌<◌, List, refl, sym, ap, ◌∙◌, subst, inl, inr, arith, Option, None}
 use Rattle.std.proofs.{Common.{Result, Ok, Err, ◌==◌, min, replicate, ◌↔◌}, lemmas.List.{get_or-set_same, get_or-set_other}}
 use Rattle.std.proofs.lemmas.Bool.{cases_eq, cond-true, cond-false, cond_both, eq-eqb, eqb-true, false_from_ne_true}
-use Rattle.machine_theory.specs.{Access.{access_fault}, Address.{logical_tag, place_of, with_tag}, declared.fault.Fault.{Fault}}
+use Rattle.machine_theory.specs.{Address.{logical_tag, place_of, with_tag}}
 use Rattle.class_table.specs.{Layout.{Partition, slot_count, slot_of}, Sizes.{chunk_granules}}
 use Rattle.heap_theory.proofs.CallsKept.{KeepsGiven, KeepsGiven-refl, KeepsGiven-with_payload, KeepsGiven-resized, KeepsGiven-moved}
 use Rattle.heap_theory.proofs.CallsKept.{HeapChange, IsKept-malloc, IsKept-calloc, IsKept-free, IsKept-realloc, IsKept-store}
 use Rattle.heap_theory.proofs.CallsKept.{state_at-with_payload, state_at-given_out, state_at-given_out_other, live_moved, layout-given_out}
 use Rattle.heap_theory.proofs.{CallsKept.{not_reusable}, HeapKept.{in_states}, Lookups.{slot_for_request-cases, chunk_at-is}}
 use Rattle.heap_theory.{proofs.Pointers.{own_chunk}, specs.Lookups.{Chunk, MayBeGiven, IsLiveChunk, slot_for_request, chunk_at}}
-use Rattle.heap_theory.specs.Calls.{move_with, realloc_with, as_realloc, realloc_step, store_with, store_step, Step, given_out, freed}
+use Rattle.heap_theory.specs.Calls.{move_with, realloc_with, as_realloc, realloc_step, store_step, Step, given_out, freed}
 use Rattle.heap_theory.specs.Calls.{resized, with_payload, payload_bytes, moved, malloc_with, malloc_step, calloc_with, calloc_step}
 use Rattle.heap_theory.specs.{Calls.{free_with, free_step, stays_in_class}, Sound.{IsSoundHeap}, State.State.{Fresh, Live, Dead}}
 use Rattle.heap_theory.specs.OwnPointers.{GivesOwnPointers, StaysOwnPointer, IsOwnPointer, IsNullOrOwn, FreeAccepts, IsNotRefused}
@@ -191,11 +191,7 @@ module _ (h : Heap) (s p : ℕ) (sound : IsSoundHeap h) (own : IsOwnPointer h s 
 
   state_after_store : (address : ℕ) (bytes : List ℕ) → state_at (store_step h address bytes) s ≡ state_at h s
   unfolding store_step
-  state_after_store address bytes = by_fault (access_fault h.memory address (length bytes))
-    where
-      by_fault : (o : Option Fault) → state_at (store_with h address bytes o) s ≡ state_at h s
-      by_fault None = refl
-      by_fault (Some fault) = refl
+  state_after_store address bytes = grind arith
 
 pub stays_own : (heap : Heap) (s p : ℕ) → IsSoundHeap heap → IsOwnPointer heap s p → StaysOwnPointer heap s p
 stays_own h s p sound own = record {

@@ -1,5 +1,5 @@
 -- What is seen of a memory without the bytes of its headers.
-use Rattle.std.proofs.Common.{◌≡◌, ◌⊎◌, ℕ, ◌+◌, ◌-◌, ◌*◌, ◌/◌, ◌%◌, ◌<◌, ◌≤◌, Bool, true, false, cond, List, [], length, replicate, refl}
+use Rattle.std.proofs.Common.{◌≡◌, ◌⊎◌, ℕ, ◌+◌, ◌-◌, ◌*◌, ◌/◌, ◌<◌, ◌≤◌, Bool, true, false, cond, List, [], length, replicate, refl}
 use Rattle.std.proofs.Common.{sym, ap, ◌∙◌, subst, inl, inr, arith, slice_index, IsTrue, ◌≢◌, None, IsFalse}
 use Rattle.std.proofs.lemmas.Bool.{cases_lt, cases_Bool, cases_order, cond-false, cond_both, eqb-true, both_ways, and_left, and_right}
 use Rattle.std.proofs.lemmas.{Bool.{lt-leb, le-ltb, false_from_ne_true}, List.Folds.{Any-from_list_any}, List.FromFn.{fill_by_all}}
@@ -31,16 +31,12 @@ module _ (layout : Partition) where
   pub without_headers-tagged : (first count tag : ℕ) (memory : List Granule) →
       without_headers layout (tagged first count tag memory) ≡ tagged first count tag (without_headers layout memory)
   unfolding without_headers tagged
-  without_headers-tagged first count tag memory =
-      laws.either_order (hidden layout) (λ g x. cond (is_among first count g) (record x { tag = tag }) x) memory
-      (λ g x. swap_tag (is_header_granule layout g) (is_among first count g) tag x)
+  without_headers-tagged first count tag memory = grind (arith, laws.either_order, swap_tag)
 
   pub without_headers-written : (i : ℕ) (new : List ℕ) (memory : List Granule) →
       without_headers layout (written i new memory) ≡ written i new (without_headers layout memory)
   unfolding without_headers written
-  without_headers-written i new memory =
-      laws.either_order (hidden layout) (λ g x. record x { bytes = bytes_after i new g x.bytes }) memory
-      (λ g x. swap_bytes (is_header_granule layout g) i new g x)
+  without_headers-written i new memory = grind (arith, laws.either_order, swap_bytes)
 
   pub length-without_headers : (memory : List Granule) → length (without_headers layout memory) ≡ length memory
   unfolding without_headers
@@ -48,37 +44,21 @@ module _ (layout : Partition) where
 
   pub tag_at-without_headers : (memory : List Granule) (g : ℕ) → tag_at (without_headers layout memory) g ≡ tag_at memory g
   unfolding without_headers
-  tag_at-without_headers memory g = elim (cases_lt g (length memory)) [
-    | inl within ↦
-        ap (λ (x : Granule). x.tag) (laws.each_at (hidden layout) memory g within)
-        ∙ cond_both (is_header_granule layout g) (record (granule_at memory g) { bytes = [] }) (granule_at memory g)
-        (λ x. x.tag ≡ tag_at memory g) (λ _. refl) (λ _. refl)
-    | inr past ↦
-        tag_at_past (each_granule (hidden layout) memory) g (subst (λ n. n ≤ g) (sym (laws.each_length _ memory)) past)
-        ∙ sym (tag_at_past memory g past)
-  ]
+  tag_at-without_headers memory g = grind (arith, cases_lt, laws.each_at, cond_both, tag_at_past, laws.each_length)
 
   pub access_fault-without_headers : (memory : List Granule) (address len : ℕ) →
       access_fault (without_headers layout memory) address len ≡ access_fault memory address len
-  access_fault-without_headers memory address len =
-      laws.by_tags memory (without_headers layout memory) address len (length-without_headers memory) (tag_at-without_headers memory)
+  access_fault-without_headers memory address len = grind (arith, laws.by_tags, length-without_headers, tag_at-without_headers)
 
   -- a granule that is no header is seen as it is
   pub granule_at-without_headers : (memory : List Granule) (g : ℕ) → is_header_granule layout g ≡ false →
       granule_at (without_headers layout memory) g ≡ granule_at memory g
   unfolding without_headers
-  granule_at-without_headers memory g no_header = elim (cases_lt g (length memory)) [
-    | inl within ↦ laws.each_at (hidden layout) memory g within
-        ∙ cond-false (is_header_granule layout g) (record (granule_at memory g) { bytes = [] }) (granule_at memory g) no_header
-    | inr past ↦
-        get_or_past (each_granule (hidden layout) memory) g no_granule (subst (λ n. n ≤ g) (sym (laws.each_length _ memory)) past)
-        ∙ sym (get_or_past memory g no_granule past)
-  ]
+  granule_at-without_headers memory g no_header = grind (arith, cases_lt, laws.each_at, cond-false, get_or_past, laws.each_length)
 
   pub byte_at-without_headers : (memory : List Granule) (i : ℕ) → is_header_granule layout (i / 16) ≡ false →
       byte_at (without_headers layout memory) i ≡ byte_at memory i
-  byte_at-without_headers memory i no_header =
-      ap (λ (x : Granule). slice_index x.bytes (i % 16)) (granule_at-without_headers memory (i / 16) no_header)
+  byte_at-without_headers memory i no_header = grind (arith, granule_at-without_headers)
 
   -- two memories that differ in bytes of headers alone are seen as one
   pub without_headers-same : (memory other : List Granule) → length other ≡ length memory → ((g : ℕ) → tag_at other g ≡ tag_at memory g) →
@@ -137,8 +117,7 @@ pub without_headers-in_header : (layout : Partition) (g i : ℕ) (new : List ℕ
     IsTrue (is_header_granule layout g) → GRANULE_BYTES * g ≤ i → i + length new ≤ GRANULE_BYTES * g + GRANULE_BYTES →
     without_headers layout (written i new memory) ≡ without_headers layout memory
 without_headers-in_header layout g i new memory is header from to =
-    without_headers-same layout memory (written i new memory) (laws.written_length i new memory) (λ k. laws.tag_under_bytes i k new memory)
-    (grind (arith, granule_at-written, cases_order, both_ways))
+    grind (arith, without_headers-same, laws.written_length, laws.tag_under_bytes, granule_at-written, cases_order, both_ways)
 
 -- ---- headers are spared
 

@@ -1,5 +1,5 @@
 -- The tag that is drawn for a slot is one that it may take, and not the one that it was last given out with.
-use Rattle.std.proofs.Common.{◌≡◌, ◌≢◌, ℕ, ◌%◌, ◌^◌, ◌<◌, Bool, true, false, cond, refl, arith, bit_or, ◌==◌}
+use Rattle.std.proofs.Common.{◌≢◌, ℕ, ◌^◌, ◌<◌, arith, bit_or}
 use Rattle.std.proofs.lemmas.Bool.{eqb-true, eqb-false}
 use Rattle.machine_theory.specs.Instructions.{drawn_tag}
 use Rattle.heap_theory.specs.{Calls.{parity_exclude, next_tag}, Sound.{IsTagOf}, State.{Heap, state_at, last_tag}}
@@ -9,17 +9,7 @@ module _ where
   drawn : (s last tag seed : ℕ) → tag < 16 →
       IsTagOf s (drawn_tag tag seed (bit_or (parity_exclude s) (2 ^ last)))
       × (drawn_tag tag seed (bit_or (parity_exclude s) (2 ^ last)) ≢ last)
-  drawn s last tag seed below = by_parity (s % 2 == 0) refl
-    where
-      by_parity : (is_even : Bool) → (s % 2 == 0) ≡ is_even →
-          IsTagOf s (drawn_tag tag seed (bit_or (cond is_even 0x5555 0xAAAB) (2 ^ last)))
-          × (drawn_tag tag seed (bit_or (cond is_even 0x5555 0xAAAB) (2 ^ last)) ≢ last)
-      by_parity true test =
-          let is = laws.odd_drawn tag seed last below in
-          grind (arith, eqb-true)
-      by_parity false test =
-          let is = laws.even_drawn tag seed last below in
-          grind (arith, eqb-false)
+  drawn s last tag seed below = grind (arith, laws.odd_drawn, eqb-true, laws.even_drawn, eqb-false)
 
   pub IsTagOf-next_tag : (h : Heap) (s : ℕ) → h.tag < 16 → IsTagOf s (next_tag h s)
   IsTagOf-next_tag h s below = (drawn s (last_tag (state_at h s)) h.tag h.seed below).0

@@ -1,9 +1,10 @@
 -- The entry of a line by the numbers that were read of it.
-use Rattle.std.proofs.Common.{◌≡◌, ℕ, ◌≤◌, Bool, true, false, ◌&&◌, List, [], ◌∷◌, length, map, Option, Some, Ok, Err, leb, ltb, eqb, refl}
+use Rattle.std.proofs.Common.{◌≡◌, ℕ, ◌≤◌, Bool, true, false, ◌&&◌, ◌||◌, max, List, [], ◌∷◌, length, map, Option, Some, Ok, Err, leb, ltb, eqb, refl}
 use Rattle.std.proofs.{Common.{sym, ap, ◌∙◌, arith, All}, lemmas.Bool.{eq-eqb, eqb-true, le-leb}, lemmas.Bool.Decides.{nat_tests}}
 use Rattle.std.proofs.lemmas.{Grind.{common_steps}, List.Elements.{All-head, All-tail}}
 use Rattle.profile_count.specs.declared.fault.ProfileFault.TheVariants.{CountOutOfRange, NotAscending}
 use Rattle.tuner_theory.specs.Profiles.{greatest_count}
+use Rattle.history_count.specs.Histories.{greatest_of}
 use Rattle.history_count.specs.HistoryText.{Entry, are_few, are_in_range, entry_with, entry_with_numbers, is_in_order, is_some_counted}
 use Rattle.history_count.specs.{LineView.{Fills, capped}, declared.fault.HistoryFault.TheVariants.{Counted}}
 use Rattle.history_count.specs.declared.line.Subject.{Subject}
@@ -38,6 +39,26 @@ few-same [] few = refl
 few-same (n ∷ ns) few =
     let parts = and_parts (leb n greatest_count) (are_few ns) few in
     rw (capped_same n parts.0, few-same ns parts.1) refl
+
+-- ---- their greatest
+
+few-greatest : (counts : List ℕ) → are_few counts ≡ leb (greatest_of counts) greatest_count
+few-greatest [] = refl
+few-greatest (n ∷ ns) = rw (few-greatest ns) (few_both n (greatest_of ns))
+  where
+    few_both : (a b : ℕ) → (leb a greatest_count && leb b greatest_count) ≡ leb (max a b) greatest_count
+    few_both a b = grind (arith, nat_tests)
+
+some-greatest : (counts : List ℕ) → is_some_counted counts ≡ ltb 0 (greatest_of counts)
+some-greatest [] = refl
+some-greatest (n ∷ ns) = rw (some-greatest ns) (some_either n (greatest_of ns))
+  where
+    some_either : (a b : ℕ) → (ltb 0 a || ltb 0 b) ≡ ltb 0 (max a b)
+    some_either a b = grind (arith, nat_tests)
+
+pub range_greatest : (counts : List ℕ) (most : ℕ) → most ≡ greatest_of counts
+    → are_in_range counts ≡ (leb most greatest_count && ltb 0 most)
+range_greatest counts most is = rw (is, few-greatest counts, some-greatest counts) refl
 
 -- ---- the entry
 

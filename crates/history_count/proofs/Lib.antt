@@ -15,4 +15,5 @@ pub mod RowPeaks
 pub mod SizeLines
 pub mod SpelledIsRead
 pub mod SpreadLines
+pub mod SumsOfClasses
 pub mod TimelineLemmas

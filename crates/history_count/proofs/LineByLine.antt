@@ -2,7 +2,7 @@
 use Rattle.std.proofs.Common.{◌≡◌, ℕ, ◌+◌, List, [], ◌∷◌, length, Some, Ok, Err, refl, arith}
 use Rattle.line_text.proofs.LawLemmas.{line_faulty as lines_faulty, line_read as lines_read, no_line as no_lines}
 use Rattle.line_text.specs.Lines.{lines, words}
-use Rattle.history_count.specs.{Histories.{History}, declared.fault.HistoryFault.{HistoryFault}, declared.line.Subject.{Subject}}
+use Rattle.history_count.specs.{declared.fault.HistoryFault.{HistoryFault}, declared.line.Subject.{Subject}}
 use Rattle.history_count.specs.HistoryText.{Entry, Reading, entry_of, first_reading, history_from, history_of, next_entry, snapshots_of}
 use Rattle.history_count.specs.HistoryText.{history_steps, with_entry}
 
@@ -24,10 +24,6 @@ line_faulty number r rest new line fault parts is = rw parts (lines_faulty histo
 
 pub no_line : (number : ℕ) (r : Reading) (rest : List (List ℕ)) → rest ≡ [] → history_from number r rest ≡ Ok r.history
 no_line number r rest none = rw none (no_lines history_steps number r r.history refl)
-
-pub same_history : (h : History) (snapshots : List (List ℕ)) (large : List ℕ) → h.snapshots ≡ snapshots → h.large ≡ large
-    → h ≡ record { snapshots = snapshots; large = large }
-same_history h snapshots large is large_is = rw (← is, ← large_is) refl
 
 -- The entry that was read of a line, where there are as many places for its counts as snapshots.
 pub entry_read : (r : Reading) (line : List ℕ) (places : ℕ) (given subject : Subject) (counts : List ℕ)

@@ -141,16 +141,6 @@ sizes-more sizes n are small above = record {
     low k within (inl lt) = omega (arith, are.small k lt, at k lt)
     low k within (inr past) = omega (arith, small, at_end k within past)
 
-pub above-more : (sizes : List ℕ) (n : ℕ) → ((k : ℕ) → k < length sizes → slice_index sizes k < n) → (k : ℕ) → k < length (sizes ++ n ∷ [])
-    → slice_index (sizes ++ n ∷ []) k < n + 1
-above-more sizes n above k within = go (cases_lt k (length sizes))
-  where
-    go : ((k < length sizes) ⊎ (length sizes ≤ k)) → slice_index (sizes ++ n ∷ []) k < n + 1
-    go (inl lt) = omega (arith, above k lt, get_or_append_left sizes (n ∷ []) 0 k lt)
-    go (inr past) =
-        let same : k ≡ length sizes = omega (arith, within, length-append sizes (n ∷ [])) in
-        rw same (omega (arith, get_or-append_seam sizes n [] 0))
-
 pub holds-more : (sizes : List ℕ) (columns : List (List ℕ)) (kept : Profile) (n : ℕ) (counts : List ℕ)
     → HoldsLines (length counts) sizes columns kept → n ≤ largest_counted → ((k : ℕ) → k < length sizes → slice_index sizes k < n)
     → All (λ count. count ≤ greatest_count) counts

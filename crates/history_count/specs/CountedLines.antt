@@ -50,6 +50,12 @@ pub record HoldsLines (count : ℕ) (sizes : List ℕ) (columns : List (List ℕ
   pub snapshots : AreSnapshots (spread sizes columns)
   pub peaks_are : peaks ≡ peak_profile (spread sizes columns)
 
+-- Such lines spell these snapshots, and their sizes are below this one.
+pub record SpellLines (sizes : List ℕ) (columns : List (List ℕ)) (peaks : Profile) (snapshots : List (List ℕ)) (next : ℕ) : Type 0 where
+  pub are : snapshots ≡ spread sizes columns
+  pub holds : HoldsLines (length snapshots) sizes columns peaks
+  pub below : (k : ℕ) → k < length sizes → slice_index sizes k < next
+
 -- What a history keeps: its lines, and for each snapshot a count of large blocks.
 pub record HoldsHistory (sizes : List ℕ) (columns : List (List ℕ)) (large : List ℕ) (peaks : Profile) : Type 0 where
   pub lines : HoldsLines (length large) sizes columns peaks

@@ -1,6 +1,9 @@
+pub mod ClassSums
 pub mod CountedLines
 pub mod FaultText
 pub mod Histories
 pub mod HistoryText
+pub mod LineSinks
 pub mod LineView
+pub mod Measures
 pub mod Timelines

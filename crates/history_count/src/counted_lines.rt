@@ -4,9 +4,10 @@ ghost use Rattle.class_table.specs.declared.sizes.TheConstants.{LARGEST_COUNTED}
 ghost use Rattle.tuner_theory.specs.Profiles.{greatest_count};
 ghost use Rattle.tuner_theory.specs.Lists.{lists_of};
 ghost use Rattle.tuner_theory.specs.declared.most_snapshots.TheConstants.{MOST_SNAPSHOTS};
-ghost use Rattle.history_count.specs.CountedLines.{HoldsLines, each_more, spread};
+ghost use Rattle.history_count.specs.CountedLines.{HoldsLines, SpellLines, each_more, spread};
 ghost use Rattle.history_count.specs.Histories.{empty_snapshots, greatest_of, with_counts};
 
+use crate::line_sink::LineSink;
 use class_table::LARGEST_COUNTED;
 use profile_count::Profile;
 use std::alloc::{AllocError, Global};
@@ -45,9 +46,9 @@ impl CountedLines {
         })
     }
 
-    /// Adds the line of a size, with a count for each snapshot. The size must be above those of the lines so far. The only error is that the
-    /// allocator refuses memory.
-    pub(crate) fn add(&mut self, size: u32, counts: &[u32]) -> Result<(), AllocError>
+    // Adds the line of a size, with a count for each snapshot. The size must be above those of the lines so far. The only error is that the
+    // allocator refuses memory.
+    fn add_line(&mut self, size: u32, counts: &[u32]) -> Result<(), AllocError>
         requires holds { HoldsLines (length counts.now) self.old.sizes.items (lists_of self.old.columns.items)
             self.old.peaks }
         requires size { size ≤ LARGEST_COUNTED }
@@ -63,6 +64,16 @@ impl CountedLines {
         push_counts(&mut self.columns, counts)?;
         self.peaks.set_count(size, greatest(counts));
         Ok(())
+    }
+}
+
+impl LineSink for CountedLines {
+    ghost has_taken = { λ lines snapshots next. SpellLines lines.sizes.items (lists_of lines.columns.items) lines.peaks snapshots next };
+
+    ghost classes = { λ lines. [] };
+
+    fn add(&mut self, size: u32, counts: &[u32]) -> Result<(), AllocError> {
+        self.add_line(size, counts)
     }
 }
 
@@ -87,8 +98,8 @@ fn push_count(columns: &mut Vec<Vec<u32>>, t: usize, count: u32) -> Result<(), A
     Ok(())
 }
 
-// the greatest of the counts
-fn greatest(counts: &[u32]) -> u32
+/// The greatest of the counts, and 0 if there are none.
+pub(crate) fn greatest(counts: &[u32]) -> u32
     ensures { result ≡ greatest_of counts.now }
 {
     let mut most = 0;

@@ -1,10 +1,8 @@
 //! The counts of a history, and what follows from them alone.
-ghost use Rattle.std.specs.Prelude.{◌≡◌, ◌<◌, ◌≤◌, ◌^◌, ℕ, None, IsSome, IfSome, IfNone, All, length};
-ghost use Rattle.class_table.specs.Tables.{class_for};
-ghost use Rattle.profile_count.specs.Counts.{unserved_of};
+ghost use Rattle.std.specs.Prelude.{◌≡◌, ◌<◌, ◌≤◌, ◌^◌, All, length};
 ghost use Rattle.tuner_theory.specs.Footprint.{footprint_of};
 ghost use Rattle.tuner_theory.specs.Histories.{peaks};
-ghost use Rattle.tuner_theory.specs.Profiles.{IsCounted, greatest_count};
+ghost use Rattle.tuner_theory.specs.Profiles.{greatest_count};
 ghost use Rattle.tuner_theory.specs.Waste.{Serves};
 ghost use Rattle.history_count.specs.CountedLines.{AreLinesOf, HoldsLines, spread};
 ghost use Rattle.history_count.specs.Histories.{IsHistory, peak_profile};
@@ -95,20 +93,8 @@ impl History {
         &self.large
     }
 
-    /// The least counted size that has no class in the table, in bytes. `None` if the table serves the history.
-    pub fn unserved(&self, table: &ClassTable) -> Option<u16>
-        ensures size { result ≡ unserved_of (peaks self.now.snapshots) table.now }
-        ensures found { IfSome result
-            (λ n. IsCounted (peaks self.now.snapshots) n × (class_for table.now n ≡ None)) }
-        ensures least { IfSome result
-            (λ n. (m : ℕ) → m < n → IsCounted (peaks self.now.snapshots) m → IsSome (class_for table.now m)) }
-        ensures none { IfNone result (Serves (peaks self.now.snapshots) table.now) }
-    {
-        self.lines.peaks.unserved(table)
-    }
-
     /// The bytes that a table takes: for each class, its block size times the most blocks of the class that were live at a snapshot.
-    /// The table must serve the history (`unserved`).
+    /// The table must serve the history.
     pub fn footprint(&self, table: &ClassTable) -> u64
         requires { Serves (peaks self.now.snapshots) table.now }
         ensures footprint { result ≡ footprint_of self.now.snapshots table.now }

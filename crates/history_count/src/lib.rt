@@ -2,19 +2,23 @@
 //! order, by size alone. They are read from texts; and what a class table takes of memory over one.
 #![tactic(auto)]
 
+mod class_sums;
 mod counted_lines;
 mod fault;
 mod footprint;
 mod history;
 pub mod laws;
 mod line;
+mod line_sink;
 mod of_rows;
 mod reading;
 mod timelines;
 
+pub use class_sums::TableFootprint;
 pub use fault::{HistoryError, HistoryFault};
 pub use footprint::{blocks_between, line_from};
 pub use history::{History, Lines};
+pub use reading::footprint_of_text;
 pub use timelines::{
     Footprint, Measured, TIMELINE, TablePeaks, Timeline, TimelineError, TimelineFault,
     TimelineIndex, TimelineReader, measure_over, table_peaks,

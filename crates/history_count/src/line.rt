@@ -5,10 +5,11 @@ ghost use Rattle.class_table.specs.NamedLines.{numbers_of};
 ghost use Rattle.line_text.specs.Lines.{words};
 ghost use Rattle.line_text.specs.Numbers.{classified};
 ghost use Rattle.line_text.specs.Rows.{AreRowWords};
-ghost use Rattle.history_count.specs.HistoryText.{are_few, are_in_range, entry_of, entry_with};
-ghost use Rattle.history_count.specs.HistoryText.{entry_with_numbers, is_in_order, is_some_counted, snapshots_of, subject_of};
+ghost use Rattle.history_count.specs.HistoryText.{are_in_range, entry_of, entry_with};
+ghost use Rattle.history_count.specs.HistoryText.{entry_with_numbers, is_in_order, snapshots_of, subject_of};
 ghost use Rattle.history_count.specs.LineView.{Fills, GivesEntry, GivesNextEntry, capped};
 
+use crate::counted_lines::greatest;
 use crate::fault::HistoryFault;
 use class_table::LARGEST_COUNTED;
 use line_text::{Lines, Number, Words, capped_number_in, number_in, words_in};
@@ -208,27 +209,10 @@ fn is_in_order(next: u32, subject: Subject) -> bool
 }
 
 // whether a line may have these counts
+#[tactic(auto, using(crate::proofs::Entries::range_greatest))]
 fn are_in_range(counts: &[u32]) -> bool
     ensures { result ≡ are_in_range counts.now }
 {
-    are_few(counts) && is_some_counted(counts)
-}
-
-// whether no count is too great
-fn are_few(counts: &[u32]) -> bool
-    ensures { result ≡ are_few counts.now }
-{
-    // (all are looked at: then the compiler takes eight at a time)
-    let mut are_few = true;
-    for count in counts {
-        are_few &= *count <= GREATEST_COUNT;
-    }
-    are_few
-}
-
-/// Whether some count is not 0.
-pub(crate) fn is_some_counted(counts: &[u32]) -> bool
-    ensures { result ≡ is_some_counted counts.now }
-{
-    counts.iter().any(|count| 0 < *count)
+    let most = greatest(counts);
+    most <= GREATEST_COUNT && 0 < most
 }

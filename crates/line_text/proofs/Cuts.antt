@@ -17,8 +17,7 @@ pub lacks_before : (byte : ℕ) (bytes : List ℕ) (i : ℕ) → IsFirstByte (is
 lacks_before byte bytes i found = All-from_get_or (λ b. eqb b byte ≡ false) (take i bytes) 0 other
   where
     other : (k : ℕ) → k < length (take i bytes) → eqb (get_or (take i bytes) k 0) byte ≡ false
-    other k lt =
-        grind (arith, length-take-le, get_or-take, false_from_ne_true)
+    other k lt = grind (arith, length-take-le, get_or-take, false_from_ne_true)
 
 pub lacks_all : (byte : ℕ) (bytes : List ℕ) → IsFirstByte (is_byte byte) bytes None → Lacks byte bytes
 lacks_all byte bytes none =

@@ -1,11 +1,11 @@
 -- Bytes in one word: the byte at which their digits end.
 use Rattle.std.proofs.Common.{◌≡◌, ℕ, zero, suc, ◌+◌, ◌*◌, ◌-◌, ◌/◌, ◌%◌, ◌^◌, ◌<◌, ◌∙◌, Bool, true, false, List, [], ◌∷◌, All, length}
 use Rattle.std.proofs.{Common.{get_or, refl, sym, ap, arith}, Math.Pow.{split}, lemmas.Bool.Decides.{nat_tests}}
-use Rattle.std.proofs.lemmas.Nat.{and_block, or_lt, or_mod, or_shr, le_or_l, le_or_r, and_le_r}
-use Rattle.std.proofs.lemmas.{List.Elements.{All-from_get_or}, Nat.Bits.{and_high, bit_at-suc, bit_at-trailing_zeros}}
-use Rattle.std.specs.{Char.{is_ascii_digit}, Int.{bit_at, from_le_bytes, w64}, Int.Bits.{bit_and, bit_or}, Int.Count.{count_trailing_zeros}}
-use Rattle.std.specs.List.{prefix_len}
-use Rattle.line_text.{proofs.DigitWords.{clear_byte, each, past}, proofs.Digits.{digit_is}, specs.Numbers.{word_of}}
+use Rattle.std.proofs.lemmas.{Nat.{and_block, or_lt, or_mod, or_shr, le_or_l, le_or_r, and_le_r}, List.Elements.{All-from_get_or}}
+use Rattle.std.{proofs.lemmas.Nat.Bits.{and_high, bit_at-suc, bit_at-trailing_zeros}, specs.Char.{is_ascii_digit}}
+use Rattle.std.specs.{Int.{bit_at, from_le_bytes, w64}, Int.Bits.{bit_and, bit_or}, Int.Count.{count_trailing_zeros}, List.{prefix_len}}
+use Rattle.line_text.{proofs.DigitWords.{are_digits, clear_byte, each, past}, proofs.Digits.{digit_is}, specs.Numbers.{word_of}}
+use Rattle.line_text.proofs.LeadingDigits.{all_digits_lead}
 
 -- a number of so many bytes further up
 abbrev pub upper : ℕ → ℕ → ℕ
@@ -49,18 +49,7 @@ some_bit o (suc (suc (suc (suc (suc (suc (suc zero))))))) few one = omega (arith
 some_bit o k few one = absurd (omega (arith, few))
 
 no_bit : (o : ℕ) → ((i : ℕ) → i < 8 → bit_at o i ≡ 0) → o ≡ 256 * (o / 256)
-no_bit o zeros =
-    omega (
-      arith,
-      zeros 0 (omega arith),
-      zeros 1 (omega arith),
-      zeros 2 (omega arith),
-      zeros 3 (omega arith),
-      zeros 4 (omega arith),
-      zeros 5 (omega arith),
-      zeros 6 (omega arith),
-      zeros 7 (omega arith),
-    )
+no_bit o zeros = grind arith
 
 -- eight bits further up
 up_eight : (o i : ℕ) → bit_at o (8 + i) ≡ bit_at (o / 256) i
@@ -161,4 +150,20 @@ digit_end bytes n z eight small is mask some = go bytes eight small is
         let fits : n < 2 ^ 64 = omega (arith, is, small 0, small 1, small 2, small 3, small 4, small 5, small 6, small 7) in
         sym (digits_end bs x ((x + 8536140394893047414) % 2 ^ 64) (1 - (n + 14974415777481871312) / 2 ^ 64) ((x + 8536140394893047414) / 2 ^ 64)
         (place / 8) up.r (All-from_get_or (λ b. b < 256) bs 0 (λ i _. small i)) (omega (arith, is, fits)) (omega arith) (sym mask ∙ up.is) up.some)
+    go bs eight small is = absurd (omega (arith, eight))
+
+-- Where neither has the highest bit of a byte set, all eight are digits.
+pub all_eight : (bytes : List ℕ) (n : ℕ) → length bytes ≡ 8 → ((i : ℕ) → get_or bytes i 0 < 256) → n ≡ from_le_bytes w64 bytes
+    → bit_and (both ((n + 14974415777481871312) % 2 ^ 64)) 9259542123273814144 ≡ 0 → 8 ≡ prefix_len is_ascii_digit bytes
+all_eight bytes n eight small is clear = go bytes eight small is
+  where
+    go : (bs : List ℕ) → length bs ≡ 8 → ((i : ℕ) → get_or bs i 0 < 256) → n ≡ from_le_bytes w64 bs → 8 ≡ prefix_len is_ascii_digit bs
+    go (a ∷ b ∷ c ∷ d ∷ e ∷ f ∷ g ∷ h ∷ []) eight small is =
+        let bs : List ℕ = a ∷ b ∷ c ∷ d ∷ e ∷ f ∷ g ∷ h ∷ [] in
+        let x = (n + 14974415777481871312) % 2 ^ 64 in
+        let fits : n < 2 ^ 64 = omega (arith, is, small 0, small 1, small 2, small 3, small 4, small 5, small 6, small 7) in
+        let found =
+        are_digits bs x ((x + 8536140394893047414) % 2 ^ 64) (1 - (n + 14974415777481871312) / 2 ^ 64) ((x + 8536140394893047414) / 2 ^ 64)
+        (All-from_get_or (λ b. b < 256) bs 0 (λ i _. small i)) (omega (arith, is, fits)) (omega arith) clear in
+        sym (all_digits_lead bs found.digits)
     go bs eight small is = absurd (omega (arith, eight))

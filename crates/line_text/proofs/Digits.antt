@@ -32,8 +32,7 @@ own = numerals_by_value _ (search rules)
 -- and that is no more than the number of all the digits
 pub number_so_far : (digits : List ℕ) (i : ℕ) → list_all is_ascii_digit digits ≡ true → i < length digits
     → digits_value 10 (take i digits) * 10 + (get_or digits i 0 - 48) ≤ digits_value 10 digits
-number_so_far digits i all lt =
-    omega (arith, one_more digits i lt (digit_at digits i all lt), digits_value-take-le 10 digits (i + 1) (omega arith))
+number_so_far digits i all lt = grind (arith, common_steps, one_more, digit_at, digits_value-take-le)
 
 -- it stays in 64 bits up to 19 digits
 pub room_for_one : (word : List ℕ) (i : ℕ) → i < length word → i < 19 → is_ascii_digit (get_or word i 0) ≡ true

@@ -3,10 +3,9 @@ use Rattle.std.proofs.Common.{◌≡◌, ◌≢◌, ℕ, ◌<◌, ◌∙◌, Boo
 use Rattle.std.proofs.{Common.{sym, ap, arith, Option, Some, None, option_and_then, slice_get, inl, inr}, lemmas.Bool.{cases_Bool}}
 use Rattle.std.{proofs.lemmas.List.Elements.{All-head, All-tail}, proofs.lemmas.List.Sums.{take_while-cons}, specs.Char.{is_ascii_digit}}
 use Rattle.std.specs.List.{onto_first}
-use Rattle.line_text.proofs.{Cuts.{line_is_its_words}, Digits.{none_equal}, LeadingDigits.{are_digits}}
-use Rattle.line_text.proofs.FirstNumbers.{no_first_number, no_word_end, only_word, word_before, first_number_of}
-use Rattle.line_text.specs.{Lines.{lines, words, line_of, is_newline, is_space, IsLine}, Pairs.{short_pair_of}}
-use Rattle.line_text.specs.Numbers.{short_number_of, leading_digits, leading_number_of}
+use Rattle.line_text.proofs.{FirstNumbers.{no_first_number, no_word_end, only_word, word_before, first_number_of}, Cuts.{line_is_its_words}}
+use Rattle.line_text.{proofs.Digits.{none_equal}, proofs.LeadingDigits.{are_digits}, specs.Lines.{lines, words, line_of, is_newline}}
+use Rattle.line_text.specs.{Lines.{is_space, IsLine}, Numbers.{short_number_of, leading_digits, leading_number_of}, Pairs.{short_pair_of}}
 
 -- ---- the first line of a text and the text after it
 
@@ -20,11 +19,7 @@ after (b ∷ text) = cond (is_newline b) text (after text)
 
 lines-cons : (b : ℕ) (text : List ℕ) → lines (b ∷ text) ≡ front (b ∷ text) ∷ lines (after (b ∷ text))
 unfolding lines
-lines-cons b [] = go (is_newline b)
-  where
-    go : (v : Bool) → cond v ([] ∷ []) ((b ∷ []) ∷ []) ≡ cond v [] (b ∷ []) ∷ lines (cond v [] [])
-    go true = refl
-    go false = refl
+lines-cons b [] = grind arith
 lines-cons b (d ∷ text) = go (is_newline b) (lines-cons d text)
   where
     go : (v : Bool) → lines (d ∷ text) ≡ front (d ∷ text) ∷ lines (after (d ∷ text))

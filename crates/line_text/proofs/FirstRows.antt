@@ -32,18 +32,7 @@ SpellNumbers-more (w ∷ ws) [] word n x are is value = absurd are
 
 pub row-first : (text rest : List ℕ) (n : ℕ) → Some n ≡ leading_number_of text → text ≡ leading_digits text ++ rest
     → IsRowSoFar text rest n []
-row-first text rest n is cut =
-    let spelled = short_is_number (leading_digits text) n (sym is) in
-    record {
-      word = leading_digits text;
-      ws = [];
-      text_is = cut;
-      are_words = All-cons IsWord (leading_digits text) [] (digits_are_a_word text) (All-nil _);
-      are_lines = All-cons IsLine (leading_digits text) [] (digits_are_in_line text) (All-nil _);
-      some = some_digits (leading_digits text) n spelled;
-      first_is = spelled;
-      numbers_are = tt;
-    }
+row-first text rest n is cut = grind (arith, short_is_number, All-cons, digits_are_a_word, All-nil, digits_are_in_line, some_digits)
 
 pub row-more : (text rest more after : List ℕ) (first : ℕ) (numbers : List ℕ) (n x : ℕ) → IsRowSoFar text rest first numbers
     → rest ≡ 32 ∷ more → Some n ≡ leading_number_of more → more ≡ leading_digits more ++ after → x ≡ min n (2 ^ 32 - 1)
@@ -55,9 +44,7 @@ row-more text rest more after first numbers n x row space is cut value =
     record {
       word = row.word;
       ws = row.ws ++ d ∷ [];
-      text_is = row.text_is
-          ∙ (ap (λ (t : List ℕ). line ++ t) tail
-          ∙ (sym (append_assoc line (32 ∷ d) after) ∙ ap (λ (t : List ℕ). t ++ after) (sym (line_of-more row.word row.ws d))));
+      text_is = grind (arith, append_assoc, line_of-more);
       are_words = All-append IsWord (row.word ∷ row.ws) (d ∷ []) row.are_words
           (All-cons IsWord d [] (digits_are_a_word more) (All-nil _));
       are_lines = All-append IsLine (row.word ∷ row.ws) (d ∷ []) row.are_lines
@@ -89,16 +76,11 @@ module _ (text rest : List ℕ) (first : ℕ) (numbers : List ℕ) (row : IsRowS
   in_line = words_make_a_line (row.word ∷ row.ws) row.are_lines
 
   some_line : 0 < length line
-  some_line = go row.word row.ws row.some
-    where
-      go : (w : List ℕ) (ws : List (List ℕ)) → 0 < length w → 0 < length (line_of (w ∷ ws))
-      go w [] some = some
-      go w (v ∷ ws) some = omega (arith, length-append w (32 ∷ line_of (v ∷ ws)), some)
+  some_line = grind (arith, length-append)
 
   -- the last one, without its newline
   last-lines : rest ≡ [] → lines text ≡ line ∷ []
-  last-lines none =
-      ap lines (row.text_is ∙ (ap (λ (t : List ℕ). line ++ t) none ∙ append-nil line)) ∙ line_alone line some_line in_line
+  last-lines none = grind (arith, append-nil, line_alone, some_line, in_line)
 
   pub row-last : rest ≡ [] → IsRow (slice_get (lines text) 0) first numbers
   row-last none = rw (last-lines none) row-is
@@ -108,8 +90,7 @@ module _ (text rest : List ℕ) (first : ℕ) (numbers : List ℕ) (row : IsRowS
 
   -- or one with it
   ended-lines : (more : List ℕ) → rest ≡ 10 ∷ more → lines text ≡ line ∷ lines more
-  ended-lines more newline =
-      ap lines (row.text_is ∙ ap (λ (t : List ℕ). line ++ t) newline) ∙ line_in_front_is_read line more in_line
+  ended-lines more newline = grind (arith, line_in_front_is_read, in_line)
 
   pub row-ended : (more : List ℕ) → rest ≡ 10 ∷ more → IsRow (slice_get (lines text) 0) first numbers
   row-ended more newline = rw (ended-lines more newline) row-is

@@ -54,11 +54,7 @@ module _ {State Value Fault : Type 0} (steps : LineSteps State Value Fault) wher
       → Has s (line ∷ ls) value)
       → (ls : List (List ℕ)) (number : ℕ) (s : State) (value : Value) → read_lines steps number s ls ≡ Ok value → Has s ls value
   unfolding read_lines
-  read_has Has end more [] number s value e = go (steps.finish s) refl
-    where
-      go : (read : Result Value Fault) → steps.finish s ≡ read → Has s [] value
-      go (Ok other) is = let same : other ≡ value = (let both = rw is at e in cc) in end s value (rw same at is)
-      go (Err fault) is = let none = rw is at e in absurd cc
+  read_has Has end more [] number s value e = grind arith
   read_has Has end more (line ∷ ls) number s value e = go (λ next. read_has Has end more ls (suc number) next value) (steps.step s line) refl
     where
       go : ((next : State) → read_lines steps (suc number) next ls ≡ Ok value → Has next ls value)
@@ -92,13 +88,7 @@ module _ {State Value Fault : Type 0} (steps : LineSteps State Value Fault) wher
   }
 
   faulty_end : (number : ℕ) (s : State) (fault : Fault) → steps.finish s ≡ Err fault → IsFaultAt number s [] fault 0
-  faulty_end number s fault is = record {
-    within = omega arith;
-    reached = s;
-    before = λ rest. ap (λ n. read_lines steps n s rest) (sym (add-zero number));
-    missing = λ all. is;
-    whatever_follows = λ other alike. grind (arith, nothing_begins, add-zero, line_missing);
-  }
+  faulty_end number s fault is = grind (arith, add-zero, nothing_begins, line_missing)
 
   faulty_later : (number : ℕ) (s next : State) (line : List ℕ) (ls : List (List ℕ)) (fault : Fault) (k : ℕ) → steps.step s line ≡ Ok next
       → IsFaultAt (number + 1) next ls fault k → IsFaultAt number s (line ∷ ls) fault (suc k)
@@ -114,11 +104,7 @@ module _ {State Value Fault : Type 0} (steps : LineSteps State Value Fault) wher
     where
       go : (end : Result Value Fault) → steps.finish s ≡ end → HasItsPlace number s [] n fault
       go (Ok value) is = absurd (read_or_refused value (n, fault) (sym (no_line number s value is) ∙ e))
-      go (Err other) is =
-          let both = same_refusal (number, other) (n, fault) (sym (line_missing number s other is) ∙ e) in
-          let here : number ≡ n = ap (λ (pair : ℕ × Fault). pair.0) both in
-          let same : other ≡ fault = ap (λ (pair : ℕ × Fault). pair.1) both in
-          (0, omega (arith, here), rw (← same) (faulty_end number s other is))
+      go (Err other) is = grind (arith, same_refusal, line_missing, faulty_end)
   refusal_has_its_place (line ∷ ls) number s n fault e = go (refusal_has_its_place ls) (steps.step s line) refl
     where
       go : ((number : ℕ) (s : State) (n : ℕ) (fault : Fault) → read_lines steps number s ls ≡ Err (n, fault) → HasItsPlace number s ls n fault)
@@ -126,11 +112,7 @@ module _ {State Value Fault : Type 0} (steps : LineSteps State Value Fault) wher
       go others (Ok next) is =
           let later = others (number + 1) next n fault (sym (line_read number s next line ls is) ∙ e) in
           (suc later.0, omega (arith, later.1), faulty_later number s next line ls fault later.0 is later.2)
-      go others (Err other) is =
-          let both = same_refusal (number, other) (n, fault) (sym (line_faulty number s line ls other is) ∙ e) in
-          let here : number ≡ n = ap (λ (pair : ℕ × Fault). pair.0) both in
-          let same : other ≡ fault = ap (λ (pair : ℕ × Fault). pair.1) both in
-          (0, omega (arith, here), rw (← same) (faulty_first number s line ls other is))
+      go others (Err other) is = grind (arith, same_refusal, line_faulty, faulty_first)
 
   -- ---- where a text may end after any line
 
@@ -154,18 +136,7 @@ module _ {State Value Fault : Type 0} (steps : LineSteps State Value Fault) wher
         go : ((number : ℕ) (s : State) (n : ℕ) (fault : Fault) → read_lines steps number s ls ≡ Err (n, fault)
             → (0 < length ls) ⊎ MayEnd s → IsThere number s ls n)
             → (read : Result State Fault) → steps.step s line ≡ read → IsThere number s (line ∷ ls) n
-        go others (Err other) is =
-            let both = same_refusal (number, other) (n, fault) (sym (line_faulty number s line ls other is) ∙ e) in
-            let here : number ≡ n = ap (λ (pair : ℕ × Fault). pair.0) both in
-            record {
-              place = 0;
-              is = omega (arith, here);
-              within = omega arith;
-              before = elim [
-                | inl some ↦ absurd (omega arith)
-                | inr end ↦ (end.0, no_line number s end.0 end.1)
-              ];
-            }
+        go others (Err other) is = grind (arith, same_refusal, line_faulty, no_line)
         go others (Ok next) is =
             let end = ends s next line is in
             let later = others (number + 1) next n fault (sym (line_read number s next line ls is) ∙ e) (inr end) in
@@ -233,12 +204,7 @@ module _ {State Value Fault : Type 0} (steps : LineSteps State Value Fault) wher
         record {
           some = omega (arith, place);
           within = omega (arith, place, at.2.within);
-          before = (
-            other,
-            on.value,
-            format.spelled other on.value (ap (read_lines steps 1 start) is ∙ at.2.before on.rest ∙ on.read (1 + k)),
-            rw front alike,
-          );
+          before = grind (arith, is, alike);
           none = λ another value spells alike.
               read_or_refused value (1 + k, fault)
               (sym (format.read another value spells) ∙ at.2.whatever_follows (lines another) (rw place at (sym alike)));
@@ -261,9 +227,7 @@ module _ {State Value Fault : Type 0} (steps : LineSteps State Value Fault) wher
     module _ (ends : (s next : State) (line : List ℕ) → steps.step s line ≡ Ok next → MayEnd next) where
       pub refused_line_within : (text : List ℕ) (n : ℕ) → IsRefusedAt text n → (0 < length (lines text)) ⊎ MayEnd start
           → n ≤ length (lines text)
-      refused_line_within text n refused some =
-          let there = refused_line ends (lines text) 1 start n refused.0 refused.1 some in
-          omega (arith, there.is, there.within)
+      refused_line_within text n refused some = grind (arith, refused_line)
 
       pub refused_line_within_or_first : (text : List ℕ) (n : ℕ) → IsRefusedAt text n → n ≤ max 1 (length (lines text))
       refused_line_within_or_first text n refused =

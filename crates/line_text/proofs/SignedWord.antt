@@ -1,5 +1,5 @@
 -- Eight bytes whose first one may be a sign, which then counts as the digit 0.
-use Rattle.std.proofs.Common.{◌≡◌, ℕ, ◌+◌, ◌*◌, ◌-◌, ◌≤◌, ◌∙◌, Bool, true, false, cond, List, [], ◌∷◌, length, map, get_or, refl, ap, arith}
+use Rattle.std.proofs.Common.{◌≡◌, ℕ, ◌-◌, ◌≤◌, Bool, true, false, List, [], ◌∷◌, length, map, get_or, refl, arith}
 use Rattle.std.specs.{Int.{from_bool}, Simd.Lanes.{mask_l}}
 use Rattle.line_text.specs.Numbers.{is_no_digit, unsigned}
 
@@ -21,7 +21,4 @@ pub mask-unsigned : (signed : Bool) (bytes : List ℕ) (mask : ℕ) → length b
     → mask ≡ mask_l (map is_no_digit bytes) → IsUnsignedMask signed bytes mask
 mask-unsigned false bytes mask eight sign is = record { some = omega arith; is = omega (arith, is) }
 mask-unsigned true [] mask eight sign is = absurd (omega (arith, eight))
-mask-unsigned true (b ∷ bs) mask eight sign is =
-    let here : is_no_digit b ≡ true = ap is_no_digit (sign refl) in
-    let whole : mask ≡ 1 + 2 * mask_l (map is_no_digit bs) = is ∙ ap (λ m. cond {A = ℕ} m 1 0 + 2 * mask_l (map is_no_digit bs)) here in
-    record { some = omega (arith, whole); is = omega (arith, whole) }
+mask-unsigned true (b ∷ bs) mask eight sign is = grind arith

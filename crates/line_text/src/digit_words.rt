@@ -1,5 +1,5 @@
 //! Eight or four digits at once: the bytes are one word, and each multiplication doubles the number of digits that are joined.
-ghost use Rattle.std.specs.Prelude.{◌≡◌, ◌<◌, ◌≤◌, ℕ, All, Bool, IfSome, List, MatchOption, length, map, slice_index, take};
+ghost use Rattle.std.specs.Prelude.{◌≡◌, ◌<◌, ◌≤◌, ℕ, All, Bool, IfNone, IfSome, List, MatchOption, length, map, slice_index, take};
 ghost use Rattle.std.specs.Char.{is_ascii_digit};
 ghost use Rattle.std.specs.Int.Digits.{number_from_digits};
 ghost use Rattle.std.specs.List.{list_all, prefix_len};
@@ -28,14 +28,11 @@ pub(crate) fn leading_eight(bytes: &[u8; 8]) -> (usize, u64)
     ensures count { result.0 ≡ prefix_len is_ascii_digit bytes.now }
     ensures value { result.1 ≡ digits_value 10 (take result.0 bytes.now) }
 {
-    let count = digits_of(no_digits(u8x8::from_array(*bytes)));
-    if count == 8 {
-        return (8, value_of(bytes, 8));
+    match digit_count(bytes) {
+        None => (8, value_of(bytes, 8)),
+        Some(0) => (0, 0),
+        Some(count) => (count, value_of(bytes, count)),
     }
-    if count == 0 {
-        return (0, 0);
-    }
-    (count, value_of(bytes, count))
 }
 
 /// How many of eight bytes are digits, up to the first that is none; `None` if all are.
@@ -44,6 +41,7 @@ pub(crate) fn leading_eight(bytes: &[u8; 8]) -> (usize, u64)
 pub(crate) fn digit_count(bytes: &[u8; 8]) -> Option<usize>
     ensures count { IfSome result (λ count. count ≡ prefix_len is_ascii_digit bytes.now) }
     ensures few { IfSome result (λ count. count < 8) }
+    ensures all { IfNone result (8 ≡ prefix_len is_ascii_digit bytes.now) }
 {
     let digits = u64::from_le_bytes(*bytes).wrapping_sub(ZEROS);
     let others = (digits | digits.wrapping_add(ABOVE_NINE)) & HIGH_BITS;
@@ -87,19 +85,7 @@ fn no_digits(bytes: u8x8) -> u64
         .to_bitmask()
 }
 
-// how many bytes are before the first whose bit is set
-#[inline(always)]
-fn digits_of(others: u64) -> usize
-    ensures { (bytes : List ℕ) → length bytes ≡ 8 → others ≡ mask_l (map is_no_digit bytes)
-        → result ≡ prefix_len is_ascii_digit bytes }
-{
-    match first_other(others) {
-        Some(count) => count,
-        None => 8,
-    }
-}
-
-// the same, or `None` if none is set
+// how many bytes are before the first whose bit is set, or `None` if none is set
 #[inline(always)]
 fn first_other(others: u64) -> Option<usize>
     ensures { (bytes : List ℕ) → length bytes ≡ 8 → others ≡ mask_l (map is_no_digit bytes)

@@ -44,11 +44,7 @@ mapped_test granules address len = (IsMapped-from granules address len, is_mappe
 module _ (place len : ℕ) (from : region_start ≤ place) where
   in_span : (g : ℕ) → (i : ℕ) × (i < len) × Holds g (place + i) →
       (granule_of place ≤ g) × (g < granule_of place + (granule_of (place + len - 1) + 1 - granule_of place))
-  in_span g t = at t.0 t.1 t.2.from t.2.to
-    where
-      at : (i : ℕ) → i < len → region_start + 16 * g ≤ place + i → place + i < region_start + 16 * g + 16 →
-          (granule_of place ≤ g) × (g < granule_of place + (granule_of (place + len - 1) + 1 - granule_of place))
-      at i below low high = (omega arith, omega arith)
+  in_span g t = grind arith
 
   from_span : (g : ℕ) → 0 < len → granule_of place ≤ g →
       g < granule_of place + (granule_of (place + len - 1) + 1 - granule_of place) → (i : ℕ) × (i < len) × Holds g (place + i)

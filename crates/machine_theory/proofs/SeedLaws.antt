@@ -64,8 +64,7 @@ random_bit seed n = bit_at (seed_after (n / 4) seed) (n % 4)
 -- the register after k draws has the sixteen bits from bit 4 k on
 first_bits : (seed k i : ℕ) → i < 4 → random_bit seed (4 * k + i) ≡ bit_at (seed_after k seed) i
 unfolding random_bit
-first_bits seed k i h =
-    grind arith
+first_bits seed k i h = grind arith
 
 register_bits : (j seed k i : ℕ) → i < 4 * suc j → i < 16 → random_bit seed (4 * k + i) ≡ bit_at (seed_after k seed) i
 register_bits zero seed k i few h = first_bits seed k i (omega arith)

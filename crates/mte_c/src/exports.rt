@@ -15,7 +15,7 @@ use handed_text::{DONE, HandedText, MISUSE, OUT_OF_MEMORY};
 use std::alloc::Global;
 use tool_call::{Call, Options};
 
-/// Runs the command of this number (`command_numbered`) with those of the options that are its own.
+/// Runs the command of this number (`command_numbered`), which reads those of the options that are its own.
 #[unsafe(no_mangle)]
 pub extern "C" fn mte_c_call(
     alloc: Global,
@@ -29,7 +29,10 @@ pub extern "C" fn mte_c_call(
     match command_numbered(command) {
         Some(name) => Ending::of(crate::commands::call(
             alloc,
-            Call::of(name, options),
+            Call {
+                command: name,
+                options,
+            },
             input,
             text,
         )),

@@ -2,6 +2,7 @@ pub mod CountedLines
 pub mod Counting
 pub mod CountsInput
 pub mod FaultLines
+pub mod FitAndCounts
 pub mod Headline
 pub mod HistoryFaultLines
 pub mod InFront

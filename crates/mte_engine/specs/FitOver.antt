@@ -1,5 +1,5 @@
 -- The answers of `fit` to a timeline: the table of least footprint over every moment, with its certificate; or a table and a bound.
-use Rattle.std.specs.Prelude.{◌≡◌, ◌⊎◌, ◌≤◌, ℕ, Bool, List, [], ◌∷◌, ◌++◌, codes, MatchBool, Result}
+use Rattle.std.specs.Prelude.{◌≡◌, ◌==◌, ◌⊎◌, ◌≤◌, ℕ, Bool, List, [], ◌∷◌, ◌++◌, codes, MatchBool, Result}
 use Rattle.class_table.specs.{ClassLine.{class_line}, NamedLines.{named_line}}
 use Rattle.line_text.specs.Lines.{ended, lines, text_of}
 use Rattle.potential_check.specs.{Footprints.Timelines.MomentsLine.{moments_line}, SheetText.{fit_text}}
@@ -8,6 +8,7 @@ use Rattle.class_tuner.specs.Fits.Timelines.Found.{IsBetween, IsLeastFit}
 use Rattle.tuner_theory.specs.{Sheets.{Sheet}, declared.size_event.SizeEvent.{SizeEvent}}
 use Rattle.mte_engine.specs.{Fit.{FitAnswers}, Outcome.{Answer}, Parts.{AnswersPart, timeline_part}, Timelines.{begins_timeline}}
 use Rattle.mte_engine.specs.declared.{engine.Status.TheVariants.{Done, No}, fault.InputFault.{InputFault}}
+use Rattle.tool_call.specs.declared.options.Options.{Options}
 
 -- The text of a fit, and the line of its moments.
 abbrev pub least_text : Sheet → List ℕ → List ℕ
@@ -47,3 +48,7 @@ FitOverAnswers limit step forced text answer = AnswersPart (timeline_part 0 (tim
 abbrev pub FitEitherAnswers : ℕ → ℕ → Bool → List ℕ → Result Answer InputFault → Type 0
 FitEitherAnswers limit step forced text answer =
     MatchBool (begins_timeline (lines text)) (FitOverAnswers limit step forced text answer) (FitAnswers limit step forced text answer)
+
+-- The same by the options.
+abbrev pub fit_answers : Options → List ℕ → Result Answer InputFault → Type 0
+fit_answers options = FitEitherAnswers options.limit options.step (options.largest_class == 1)

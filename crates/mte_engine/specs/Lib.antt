@@ -6,6 +6,7 @@ pub mod CountsInput
 pub mod FaultLines
 pub mod FaultText
 pub mod Fit
+pub mod FitAndCounts
 pub mod FitOver
 pub mod Footprint
 pub mod FootprintOver

@@ -7,6 +7,7 @@ use Rattle.heap_theory.specs.{Config.{layout_for}, declared.config.Config.{Confi
 use Rattle.trace_reader.specs.TraceText.{trace_from}
 use Rattle.mte_engine.specs.{Outcome.{Answer}, Parts.{class_part}, Traces.{trace_part}, declared.engine.Status.TheVariants.{Done}}
 use Rattle.mte_engine.specs.declared.fault.InputFault.{InputFault}
+use Rattle.tool_call.specs.{Options.{config_of}, declared.options.Options.{Options}}
 
 -- The report on the events of a trace, on the heap that is set up so for this table.
 abbrev pub report_on : Config → List ℕ → List Event → List ℕ
@@ -42,3 +43,10 @@ ReplayAnswers config text answer = replay_answer config text ≡ answer
 -- The one answer to a class line and a trace.
 abbrev pub ReplayOnAnswers : Config → List ℕ → List ℕ → Result Answer InputFault → Type 0
 ReplayOnAnswers config first text answer = replay_answer_on config first text ≡ answer
+
+-- The same by the options.
+abbrev pub replay_answers : Options → List ℕ → Result Answer InputFault → Type 0
+replay_answers options = ReplayAnswers (config_of options)
+
+abbrev pub replay_on_answers : Options → List ℕ → List ℕ → Result Answer InputFault → Type 0
+replay_on_answers options = ReplayOnAnswers (config_of options)

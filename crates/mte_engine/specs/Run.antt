@@ -13,6 +13,7 @@ use Rattle.trace_reader.specs.TraceText.{trace_of}
 use Rattle.tuner_theory.specs.Sheets.{Sheet}
 use Rattle.mte_engine.specs.{Outcome.{Answer}, Parts.{AnswersPart}, Traces.{profile_of_events, trace_part}}
 use Rattle.mte_engine.specs.declared.{engine.Status.TheVariants.{Done}, fault.InputFault.{InputFault}}
+use Rattle.tool_call.specs.{Options.{config_of}, declared.options.Options.{Options}}
 
 -- ---- the tables in question
 
@@ -70,3 +71,7 @@ pub record IsTunedRun (limit step : ℕ) (config : Config) (events : List Event)
 -- The whole text is a trace. The answer is the headline for its events, or the trace's first fault.
 abbrev pub RunAnswers : ℕ → ℕ → Config → List ℕ → Result Answer InputFault → Type 0
 RunAnswers limit step config text answer = AnswersPart (trace_part 0 (trace_of text)) (IsTunedRun limit step config) answer
+
+-- The same by the options.
+abbrev pub run_answers : Options → List ℕ → Result Answer InputFault → Type 0
+run_answers options = RunAnswers options.limit options.step (config_of options)

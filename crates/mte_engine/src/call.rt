@@ -3,7 +3,9 @@ ghost use Rattle.std.specs.Prelude.{◌≡◌, true};
 ghost use Rattle.mte_engine.specs.Calls.{answers_of, answers_on};
 ghost use Rattle.mte_engine.specs.Outcome.{Runs};
 ghost use Rattle.mte_engine.specs.TwoTexts.{answers_beside_blocks, answers_beside_profile};
-ghost use Rattle.tool_call.specs.Options.{IsValid, has_two_texts};
+ghost use Rattle.mte_engine.specs.Replay.{ReplayOnAnswers};
+ghost use Rattle.tool_call.specs.Options.{AreValid, IsValid, config_of, has_two_texts};
+ghost use Rattle.tool_call.specs.declared.call.CommandName.TheVariants.{Replay};
 
 use crate::checking::check;
 use crate::engine::{Status, run_engine};
@@ -21,7 +23,7 @@ use crate::tuning::tune;
 use crate::two_texts::{BesideBlocks, BesideProfile, BesideTrace, BlocksCommand, ProfileCommand};
 use byte_streams::{ByteSink, ByteSource};
 use std::alloc::Global;
-use tool_call::{Call, Limits};
+use tool_call::{Call, CommandName, Options};
 
 /// Runs the engine of a call, with the call's options, from the source to the sink.
 pub fn run_call<R: ByteSource, W: ByteSink>(
@@ -33,21 +35,18 @@ pub fn run_call<R: ByteSource, W: ByteSink>(
     requires { IsValid call }
     ensures { Runs (answers_of call) (R.state source.old) (R.state source.new) W.state sink.old sink.new result }
 {
-    match call {
-        Call::Score => score(alloc, source, sink),
-        Call::Tune(Limits { limit, step }, largest_class) => {
-            tune(alloc, limit, step, largest_class == 1, source, sink)
-        }
-        Call::Check => check(alloc, source, sink),
-        Call::Footprint => footprint(alloc, source, sink),
-        Call::Fit(Limits { limit, step }, largest_class) => {
-            fit(alloc, limit, step, largest_class == 1, source, sink)
-        }
-        Call::CheckFit => check_fit(alloc, source, sink),
-        Call::Peaks => peaks(alloc, source, sink),
-        Call::Profile => profile(alloc, source, sink),
-        Call::Replay(config) => replay(alloc, config, source, sink),
-        Call::Run(Limits { limit, step }, config) => run(alloc, limit, step, config, source, sink),
+    let options = call.options;
+    match call.command {
+        CommandName::Score => score(alloc, source, sink),
+        CommandName::Tune => tune(alloc, options, source, sink),
+        CommandName::Check => check(alloc, source, sink),
+        CommandName::Footprint => footprint(alloc, source, sink),
+        CommandName::Fit => fit(alloc, options, source, sink),
+        CommandName::CheckFit => check_fit(alloc, source, sink),
+        CommandName::Peaks => peaks(alloc, source, sink),
+        CommandName::Profile => profile(alloc, source, sink),
+        CommandName::Replay => replay(alloc, options, source, sink),
+        CommandName::Run => run(alloc, options, source, sink),
     }
 }
 
@@ -62,31 +61,43 @@ pub fn run_call_on<R: ByteSource, W: ByteSink>(
     sink: &mut W,
 ) -> Result<Status, ToolFault>
     requires valid { IsValid call }
-    requires two { has_two_texts call ≡ true }
+    requires two { has_two_texts call.command ≡ true }
     ensures { Runs (answers_on call first.now) (R.state source.old) (R.state source.new)
         W.state sink.old sink.new result }
 {
-    match call {
-        Call::Score => beside_profile(alloc, ProfileCommand::Score, first, source, sink),
-        Call::Check => beside_profile(alloc, ProfileCommand::Check, first, source, sink),
-        Call::Footprint => {
+    match call.command {
+        CommandName::Score => beside_profile(alloc, ProfileCommand::Score, first, source, sink),
+        CommandName::Check => beside_profile(alloc, ProfileCommand::Check, first, source, sink),
+        CommandName::Footprint => {
             let command = BlocksCommand::OfTable(TableCommand::Footprint);
             beside_blocks(alloc, command, first, source, sink)
         }
-        Call::CheckFit => beside_blocks(alloc, BlocksCommand::CheckFit, first, source, sink),
-        Call::Peaks => {
+        CommandName::CheckFit => beside_blocks(alloc, BlocksCommand::CheckFit, first, source, sink),
+        CommandName::Peaks => {
             let command = BlocksCommand::OfTable(TableCommand::Peaks);
             beside_blocks(alloc, command, first, source, sink)
         }
-        Call::Replay(config) => {
-            let engine = BesideTrace {
-                config,
-                class: first,
-            };
-            run_engine(alloc, &engine, source, sink)
-        }
+        CommandName::Replay => replay_beside(alloc, call.options, first, source, sink),
         _ => run_call(call, alloc, source, sink),
     }
+}
+
+fn replay_beside<R: ByteSource, W: ByteSink>(
+    alloc: Global,
+    options: Options,
+    first: &[u8],
+    source: &mut R,
+    sink: &mut W,
+) -> Result<Status, ToolFault>
+    requires { AreValid Replay options }
+    ensures { Runs (ReplayOnAnswers (config_of options) first.now) (R.state source.old) (R.state source.new)
+        W.state sink.old sink.new result }
+{
+    let engine = BesideTrace {
+        config: options.config(),
+        class: first,
+    };
+    run_engine(alloc, &engine, source, sink)
 }
 
 fn beside_profile<R: ByteSource, W: ByteSink>(

@@ -143,8 +143,8 @@ pub(crate) fn read_as_history(
     read_history(alloc, &text.text, before)
 }
 
-// the timeline that was read, which follows this many lines of its input
-fn end_timeline(reader: TimelineReader, lines: u64) -> Result<Timeline, AnswerError>
+/// The timeline that was read, which follows this many lines of its input.
+pub(crate) fn end_timeline(reader: TimelineReader, lines: u64) -> Result<Timeline, AnswerError>
     requires { AreFewLines lines }
     ensures { (bytes : List ℕ) → IsReadingOf reader bytes
         → GivesPart result (timeline_part lines (timeline_of (ended head_line ++ bytes))) }

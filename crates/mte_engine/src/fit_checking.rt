@@ -9,6 +9,7 @@ ghost use Rattle.mte_engine.specs.Check.{verdict_text_by};
 ghost use Rattle.mte_engine.specs.CheckFit.{IsFitChecked};
 ghost use Rattle.mte_engine.specs.CheckFitOver.{CheckFitEitherAnswers, ChecksEitherParts};
 ghost use Rattle.mte_engine.specs.CountsInput.{HasTakenCounts};
+ghost use Rattle.mte_engine.specs.FitAndCounts.{HasTakenFit};
 ghost use Rattle.mte_engine.specs.Outcome.{GivesAnswer, Runs};
 ghost use Rattle.mte_engine.specs.Parts.{AnswersPart, AreFewLines, history_part};
 ghost use Rattle.tuner_theory.specs.RefusalText.{shown_fit_refusal};
@@ -16,9 +17,12 @@ ghost use Rattle.tuner_theory.specs.RefusalText.{shown_fit_refusal};
 use crate::counts_input::{CountsInput, read_as_history};
 use crate::engine::{Engine, Status, run_engine};
 use crate::fault::{AnswerError, InputFault, ToolFault};
-use crate::fit_checking_over::{begins_moments, check_after_moments, check_beside_moments};
+use crate::fit_and_counts::FitAndCounts;
+use crate::fit_checking_over::{
+    begins_moments, check_after_moments, check_beside_moments, check_read_timeline,
+};
 use crate::input_parts::{end_text, read_history, read_leading};
-use byte_streams::{ByteSink, ByteSource, Text, WholeText};
+use byte_streams::{ByteSink, ByteSource, Text};
 use history_count::History;
 use potential_check::{Fit, Verdict, check_fit as verdict_on};
 use std::alloc::{AllocError, Global};
@@ -27,7 +31,8 @@ use tuner_theory::FitRefusal;
 /// Reads a fit and then a history, or a fit, the line of its moments and then a timeline. It writes `optimal`, or `refused CODE NAME` with
 /// the status of a no: the first refusal (39 to 41, 43 to 47 and 49) of the fit for the history. `optimal` means that no table takes less,
 /// of all tables that have at most the fit's limit of classes, all of them multiples of its step, and that serve each counted size. The fit
-/// is the first three lines, or four if the third begins with `step`, and all lines directly after them whose first word is `row`.
+/// is the first three lines, or four if the third begins with `step`, and all lines directly after them whose first word is `row`. Of a
+/// timeline after a fit without a fault the events are kept, of every other input the text.
 ///
 /// Faults of the input (`Input`), in this order: that it is too long; the fault of the fit; that of the history. `ToolFault` has the
 /// other faults, and what the sink took when one comes.
@@ -44,18 +49,34 @@ pub fn check_fit<R: ByteSource, W: ByteSink>(
 struct CheckFitEngine;
 
 impl Engine for CheckFitEngine {
-    type Input = WholeText;
+    type Input = FitAndCounts;
 
     type Output = Text;
 
     ghost answers = { λ _. CheckFitEitherAnswers };
 
-    fn input(&self, alloc: Global) -> Result<WholeText, AllocError> {
-        Ok(WholeText::new(alloc))
+    fn input(&self, alloc: Global) -> Result<FitAndCounts, AllocError> {
+        FitAndCounts::new(alloc)
     }
 
-    fn answer(&self, alloc: Global, input: WholeText) -> Result<(Text, Status), AnswerError> {
-        check_fit_text(alloc, &input.text)
+    fn answer(&self, alloc: Global, input: FitAndCounts) -> Result<(Text, Status), AnswerError> {
+        check_fit_input(alloc, input)
+    }
+}
+
+// the answer to an input
+fn check_fit_input(alloc: Global, input: FitAndCounts) -> Result<(Text, Status), AnswerError>
+    ensures { (bytes : List ℕ) → HasTakenFit input bytes → GivesAnswer text_left (CheckFitEitherAnswers bytes) result }
+{
+    let FitAndCounts {
+        text,
+        leading,
+        reader,
+        ..
+    } = input;
+    match leading {
+        Some(leading) => check_read_timeline(alloc, leading, reader),
+        None => check_fit_text(alloc, &text.text),
     }
 }
 

@@ -1,21 +1,23 @@
 //! `check-fit` over a timeline: the verdict on a fit with the moments that it names.
-ghost use Rattle.std.specs.Prelude.{◌≡◌, ◌+◌, Ok, Err, IfOk, MatchResult, ℕ, List, drop, take};
+ghost use Rattle.std.specs.Prelude.{◌≡◌, ◌+◌, ◌++◌, Ok, Err, IfOk, MatchResult, ℕ, List, drop, take};
 ghost use Rattle.byte_streams.specs.TextLeft.{text_left};
 ghost use Rattle.potential_check.specs.Certificates.SheetView.{sheet_of};
-ghost use Rattle.line_text.specs.Lines.{lines};
-ghost use Rattle.history_count.specs.Timelines.TimelineText.{timeline_of, timeline_of_lines};
+ghost use Rattle.line_text.specs.Lines.{ended, lines};
+ghost use Rattle.history_count.specs.Timelines.Pieces.{IsReadingOf};
+ghost use Rattle.history_count.specs.Timelines.TimelineText.{head_line, timeline_of, timeline_of_lines};
 ghost use Rattle.mte_engine.specs.CheckFitOver.{IsCheckedOver, begins_moments, moments_part, over_verdict_text, whole_moments_part};
 ghost use Rattle.mte_engine.specs.CountsInput.{HasTakenCounts};
 ghost use Rattle.mte_engine.specs.Outcome.{GivesAnswer};
 ghost use Rattle.mte_engine.specs.Parts.{AnswersPart, AreFewLines, GivesPart, both_parts, timeline_part};
 ghost use Rattle.potential_check.specs.Footprints.Timelines.MomentsLine.{moments_of};
 
-use crate::counts_input::{CountsInput, read_as_timeline};
+use crate::counts_input::{CountsInput, end_timeline, read_as_timeline};
 use crate::engine::Status;
 use crate::fault::{AnswerError, InputFault};
+use crate::fit_with_moments::FitWithMoments;
 use crate::input_parts::{end_text, read_timeline};
 use byte_streams::Text;
-use history_count::Timeline;
+use history_count::{Timeline, TimelineReader};
 use line_text::lines_in;
 use potential_check::{Fit, OverVerdict, check_over, moments_in, names_moments};
 use std::alloc::{AllocError, Global};
@@ -66,6 +68,25 @@ pub(crate) fn check_beside_moments(
 {
     let numbers = read_whole_moments(alloc, rest, before)?;
     check_beside_timeline(alloc, fit, &numbers, counts)
+}
+
+/// The answer to a fit with its moments and what was read of the timeline after it, away from its first line.
+pub(crate) fn check_read_timeline(
+    alloc: Global,
+    leading: FitWithMoments,
+    reader: TimelineReader,
+) -> Result<(Text, Status), AnswerError>
+    ensures { (rest : List ℕ) → IsReadingOf reader rest → GivesAnswer text_left
+        (AnswersPart (timeline_part leading.lines (timeline_of (ended head_line ++ rest)))
+        (λ events answer. IsCheckedOver (sheet_of leading.fit) leading.numbers.items events answer)) result }
+{
+    let FitWithMoments {
+        fit,
+        numbers,
+        lines,
+    } = leading;
+    let timeline = end_timeline(reader, lines)?;
+    Ok(check_against(alloc, &fit, &numbers, &timeline)?)
 }
 
 // the answer to a fit with its moments and a timeline of a text of its own

@@ -2,10 +2,12 @@
 ghost use Rattle.std.specs.Prelude.{List, ℕ};
 ghost use Rattle.mte_engine.specs.CountsInput.{HasTakenCounts};
 ghost use Rattle.mte_engine.specs.Fit.{FitAnswers};
-ghost use Rattle.mte_engine.specs.FitOver.{FitEitherAnswers};
+ghost use Rattle.mte_engine.specs.FitOver.{FitEitherAnswers, fit_answers};
 ghost use Rattle.mte_engine.specs.Outcome.{GivesAnswer, Runs};
 ghost use Rattle.mte_engine.specs.SheetLeft.{sheet_left};
 ghost use Rattle.mte_engine.specs.Tune.{AreTuneOptions};
+ghost use Rattle.tool_call.specs.Options.{AreValid};
+ghost use Rattle.tool_call.specs.declared.call.CommandName.TheVariants.{Fit};
 
 use crate::counts_input::{Counts, CountsInput, read_counts};
 use crate::engine::{Engine, Status, run_engine};
@@ -15,10 +17,11 @@ use crate::input_parts::read_history;
 use crate::sheet_writing::SheetText;
 use byte_streams::{ByteSink, ByteSource};
 use std::alloc::{AllocError, Global};
+use tool_call::Options;
 
-/// Reads a history or a timeline, and writes the fit of its table of least footprint. Of all tables that have at most `limit` (1 to 32)
-/// classes, all of them multiples of `step` (1, 2, 4 or 8 granules), that serve each counted size, and if `forced` have the largest class,
-/// so that they serve each size that any table can, it is the canonical one of those that take least. The fit's certificate is rows of
+/// Reads a history or a timeline, and writes the fit of its table of least footprint. Of all tables that have at most `limit` classes,
+/// all of them multiples of `step` granules, that serve each counted size, and if `largest_class` is 1 have the largest class, so that they
+/// serve each size that any table can, it is the canonical one of those that take least. The fit's certificate is rows of
 /// least footprints: number i of row k, both counted from 1, is the least that at most k classes take for the blocks whose need is above
 /// the i - 1 smallest distinct needs.
 ///
@@ -30,20 +33,17 @@ use std::alloc::{AllocError, Global};
 /// faults, and what the sink took when one comes.
 pub fn fit<R: ByteSource, W: ByteSink>(
     alloc: Global,
-    limit: u8,
-    step: u8,
-    forced: bool,
+    options: Options,
     source: &mut R,
     sink: &mut W,
 ) -> Result<Status, ToolFault>
-    requires options { AreTuneOptions limit step }
-    ensures { Runs (FitEitherAnswers limit step forced) (R.state source.old) (R.state source.new)
-        W.state sink.old sink.new result }
+    requires { AreValid Fit options }
+    ensures { Runs (fit_answers options) (R.state source.old) (R.state source.new) W.state sink.old sink.new result }
 {
     let engine = FitEngine {
-        limit,
-        step,
-        forced,
+        limit: options.limit,
+        step: options.step,
+        forced: options.largest_class == 1,
     };
     run_engine(alloc, &engine, source, sink)
 }

@@ -2,7 +2,9 @@
 ghost use Rattle.std.specs.Prelude.{◌≡◌, ◌+◌, length, Ok, Err, IfOk, MatchResult};
 ghost use Rattle.line_text.specs.Lines.{lines};
 ghost use Rattle.class_table.specs.ClassLine.{table_of_line};
+ghost use Rattle.history_count.specs.Histories.{History as CountedHistory};
 ghost use Rattle.history_count.specs.HistoryText.{history_of};
+ghost use Rattle.history_count.specs.Measures.{Measures};
 ghost use Rattle.profile_count.specs.ProfileText.{profile_of};
 ghost use Rattle.potential_check.specs.Certificates.SheetView.{sheet_of};
 ghost use Rattle.potential_check.specs.Leading.{leading_lines, lines_after};
@@ -15,7 +17,9 @@ ghost use Rattle.mte_engine.specs.Timelines.{begins_timeline};
 
 use crate::fault::{AnswerError, InputFault};
 use class_table::{ClassTable, TableError};
-use history_count::{History, HistoryError, TIMELINE, Timeline, TimelineError};
+use history_count::{
+    History, HistoryError, TIMELINE, TableFootprint, Timeline, TimelineError, footprint_of_text,
+};
 use line_text::lines_in;
 use potential_check::{CostKind, LeadingSheet, SheetError, read_leading_sheet};
 use profile_count::{Profile, ProfileError};
@@ -97,6 +101,29 @@ pub fn read_history(alloc: Global, text: &[u8], lines: u64) -> Result<History, A
 {
     match History::read(alloc, text) {
         Ok(history) => Ok(history),
+        Err(HistoryError::OutOfMemory) => Err(AnswerError::OutOfMemory),
+        Err(HistoryError::Line(number, fault)) => Err(AnswerError::Input(InputFault::History(
+            lines + u64::from(number),
+            fault,
+        ))),
+    }
+}
+
+/// What a table takes over the history that a text spells. The text follows this many lines of the input.
+pub fn measure_history(
+    alloc: Global,
+    text: &[u8],
+    table: &ClassTable,
+    lines: u64,
+) -> Result<TableFootprint, AnswerError>
+    requires { AreFewLines lines }
+    ensures { MatchResult result
+        (λ footprint. (history : CountedHistory) × (history_part lines (history_of text.now) ≡ Ok history)
+        × Measures table.now history.snapshots footprint)
+        (λ fault. GivesPart {A = CountedHistory} (Err fault) (history_part lines (history_of text.now))) }
+{
+    match footprint_of_text(alloc, text, table) {
+        Ok(footprint) => Ok(footprint),
         Err(HistoryError::OutOfMemory) => Err(AnswerError::OutOfMemory),
         Err(HistoryError::Line(number, fault)) => Err(AnswerError::Input(InputFault::History(
             lines + u64::from(number),

@@ -8,7 +8,6 @@ ghost use Rattle.class_table.specs.declared.layout.TheConstants.{FEWEST_GRANULES
 ghost use Rattle.class_table.specs.declared.sizes.TheConstants.{GRANULE_BYTES, LARGEST_CLASS, MOST_NEEDS, SMALLEST_CLASS};
 ghost use Rattle.class_table.specs.declared.table.TheConstants.{MOST_CLASSES};
 ghost use Rattle.class_tuner.specs.Tuned.{IsTuned};
-ghost use Rattle.tool_call.specs.Options.{call_of};
 ghost use Rattle.tool_call.specs.declared.call.CommandName.TheVariants.{Check, Score};
 ghost use Rattle.tool_call.specs.declared.options.Options.{Options};
 ghost use Rattle.trace_event.specs.declared.event.Event.{Event};
@@ -72,11 +71,11 @@ pub fn law_fault_lines()
     ensures shown { (fault : InputFault) (n : ℕ) → line_of_fault fault ≡ Some n
         → (name : List ℕ) × (shown_input_fault fault ≡ in_line name n) }
     ensures score { (options : Options) (text : List ℕ) (fault : InputFault)
-        → answers_of (call_of Score options) text (Err fault) → IsAtFirstFault SpellsTableAndProfile text fault }
+        → answers_of (record { command = Score; options = options }) text (Err fault) → IsAtFirstFault SpellsTableAndProfile text fault }
     ensures tune { (limit step : ℕ) (forced : Bool) (text : List ℕ) (fault : InputFault)
         → TuneAnswers limit step forced text (Err fault) → IsAtFirstFault SpellsProfile text fault }
     ensures check { (options : Options) (text : List ℕ) (n : ℕ) (fault : ProfileFault)
-        → answers_of (call_of Check options) text (Err (Profile n fault)) → IsFirstFault SpellsSheetAndProfile text n }
+        → answers_of (record { command = Check; options = options }) text (Err (Profile n fault)) → IsFirstFault SpellsSheetAndProfile text n }
     ensures replay { (config : Config) (text : List ℕ) (fault : TableError)
         → ReplayAnswers config text (Err (Table fault)) → IsAtFirstFault BeginsWithTable text (Table fault) }
     ensures footprint { (text : List ℕ) (fault : InputFault) → FootprintAnswers text (Err fault)

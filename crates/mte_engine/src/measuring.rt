@@ -7,17 +7,19 @@ ghost use Rattle.mte_engine.specs.FootprintOver.{FootprintEitherAnswers, Measure
 ghost use Rattle.mte_engine.specs.Parts.{AreFewLines};
 ghost use Rattle.mte_engine.specs.Outcome.{GivesAnswer, Runs};
 ghost use Rattle.byte_streams.specs.TextLeft.{text_left};
+ghost use Rattle.history_count.specs.Histories.{History as CountedHistory};
+ghost use Rattle.history_count.specs.Measures.{Measures};
 
 use crate::counts_input::{Counts, CountsInput, read_counts};
 use crate::engine::{Status, run_engine};
 use crate::fault::{AnswerError, ToolFault};
-use crate::input_parts::read_history;
+use crate::input_parts::measure_history;
 use crate::measuring_over::footprint_of_timeline;
 use crate::scoring::numbered_line;
 use crate::table_command::{OverLine, TableCommand};
 use byte_streams::{ByteSink, ByteSource, Text};
 use class_table::ClassTable;
-use history_count::History;
+use history_count::TableFootprint;
 use std::alloc::{AllocError, Global};
 
 /// Reads a class line and then a history or a timeline, and writes `footprint F`, the bytes that the table's classes take when most blocks of
@@ -53,29 +55,24 @@ pub(crate) fn footprint_of_counts(
     match read_counts(alloc, counts, before)? {
         Counts::Timeline(timeline) => Ok(footprint_of_timeline(alloc, table, &timeline)?),
         Counts::Text(text) => {
-            let history = read_history(alloc, &text, before)?;
-            Ok(footprint_of_history(alloc, table, &history)?)
+            let footprint = measure_history(alloc, &text, table, before)?;
+            Ok(footprint_line(alloc, footprint)?)
         }
     }
 }
 
-// the answer to a table and a history
-fn footprint_of_history(
-    alloc: Global,
-    table: &ClassTable,
-    history: &History,
-) -> Result<(Text, Status), AllocError>
-    ensures { IfOk result
-        (λ answered. record { text = text_left answered.0; status = answered.1 } ≡ measured table.now history.now) }
+// the answer to what a table takes over a history
+fn footprint_line(alloc: Global, footprint: TableFootprint) -> Result<(Text, Status), AllocError>
+    ensures { IfOk result (λ answered. (table : List ℕ) (history : CountedHistory) → Measures table history.snapshots footprint
+        → record { text = text_left answered.0; status = answered.1 } ≡ measured table history) }
 {
-    match history.unserved(table) {
-        Some(size) => Ok((
+    match footprint {
+        TableFootprint::Unserved(size) => Ok((
             numbered_line(alloc, b"not serving ", u64::from(size))?,
             Status::No,
         )),
-        None => Ok((
-            numbered_line(alloc, b"footprint ", history.footprint(table))?,
-            Status::Done,
-        )),
+        TableFootprint::Bytes(bytes) => {
+            Ok((numbered_line(alloc, b"footprint ", bytes)?, Status::Done))
+        }
     }
 }

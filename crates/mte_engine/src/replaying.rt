@@ -1,7 +1,9 @@
 //! `replay`: the report on a trace, replayed on the tagged heap over a class table.
 ghost use Rattle.mte_engine.specs.Outcome.{GivesAnswer, Runs};
 ghost use Rattle.mte_engine.specs.Parts.{AreFewLines};
-ghost use Rattle.mte_engine.specs.Replay.{ReplayAnswers, ReplayOnAnswers, replay_over};
+ghost use Rattle.mte_engine.specs.Replay.{ReplayAnswers, ReplayOnAnswers, replay_answers, replay_over};
+ghost use Rattle.tool_call.specs.Options.{AreValid};
+ghost use Rattle.tool_call.specs.declared.call.CommandName.TheVariants.{Replay};
 ghost use Rattle.heap_theory.specs.Config.{IsConfig};
 ghost use Rattle.line_text.specs.Lines.{lines};
 ghost use Rattle.mte_engine.specs.ReportLeft.{report_left};
@@ -19,25 +21,29 @@ use class_table::ClassTable;
 use line_text::first_line;
 use replay_core::Config;
 use std::alloc::{AllocError, Global};
+use tool_call::Options;
 use trace_reader::{TraceReader, Unobserved};
 
 /// Reads a class line and then a trace, replays the trace on a new heap over that table, and writes the report: a line for each event that
 /// has one, and the totals. A fault in the replay is a line of the report, and the replay goes on.
 ///
-/// `config` sets up the heap: 64 to 262,144 granules, a seed other than 0, a quarantine of 0 to 4,194,304 bytes.
+/// `granules`, `seed` and `quarantine` set up the heap.
 ///
 /// Faults of the input (`Input`), in this order: that it is too long; the fault of the class line; the first faulty line of the trace,
 /// whose lines count from 2. `ToolFault` has the other faults, and what the sink took when one comes.
 pub fn replay<R: ByteSource, W: ByteSink>(
     alloc: Global,
-    config: Config,
+    options: Options,
     source: &mut R,
     sink: &mut W,
 ) -> Result<Status, ToolFault>
-    requires { IsConfig config }
-    ensures { Runs (ReplayAnswers config) (R.state source.old) (R.state source.new) W.state sink.old sink.new result }
+    requires { AreValid Replay options }
+    ensures { Runs (replay_answers options) (R.state source.old) (R.state source.new) W.state sink.old sink.new result }
 {
-    run_engine(alloc, &ReplayEngine { config }, source, sink)
+    let engine = ReplayEngine {
+        config: options.config(),
+    };
+    run_engine(alloc, &engine, source, sink)
 }
 
 // the options of `replay`

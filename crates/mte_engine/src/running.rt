@@ -2,7 +2,9 @@
 ghost use Rattle.mte_engine.specs.Outcome.{GivesAnswer, Runs};
 ghost use Rattle.heap_theory.specs.Config.{IsConfig};
 ghost use Rattle.mte_engine.specs.ReportLeft.{report_left};
-ghost use Rattle.mte_engine.specs.Run.{RunAnswers};
+ghost use Rattle.mte_engine.specs.Run.{RunAnswers, run_answers};
+ghost use Rattle.tool_call.specs.Options.{AreValid};
+ghost use Rattle.tool_call.specs.declared.call.CommandName.TheVariants.{Run};
 ghost use Rattle.mte_engine.specs.Tune.{AreTuneOptions};
 ghost use Rattle.mte_engine.specs.Traces.{HasEnded, KeepsEventsAndCounts, profile_of_events};
 ghost use Rattle.std.specs.Prelude.{◌≡◌, ◌≤◌, Err, IfOk, List, MatchResult, ℕ, false, length};
@@ -21,34 +23,30 @@ use potential_check::write_sheet;
 use profile_count::Profile;
 use replay_core::Config;
 use std::alloc::{AllocError, Global};
+use tool_call::Options;
 use trace_reader::TraceReader;
 
 /// Reads a trace, and writes two things: the sheet that `tune` writes for the trace's profile, and then the report that `replay` writes on
 /// the trace with that sheet's table. So the table is legal for `step`, has at most `limit` classes and serves every counted request. Its
 /// waste is the sum of the bytes lost by rounding, and no such table wastes less. The report is the tagged machine's.
 ///
-/// `limit` is 1 to 32 classes, `step` is 1, 2, 4 or 8 granules. `config` sets up the heap: 64 to 262,144 granules, a seed other than 0, a
-/// quarantine of 0 to 4,194,304 bytes.
+/// `granules`, `seed` and `quarantine` set up the heap.
 ///
 /// Faults of the input (`Input`), in this order: that it is too long; the first faulty line of the trace. `ToolFault` has the other faults,
 /// and what the sink took when one comes.
 pub fn run<R: ByteSource, W: ByteSink>(
     alloc: Global,
-    limit: u8,
-    step: u8,
-    config: Config,
+    options: Options,
     source: &mut R,
     sink: &mut W,
 ) -> Result<Status, ToolFault>
-    requires options { AreTuneOptions limit step }
-    requires config { IsConfig config }
-    ensures { Runs (RunAnswers limit step config) (R.state source.old) (R.state source.new)
-        W.state sink.old sink.new result }
+    requires { AreValid Run options }
+    ensures { Runs (run_answers options) (R.state source.old) (R.state source.new) W.state sink.old sink.new result }
 {
     let engine = RunEngine {
-        limit,
-        step,
-        config,
+        limit: options.limit,
+        step: options.step,
+        config: options.config(),
     };
     run_engine(alloc, &engine, source, sink)
 }

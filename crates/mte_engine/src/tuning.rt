@@ -1,7 +1,9 @@
 //! `tune`: the class table of least waste for a profile, with its certificate.
 ghost use Rattle.mte_engine.specs.Outcome.{GivesAnswer, Runs};
 ghost use Rattle.mte_engine.specs.SheetLeft.{sheet_left};
-ghost use Rattle.mte_engine.specs.Tune.{AreTuneOptions, TuneAnswers};
+ghost use Rattle.mte_engine.specs.Tune.{AreTuneOptions, TuneAnswers, tune_answers};
+ghost use Rattle.tool_call.specs.Options.{AreValid};
+ghost use Rattle.tool_call.specs.declared.call.CommandName.TheVariants.{Tune};
 
 use crate::engine::{Engine, Status, run_engine};
 use crate::fault::{AnswerError, ToolFault};
@@ -9,10 +11,11 @@ use crate::input_parts::read_profile;
 use crate::sheet_writing::SheetText;
 use byte_streams::{ByteSink, ByteSource, WholeText};
 use std::alloc::{AllocError, Global};
+use tool_call::Options;
 
-/// Reads a profile, and writes the sheet of its table of least waste. Of all tables that have at most `limit` (1 to 32) classes, all of
-/// them multiples of `step` (1, 2, 4 or 8 granules), that serve each counted size, and if `forced` have the largest class, so that they serve
-/// each size that any table can, it is the canonical best one. The sheet's
+/// Reads a profile, and writes the sheet of its table of least waste. Of all tables that have at most `limit` classes, all of them multiples of
+/// `step` granules, that serve each counted size, and if `largest_class` is 1 have the largest class, so that they serve each size that any
+/// table can, it is the canonical best one. The sheet's
 /// certificate is rows of least wastes: number i of row k, both counted from 1, is the least that at most k classes waste on the requests
 /// whose need is above the i - 1 smallest distinct needs.
 ///
@@ -20,20 +23,17 @@ use std::alloc::{AllocError, Global};
 /// the sink took when one comes.
 pub fn tune<R: ByteSource, W: ByteSink>(
     alloc: Global,
-    limit: u8,
-    step: u8,
-    forced: bool,
+    options: Options,
     source: &mut R,
     sink: &mut W,
 ) -> Result<Status, ToolFault>
-    requires options { AreTuneOptions limit step }
-    ensures { Runs (TuneAnswers limit step forced) (R.state source.old) (R.state source.new)
-        W.state sink.old sink.new result }
+    requires { AreValid Tune options }
+    ensures { Runs (tune_answers options) (R.state source.old) (R.state source.new) W.state sink.old sink.new result }
 {
     let engine = TuneEngine {
-        limit,
-        step,
-        forced,
+        limit: options.limit,
+        step: options.step,
+        forced: options.largest_class == 1,
     };
     run_engine(alloc, &engine, source, sink)
 }

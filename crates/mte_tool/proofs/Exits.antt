@@ -6,15 +6,16 @@ use Rattle.clap.specs.{Kinds.{IsAmong, Kinds}, Words.{Text, fault_of, kind_of}, 
 use Rattle.command_words.specs.{AcceptedWords.{program}, Words.{AreRefused, Mean}, declared.refusal.Refusal.{Refusal}}
 use Rattle.command_words.specs.declared.refusal.Refusal.TheVariants.{OutOfMemory as NoMemory, Words, Options}
 use Rattle.line_text.specs.Lines.{ended, lines}
-use Rattle.mte_engine.specs.{Calls.{answers_of}, Check.{CheckAnswers, verdict_text, verdict_text_by}, CheckFit.{CheckFitAnswers}}
+use Rattle.mte_engine.specs.{Calls.{answers_by, answers_of}, Check.{CheckAnswers, verdict_text, verdict_text_by}, CheckFit.{CheckFitAnswers}}
 use Rattle.mte_engine.specs.{CheckFitOver.{CheckFitEitherAnswers, CheckFitOverAnswers, begins_moments, over_verdict_text}, Outcome.{Answer}}
 use Rattle.mte_engine.specs.declared.{engine.Status.{Status}, engine.Status.TheVariants.{Done, No}, fault.InputFault.{InputFault}}
 use Rattle.mte_engine.specs.declared.fault.InputFault.TheVariants.{TooLong}
 use Rattle.mte_engine.specs.declared.fault.ToolFault.TheVariants.{OutOfMemory, Input, ReadFault, WriteFault}
 use Rattle.mte_tool.{proofs.OneCall.{one_call}, specs.Exit.{AsksForText, is_shown, status_of}, specs.WholeRun.{AnswersAll, Ends}}
-use Rattle.mte_tool.specs.ExitLaw.{AnswerLaw, CheckFitLaw, CheckLaw, IsLeastInHistory, IsLeastInTimeline, IsOptimal, IsOptimalFit, ShownLaw}
+use Rattle.mte_tool.specs.ExitLaw.{AnswerLaw, CheckFitLaw, CheckLaw, IsLeastInHistory, IsLeastInTimeline, IsOptimal, IsOptimalFit, MeanCommand}
+use Rattle.mte_tool.specs.ExitLaw.{Ran, ShownLaw}
 use Rattle.mte_tool.specs.declared.end.{End.{End}, End.TheVariants.{Shown, Refused, Ended}}
-use Rattle.tool_call.specs.declared.call.{Call.{Call}, Call.TheVariants.{Check, CheckFit}}
+use Rattle.tool_call.specs.declared.call.{Call.{Call}, CommandName.{CommandName}, CommandName.TheVariants.{Check, CheckFit}}
 use Rattle.potential_check.specs.{Leading.{lines_after}, declared.footprints.timelines.verdict.OverVerdict.{OverVerdict}}
 use Rattle.tuner_theory.specs.{RefusalText.{shown_fit_refusal, shown_refusal}, declared.verdict.Refusal.{Refusal as Unmet}}
 use Rattle.tuner_theory.specs.declared.verdict.{Verdict.{Verdict}, Verdict.TheVariants.{Optimal, Refused as IsRefused}}
@@ -53,6 +54,19 @@ the_answer words call source sink errors (Ended (Err WriteFault)) ends means sma
 pub answer_law : AnswerLaw
 answer_law words call source sink errors end ran means small = the_answer words call source sink errors end ran.ends means small
 
+-- the same for a command
+answer_by : (words : List Text) (command : CommandName) (source : SourceState) (sink errors : SinkState) (end : End)
+    → Ran words source sink errors end → (means : MeanCommand words command) → status_of end ≤ 1
+    → (status : Status) × (end ≡ Ended (Ok status))
+    × AnswersAll (answers_by command means.0.options) source (Ok (record { text = sink.written; status = status }))
+answer_by words command source sink errors end ran means small =
+    let answered = answer_law words means.0 source sink errors end ran means.1 small in (
+      answered.0,
+      answered.1,
+      subst (λ (c : CommandName). AnswersAll (answers_by c means.0.options) source (Ok (record { text = sink.written; status = answered.0 })))
+          means.2 answered.2,
+    )
+
 -- the status of an answer that `optimal` is
 text_of_done : (shown : Unmet → List ℕ) (text : List ℕ) (verdict : Verdict)
     → record { text = text; status = Done } ≡ verdict_text_by shown verdict → (verdict ≡ Optimal) × (text ≡ ended (codes "optimal"))
@@ -88,13 +102,13 @@ optimal_of source sink answers =
 
 the_check : (source : SourceState) (sink : SinkState) (end : End) → status_of end ≡ 0
     → ((status : Status) × (end ≡ Ended (Ok status))
-    × AnswersAll (answers_of Check) source (Ok (record { text = sink.written; status = status }))) → IsOptimal source sink
+    × AnswersAll CheckAnswers source (Ok (record { text = sink.written; status = status }))) → IsOptimal source sink
 the_check source sink end zero (Done, is, answers) = optimal_of source sink answers
 the_check source sink end zero (No, is, answers) = let bad : 0 ≡ 1 = sym zero ∙ ap (λ (e : End). status_of e) is in absurd (omega (arith, bad))
 
 pub check_law : CheckLaw
 check_law words source sink errors end ran means zero =
-    the_check source sink end zero (answer_law words Check source sink errors end ran means (omega (arith, zero)))
+    the_check source sink end zero (answer_by words Check source sink errors end ran means (omega (arith, zero)))
 
 -- the same of `check-fit`, by what follows the fit
 least_in : (named : Bool) (input text : List ℕ)
@@ -119,14 +133,14 @@ least_of source sink answers =
 
 the_check_fit : (source : SourceState) (sink : SinkState) (end : End) → status_of end ≡ 0
     → ((status : Status) × (end ≡ Ended (Ok status))
-    × AnswersAll (answers_of CheckFit) source (Ok (record { text = sink.written; status = status }))) → IsOptimalFit source sink
+    × AnswersAll CheckFitEitherAnswers source (Ok (record { text = sink.written; status = status }))) → IsOptimalFit source sink
 the_check_fit source sink end zero (Done, is, answers) = least_of source sink answers
 the_check_fit source sink end zero (No, is, answers) =
     let bad : 0 ≡ 1 = sym zero ∙ ap (λ (e : End). status_of e) is in absurd (omega (arith, bad))
 
 pub check_fit_law : CheckFitLaw
 check_fit_law words source sink errors end ran means zero =
-    the_check_fit source sink end zero (answer_law words CheckFit source sink errors end ran means (omega (arith, zero)))
+    the_check_fit source sink end zero (answer_by words CheckFit source sink errors end ran means (omega (arith, zero)))
 
 kind_asked : (words : List Text) (why : Refusal) → AreRefused words why → AsksForText why
     → (kind : ErrorKind) × IsAmong kind (fault_of program words) × (is_shown kind ≡ true)

@@ -10,7 +10,7 @@ use Rattle.mte_engine.specs.Parts.{both_parts, history_part, profile_part, sheet
 use Rattle.mte_engine.specs.declared.fault.InputFault.{InputFault}
 use Rattle.mte_tool.specs.{Exit.{is_shown, status_of}, WholeRun.{AnswersAll, HasRun}, declared.end.End.{End}}
 use Rattle.mte_tool.specs.declared.end.End.TheVariants.{Shown, Ended}
-use Rattle.tool_call.specs.declared.call.{Call.{Call}, Call.TheVariants.{Check, CheckFit}}
+use Rattle.tool_call.specs.declared.call.{Call.{Call}, CommandName.{CommandName}, CommandName.TheVariants.{Check, CheckFit}}
 use Rattle.potential_check.specs.{Leading.{leading_lines, lines_after}, SheetText.{fit_of_lines}}
 use Rattle.potential_check.specs.declared.cost.Cost.TheVariants.{Waste, Footprint}
 use Rattle.profile_count.specs.ProfileText.{profile_of_lines}
@@ -67,15 +67,19 @@ pub record IsOptimalFit (source : SourceState) (sink : SinkState) : Type 0 where
       (IsLeastInHistory source.given)
   pub written : sink.written ≡ ended (codes "optimal")
 
+-- The words mean a call of this command.
+abbrev pub MeanCommand : List Text → CommandName → Type 0
+MeanCommand words command = (call : Call) × Mean words call × (call.command ≡ command)
+
 -- Status 0 of `check`;
 abbrev pub CheckLaw : Type 0
 CheckLaw = (words : List Text) (source : SourceState) (sink errors : SinkState) (end : End)
-    → Ran words source sink errors end → Mean words Check → status_of end ≡ 0 → IsOptimal source sink
+    → Ran words source sink errors end → MeanCommand words Check → status_of end ≡ 0 → IsOptimal source sink
 
 -- and of `check-fit`.
 abbrev pub CheckFitLaw : Type 0
 CheckFitLaw = (words : List Text) (source : SourceState) (sink errors : SinkState) (end : End)
-    → Ran words source sink errors end → Mean words CheckFit → status_of end ≡ 0 → IsOptimalFit source sink
+    → Ran words source sink errors end → MeanCommand words CheckFit → status_of end ≡ 0 → IsOptimalFit source sink
 
 -- Status 0 or 1 of any call: what was written is its answer to the whole input, and 1 is a no.
 abbrev pub AnswerLaw : Type 0

@@ -24,5 +24,4 @@ rows_text-more name rows i row is =
 pub head-appended : (old a b c d table limit stated : List ℕ) (steps forced : List (List ℕ)) → a ≡ old ++ ended table
     → b ≡ a ++ text_of (limit ∷ steps) → c ≡ b ++ text_of forced → d ≡ c ++ ended stated
     → d ≡ old ++ text_of (table ∷ limit ∷ steps ++ (forced ++ stated ∷ []))
-head-appended old a b c d table limit stated steps forced is_a is_b is_c is_d =
-    grind (arith, append_assoc, flat_map-append, append-nil)
+head-appended old a b c d table limit stated steps forced is_a is_b is_c is_d = grind (arith, append_assoc, flat_map-append, append-nil)

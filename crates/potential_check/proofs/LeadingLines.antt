@@ -156,8 +156,7 @@ pub row_fault_given : {C : Type 0} (cost : Cost) (ls : List (List ℕ)) (head : 
     → Gives (λ (rows : List (List ℕ)). rows) (Err e) (rows_from (cost_number head.step head.forced + 1) MOST_CLASSES (rows_of after)) →
     GivesLeading cost ls result
 row_fault_given cost ls head after result y OutOfMemory found is same given = rw (is, same) tt
-row_fault_given cost ls head after result y (Line number) found is same given =
-    rw (is, same) (leading-row_fault cost ls head after found number given)
+row_fault_given cost ls head after result y (Line number) found is same given = grind (arith, leading-row_fault)
 
 -- ---- all lines
 

@@ -23,9 +23,7 @@ module _ (R : List ℕ → List ℕ → Type 0) (rows : List (List ℕ)) (i : �
       at (all (i - 1) row (omega (arith, within)))
 
   pub adjacent-more : AllAdjacentBelow R rows i → R before row → AllAdjacentBelow R rows (i + 1)
-  adjacent-more all holds =
-      all_adjacent_more rows R i some all
-      (λ d. rw (get_or_from_slice_get rows (i - 1) before d before-is, get_or_from_slice_get rows i row d row-is) holds)
+  adjacent-more all holds = grind (arith, all_adjacent_more, get_or_from_slice_get)
 
 module _ (s : Sheet) (spans : Spanned) (same : spans.step ≡ s.step) (shape : Meets spans.counts s Shape) where
   drops-meet : AllAdjacentBelow StageDropHolds s.rows (length s.rows) → Meets spans.counts s StageDrop

@@ -1,7 +1,6 @@
 -- The number of a fault, of a sheet or a fit, is that of its first fault.
-use Rattle.std.proofs.Common.{◌≡◌, ℕ, zero, suc, ◌^◌, ◌<◌, Bool, true, false, List, [], ◌∷◌, Option, Some, None, Result}
-use Rattle.std.proofs.{Common.{Ok, Err, refl, sym, ap, ◌∙◌, arith, codes, if◌then◌else◌}, lemmas.Bool.{false≢true}}
-use Rattle.std.{specs.Option.{ok_or, option_map}}
+use Rattle.std.proofs.Common.{◌≡◌, ℕ, zero, suc, ◌^◌, ◌<◌, Bool, true, false, List, [], ◌∷◌, Option, Some, None, Result, Ok, Err, refl, sym}
+use Rattle.std.{proofs.Common.{ap, ◌∙◌, arith, codes, if◌then◌else◌}, proofs.lemmas.Bool.{false≢true}, specs.Option.{ok_or, option_map}}
 use Rattle.class_table.proofs.LawLemmas.{IsName, class_line_is_full, named_line_is_line, no_classes_are_legal}
 use Rattle.class_table.specs.{ClassLine.{class_line}, NamedLines.{named_line}, declared.table.TheConstants.{MOST_CLASSES}}
 use Rattle.line_text.proofs.LawLemmas.{GoesOn, IsFormat, ended_goes_on, goes_on_by, refused_at_first_fault}
@@ -97,14 +96,7 @@ module _ (cost : Cost) where
       → read_from cost number (CostOf table limit step forced) ls ≡ numbered (after_forced table limit step forced ls >>= rows_of_head)
   unfolding read_lines
   cost_read table limit step forced [] number is = rw is refl
-  cost_read table limit step forced (c ∷ ls) number is = go (cost_in cost c) refl
-    where
-      go : (o : Option ℕ) → cost_in cost c ≡ o
-          → read_from cost number (CostOf table limit step forced) (c ∷ ls)
-          ≡ numbered (after_forced table limit step forced (c ∷ ls) >>= rows_of_head)
-      go None none = rw (none, is) refl
-      go (Some stated) some =
-          rw (some, is) (rows_read ls (suc (cost_number step forced)) MOST_CLASSES _)
+  cost_read table limit step forced (c ∷ ls) number is = grind (arith, rows_read)
 
   forced_read : (table : List ℕ) (limit step : ℕ) (ls : List (List ℕ)) (number : ℕ) → number ≡ forced_number step
       → read_from cost number (Forced table limit step) ls ≡ numbered (after_step table limit step ls >>= rows_of_head)
@@ -137,9 +129,7 @@ module _ (cost : Cost) where
   unfolding read_lines read_by head_of_lines
   all_read [] = refl
   all_read (a ∷ []) = line_read (table_in a) Limit 1 [] _ _ _ (λ table. refl)
-  all_read (a ∷ b ∷ ls) =
-      line_read (table_in a) Limit 1 (b ∷ ls) _ _ _
-      (λ table. line_read (limit_in b) (Step table) 2 ls _ _ _ (λ limit. step_read table limit ls))
+  all_read (a ∷ b ∷ ls) = grind (arith, line_read, step_read)
 
   -- ---- some lines lead from each place to a sheet
 

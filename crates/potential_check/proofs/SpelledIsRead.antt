@@ -58,10 +58,7 @@ forced_at-lines : (cost : Cost) (forced : Bool) (stated : ℕ) (ls : List (List 
     → forced_at (forced_lines forced ++ named_line (word_of cost) (stated ∷ []) ∷ ls)
     ≡ Some (forced, named_line (word_of cost) (stated ∷ []) ∷ ls)
 forced_at-lines cost false stated ls small = rw (cost-not_forced cost stated small) refl
-forced_at-lines cost true stated ls small =
-    let cost_line = named_line (word_of cost) (stated ∷ []) in
-    subst (λ (front : List (List ℕ)). forced_at (front ++ cost_line ∷ ls) ≡ Some (true, cost_line ∷ ls)) (sym forced_line-is)
-    (rw (forced-named.1, forced_in-line) refl)
+forced_at-lines cost true stated ls small = grind (arith, forced_line-is, forced_in-line)
 
 -- lines whose first is no line of a step
 abbrev no_step : List (List ℕ) → Type 0
@@ -75,8 +72,7 @@ forced-no_step cost true stated ls small =
     (forced_line, _, refl, forced-named.0)
 
 step_at-lines : (step : ℕ) (ls : List (List ℕ)) → IsStep step → no_step ls → step_at (step_lines step ++ ls) ≡ Some (step, ls)
-step_at-lines step ls is_step none =
-    grind (arith, cases_eq, ne_eqb, step_in-line, words_of_named_line, names, one_small, step_small)
+step_at-lines step ls is_step none = grind (arith, cases_eq, ne_eqb, step_in-line, words_of_named_line, names, one_small, step_small)
 
 rows_from-lines : (rows : List (List ℕ)) (number most : ℕ) → length rows ≤ most → All IsRow rows →
     rows_from number most (map (named_line (codes "row")) rows) ≡ Ok rows

@@ -1,6 +1,5 @@
 -- The edges of the places from one on, as a walk down the ends has seen to them.
-use Rattle.std.proofs.{Common.{◌≡◌, ℕ, ◌+◌, ◌<◌, ◌≤◌, List, length, slice_index, arith, inl, inr}, lemmas.Bool.{cases_lt}}
-use Rattle.std.proofs.lemmas.List.{get_or_past}
+use Rattle.std.proofs.{Common.{◌≡◌, ℕ, ◌+◌, ◌<◌, ◌≤◌, List, length, slice_index, arith}, lemmas.Bool.{cases_lt}, lemmas.List.{get_or_past}}
 use Rattle.potential_check.specs.{Certificates.Spanned.{Spanned}, RowConditions.{EdgesHold, HasTightEnd, IsTightEnd, edge_bound}}
 use Rattle.tuner_theory.{proofs.LawLemmas.{places_cross}, specs.Spans.{places}}
 use Rattle.class_table.specs.Steps.{IsStep}
@@ -72,7 +71,4 @@ module _ (s : Spanned) (is_step : IsStep s.step) (before row : List ℕ) (full :
 -- a number that is more than one of its edges allows
 pub exceeding : (s : Spanned) (before row : List ℕ) (i j : ℕ) → i < j → j ≤ places s.counts s.step
     → edge_bound s before i j < slice_index row i → EdgesHold s before row → ⊥
-exceeding s before row i j lt le more holds = elim (cases_lt i (length row)) [
-  | inl within ↦ absurd (omega (arith, holds.each i j within lt le))
-  | inr past ↦ absurd (omega (arith, get_or_past row i 0 past))
-]
+exceeding s before row i j lt le more holds = grind (arith, cases_lt, get_or_past)

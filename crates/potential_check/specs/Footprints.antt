@@ -1,3 +1,4 @@
+pub mod AlikeRows
 pub mod Bounds
 pub mod CallCounts
 pub mod RowConditions

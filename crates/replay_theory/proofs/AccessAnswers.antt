@@ -7,7 +7,7 @@ use Rattle.machine_theory.specs.{Address.{logical_tag, moved_by, Touches}, decla
 use Rattle.machine_theory.specs.declared.fault.Fault.TheVariants.{Unmapped, TagCheck}
 use Rattle.trace_event.specs.declared.event.{Event.{Event}, Event.TheVariants.{Malloc, Calloc, Realloc, Free, Load, Store, Addg, Subg}}
 use Rattle.heap_theory.specs.{Calls.{malloc_step, calloc_step, free_step, realloc_step, store_step}, GranuleKinds.{place_kind}}
-use Rattle.heap_theory.specs.{State.{Heap}, declared.place_kind.PlaceKind.{PlaceKind}, declared.refusal.FreeError.{FreeError}}
+use Rattle.heap_theory.specs.{State.{Heap}, declared.refusal.FreeError.{FreeError}}
 use Rattle.heap_theory.specs.declared.refusal.{NullCause.{NullCause}, ReallocError.{ReallocError}, ReallocError.TheVariants.{Null, Refused}}
 use Rattle.replay_theory.specs.AccessLaws.{IsAnswerTo, IsAnswered, AccessesAreAnswered}
 use Rattle.replay_theory.specs.Replay.{Replay, Answer, IsFaultAnswer, is_tag_fault, variable, heap_after, replay_after, access_answer}
@@ -36,15 +36,7 @@ module _ (h : Heap) (address len : ℕ) (done : Answer) (no_fault : IsFaultAnswe
   unmapped_answer never = grind arith
 
   tag_answer : (g m p : ℕ) → IsTagFault h.memory address len g m p → IsAnswerTo h address len done (TagFault g m p (place_kind h g))
-  tag_answer g m p t = grind (arith, differs, same)
-    where
-      differs : tag_at h.memory g ≢ logical_tag address
-      differs is = t.differs (t.memory_tag_is ∙ is ∙ sym t.pointer_tag_is)
-
-      -- one granule is the lowest
-      same : (g' m' p' : ℕ) (kind : PlaceKind) → IsTagFault h.memory address len g' m' p' → kind ≡ place_kind h g' →
-          TagFault g m p (place_kind h g) ≡ TagFault g' m' p' kind
-      same g' m' p' kind u kind_is = grind arith
+  tag_answer g m p t = grind arith
 
   done_answer : IsMapped (length h.memory) address len → ((g : ℕ) → Touches address len g → tag_at h.memory g ≡ logical_tag address) →
       IsAnswerTo h address len done done

@@ -5,7 +5,7 @@ use Rattle.machine_theory.specs.{Address.{logical_tag, with_tag}, Instructions.{
 use Rattle.heap_theory.specs.{Sound.{IsSoundHeap}, State.{Heap}}
 use Rattle.replay_theory.specs.{Hardening.{HasGeneration, PointersAreCopied}, Replay.{variable, heap_after, variables_after, replay_after}}
 use Rattle.replay_theory.specs.Run.{Run, Generation, generation_of, generations_after, moved_generation, run_after}
-use Rattle.replay_theory.specs.SoundRun.{ForGeneration, IsAddressOf, IsSoundRun, IsSoundVariable}
+use Rattle.replay_theory.specs.SoundRun.{IsAddressOf, IsSoundRun, IsSoundVariable}
 use Rattle.trace_event.specs.declared.event.Event.TheVariants.{Addg, Subg}
 use Rattle.replay_theory.proofs.TheoryLemmas as laws
 
@@ -59,9 +59,7 @@ module _ (h : Heap) (times : List ℕ) (sound : IsSoundHeap h) (move : ℕ → �
 -- a copy
 module _ (w : Run) (sound : IsSoundRun w) where
   address_of : (v s time : ℕ) → HasGeneration w v s time → IsAddressOf w.replay.heap w.times (variable w.replay v) s time
-  address_of v s time has =
-      subst (λ g. ForGeneration g (λ s time. IsAddressOf w.replay.heap w.times (variable w.replay v) s time)) has
-      (sound.variables v).follows
+  address_of v s time has = grind arith
 
   generation_set : (v x s time : ℕ) → v < length w.replay.variables → HasGeneration w x s time →
       get_or (set w.generations v (generation_of w x)) v None ≡ Some (record { slot = s; time = time })

@@ -5,7 +5,7 @@ use Rattle.machine_theory.specs.{Address.{logical_tag, place_of, with_tag, regio
 use Rattle.class_table.specs.Layout.{end_of}
 use Rattle.replay_theory.specs.Hardening.{IsAccess, Faults, HasGeneration, WasFreed, NullOrTagged, BookkeepingOutOfReach, InsideSucceeds}
 use Rattle.replay_theory.specs.Hardening.{NeighboursFault, FreedFaults, ChunkTagsNotZero, ChunkTagsDiffer, LiveVariablesAreAccepted}
-use Rattle.replay_theory.specs.{Replay.{variable}, Run.{Run}, SoundRun.{IsAddressOf, IsSoundRun, ForGeneration}}
+use Rattle.replay_theory.specs.{Replay.{variable}, Run.{Run}, SoundRun.{IsAddressOf, IsSoundRun}}
 use Rattle.heap_theory.proofs.GranuleTags.{bookkeeping_tag, payload_tag, covered_tag, chunks_tagged, parities_differ}
 use Rattle.heap_theory.proofs.{HeapKept.{in_region}, OwnPointers.{free_accepts, realloc_accepts}}
 use Rattle.heap_theory.specs.{GranuleKinds.{IsChunkGranule}, Sound.{IsTagOf, IsChunkTag, IsTaggedSlot}, State.State.{Fresh, Live, Dead}}
@@ -43,8 +43,7 @@ module _ (w : Run) (sound : IsSoundRun w) where
   other_tag_faults : (v : ℕ) (off : ℤ) (len address g : ℕ) → IsAccess w v off len address → g < length w.replay.heap.memory →
       Touches address len g →
       tag_at w.replay.heap.memory g ≢ logical_tag (variable w.replay v) → Faults w address len
-  other_tag_faults v off len address g a within t differs =
-      laws.other_tag_faults w.replay.heap.memory address len g t (λ same. differs (same ∙ same_tag v off len address g a within t))
+  other_tag_faults v off len address g a within t differs = grind (arith, laws.other_tag_faults, same_tag)
 
   null_never_touches : (v : ℕ) (off : ℤ) (len address g : ℕ) → IsAccess w v off len address → g < length w.replay.heap.memory →
       Touches address len g → variable w.replay v ≡ 0 → ⊥
@@ -53,18 +52,12 @@ module _ (w : Run) (sound : IsSoundRun w) where
   -- ---- bookkeeping
 
   pub bookkeeping_out_of_reach : BookkeepingOutOfReach w
-  bookkeeping_out_of_reach v off len address g a within t book = elim (sound.variables v).null_or_tagged [
-    | inl null ↦ absurd (null_never_touches v off len address g a within t null)
-    | inr tagged ↦ other_tag_faults v off len address g a within t
-        (λ same. tagged (sym same ∙ bookkeeping_tag w.replay.heap g sound.heap book))
-  ]
+  bookkeeping_out_of_reach v off len address g a within t book = grind (arith, null_never_touches, other_tag_faults, bookkeeping_tag)
 
   -- ---- neighbours
 
   address_of : (v s time : ℕ) → HasGeneration w v s time → IsAddressOf w.replay.heap w.times (variable w.replay v) s time
-  address_of v s time generation =
-      subst (λ g. ForGeneration g (λ s time. IsAddressOf w.replay.heap w.times (variable w.replay v) s time)) generation
-      (sound.variables v).follows
+  address_of v s time generation = grind arith
 
   pub neighbours_fault : NeighboursFault w
   neighbours_fault v off len address s time r g a generation parity p t =

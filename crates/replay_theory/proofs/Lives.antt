@@ -1,11 +1,11 @@
 -- What an event does to a slot.
-use Rattle.std.proofs.{Common.{◌≡◌, ℕ, ◌-◌, ◌<◌, true, get_or, arith, Option}, lemmas.Bool.{cases_eq, ltb-true, false≢true}}
+use Rattle.std.proofs.{Common.{◌≡◌, ℕ, ◌-◌, ◌<◌, true, arith, Option}, lemmas.Bool.{cases_eq, ltb-true, false≢true}}
 use Rattle.std.proofs.lemmas.List.{get_or-set_same, get_or-set_other}
 use Rattle.trace_event.specs.declared.event.Event.{Event}
 use Rattle.heap_theory.{proofs.CallsKept.{KeepsGiven, HeapChange, state_at-given_out_other}, specs.Lookups.{IsReusable}}
 use Rattle.heap_theory.specs.{State.{State, Heap, IsLive, state_at, is_fresh}, State.State.{Fresh, Dead}}
 use Rattle.replay_theory.{proofs.RunKept.{IsKept-event}, specs.Hardening.{ReuseIsDelayed, LifeStep, LivesOn}, specs.SoundRun.{IsSoundRun}}
-use Rattle.replay_theory.specs.{Replay.{heap_after, replay_after}, Run.{Run, times_of, slot_given, times_with, run_after}}
+use Rattle.replay_theory.specs.{Replay.{heap_after, replay_after}, Run.{Run, slot_given, run_after}}
 
 -- ---- reuse is delayed
 
@@ -38,8 +38,4 @@ module _ (w : Run) (e : Event) (sound : IsSoundRun w) where
 
   pub lives_on : LivesOn w (run_after w e)
   unfolding run_after replay_after
-  lives_on s = by_given (slot_given w.replay e) change
-    where
-      by_given : (o : Option ℕ) → HeapChange w.replay.heap (heap_after w.replay e) o →
-          LifeStep (state_at w.replay.heap s) (times_of w s) (state_at (heap_after w.replay e) s) (get_or (times_with w o) s 0)
-      by_given o kept = grind (arith, kept_life, cases_eq, not_live, get_or-set_same, get_or-set_other, state_at-given_out_other)
+  lives_on s = grind (arith, change, kept_life, cases_eq, not_live, get_or-set_same, get_or-set_other, state_at-given_out_other)

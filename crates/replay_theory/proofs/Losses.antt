@@ -107,8 +107,7 @@ module _ (h : Heap) (n : ℕ) where
       (realloc_answer (cond (is_class_of (slot_in h chunk.slot) class)
       (record { heap = resized h chunk.slot n; answer = Ok p })
       (move_with h chunk n slot)).answer)
-  stay_loses chunk p (Ok class) slot is met =
-      either_loses (class == (slot_in h chunk.slot).class) _ _ (given h n is) (move_loses chunk slot met)
+  stay_loses chunk p (Ok class) slot is met = grind (arith, either_loses, given, move_loses)
   stay_loses chunk p (Err cause) slot is met = move_loses chunk slot met
 
   chunk_loses : (p : ℕ) (chunk : Result Chunk FreeError) → MayMeet n (class_for_request h n) → MayMeet n (slot_for_request h n) →
@@ -144,8 +143,7 @@ event_loses : (r : Replay) (e : Event) → IsServed r.heap.layout.classes (reque
 unfolding answer_of malloc_step calloc_step realloc_step free_step
 event_loses r (Malloc v n) has = malloc_loses r.heap n (slot_for_request r.heap n) (slot_of_request r.heap n has)
 event_loses r (Calloc v n) has = calloc_loses r.heap n (slot_for_request r.heap n) (slot_of_request r.heap n has)
-event_loses r (Realloc v n) has =
-    grind (arith, slot_of_request, class_of_request)
+event_loses r (Realloc v n) has = grind (arith, slot_of_request, class_of_request)
 event_loses r (Free v) has = nothing_lost _ _ (free_wants_no_class r.heap (variable r v == 0) (chunk_at r.heap (variable r v)))
 event_loses r other has = grind (arith, nothing_lost, access_wants_no_class)
 

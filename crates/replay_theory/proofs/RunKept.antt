@@ -1,5 +1,5 @@
 -- Each event keeps a run sound, so every run is.
-use Rattle.std.proofs.Common.{◌≡◌, ℕ, List, [], ◌∷◌, length, get_or, set, refl, sym, ◌∙◌, subst, inl, arith, None, Option, fold, replicate}
+use Rattle.std.proofs.Common.{◌≡◌, ℕ, List, [], ◌∷◌, length, get_or, set, refl, sym, ◌∙◌, arith, None, Option, fold, replicate}
 use Rattle.std.proofs.lemmas.Bool.{cases_eq, cases_lt}
 use Rattle.std.proofs.lemmas.List.{get_or-set_same, get_or-set_other, length-set, get_or_past, length-replicate}
 use Rattle.machine_theory.specs.{Address.{moved_by}, Instructions.{addg, subg}}
@@ -48,8 +48,7 @@ holds_of_runs P w [] first each = first
 holds_of_runs P w (e ∷ events) first each = holds_of_runs P (run_after w e) events (each w e first) each
 
 null_variable : (h : Heap) (times : List ℕ) (a : ℕ) (g : Option Generation) → a ≡ 0 → g ≡ None → IsSoundVariable h times a g
-null_variable h times a g null none =
-    subst (λ x. IsSoundVariable h times a x) (sym none) (record { null_or_tagged = inl null; follows = tt })
+null_variable h times a g null none = grind arith
 
 module _ where
   -- an event keeps the heap sound, and gives out a slot or leaves what was given out

@@ -1,16 +1,15 @@
 -- What is true of a variable stays true, and is true of the address that a call gives.
-use Rattle.std.proofs.Common.{◌≡◌, ℕ, suc, ◌*◌, ◌<◌, Bool, true, false, cond, List, length, get_or, set, refl, sym, ap, ◌∙◌, subst, inl}
-use Rattle.std.proofs.{Common.{inr, arith, Some, None, Option, Result, Ok, Err, ◌==◌, slice_set, replicate}, lemmas.Bool.{cases_eq}}
+use Rattle.std.proofs.Common.{◌≡◌, ℕ, suc, ◌*◌, ◌<◌, Bool, true, false, cond, List, length, get_or, set, refl, sym, subst, inl}
+use Rattle.std.proofs.{Common.{arith, Some, None, Option, Result, Ok, Err, ◌==◌, slice_set, replicate}, lemmas.Bool.{cases_eq}}
 use Rattle.std.{proofs.lemmas.List.{get_or-set_same, get_or-set_other}, specs.Result.{result_ok, result_unwrap_or}}
-use Rattle.machine_theory.specs.Address.{logical_tag, with_tag}
-use Rattle.class_table.specs.{Layout.{Partition, slot_count}, Sizes.{chunk_granules}}
+use Rattle.class_table.specs.{Layout.{slot_count}, Sizes.{chunk_granules}}
 use Rattle.heap_theory.proofs.CallsKept.{KeepsGiven, KeepsGiven-refl, KeepsGiven-with_payload, KeepsGiven-resized, KeepsGiven-moved}
 use Rattle.heap_theory.proofs.{CallsKept.{HeapChange, state_at-given_out, state_at-given_out_other, layout-given_out}, HeapKept.{in_states}}
 use Rattle.heap_theory.proofs.{Lookups.{slot_for_request-cases, chunk_at-is}, Tags.{IsTagOf-next_tag, next_tag-differs}}
-use Rattle.heap_theory.specs.Calls.{Step, next_tag, given_out, resized, with_payload, moved, malloc_with, malloc_step, calloc_with}
+use Rattle.heap_theory.specs.Calls.{Step, given_out, resized, with_payload, moved, malloc_with, malloc_step, calloc_with}
 use Rattle.heap_theory.specs.Calls.{calloc_step, stays_in_class, slot_if_moved, move_with, as_realloc, realloc_with, realloc_step}
-use Rattle.heap_theory.specs.{Lookups.{Chunk, IsReusable, MayBeGiven, slot_for_request, chunk_at}, Sound.{IsTagOf}}
-use Rattle.heap_theory.specs.State.{Heap, slot_in, state_at, last_tag, is_fresh, payload_place, pointer_to}
+use Rattle.heap_theory.specs.{Lookups.{Chunk, IsReusable, MayBeGiven, slot_for_request, chunk_at}}
+use Rattle.heap_theory.specs.State.{Heap, pointer_to}
 use Rattle.heap_theory.specs.declared.refusal.{FreeError.{FreeError}, ReallocError.{ReallocError}}
 use Rattle.replay_theory.specs.{Replay.{variable}, Run.{Run, Generation, times_of, generation_of, times_with, begun_or}}
 use Rattle.replay_theory.specs.SoundRun.{IsAddressOf, IsSoundVariable, IsSoundRun}
@@ -27,37 +26,23 @@ module _ (h : Heap) (times : List ℕ) (r n : ℕ) (tag_below : h.tag < 16) (wit
 
   IsAddressOf-given_out : (a s m : ℕ) → IsAddressOf h times a s m →
       IsAddressOf (given_out h r n) (slice_set times r (suc (get_or times r 0))) a s m
-  IsAddressOf-given_out a s m i = elim (cases_eq s r) [
-    | inr not ↦
-        grind (arith, get_or-set_other, state_at-given_out_other, in_range_now, address_now)
-    | inl same ↦
-        let now : get_or (set times r (suc (get_or times r 0))) s 0 ≡ suc (get_or times r 0) =
-        ap (λ q. get_or (set times r (suc (get_or times r 0))) q 0) same ∙ times_now (suc (get_or times r 0)) in
-        grind (arith, state_at-given_out, in_range_now, address_now, next_tag-differs)
-  ]
-    where
-      in_range_now : s < slot_count (given_out h r n).layout
-      in_range_now = subst (λ (layout : Partition). s < slot_count layout) (sym (layout-given_out h r n)) i.in_range
-
-      address_now : a ≡ with_tag (payload_place (slot_in (given_out h r n) s)) (logical_tag a)
-      address_now = grind (arith, layout-given_out)
+  IsAddressOf-given_out a s m i =
+      grind (
+        arith,
+        cases_eq,
+        get_or-set_other,
+        state_at-given_out_other,
+        set,
+        times_now,
+        state_at-given_out,
+        next_tag-differs,
+        layout-given_out,
+      )
 
   -- the address that is given
   IsAddressOf-new : r < slot_count h.layout →
       IsAddressOf (given_out h r n) (slice_set times r (suc (get_or times r 0))) (pointer_to (given_out h r n) r) r (suc (get_or times r 0))
-  IsAddressOf-new in_range =
-      let is_tag : IsTagOf r (next_tag h r) = IsTagOf-next_tag h r tag_below in
-      let tag : last_tag (state_at (given_out h r n) r) ≡ next_tag h r = ap last_tag (state_at-given_out h r n within) in
-      let shown : logical_tag (pointer_to (given_out h r n) r) ≡ last_tag (state_at (given_out h r n) r) =
-      grind arith in
-      record {
-        in_range = subst (λ (layout : Partition). r < slot_count layout) (sym (layout-given_out h r n)) in_range;
-        address_is = ap (λ t. with_tag (payload_place (slot_in (given_out h r n) r)) t) (sym shown);
-        tag = subst (IsTagOf r) (sym (shown ∙ tag)) is_tag;
-        past = omega (arith, times_now (suc (get_or times r 0)));
-        last = λ _. (shown, ap is_fresh (state_at-given_out h r n within));
-        last_but_one = λ is. absurd (omega (arith, times_now (suc (get_or times r 0))));
-      }
+  IsAddressOf-new in_range = grind (arith, IsTagOf-next_tag, state_at-given_out, layout-given_out, times_now)
 
 -- ---- variables
 

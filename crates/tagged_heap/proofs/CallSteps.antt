@@ -1,11 +1,11 @@
 -- What a call makes of a heap, by what is chosen for it.
-use Rattle.std.proofs.Common.{◌≡◌, ℕ, ◌<◌, List, refl, ap, ◌∙◌, inl, inr, Ok, Err, ◌≢◌, ◌+◌, ◌⊎◌, true, false, sym, subst, arith, Result}
-use Rattle.std.proofs.{Common.{MatchResult, IfOk, IfErr, OnErr, IsTrue, if◌then◌else◌, is_some, ◌↔◌}, lemmas.List.{get_or-set_other}}
+use Rattle.std.proofs.Common.{◌≡◌, ℕ, ◌<◌, List, refl, ap, ◌∙◌, Ok, Err, ◌≢◌, ◌+◌, sym, subst, arith, Result}
+use Rattle.std.proofs.{Common.{MatchResult, IfOk, IfErr, OnErr, if◌then◌else◌, is_some, ◌↔◌}, lemmas.List.{get_or-set_other}}
 use Rattle.std.specs.Result.{result_map_both, result_ok, IsErrAnd}
 use Rattle.heap_theory.{proofs.OwnPointers.{free_accepts, realloc_accepts}, specs.Lookups.{slot_for_request, Chunk, IsReusable}}
 use Rattle.heap_theory.specs.{Calls.{given_out, with_payload, move_with, moved, payload_bytes, free_step, realloc_step}, State.State.{Live}}
 use Rattle.heap_theory.specs.{OwnPointers.{IsNotRefused, IsNullOrOwn}, Sound.{IsSoundHeap}, declared.refusal.FreeError.{FreeError}}
-use Rattle.heap_theory.specs.{State.{Heap, slot_in, state_at, is_fresh, pointer_to, is_released}, declared.refusal.NullCause.{NullCause}}
+use Rattle.heap_theory.specs.{State.{Heap, slot_in, state_at, pointer_to}, declared.refusal.NullCause.{NullCause}}
 use Rattle.heap_theory.specs.declared.refusal.{ReallocError.{ReallocError}, ReallocError.TheVariants.{Null}}
 use Rattle.class_table.specs.Sizes.{chunk_granules}
 use Rattle.machine_theory.specs.Memory.{Granule, bytes_at, tagged}
@@ -26,8 +26,7 @@ err_named {T} {E} {D} Q (Err e) out d cases is = (e, refl, subst (λ o. IsErrAnd
 
 pub ok_named : {T E D : Type 0} (Q : E → D → Type 0) (r : Result T E) (out : Result T D) (x : T) →
     MatchResult r (λ x. out ≡ Ok x) (λ e. IsErrAnd out (Q e)) → out ≡ Ok x → r ≡ Ok x
-ok_named {T} {E} {D} Q (Ok y) out x cases is =
-    let same : ◌≡◌ {A = Result T D} (Ok y) (Ok x) = sym cases ∙ is in let equal : y ≡ x = cc in ap Ok equal
+ok_named {T} {E} {D} Q (Ok y) out x cases is = grind arith
 ok_named {T} {E} {D} Q (Err e) out x cases is = absurd (subst (λ o. IsErrAnd o (Q e)) is cases)
 
 err_under : {T E D : Type 0} (f : E → D) (e : E) (o : Result T D) → IsErrAnd o (λ d. d ≡ f e) → o ≡ Err (f e)
@@ -71,14 +70,7 @@ payload_given law h s n r count = law _ _ _ _ _ _ ∙ law _ _ _ _ _ _
 
 -- a live slot is no slot that is given
 pub live_apart : (h : Heap) (r s size tag : ℕ) → state_at h r ≡ Live size tag → IsReusable h s → r ≢ s
-live_apart h r s size tag live reusable is = free reusable.free
-  where
-    live_too : state_at h s ≡ Live size tag
-    live_too = ap (state_at h) (sym is) ∙ live
-
-    free : IsTrue (is_fresh (state_at h s)) ⊎ IsTrue (is_released h (state_at h s)) → ⊥
-    free (inl fresh) = let never : false ≡ true = sym (ap is_fresh live_too) ∙ fresh in cc
-    free (inr released) = let never : false ≡ true = sym (ap (is_released h) live_too) ∙ released in cc
+live_apart h r s size tag live reusable is = grind arith
 
 -- so a live chunk stays one while another slot is given out and written
 pub chunk_stays : (h : Heap) (s n : ℕ) (chunk : Found) → IsChunk h chunk → IsReusable h s → IsChunk (given_out h s n) chunk
@@ -87,8 +79,7 @@ chunk_stays h s n chunk is reusable = grind (arith, get_or-set_other, live_apart
 
 pub chunk_written : (h : Heap) (s : ℕ) (bytes : List ℕ) (chunk : Found) → IsChunk h chunk → IsChunk (with_payload h s bytes) chunk
 unfolding with_payload
-chunk_written h s bytes chunk is =
-    record { slot = is.slot; start = is.start; class = is.class; number = is.number; numbered = is.numbered; live = is.live }
+chunk_written h s bytes chunk is = grind arith
 
 pub same_slot : (h : Heap) (s n r : ℕ) → slot_in (given_out h s n) r ≡ slot_in h r
 unfolding given_out

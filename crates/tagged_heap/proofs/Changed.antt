@@ -111,9 +111,7 @@ module _ {h : Heap} {p : Parts} (k : IsKept h p) (s n tag seed drawn : ℕ) (in_
       let seen = subst (IsRewritten h.layout m1 (with_header m1 (slot_in h s).start own) s own) before.seen_is written in
       let all =
       then_tagged (payload_start (slot_in h s) + chunk_granules n) ((slot_in h s).class - 1 - chunk_granules n) 0
-      (then_tagged (payload_start (slot_in h s)) (chunk_granules n) tag (then_written before seen)) in
-      subst (λ x. IsRewritten h.layout p.memory x s own (alive h s n tag seed drawn).memory)
-      (sym (new_is ∙ (λ i. chunk_tagged (slot_in h s) n (tag_is i) (with_header m1 (slot_in h s).start (header_is i))))) all
+      (then_tagged (payload_start (slot_in h s)) (chunk_granules n) tag (then_written before seen)) in grind arith
 
   pub kept_alive : {new : List Granule} {fronts : List ℕ} {lists : List (List ℕ)} →
       AreListed (next_in (region_of h.layout p.memory)) fronts lists →
@@ -127,12 +125,7 @@ module _ {h : Heap} {p : Parts} (k : IsKept h p) (s n tag seed drawn : ℕ) (in_
     sound = sound;
     memory_is = is;
     seen = written.seen_is;
-    headers =
-        headers_changed h s (Live n tag) now.memory h.total seed drawn (within_states k s in_range) k.headers
-        (written.own ∙ ap (header_from h.layout k.from s (Live n tag)) (sym own_next))
-        (λ r inside other. written.others r inside other
-        ∙ ap (with_link (header_in (region_of h.layout p.memory) r)) (sym (other_next r inside other)))
-        (λ _. own_next) (λ r inside other _. other_next r inside other);
+    headers = grind (arith, headers_changed, within_states, own_next, other_next);
     queued = record {
       slots = k.queued.slots;
       linked = laws.links_stay _ _ _ k.queue

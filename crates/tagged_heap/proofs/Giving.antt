@@ -2,10 +2,10 @@
 use Rattle.std.proofs.Common.{◌≡◌, ℕ, suc, ◌+◌, ◌^◌, ◌<◌, ◌≤◌, true, false, List, length, drop, refl, sym, ap, ◌∙◌, subst, inl, inr, arith}
 use Rattle.std.proofs.Common.{Some, None, Option, Ok, Err, Contains, slice_get, slice_index, slice_set, bit_or, nat_lt}
 use Rattle.std.proofs.lemmas.{Bool.{cond-true, cond-false, lt-ltb, le-ltb}, Option.{slice_get-get_or}}
-use Rattle.std.specs.Option.{ok_or, option_and_then}
+use Rattle.std.specs.Option.{ok_or}
 use Rattle.machine_theory.specs.{Address.{with_tag}, Instructions.{drawn_tag}, Machine.{Machine}, Memory.{Granule, IsMemory}}
 use Rattle.machine_theory.specs.Seed.{next_seed}
-use Rattle.class_table.specs.{Layout.{IsClassOf, first_slot}, Sizes.{largest_counted}, Tables.{class_for, class_number_for}}
+use Rattle.class_table.specs.{Layout.{IsClassOf, first_slot}, Sizes.{largest_counted}, Tables.{class_number_for}}
 use Rattle.heap_theory.proofs.{ChangedSlot.{state_here}, Linked.{IsLinked-first, IsLinked-none}, ListSearch.{Contains-head}}
 use Rattle.heap_theory.{proofs.QueueAndLists.{fresh_not_dead}, proofs.SeenMemory.{length-without_headers}, specs.Links.{IsLinked, list_of}}
 use Rattle.heap_theory.specs.{Calls.{given_out, next_tag, parity_exclude, chunk_tagged}, Header.{Header, with_header}}
@@ -28,11 +28,7 @@ use Rattle.tagged_heap.proofs.TheoryLemmas as laws
 pub request_refused : (h : Heap) (n : ℕ) (cause : NullCause) → IsCauseFor h.layout.classes n cause → slot_for_request h n ≡ Err cause
 unfolding slot_for_request
 request_refused h n Large large = ap (slot_in_class h) (cond-true (nat_lt largest_counted n) (Err Large) _ (lt-ltb _ _ large))
-request_refused h n NoClass none =
-    let class : class_for h.layout.classes n ≡ None =
-    laws.class_by_number n h.layout.classes ∙ ap (λ o. option_and_then (slice_get h.layout.classes) o) none.1 in
-    ap (slot_in_class h) (cond-false (nat_lt largest_counted n) (Err Large) (ok_or (class_for h.layout.classes n) NoClass)
-    (le-ltb _ _ none.0) ∙ ap (λ o. ok_or o NoClass) class)
+request_refused h n NoClass none = grind (arith, laws.class_by_number, cond-false, le-ltb)
 request_refused h n Exhausted none = absurd none
 
 pub request_served : (h : Heap) (n number class : ℕ) (found : Option ℕ) → n ≤ largest_counted → class_number_for h.layout.classes n ≡ Some number →
@@ -73,12 +69,7 @@ module _ {h : Heap} {frees : ℕ} {p : Parts} {counters : List ℕ} (held : IsAt
   link_cleared : {m1 : List Granule} (s : ℕ) → IsSlot h s → SetsLink h.layout p.memory m1 s 0 →
       IsRewritten h.layout p.memory m1 s (header_from h.layout held.kept.from s (state_at h s) 0) h.memory
   link_cleared s in_range set =
-      let cleared = link_set set in_range in
-      record {
-        own = cleared.own ∙ ap (λ x. with_link x 0) (held.kept.headers.headers s in_range);
-        others = cleared.others;
-        seen_is = cleared.seen_is ∙ held.kept.seen;
-      }
+      let cleared = link_set set in_range in grind (arith, with_link)
 
   -- the front of the class's list is taken, or where the list is empty the lowest fresh slot
   pub taken : {m1 : List Granule} {fronts' counters' : List ℕ} (s : ℕ) →
@@ -127,15 +118,7 @@ module _ {h : Heap} {frees : ℕ} {p : Parts} {counters : List ℕ} (held : IsAt
       record {
         request = request;
         given = laws.request h n s k.sound request;
-        before =
-            subst (λ x. IsRewritten h.layout p.memory x s (header_from h.layout k.from s (state_at h s) 0) h.memory) (sym t.memory_stays)
-            (record {
-              own =
-                  k.headers.headers s own.0
-                  ∙ ap (header_from h.layout k.from s (state_at h s)) (k.headers.unlinked s own.0 (fresh_not_dead (state_at h s) own.2));
-              others = λ r inside other. refl;
-              seen_is = k.seen;
-            });
+        before = grind (arith, fresh_not_dead);
         memory_is = is;
         lists = k.lists;
         listed = subst (λ x. AreListed (next_in (region_of h.layout p.memory)) x k.lists) (sym t.fronts_are) k.listed;

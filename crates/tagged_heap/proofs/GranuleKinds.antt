@@ -1,5 +1,5 @@
 -- What a granule is, by the header of the slot over it.
-use Rattle.std.proofs.Common.{◌≡◌, ◌≢◌, ℕ, ◌+◌, ◌<◌, ◌≤◌, Bool, true, false, cond, refl, sym, ap, ◌∙◌, arith, Some, None}
+use Rattle.std.proofs.Common.{◌≡◌, ◌≢◌, ℕ, ◌+◌, ◌<◌, ◌≤◌, Bool, true, false, cond, refl, sym, ap, arith, Some, None}
 use Rattle.std.proofs.lemmas.Bool.{and_right, and_from, cond-true, cond-false, eq-eqb, ne_eqb, lt-ltb, le-ltb, le-leb}
 use Rattle.machine_theory.specs.Memory.{is_among}
 use Rattle.class_table.specs.{Layout.{slot_over}, Sizes.{chunk_granules, largest_counted}}
@@ -64,11 +64,7 @@ module _ {h : Heap} {p : Parts} (k : IsKept h p) {g s : ℕ} (before : ℕ) (the
     payload_kind = grind (arith, cond-false, ne_eqb)
 
     pub tail_kind : chunk_granules (header_in (region_of h.layout p.memory) s).size < before → Tail ≡ place_kind h g
-    tail_kind after =
-        let most = chunk_most (state_at h s) in
-        let past : payload_start (slot_in h s) + chunk_granules_of (state_at h s) ≤ g = omega (arith, ap chunk_granules size_is, at) in
-        sym (cond-false (is_among (payload_start (slot_in h s)) (chunk_granules_of (state_at h s)) g) _ _ (and_right _ _ (le-ltb g _ past)))
-        ∙ payload_kind
+    tail_kind after = grind (arith, chunk_most, size_is, cond-false, and_right, le-ltb, payload_kind)
 
     pub chunk_granule_kind : before ≤ chunk_granules (header_in (region_of h.layout p.memory) s).size →
         kind_by (header_in (region_of h.layout p.memory) s).standing ≡ place_kind h g

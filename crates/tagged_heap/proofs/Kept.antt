@@ -126,10 +126,7 @@ module _ {h : Heap} {p : Parts} (k : IsKept h p) where
     unfolding header_for
     kept_said = record {
       seen = k.seen;
-      headers = λ s in_range.
-          k.headers.headers s in_range
-          ∙ ap (λ x. record (header_for h s (next_in (region_of h.layout p.memory) s)) { standing = x })
-          (standing_at_rest s (state_at h s) in_range refl);
+      headers = grind (arith, standing_at_rest);
       unlinked = k.headers.unlinked;
       front = p.quarantine.front;
       queue = k.queue;
@@ -141,9 +138,7 @@ module _ {h : Heap} {p : Parts} (k : IsKept h p) where
       fronts_long = k.listed.long ∙ k.agree.long;
       list_linked = λ number within. k.listed.linked number (in_lists number within);
       list_holds = λ number class found. laws.lists_hold h k.queue k.lists number class k.sound agree_at_rest found;
-      list_once =
-          λ number within. laws.each_once (next_in (region_of h.layout p.memory)) _ (list_of k.lists number)
-          (k.listed.linked number (in_lists number within));
+      list_once = grind (arith, laws.each_once, in_lists);
       one_list =
           λ a b s in_a in_b there also. laws.one_list_has h k.queue k.lists a b s k.sound agree_at_rest (in_lists a in_a) (in_lists b in_b)
           there also;

@@ -1,9 +1,9 @@
 -- The chunk that a pointer names.
-use Rattle.std.proofs.Common.{◌≡◌, ◌≢◌, ℕ, ◌^◌, ◌<◌, Bool, true, false, cond, refl, ap, ◌∙◌, Some, None, Ok, Err, Option, arith, nat_lt}
-use Rattle.std.proofs.{Common.{◌==◌}, lemmas.Bool.{cond-true, cond-false, eq-eqb, ne_eqb}}
+use Rattle.std.proofs.Common.{◌≡◌, ◌≢◌, ℕ, ◌^◌, ◌<◌, refl, ap, ◌∙◌, Ok, Err, arith}
+use Rattle.std.proofs.{lemmas.Bool.{cond-true, cond-false, eq-eqb, ne_eqb}}
 use Rattle.machine_theory.specs.Address.{logical_tag, place_of}
-use Rattle.heap_theory.specs.{Header.{Standing, Header, size_of}, Header.Standing.{Live as IsLive, Quarantined, Freed}, Sound.{IsSoundHeap}}
-use Rattle.heap_theory.specs.{Lookups.{chunk_at, chunk_in, chunk_in_slot, slot_of_pointer}, State.State.{Fresh, Live, Dead}}
+use Rattle.heap_theory.specs.{Header.{Header, size_of}, Header.Standing.{Live as IsLive}, Sound.{IsSoundHeap}}
+use Rattle.heap_theory.specs.{Lookups.{chunk_at, chunk_in, chunk_in_slot}, State.State.{Fresh, Live, Dead}}
 use Rattle.heap_theory.specs.State.{State, Heap, slot_in, state_at, last_tag, payload_place, IsSlot}
 use Rattle.heap_theory.specs.declared.refusal.FreeError.TheVariants.{Misplaced, NotLive, WrongTag}
 use Rattle.tagged_heap.specs.Representation.{standing_from, header_from}
@@ -16,21 +16,13 @@ Names h p s = IsSlot h s × (p < 2 ^ 60) × (place_of p ≡ payload_place (slot_
 pub misplaced : (h : Heap) (p : ℕ) → IsSoundHeap h →
     ((s : ℕ) → IsSlot h s → p < 2 ^ 60 → place_of p ≡ payload_place (slot_in h s) → ⊥) → chunk_at h p ≡ Err Misplaced
 unfolding chunk_at
-misplaced h p sound none = by (slot_of_pointer h p) refl
-  where
-    by : (found : Option ℕ) → slot_of_pointer h p ≡ found → chunk_in_slot h p (slot_of_pointer h p) ≡ Err Misplaced
-    by None is = ap (chunk_in_slot h p) is
-    by (Some s) is = let own = (laws.pointer h p s sound).0 is in absurd (none s own.0 own.1 own.2)
+misplaced h p sound none = grind (arith, laws.pointer)
 
 -- the state of a slot whose header says that it is live
 live_state : (from : ℕ) (x : State) → standing_from from x ≡ IsLive → x ≡ Live (size_of x) (last_tag x)
 live_state from Fresh is = cc
 live_state from (Live n t) is = refl
-live_state from (Dead n t m) is = dead (nat_lt m from) is
-  where
-    dead : (b : Bool) → ◌≡◌ {A = Standing} (cond b Freed Quarantined) IsLive → Dead n t m ≡ Live n t
-    dead true e = cc
-    dead false e = cc
+live_state from (Dead n t m) is = grind arith
 
 not_live : (from p s : ℕ) (x : State) → (standing_from from x ≡ IsLive → ⊥) → chunk_in p s x ≡ Err NotLive
 not_live from p s Fresh not = refl
@@ -50,10 +42,7 @@ module _ (h : Heap) (p s from next : ℕ) {header : Header} (sound : IsSoundHeap
   live standing = grind (arith, live_state)
 
   pub chunk_wrong_tag : header.standing ≡ IsLive → logical_tag p ≢ header.tag → chunk_at h p ≡ Err WrongTag
-  chunk_wrong_tag standing differs =
-      chunk_is ∙ ap (chunk_in p s) (live standing) ∙ cond-false (logical_tag p == header.tag) _ (Err WrongTag) (ne_eqb _ _ differs)
+  chunk_wrong_tag standing differs = grind (arith, chunk_is, live, cond-false, ne_eqb)
 
   pub chunk_live : header.standing ≡ IsLive → logical_tag p ≡ header.tag → chunk_at h p ≡ Ok (record { slot = s; size = header.size })
-  chunk_live standing same =
-      chunk_is ∙ ap (chunk_in p s) (live standing)
-      ∙ cond-true (logical_tag p == header.tag) (Ok (record { slot = s; size = header.size })) _ (eq-eqb _ _ same)
+  chunk_live standing same = grind (arith, chunk_is, live, cond-true, eq-eqb)

@@ -1,13 +1,13 @@
 -- A new heap is kept by fresh headers, with no slot in a list.
-use Rattle.std.proofs.Common.{◌≡◌, ℕ, ◌+◌, ◌<◌, List, [], length, map, replicate, refl, sym, ap, ◌∙◌, subst, arith, Some, slice_get}
+use Rattle.std.proofs.Common.{◌≡◌, ℕ, ◌<◌, List, [], length, map, replicate, refl, sym, ap, ◌∙◌, arith, Some, slice_get}
 use Rattle.std.{proofs.Common.{slice_index}, proofs.lemmas.List.{length-replicate}, specs.List.{range_with_len}}
 use Rattle.std.proofs.lemmas.List.FromFn.{length-map-range_with_len, get_or-map-range_with_len}
 use Rattle.machine_theory.specs.Memory.{Granule, IsMemory, new_granule}
 use Rattle.class_table.{proofs.LawLemmas.{first_slots_ascend}, specs.Layout.{Partition, IsPartition, slot_of, slot_count, first_slot}}
 use Rattle.class_table.specs.Tables.{IsLegalTable}
 use Rattle.heap_theory.proofs.{FirstHeap.{get_or-replicate_any}, ListSearch.{Contains-none}, Marks.{one_number, number_is}}
-use Rattle.heap_theory.specs.{Header.{Header, class_number}, Links.{IsLinked, list_of}, Region.{region_of, header_in, next_in}}
-use Rattle.heap_theory.specs.{State.{State, state_at, is_fresh, first_heap, without_headers}, State.State.{Fresh}}
+use Rattle.heap_theory.specs.{Header.{Header, class_number}, Region.{region_of, header_in, next_in}}
+use Rattle.heap_theory.specs.{State.{state_at, first_heap, without_headers}, State.State.{Fresh}}
 use Rattle.tagged_heap.{proofs.Kept.{shown_is}, proofs.Shares.{share_of_slot}, specs.HeapAtRest.{shown_heap, IsAtRest}}
 use Rattle.tagged_heap.specs.Representation.{header_from, AreFirstFresh, Parts}
 use Rattle.tagged_heap.proofs.TheoryLemmas as laws
@@ -30,9 +30,7 @@ module _ (layout : Partition) (seed quarantine : ℕ) (is : IsPartition layout) 
   counters_long = length-map-range_with_len (first_slot layout) 0 (length layout.classes)
 
   first_at : (number : ℕ) → number < length counters → slice_index counters number ≡ first_slot layout number
-  first_at number within =
-      get_or-map-range_with_len (first_slot layout) 0 (length layout.classes) number number 0 (subst (λ n. number < n) counters_long within)
-      (omega arith)
+  first_at number within = grind (arith, get_or-map-range_with_len, counters_long)
 
   state_fresh : (s : ℕ) → state_at (first_heap layout seed quarantine) s ≡ Fresh
   unfolding first_heap
@@ -40,15 +38,7 @@ module _ (layout : Partition) (seed quarantine : ℕ) (is : IsPartition layout) 
 
   first_fresh : AreFirstFresh (first_heap layout seed quarantine) counters
   unfolding first_heap
-  first_fresh = record {
-    long = counters_long;
-    from = λ number within. omega (arith, first_at number within);
-    to = λ number within. omega (arith, first_at number within, first_slots_ascend layout number (number + 1) (omega arith));
-    given = λ number s within in_range class below.
-        let share = share_of_slot layout number s is.table (subst (λ n. number < n) counters_long within) in_range class in
-        absurd (omega (arith, first_at number within, share.from));
-    fresh = λ number s within in_range class above. ap is_fresh (state_fresh s);
-  }
+  first_fresh = grind (arith, counters_long, first_at, first_slots_ascend, share_of_slot, state_fresh)
 
   module _ (m : List Granule)
       (headers : (s : ℕ) → s < slot_count layout → header_in (region_of layout m) s ≡ header_from layout 0 s Fresh 0)
@@ -78,27 +68,9 @@ module _ (layout : Partition) (seed quarantine : ℕ) (is : IsPartition layout) 
             sound = laws.first_sound layout seed quarantine is;
             memory_is = memory;
             seen = seen ∙ laws.new_seen layout;
-            headers = record {
-              headers = λ s within.
-                  headers s within ∙ ap (header_from layout 0 s Fresh) (sym (no_link s within))
-                  ∙ ap (λ (x : State). header_from layout agree.from s x (next_in (region_of layout m) s)) (sym (state_fresh s));
-              unlinked = λ s within alive. no_link s within;
-            };
-            queued = record {
-              slots = λ s there. absurd (Contains-none s there);
-              linked = refl;
-              back = refl;
-              back_start = λ last is. absurd (omega (arith, is));
-              held = refl;
-            };
-            listed = record {
-              long = length-replicate (length layout.classes) 0 ∙ sym (length-replicate {A = List ℕ} (length layout.classes) []);
-              linked = λ number within.
-                  subst (λ front. IsLinked (next_in (region_of layout m)) front (list_of (replicate (length layout.classes) []) number))
-                  (sym (get_or-replicate_any (length layout.classes) number 0))
-                  (subst (λ (list : List ℕ). IsLinked (next_in (region_of layout m)) 0 list)
-                  (sym (get_or-replicate_any {A = List ℕ} (length layout.classes) number [])) refl);
-            };
+            headers = grind (arith, no_link, state_fresh);
+            queued = grind (arith, Contains-none);
+            listed = grind (arith, length-replicate, replicate, get_or-replicate_any);
             agree = agree.agree;
             limit = refl;
           };

@@ -7,10 +7,10 @@ use Rattle.machine_theory.specs.declared.fault.Fault.{Fault}
 use Rattle.class_table.specs.Layout.{Partition, AreInOrder, end_of, slot_count, slot_of}
 use Rattle.heap_theory.proofs.{Regions.{region_of-written, start_is_header}, SeenMemory.{header_starts, length-without_headers}}
 use Rattle.heap_theory.specs.{Calls.{with_payload}, HeapTags.{IsTaggedOrUnmapped}}
-use Rattle.heap_theory.specs.Region.{Region, region_of, header_in, headers_of, next_in}
-use Rattle.heap_theory.specs.State.{Heap, state_at, payload_start, is_header_granule, without_headers}
+use Rattle.heap_theory.specs.Region.{Region, region_of, headers_of, next_in}
+use Rattle.heap_theory.specs.State.{Heap, payload_start, is_header_granule, without_headers}
 use Rattle.tagged_heap.proofs.{Changed.{listed_same}, Kept.{agree_same, agree_at_rest, region_is, shown_is}}
-use Rattle.tagged_heap.specs.{HeapAtRest.{shown_heap, IsAtRest}, Representation.{header_from, Parts, IsKept}}
+use Rattle.tagged_heap.specs.{HeapAtRest.{shown_heap, IsAtRest}, Representation.{Parts, IsKept}}
 use Rattle.tagged_heap.proofs.TheoryLemmas as laws
 
 -- these bytes from byte i on are in no header
@@ -40,19 +40,8 @@ module _ {h : Heap} {frees : ℕ} {p : Parts} {counters : List ℕ} (held : IsAt
         sound = laws.written_sound h i bytes k.sound;
         memory_is = laws.memory_written i bytes p.memory fit k.memory_is;
         seen = ap (λ (x : Region). x.granules) same ∙ ap (written i bytes) k.seen;
-        headers = record {
-          headers =
-              λ s within. ap (λ (x : Region). header_in x s) same ∙ k.headers.headers s within
-              ∙ ap (header_from h.layout k.from s (state_at h s)) (sym (next_same s));
-          unlinked = λ s within alive. next_same s ∙ k.headers.unlinked s within alive;
-        };
-        queued = record {
-          slots = k.queued.slots;
-          linked = laws.links_stay _ _ _ k.queue (λ s there. next_same s) k.queued.linked;
-          back = k.queued.back;
-          back_start = k.queued.back_start;
-          held = k.queued.held;
-        };
+        headers = grind (arith, same, next_same);
+        queued = grind (arith, laws.links_stay, next_same);
         listed = listed_same k.listed (λ number s inside there. next_same s);
         agree =
             agree_same k refl refl (laws.memory_without_marks h (written i bytes h.memory) k.queue k.lists (agree_at_rest k held.rests));

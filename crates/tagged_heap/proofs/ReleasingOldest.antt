@@ -44,8 +44,7 @@ module _ {h : Heap} {p : Parts} (k : IsKept h p) {q1 : Queue} {m1 : List Granule
   class_found = ap (slice_get h.layout.classes) class_is ∙ laws.class_number_is h.layout s out.slot
 
   in_lists : (header_in (region_of h.layout m1) s).class < length k.lists
-  in_lists =
-      subst (λ n. (header_in (region_of h.layout m1) s).class < n) (sym k.agree.long) (slice_get_within h.layout.classes _ _ class_found)
+  in_lists = grind (arith, slice_get_within, class_found)
 
   pub can_be_listed : HasFront p.fronts (header_in (region_of h.layout m1) s).class
   can_be_listed = grind (arith, class_few, class_is, in_lists)
@@ -77,9 +76,7 @@ module _ {h : Heap} {p : Parts} (k : IsKept h p) {q1 : Queue} {m1 : List Granule
             (standing_between k.from to (state_at h r) (omega arith) (λ mark. apart r mark inside other))
             ∙ ap (header_from h.layout to r (state_at h r)) (sym (next_there r inside other))
       ];
-      unlinked = λ r inside alive.
-          next_there r inside (λ is. not_marked (state_at h r) k.from alive (subst (λ q. HasMark (state_at h q) k.from) (sym is) chain.1))
-          ∙ k.headers.unlinked r inside alive;
+      unlinked = grind (arith, next_there, not_marked);
     };
     queued = record {
       slots = rest_queued.slots;

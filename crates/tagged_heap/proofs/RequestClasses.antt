@@ -1,6 +1,6 @@
 -- The class of a request by its number.
 use Rattle.std.proofs.Common.{◌≡◌, ℕ, ◌*◌, ◌-◌, ◌<◌, ◌≤◌, Bool, true, List, length, eqb, ltb, nat_eq, sym, ap, ◌∙◌, inl, inr, arith, Some}
-use Rattle.std.{proofs.Common.{Result, Ok, Err, slice_get, slice_index, option_and_then, IfOk, IfErr}, specs.Option.{ok_or}}
+use Rattle.std.{proofs.Common.{Result, Ok, Err, slice_get, slice_index, option_and_then, IfOk, IfErr}}
 use Rattle.std.proofs.lemmas.Bool.{cases_eq, cond-true, cond-false, eq-eqb, eqb-true, ne_eqb, lt-ltb, le-ltb, leb-true}
 use Rattle.std.proofs.lemmas.{List.Quantifiers.{position-Some}, Option.{slice_get-get_or, slice_get_within, get_or_from_slice_get}}
 use Rattle.std.specs.Result.{result_eq, result_map_both}
@@ -14,15 +14,9 @@ use Rattle.tagged_heap.proofs.TheoryLemmas as laws
 module _ (h : Heap) (n : ℕ) where
   pub class_for_is : (r : Result ℕ NullCause) → IfOk r (λ k. (n ≤ largest_counted) × (class_number_for h.layout.classes n ≡ Some k)) →
       IfErr r (IsCauseFor h.layout.classes n) → class_for_request h n ≡ result_map_both (λ k. slice_index h.layout.classes k) (λ e. e) r
-  class_for_is (Ok k) ok err =
-      let there = position-Some (serves n) h.layout.classes k 0 ok.1 in
-      cond-false (ltb largest_counted n) _ _ (le-ltb largest_counted n ok.0)
-      ∙ ap (λ o. ok_or o NoClass) (laws.class_by_number n h.layout.classes ∙ ap (option_and_then (slice_get h.layout.classes)) ok.1
-      ∙ slice_get-get_or h.layout.classes k 0 there.0)
+  class_for_is (Ok k) ok err = grind (arith, position-Some, cond-false, le-ltb, laws.class_by_number, option_and_then, slice_get-get_or)
   class_for_is (Err Large) ok err = cond-true (ltb largest_counted n) _ _ (lt-ltb largest_counted n err)
-  class_for_is (Err NoClass) ok err =
-      cond-false (ltb largest_counted n) _ _ (le-ltb largest_counted n err.0)
-      ∙ ap (λ o. ok_or o NoClass) (laws.class_by_number n h.layout.classes ∙ ap (option_and_then (slice_get h.layout.classes)) err.1)
+  class_for_is (Err NoClass) ok err = grind (arith, cond-false, le-ltb, laws.class_by_number, option_and_then)
   class_for_is (Err Exhausted) ok err = absurd err
 
   -- a number is that of a slot's class exactly where its class is the slot's
@@ -57,7 +51,5 @@ module _ (h : Heap) (n : ℕ) where
   pub class_in : (slot : Slot) (number : ℕ) (cause_eq : NullCause → NullCause → Bool) (r : Result ℕ NullCause) →
       slice_get h.layout.classes number ≡ Some slot.class → IfOk r (λ k. (n ≤ largest_counted) × (class_number_for h.layout.classes n ≡ Some k)) →
       result_eq nat_eq cause_eq r (Ok number) ≡ true → class_for h.layout.classes n ≡ Some slot.class
-  class_in slot number cause_eq (Ok k) at ok same =
-      laws.class_by_number n h.layout.classes
-      ∙ ap (option_and_then (slice_get h.layout.classes)) (ok.1 ∙ ap Some (eqb-true k number same)) ∙ at
+  class_in slot number cause_eq (Ok k) at ok same = grind (arith, laws.class_by_number, option_and_then, eqb-true)
   class_in slot number cause_eq (Err e) at ok same = absurd cc

@@ -1,10 +1,10 @@
 -- Headers of slots in a memory that changes.
-use Rattle.std.proofs.{Common.{arith, ◌≡◌, ℕ, ◌<◌, List, length, ap, ◌∙◌, slice_set}, lemmas.List.{get_or-set_same, get_or-set_other}}
+use Rattle.std.proofs.{Common.{arith, ◌≡◌, ℕ, ◌<◌, List, length, slice_set}, lemmas.List.{get_or-set_same, get_or-set_other}}
 use Rattle.machine_theory.specs.Memory.{Granule, IsMemory, tagged}
 use Rattle.class_table.specs.Layout.{Partition, IsPartition, slot_of, slot_count}
 use Rattle.chunk_header.specs.{HeaderWrite.{WritesHeader}, Links.{SetsLink}}
 use Rattle.heap_theory.proofs.Regions.{length-headers_of, region_of-header, region_of-read, region_of-tagged}
-use Rattle.heap_theory.specs.{Header.{Header, FitsWords, with_header}, Region.{Region, header_in, headers_of, region_of}}
+use Rattle.heap_theory.specs.{Header.{Header, FitsWords, with_header}, Region.{header_in, headers_of, region_of}}
 use Rattle.heap_theory.specs.State.{without_headers}
 use Rattle.tagged_heap.specs.Representation.{IsRewritten}
 
@@ -41,9 +41,4 @@ then_written first second = grind arith
 pub then_tagged : {layout : Partition} {a b x : List Granule} {s : ℕ} {header : Header} → (first count tag : ℕ) →
     IsRewritten layout a b s header x → IsRewritten layout a (tagged first count tag b) s header (tagged first count tag x)
 then_tagged {layout} {a} {b} {x} {s} {header} first count tag r =
-    let same = region_of-tagged layout first count tag b in
-    record {
-      own = ap (λ (x : Region). header_in x s) same ∙ r.own;
-      others = λ q inside other. ap (λ (x : Region). header_in x q) same ∙ r.others q inside other;
-      seen_is = ap (λ (x : Region). x.granules) same ∙ ap (tagged first count tag) r.seen_is;
-    }
+    let same = region_of-tagged layout first count tag b in grind arith

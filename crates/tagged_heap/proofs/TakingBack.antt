@@ -1,6 +1,6 @@
 -- The chunk of a live slot is taken back, and the slot goes into the quarantine.
-use Rattle.std.proofs.Common.{lit<, ◌≡◌, ◌≢◌, ℕ, zero, suc, ◌+◌, ◌^◌, ◌<◌, ◌≤◌, List, [], ◌∷◌, ◌++◌, length, refl, sym, ap, ◌∙◌, subst, inl}
-use Rattle.std.proofs.{Common.{inr, arith, Contains, bit_or}, lemmas.Bool.{cases_eq, le-ltb, cond-false}}
+use Rattle.std.proofs.Common.{lit<, ◌≡◌, ◌≢◌, ℕ, zero, suc, ◌+◌, ◌^◌, ◌<◌, ◌≤◌, List, [], ◌∷◌, ◌++◌, length, refl, sym, ap, ◌∙◌, subst}
+use Rattle.std.proofs.{Common.{arith, Contains, bit_or}, lemmas.Bool.{cases_eq, le-ltb, cond-false}}
 use Rattle.machine_theory.specs.{Instructions.{drawn_tag}, Machine.{Machine}, Memory.{Granule, IsMemory, tagged}, Seed.{next_seed}}
 use Rattle.class_table.specs.{Layout.{block_bytes}, Sizes.{chunk_granules}}
 use Rattle.heap_theory.proofs.{ChangedSlot.{state_here}, Marks.{not_marked}, SeenMemory.{length-without_headers}}
@@ -53,9 +53,7 @@ module _ {h : Heap} {frees : ℕ} {p : Parts} {counters : List ℕ} (held : IsAt
   retired_is =
       let sum = bytes_from held.kept in
       let standing : standing_from held.kept.from dead ≡ Quarantined =
-      cond-false _ Freed Quarantined (le-ltb h.total held.kept.from (omega arith)) in
-      ap (λ (x : Header). retired_header x h.total) (held.kept.headers.headers s in_range)
-      ∙ (λ i. record (header_from h.layout held.kept.from s dead 0) { standing = sym standing i; size = ap size_of live i })
+      cond-false _ Freed Quarantined (le-ltb h.total held.kept.from (omega arith)) in grind arith
 
   drawn_is : tag_for h.layout (record { memory = p.memory; seed = h.seed; tag = h.tag }) s ≡ next_tag h s
   drawn_is = ap (λ (x : Header). drawn_tag h.tag h.seed (bit_or (parity_exclude s) (2 ^ x.tag))) (held.kept.headers.headers s in_range)
@@ -146,9 +144,7 @@ module _ {h : Heap} {frees : ℕ} {p : Parts} {counters : List ℕ} (held : IsAt
       put {new} first after = by p.quarantine.back refl
         where
           by : (back : ℕ) → p.quarantine.back ≡ back → IsPut new
-          by zero is =
-              subst IsPut (sym (first is)) (record
-              { headers = λ r inside. refl; links = λ r inside out. refl; seen_is = refl; memory_is = is1 })
+          by zero is = grind arith
           by (suc last) is =
               let k = held.kept in
               let ends =
@@ -156,18 +152,8 @@ module _ {h : Heap} {frees : ℕ} {p : Parts} {counters : List ℕ} (held : IsAt
               (sym k.queued.back ∙ is) in
               let set = link_set (after last is) (queue_slot k last ends.0).in_range in
               record {
-                headers = λ r inside. elim (cases_eq r last) [
-                  | inl same ↦
-                      subst (λ r. header_in (region_of h.layout new) r
-                      ≡ with_link (header_in (region_of h.layout machine.memory) r) (next_in (region_of h.layout new) r)) (sym same)
-                      (set.own
-                      ∙ ap (with_link (header_in (region_of h.layout machine.memory) last)) (sym (ap (λ (x : Header). x.next) set.own)))
-                  | inr differ ↦
-                      let e = set.others r inside differ in
-                      e ∙ ap (with_link (header_in (region_of h.layout machine.memory) r)) (sym (ap (λ (x : Header). x.next) e))
-                ];
-                links = λ r inside out.
-                    ap (λ (x : Header). x.next) (set.others r inside (λ same. out (subst (Contains k.queue) (sym same) ends.0)));
+                headers = grind (arith, cases_eq, with_link);
+                links = grind arith;
                 seen_is = set.seen_is;
                 memory_is = (after last is).memory;
               }

@@ -1,8 +1,7 @@
 //! The commands, and the calls.
 ghost use Rattle.std.specs.Prelude.{◌≡◌, ◌↔◌, IsTrue};
 
-use crate::options::{Limits, Options};
-use heap_theory::Config;
+use crate::options::{Options, options_of};
 
 /// The name of a command.
 #[derive(Clone, Copy, Debug, PartialEq, Eq)]
@@ -33,43 +32,17 @@ pub const COMMANDS: &[CommandName] = &[
     CommandName::Run,
 ];
 
-/// A command with its options.
+/// A command with the options. The answers depend on those of the command alone (`options_of`).
 #[derive(Clone, Copy, Debug)]
-pub enum Call {
-    Score,
-    /// With whether the table must have the largest class, 0 or 1.
-    Tune(Limits, u8),
-    Check,
-    Footprint,
-    /// The same.
-    Fit(Limits, u8),
-    CheckFit,
-    Peaks,
-    Profile,
-    Replay(Config),
-    Run(Limits, Config),
+pub struct Call {
+    /// Which one.
+    pub command: CommandName,
+    /// The options, of which those of other commands may be any numbers.
+    pub options: Options,
 }
 
-impl Call {
-    ghost use Rattle.tool_call.specs.Options.{IsValid, call_of, has_two_texts};
-
-    /// The call of a command with those of the options that are its own.
-    pub fn of(command: CommandName, options: Options) -> Call
-        ensures { result ≡ call_of command options }
-    {
-        match command {
-            CommandName::Score => Call::Score,
-            CommandName::Tune => Call::Tune(options.limits(), options.largest_class),
-            CommandName::Check => Call::Check,
-            CommandName::Footprint => Call::Footprint,
-            CommandName::Fit => Call::Fit(options.limits(), options.largest_class),
-            CommandName::CheckFit => Call::CheckFit,
-            CommandName::Peaks => Call::Peaks,
-            CommandName::Profile => Call::Profile,
-            CommandName::Replay => Call::Replay(options.config()),
-            CommandName::Run => Call::Run(options.limits(), options.config()),
-        }
-    }
+impl CommandName {
+    ghost use Rattle.tool_call.specs.Options.{has_two_texts};
 
     /// Whether the input is two texts: a class line, a sheet or a fit, and what comes after it in one text.
     pub fn has_two_texts(self) -> bool
@@ -77,31 +50,28 @@ impl Call {
     {
         matches!(
             self,
-            Call::Score
-                | Call::Check
-                | Call::Footprint
-                | Call::CheckFit
-                | Call::Peaks
-                | Call::Replay(_)
+            CommandName::Score
+                | CommandName::Check
+                | CommandName::Footprint
+                | CommandName::CheckFit
+                | CommandName::Peaks
+                | CommandName::Replay
         )
     }
+}
 
-    /// Whether the options are in their ranges.
+impl Call {
+    ghost use Rattle.tool_call.specs.Options.{IsValid};
+
+    /// Whether the options of the command are in their ranges.
     pub fn is_valid(self) -> bool
         ensures { IsTrue result ↔ IsValid self }
     {
-        match self {
-            Call::Score
-            | Call::Check
-            | Call::Footprint
-            | Call::CheckFit
-            | Call::Peaks
-            | Call::Profile => true,
-            Call::Tune(limits, largest_class) | Call::Fit(limits, largest_class) => {
-                limits.are_valid() && largest_class <= 1
+        for option in options_of(self.command) {
+            if !option.takes(self.options.number(*option)) {
+                return false;
             }
-            Call::Replay(config) => config.is_valid(),
-            Call::Run(limits, config) => limits.are_valid() && config.is_valid(),
         }
+        true
     }
 }

@@ -4,6 +4,8 @@
 
 mod call;
 mod options;
+mod ranges;
 
 pub use call::{COMMANDS, Call, CommandName};
-pub use options::{Limits, Options};
+pub use options::{OptionName, Options, options_of};
+pub use ranges::Limits;

@@ -1,14 +1,24 @@
-//! The options.
-ghost use Rattle.std.specs.Prelude.{◌≡◌, ◌↔◌, IsTrue};
+//! The options, and which of them each command has. Written by scripts/tests/formats from scripts/mte_scripts/formats.py.
+ghost use Rattle.std.specs.Prelude.{◌≡◌, ◌≤◌};
+ghost use Rattle.tool_call.specs.OptionTable.{facts, number_of, options_of, with_number};
 
-use class_table::{MOST_CLASSES, is_step};
-use heap_theory::Config;
+use crate::call::CommandName;
 
-/// The options of all commands. A command reads those that are its own, and the others may be any numbers.
+/// An option's name, in the order of the help.
+#[derive(Clone, Copy, Debug, PartialEq, Eq)]
+pub enum OptionName {
+    Limit,
+    Step,
+    LargestClass,
+    Granules,
+    Seed,
+    Quarantine,
+}
+
+/// The options of all commands. A command reads those that are its own.
 #[repr(C)]
 #[derive(Clone, Copy, Debug)]
 pub struct Options {
-    // written by scripts/tests/formats
     /// The granules of the heap, 64 to 262,144.
     pub granules: u32,
     /// The bytes of freed blocks that the heap holds back, 0 to 4,194,304.
@@ -23,47 +33,125 @@ pub struct Options {
     pub largest_class: u8,
 }
 
-/// The options of `tune` and `fit` that are options of `run` too.
-#[derive(Clone, Copy, Debug)]
-pub struct Limits {
-    /// The most classes of the table, 1 to 32.
-    pub limit: u8,
-    /// The granules that each class is a multiple of: 1, 2, 4 or 8.
-    pub step: u8,
-}
-
-impl Limits {
-    ghost use Rattle.tool_call.specs.Options.{AreTuneOptions};
-
-    /// Whether both are in their ranges.
-    pub fn are_valid(self) -> bool
-        ensures { IsTrue result ↔ AreTuneOptions self.limit self.step }
+impl OptionName {
+    /// The least number that the option takes, and the greatest.
+    pub fn range(self) -> (u32, u32)
+        ensures { result ≡ ((facts self).least, (facts self).most) }
     {
-        1 <= self.limit && usize::from(self.limit) <= MOST_CLASSES && is_step(self.step)
+        match self {
+            OptionName::Limit => (1, 32),
+            OptionName::Step => (1, 8),
+            OptionName::LargestClass => (0, 1),
+            OptionName::Granules => (64, 262_144),
+            OptionName::Seed => (1, 65_535),
+            OptionName::Quarantine => (0, 4_194_304),
+        }
     }
 }
 
 impl Options {
-    ghost use Rattle.tool_call.specs.Options.{config_of, limits_of};
+    /// All of them 0.
+    pub const NONE: Options = Options {
+        granules: 0,
+        quarantine: 0,
+        seed: 0,
+        limit: 0,
+        step: 0,
+        largest_class: 0,
+    };
 
-    /// The limit and the step.
-    pub fn limits(self) -> Limits
-        ensures { result ≡ limits_of self }
+    /// The program's own defaults; what has none is its least number.
+    pub const DEFAULTS: Options = Options {
+        granules: 65_536,
+        quarantine: 65_536,
+        seed: 1,
+        limit: 1,
+        step: 1,
+        largest_class: 0,
+    };
+
+    /// The number of an option.
+    pub fn number(self, option: OptionName) -> u32
+        ensures { result ≡ number_of option self }
     {
-        Limits {
-            limit: self.limit,
-            step: self.step,
+        match option {
+            OptionName::Limit => u32::from(self.limit),
+            OptionName::Step => u32::from(self.step),
+            OptionName::LargestClass => u32::from(self.largest_class),
+            OptionName::Granules => self.granules,
+            OptionName::Seed => u32::from(self.seed),
+            OptionName::Quarantine => self.quarantine,
         }
     }
 
-    /// The heap's configuration.
-    pub fn config(self) -> Config
-        ensures { result ≡ config_of self }
+    /// The options with this number for one of them, which takes it.
+    pub fn with(self, option: OptionName, n: u32) -> Options
+        requires { n ≤ (facts option).most }
+        ensures { result ≡ with_number self option n }
     {
-        Config {
-            granules: self.granules,
-            seed: self.seed,
-            quarantine: self.quarantine,
+        match option {
+            OptionName::Limit => Options {
+                limit: n as u8,
+                ..self
+            },
+            OptionName::Step => Options {
+                step: n as u8,
+                ..self
+            },
+            OptionName::LargestClass => Options {
+                largest_class: n as u8,
+                ..self
+            },
+            OptionName::Granules => Options {
+                granules: n,
+                ..self
+            },
+            OptionName::Seed => Options {
+                seed: n as u16,
+                ..self
+            },
+            OptionName::Quarantine => Options {
+                quarantine: n,
+                ..self
+            },
         }
+    }
+}
+
+const TUNE: &[OptionName] = &[
+    OptionName::Limit,
+    OptionName::Step,
+    OptionName::LargestClass,
+];
+
+const REPLAY: &[OptionName] = &[
+    OptionName::Granules,
+    OptionName::Seed,
+    OptionName::Quarantine,
+];
+
+const RUN: &[OptionName] = &[
+    OptionName::Limit,
+    OptionName::Step,
+    OptionName::Granules,
+    OptionName::Seed,
+    OptionName::Quarantine,
+];
+
+/// The options of a command, in the order in which the help lists them.
+pub fn options_of(command: CommandName) -> &'static [OptionName]
+    ensures { result.now ≡ options_of command }
+{
+    match command {
+        CommandName::Score => &[],
+        CommandName::Tune => TUNE,
+        CommandName::Check => &[],
+        CommandName::Footprint => &[],
+        CommandName::Fit => TUNE,
+        CommandName::CheckFit => &[],
+        CommandName::Profile => &[],
+        CommandName::Replay => REPLAY,
+        CommandName::Run => RUN,
+        CommandName::Peaks => &[],
     }
 }

@@ -1,5 +1,5 @@
 -- The digits in front of a text are the spelling of their number.
-use Rattle.std.proofs.Common.{◌≡◌, ℕ, ◌+◌, ◌*◌, ◌/◌, ◌%◌, ◌^◌, ◌<◌, ◌≤◌, List, [], ◌∷◌, ◌++◌, length, get_or, take, drop, refl, sym, ap}
+use Rattle.std.proofs.Common.{◌≡◌, ℕ, ◌+◌, ◌*◌, ◌^◌, ◌<◌, ◌≤◌, List, [], ◌∷◌, ◌++◌, length, get_or, take, drop, refl, sym, ap}
 use Rattle.std.proofs.{Common.{subst, ◌∙◌, arith, add-one}, Math.Nat.{pow-le-pow_right}, Math.Seq.{split_at, take-append_seam}}
 use Rattle.std.proofs.lemmas.{Fmt.{decimal_digit, decimal_step}, Grind.{pow_more}, List.{take_more}}
 use Rattle.std.specs.Fmt.{decimal}
@@ -11,16 +11,11 @@ first_digit (b ∷ text) d some is small = sym (decimal_digit d (omega (arith, s
 
 -- and a digit more is that of ten times the number and the digit
 pub longer : (value d : ℕ) → 0 < value → d < 10 → value * 10 + d < 2 ^ 64 → decimal (value * 10 + d) ≡ decimal value ++ (48 + d) ∷ []
-longer value d some small fits =
-    let front : (value * 10 + d) / 10 ≡ value = omega arith in
-    let last : (value * 10 + d) % 10 ≡ d = omega arith in
-    rw (decimal_step (value * 10 + d) (omega arith) fits, front, last) refl
+longer value d some small fits = grind (arith, decimal_step)
 
 pub digit_more : (text : List ℕ) (place value d : ℕ) → place < length text → get_or text place 0 ≡ 48 + d → d ≤ 9 → 0 < value
     → value < 10 ^ 7 → take place text ≡ decimal value → take (place + 1) text ≡ decimal (value * 10 + d)
-digit_more text place value d within is small some few spelled =
-    take_more text place 0 within ∙ ap (λ (front : List ℕ). front ++ get_or text place 0 ∷ []) spelled
-    ∙ ap (λ (x : ℕ). decimal value ++ x ∷ []) is ∙ sym (longer value d some (omega (arith, small)) (omega (arith, small)))
+digit_more text place value d within is small some few spelled = grind (arith, take_more, longer)
 
 -- a word is the first four bytes of a text
 pub front_four : (text word rest : List ℕ) → text ≡ word ++ rest → length word ≡ 4 → take 4 text ≡ word
@@ -41,5 +36,4 @@ cut_at text place after end within next is = split_at text place 0 within ∙ rw
 
 pub digits_end : (text : List ℕ) (place after value end : ℕ) → place < length text → after ≡ place + 1 → take place text ≡ decimal value
     → get_or text place 0 ≡ end → text ≡ decimal value ++ end ∷ drop after text
-digits_end text place after value end within next spelled is =
-    cut_at text place after end within next is ∙ ap (λ (front : List ℕ). front ++ end ∷ drop after text) spelled
+digits_end text place after value end within next spelled is = grind (arith, cut_at)

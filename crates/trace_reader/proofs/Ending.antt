@@ -1,14 +1,14 @@
 -- Lines that end, and the end of the text.
-use Rattle.std.proofs.Common.{◌≡◌, ℕ, suc, ◌+◌, Bool, true, false, cond, eqb, eq-eqb, ltb, List, [], ◌∷◌, ◌++◌, length, Result, Ok, Err}
+use Rattle.std.proofs.Common.{◌≡◌, ℕ, suc, Bool, true, false, cond, eqb, eq-eqb, ltb, List, [], ◌∷◌, ◌++◌, length, Result, Ok, Err}
 use Rattle.std.proofs.{Common.{refl, sym, ap, ◌∙◌, arith, append_assoc, append-nil, add-one, Option, Some, None}, lemmas.Bool.{ltb-true}}
 use Rattle.line_text.{proofs.LawLemmas.{equal_is_prefix, prefix_of_prefix}, specs.Lines.{IsLine}, specs.Prefixes.{IsPrefix}}
 use Rattle.trace_event.specs.declared.event.Event.{Event}
 use Rattle.trace_reader.proofs.{Cutting.{cut-ended}, Feeding.{pieces_are_joined}, Traces.{event_of_line-long, trace_from-one}}
 use Rattle.trace_reader.proofs.Reaching.{IsPrefix-fed, IsPrefix-finished, came, fed_at-line, fields, is_open_at, open_at}
-use Rattle.trace_reader.specs.{Reached.{HasReached, IsOnTheWay, answer_of}, Reading.State.{Open, Failed, Finished}, Status.{state_of}}
-use Rattle.trace_reader.specs.Reading.{Cut, State, Reading, added, cut, fed, fed_in, finished, finished_in, going_on, is_open, judged_in}
-use Rattle.trace_reader.specs.Reading.{judgement_in, line_ended, reading_of_cut, state_after, whole_reading, with_judged, is_finished}
-use Rattle.trace_reader.specs.{TraceLine.{event_of_line}, TraceText.{Trace, no_lines, trace_from, with_line}}
+use Rattle.trace_reader.specs.{Reached.{HasReached, IsOnTheWay, answer_of}, Reading.State.{Open, Failed, Finished}}
+use Rattle.trace_reader.specs.Reading.{State, Reading, added, cut, fed, fed_in, finished, finished_in, is_open, judged_in}
+use Rattle.trace_reader.specs.Reading.{judgement_in, line_ended, state_after, whole_reading, with_judged, is_finished}
+use Rattle.trace_reader.specs.{TraceLine.{event_of_line}, TraceText.{no_lines, with_line}}
 use Rattle.trace_reader.specs.declared.fault.{TraceError.{TraceError}, TraceError.TheVariants.{Line}, TraceFault.{TraceFault}}
 use Rattle.trace_reader.specs.declared.{fault.TraceFault.TheVariants.{LineTooLong}, status.Status.{Status}}
 use Rattle.trace_reader.specs.declared.status.Status.TheVariants.{Failed as HasFailed}
@@ -91,23 +91,11 @@ line_ended-long old bytes error open_now line answer =
 fed_in-ended : (lines : ℕ) (rest line : List ℕ) → IsLine line →
     fed_in (Open lines rest) (line ++ 10 ∷ []) ≡ judged_in (Open lines rest) (event_of_line (suc lines) (rest ++ line))
 unfolding cut
-fed_in-ended lines rest line is_line =
-    ap (λ (c : Cut). reading_of_cut lines (going_on rest c)) (cut-ended line [] is_line)
-    ∙ ap (λ (t : Trace). record { events = t.events; state = state_after (lines + 1) [] t.fault })
-    (trace_from-one (suc lines) (rest ++ line))
-    ∙ go (event_of_line (suc lines) (rest ++ line))
-  where
-    go : (judged : Result Event TraceFault) →
-        at (with_line (suc lines) judged no_lines).events (state_after (lines + 1) [] (with_line (suc lines) judged no_lines).fault)
-        ≡ judged_in (Open lines rest) judged
-    go (Ok event) = rw (add-one lines) refl
-    go (Err fault) = refl
+fed_in-ended lines rest line is_line = grind (arith, cut-ended, trace_from-one, add-one)
 
 pub fed-ended : (old : Reading) (line : List ℕ) → is_open old ≡ true → IsLine line → fed old (line ++ 10 ∷ []) ≡ line_ended old line
 unfolding fed with_judged
-fed-ended old line open_now is_line =
-    by_open (λ r. fed r (line ++ 10 ∷ []) ≡ line_ended r line)
-    (λ events lines rest. ap (added events) (fed_in-ended lines rest line is_line)) old open_now
+fed-ended old line open_now is_line = grind (arith, by_open, fed_in-ended)
 
 pub fed-after : (old : Reading) (line after : List ℕ) → is_open old ≡ true → IsLine line →
     fed old (line ++ 10 ∷ after) ≡ fed (line_ended old line) after
@@ -118,24 +106,12 @@ fed-after old line after open_now is_line =
 pub is_open-ended : (old : Reading) (line : List ℕ) → is_open old ≡ true → Ok tt ≡ answer_of (line_ended old line).state →
     is_open (line_ended old line) ≡ true
 unfolding with_judged
-is_open-ended old line open_now answer =
-    by_open (λ r. Ok tt ≡ answer_of (line_ended r line).state → is_open (line_ended r line) ≡ true)
-    (λ events lines rest. judged lines rest (event_of_line (suc lines) (rest ++ line))) old open_now answer
-  where
-    judged : (lines : ℕ) (rest : List ℕ) (j : Result Event TraceFault) → Ok tt ≡ answer_of (judged_in (Open lines rest) j).state →
-        is_open (judged_in (Open lines rest) j) ≡ true
-    judged lines rest (Ok event) answer = refl
-    judged lines rest (Err fault) answer = absurd cc
+is_open-ended old line open_now answer = grind (arith, by_open)
 
 -- ---- after an error nothing changes
 
 failed_at : (r : Reading) (error : TraceError) → Err error ≡ answer_of r.state → r.state ≡ Failed error
-failed_at r error answer = go r.state answer
-  where
-    go : (state : State) → Err error ≡ answer_of state → state ≡ Failed error
-    go (Open lines rest) answer = absurd cc
-    go (Failed other) answer = cc
-    go Finished answer = absurd cc
+failed_at r error answer = grind arith
 
 pub fed-failed : (r : Reading) (error : TraceError) (piece : List ℕ) → r.state ≡ Failed error → fed r piece ≡ r
 unfolding fed
@@ -148,22 +124,11 @@ finished-failed r error failed = rw failed (ap (λ (es : List Event). at es (Fai
 -- a call that reads a piece does not finish
 is_unfinished : (lines : ℕ) (rest : List ℕ) (fault : Option (ℕ × TraceFault)) → is_finished (at [] (state_after lines rest fault)) ≡ false
 is_unfinished lines rest (Some fault) = refl
-is_unfinished lines rest None = go (ltb 80 (length rest))
-  where
-    go : (v : Bool) → is_finished (at [] (cond v (Failed (Line (suc lines) LineTooLong)) (Open lines rest))) ≡ false
-    go true = refl
-    go false = refl
+is_unfinished lines rest None = grind arith
 
 is_finished-fed : (r : Reading) (piece : List ℕ) → is_finished r ≡ false → is_finished (fed r piece) ≡ false
 unfolding fed
-is_finished-fed r piece unfinished = go r.state unfinished
-  where
-    go : (state : State) → is_finished (at [] state) ≡ false → is_finished (fed_in state piece) ≡ false
-    go (Open lines rest) unfinished =
-        let c = going_on rest (cut piece) in
-        is_unfinished (lines + length c.whole) c.unfinished (trace_from (suc lines) c.whole).fault
-    go (Failed error) unfinished = refl
-    go Finished unfinished = absurd cc
+is_finished-fed r piece unfinished = grind (arith, is_unfinished)
 
 pub unfinished_after : (old new : Reading) (piece : List ℕ) (result : Answer) → is_finished old ≡ false →
     HasReached old (fed old piece) new result → is_finished new ≡ false
@@ -175,17 +140,7 @@ pub failed_on_the_way : (old mid new : Reading) (error : TraceError) (piece line
     → fed old piece ≡ fed mid (line ++ 10 ∷ after) → IsPrefix old.events mid.events →
     HasReached mid (line_ended mid line) new (Err error) → HasReached old (fed old piece) new (Err error)
 failed_on_the_way old mid new error piece line after open_now is_line same kept reached =
-    let rest : fed old piece ≡ fed (line_ended mid line) after = same ∙ fed-after mid line after open_now is_line in
-    record {
-      answer = reached.answer;
-      reading =
-          λ other. sym (rest ∙ ap (λ (r : Reading). fed r after) (sym (reached.reading other))
-          ∙ fed-failed new error after (failed_at new error reached.answer));
-      kept = prefix_of_prefix old.events mid.events new.events kept reached.kept;
-      prefix = prefix_of_prefix new.events (line_ended mid line).events (fed old piece).events reached.prefix
-          (prefix_of_prefix (line_ended mid line).events (fed (line_ended mid line) after).events (fed old piece).events
-          (IsPrefix-fed (line_ended mid line) after) (equal_is_prefix _ _ (sym (ap (λ (r : Reading). r.events) rest))));
-    }
+    grind (arith, fed-after, fed-failed, failed_at, prefix_of_prefix, IsPrefix-fed, equal_is_prefix)
 
 -- ---- from one reading to another
 
@@ -212,13 +167,11 @@ way_after_way old mid new text rest after way more = grind (arith, prefix_of_pre
 
 pub reached_on_the_way : (old mid new : Reading) (text rest : List ℕ) (result : Answer) → IsOnTheWay old text mid rest →
     HasReached mid (fed mid rest) new result → HasReached old (fed old text) new result
-reached_on_the_way old mid new text rest result way reached =
-    reached_from old mid (fed mid rest) (fed old text) new result (sym way.fed_is) way.kept reached
+reached_on_the_way old mid new text rest result way reached = grind (arith, reached_from)
 
 pub state_failed : (old : Reading) (events : List Event) (lines : ℕ) (rest : List ℕ) (status : Status) (error : TraceError) →
     fields events lines rest status ≡ old → status ≡ HasFailed error → old.state ≡ Failed error
-state_failed old events lines rest status error is failed =
-    sym (ap (λ (r : Reading). r.state) is) ∙ ap (λ (s : Status). state_of s lines rest) failed
+state_failed old events lines rest status error is failed = grind arith
 
 -- an open reading stands at no error
 pub unchanged_if_failed : (old new : Reading) → is_open old ≡ true → (error : TraceError) → old.state ≡ Failed error → new ≡ old
@@ -243,52 +196,24 @@ pub finished-line : (events : List Event) (lines : ℕ) (rest : List ℕ) → (l
     Ok tt ≡ answer_of (line_ended (open_at events lines rest) []).state
     → finished (open_at events lines rest) ≡ at (line_ended (open_at events lines rest) []).events Finished
 unfolding finished with_judged
-finished-line events lines rest some answer =
-    ap (added events) (last_line_in lines rest some) ∙ go (event_of_line (suc lines) (rest ++ [])) answer
-  where
-    go : (j : Result Event TraceFault) → Ok tt ≡ answer_of (judged_in (Open lines rest) j).state →
-        added events (whole_reading (with_line (suc lines) j no_lines)) ≡ at (events ++ (judged_in (Open lines rest) j).events) Finished
-    go (Ok event) answer = refl
-    go (Err fault) answer = absurd cc
+finished-line events lines rest some answer = grind (arith, last_line_in)
 
 finished-events : (events : List Event) (lines : ℕ) (rest : List ℕ) → (length rest ≡ 0 → ⊥) →
     (finished (open_at events lines rest)).events ≡ (line_ended (open_at events lines rest) []).events
 unfolding finished with_judged
-finished-events events lines rest some =
-    ap (λ (r : Reading). events ++ r.events) (last_line_in lines rest some) ∙ go (event_of_line (suc lines) (rest ++ []))
-  where
-    go : (j : Result Event TraceFault) →
-        events ++ (whole_reading (with_line (suc lines) j no_lines)).events ≡ events ++ (judged_in (Open lines rest) j).events
-    go (Ok event) = refl
-    go (Err fault) = refl
+finished-events events lines rest some = grind (arith, last_line_in)
 
 finished-fault : (events : List Event) (lines : ℕ) (rest : List ℕ) (error : TraceError) → (length rest ≡ 0 → ⊥) →
     Err error ≡ answer_of (line_ended (open_at events lines rest) []).state
     → finished (open_at events lines rest) ≡ line_ended (open_at events lines rest) []
 unfolding finished with_judged
-finished-fault events lines rest error some answer =
-    ap (added events) (last_line_in lines rest some) ∙ go (event_of_line (suc lines) (rest ++ [])) answer
-  where
-    go : (j : Result Event TraceFault) → Err error ≡ answer_of (judged_in (Open lines rest) j).state →
-        added events (whole_reading (with_line (suc lines) j no_lines)) ≡ added events (judged_in (Open lines rest) j)
-    go (Ok event) answer = absurd cc
-    go (Err fault) answer = refl
+finished-fault events lines rest error some answer = grind (arith, last_line_in)
 
 failed_at_end : (events : List Event) (lines : ℕ) (rest : List ℕ) (new : Reading) (error : TraceError) → (length rest ≡ 0 → ⊥)
     → HasReached (open_at events lines rest) (line_ended (open_at events lines rest) []) new (Err error) →
     HasReached (open_at events lines rest) (finished (open_at events lines rest)) new (Err error)
 failed_at_end events lines rest new error some reached =
-    let old = open_at events lines rest in
-    record {
-      answer = reached.answer;
-      reading =
-          λ other. let is = reached.reading other in
-          is ∙ sym (finished-fault events lines rest error some (reached.answer ∙ ap (λ (r : Reading). answer_of r.state) is));
-      kept = reached.kept;
-      prefix =
-          prefix_of_prefix new.events (line_ended old []).events (finished old).events reached.prefix
-          (equal_is_prefix _ _ (sym (finished-events events lines rest some)));
-    }
+    grind (arith, finished-fault, prefix_of_prefix, equal_is_prefix, finished-events)
 
 -- an unfinished line that is not empty
 pub not_empty : (rest : List ℕ) (empty : Bool) → empty ≡ eqb (length rest) 0 → empty ≡ false → length rest ≡ 0 → ⊥
@@ -297,22 +222,13 @@ not_empty rest empty is isn_t none = let f = sym isn_t ∙ is ∙ eq-eqb (length
 pub finish_failed : (old new : Reading) (events : List Event) (lines : ℕ) (rest : List ℕ) (status : Status) (error : TraceError)
     → fields events lines rest status ≡ old → is_open old ≡ true → (length rest ≡ 0 → ⊥) →
     HasReached old (line_ended old []) new (Err error) → HasReached old (finished old) new (Err error)
-finish_failed old new events lines rest status error is open_now some reached = grind (arith, failed_at_end, is_open_at, open_at)
+finish_failed old new events lines rest status error is open_now some reached = grind (arith, failed_at_end, is_open_at)
 
 pub finish_line : (old mid : Reading) (events : List Event) (lines : ℕ) (rest : List ℕ) (status : Status) (events' : List Event)
     → fields events lines rest status ≡ old → is_open old ≡ true → (length rest ≡ 0 → ⊥) → HasReached old (line_ended old []) mid (Ok tt) →
     events' ≡ mid.events → HasReached old (finished old) (at events' Finished) (Ok tt)
 finish_line old mid events lines rest status events' is open_now some reached same =
-    let s = is_open_at old events lines rest status is open_now in
-    let now = reached_ok old (line_ended old []) mid reached in
-    let answer : Ok tt ≡ answer_of (line_ended (open_at events lines rest) []).state =
-    reached.answer ∙ ap (λ (r : Reading). answer_of r.state) (now ∙ ap (λ (r : Reading). line_ended r []) s.1) in
-    let ends : finished old ≡ at events' Finished =
-    ap finished s.1 ∙ finished-line events lines rest some answer
-    ∙ ap (λ (es : List Event). at es Finished)
-    (sym (same ∙ ap (λ (r : Reading). r.events) (now ∙ ap (λ (r : Reading). line_ended r []) s.1))) in
-    came old (finished old) (at events' Finished) (Ok tt) (sym ends) (ap (λ (r : Reading). answer_of r.state) (sym ends))
-    (IsPrefix-finished old)
+    grind (arith, is_open_at, reached_ok, finished-line, came, IsPrefix-finished)
 
 pub finish_empty : (old : Reading) (events : List Event) (lines : ℕ) (rest : List ℕ) (status : Status) (events' : List Event)
     → fields events lines rest status ≡ old → is_open old ≡ true → length rest ≡ 0 → events' ≡ old.events →

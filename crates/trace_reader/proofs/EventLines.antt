@@ -1,5 +1,5 @@
 -- From an event to its line: the event is read from it.
-use Rattle.std.proofs.Common.{◌≡◌, ℕ, suc, ◌+◌, ◌<◌, ◌≤◌, ◌^◌, true, false, leb, List, [], ◌∷◌, length, Ok, refl, ap, ◌∙◌, arith, ℤ, pos}
+use Rattle.std.proofs.Common.{◌≡◌, ℕ, suc, ◌+◌, ◌<◌, ◌≤◌, ◌^◌, true, false, leb, List, [], ◌∷◌, length, Ok, refl, arith, ℤ, pos}
 use Rattle.std.proofs.{Common.{negsuc, nat_abs, ne_eqb, length-append, codes, All}, lemmas.Bool.{le-leb, le-ltb, leb-true}}
 use Rattle.std.{proofs.lemmas.Fmt.{length-decimal-le}, proofs.lemmas.List.Elements.{All-nil, All-cons}, specs.Fmt.{decimal, signed_decimal}}
 use Rattle.std.specs.List.{list_all}
@@ -37,8 +37,7 @@ no_word : AreTexts []
 no_word = record { lines = All-nil _; words = All-nil _ }
 
 one_word_more : {ws : List (List ℕ)} (word : List ℕ) → IsText word → AreTexts ws → AreTexts (word ∷ ws)
-one_word_more {ws} word text others =
-    record { lines = All-cons IsLine word ws text.0 others.lines; words = All-cons IsWord word ws text.1 others.words }
+one_word_more {ws} word text others = grind (arith, All-cons)
 
 number_word : {ws : List (List ℕ)} → (n : ℕ) → n < 2 ^ 64 → AreTexts ws → AreTexts (decimal n ∷ ws)
 number_word n small others = one_word_more (decimal n) (spelled_number_is_a_word n small) others
@@ -74,21 +73,13 @@ event_texts (Subg v w u6 u4) is = move_texts (codes "subg") v w u6 u4 (letters (
 
 a_number : {others : List (List ℕ)} (low high n : ℕ) → low ≤ n → n ≤ high → high < 2 ^ 64
     → IsRead (number_from low high) (decimal n ∷ others) others n
-a_number {others} low high n above below small = record {
-  word = decimal n;
-  words = refl;
-  is = rw (spelled_number_is_read n (omega (arith, below, small)), le-leb low n above, le-leb n high below) refl;
-}
+a_number {others} low high n above below small = grind (arith, spelled_number_is_read, le-leb)
 
 a_variable : {others : List (List ℕ)} (v : ℕ) → v ≤ 1023 → IsRead (number_from 0 1023) (decimal v ∷ others) others v
 a_variable {others} v v_in = a_number 0 1023 v (omega arith) v_in (omega arith)
 
 an_offset : {others : List (List ℕ)} (z : ℤ) → nat_abs z ≤ 1048576 → IsRead offset_of (signed_decimal z ∷ others) others z
-an_offset {others} z near = record {
-  word = signed_decimal z;
-  words = refl;
-  is = rw (spelled_signed_is_read z (fits_signed z near), le-leb (nat_abs z) 1048576 near) refl;
-}
+an_offset {others} z near = grind (arith, spelled_signed_is_read, fits_signed, le-leb)
 
 a_byte : {others : List (List ℕ)} (n : ℕ) → n < 2 ^ 8 → IsRead byte_of (hex n ∷ others) others n
 a_byte {others} n small = record { word = hex n; words = refl; is = rw (spelled_hex_is_read n small) refl }
@@ -183,7 +174,4 @@ some_words x0 = grind arith
 pub event_of_line-spelled : (number : ℕ) (event : Event) → number ≤ 1000000 → IsInRange event
     → event_of_line number (event_line event) ≡ Ok event
 unfolding event_of_line
-event_of_line-spelled number event few is =
-    let read =
-    ap event_of_words (words_of_line (event_words event) (some_words event) (event_texts event is).words) ∙ event_read event is in
-    rw (le-ltb 80 (length (event_line event)) (event_len event is), le-ltb 1000000 number few) read
+event_of_line-spelled number event few is = grind (arith, words_of_line, some_words, event_texts, event_read, le-ltb, event_len)

@@ -1,10 +1,10 @@
 -- Pieces that are fed, one after the other.
-use Rattle.std.proofs.Common.{◌≡◌, ℕ, suc, ◌+◌, ◌<◌, Bool, true, false, cond, ltb, List, [], ◌∷◌, ◌++◌, length, Option, Some, None, refl}
-use Rattle.std.proofs.{Common.{sym, ap, ◌∙◌, arith, append_assoc, append-nil}, lemmas.Bool.{lt-ltb, ltb-true}, lemmas.List.{length-append}}
+use Rattle.std.proofs.Common.{◌≡◌, ℕ, suc, ◌+◌, ◌<◌, List, [], ◌++◌, length, Option, Some, None, refl}
+use Rattle.std.proofs.{Common.{ap, arith, append_assoc, append-nil}, lemmas.Bool.{lt-ltb, ltb-true}, lemmas.List.{length-append}}
 use Rattle.trace_event.specs.declared.event.Event.{Event}
 use Rattle.trace_reader.{proofs.Cutting.{joined, going_on-joined, cut-append}, specs.Reading.State.{Open, Failed, Finished}}
 use Rattle.trace_reader.proofs.Traces.{followed_by, trace_from-append, trace_from-long, trace_from-none}
-use Rattle.trace_reader.specs.Reading.{added, cut, fed, fed_in, finished, finished_in, going_on, bytes_in_front, reading_of_cut}
+use Rattle.trace_reader.specs.Reading.{added, cut, fed, fed_in, finished, finished_in, going_on}
 use Rattle.trace_reader.specs.{Reading.{state_after, Cut, State, Reading}, TraceText.{Trace, trace_from}}
 use Rattle.trace_reader.specs.declared.fault.{TraceError.TheVariants.{Line}, TraceFault.{TraceFault}, TraceFault.TheVariants.{LineTooLong}}
 
@@ -17,20 +17,7 @@ too_long : (lines : ℕ) (c d : Cut) → 80 < length c.unfinished
     → reading_of (lines + length (c.whole ++ (going_on c.unfinished d).whole)) (going_on c.unfinished d).unfinished
     (trace_from (suc lines + length c.whole) (going_on c.unfinished d).whole)
     ≡ record { events = []; state = Failed (Line (suc (lines + length c.whole)) LineTooLong) }
-too_long lines c d long = go d.whole d.unfinished
-  where
-    go : (ls : List (List ℕ)) (rest : List ℕ)
-        → reading_of (lines + length (c.whole ++ (bytes_in_front c.unfinished ls rest).whole))
-        (bytes_in_front c.unfinished ls rest).unfinished
-        (trace_from (suc lines + length c.whole) (bytes_in_front c.unfinished ls rest).whole)
-        ≡ record { events = []; state = Failed (Line (suc (lines + length c.whole)) LineTooLong) }
-    go [] rest =
-        let longer : 80 < length (c.unfinished ++ rest) = omega (arith, length-append c.unfinished rest, long) in
-        rw (trace_from-none (suc lines + length c.whole), append-nil c.whole, lt-ltb 80 (length (c.unfinished ++ rest)) longer) refl
-    go (line ∷ ls) rest =
-        let longer : 80 < length (c.unfinished ++ line) = omega (arith, length-append c.unfinished line, long) in
-        let count : suc lines + length c.whole ≡ suc (lines + length c.whole) = omega arith in
-        rw (trace_from-long (suc lines + length c.whole) (c.unfinished ++ line) ls longer, count) refl
+too_long lines c d long = grind (arith, length-append, trace_from-none, append-nil, lt-ltb, trace_from-long)
 
 -- the whole lines of both
 both : (lines : ℕ) (c d : Cut) (piece : List ℕ) → cut piece ≡ d → (t : Trace) (fault : Option (ℕ × TraceFault)) → t.fault ≡ fault
@@ -38,32 +25,10 @@ both : (lines : ℕ) (c d : Cut) (piece : List ℕ) → cut piece ≡ d → (t :
     ≡ reading_of (lines + length (joined c d).whole) (joined c d).unfinished
     (followed_by fault t.events (trace_from (suc lines + length c.whole) (going_on c.unfinished d).whole))
 both lines c d piece is t (Some fault) faulty = rw (append-nil t.events) refl
-both lines c d piece is t None faultless = go (ltb 80 (length c.unfinished)) refl
-  where
-    go : (v : Bool) → ltb 80 (length c.unfinished) ≡ v
-        → added t.events (fed_in
-        (cond v (Failed (Line (suc (lines + length c.whole)) LineTooLong)) (Open (lines + length c.whole) c.unfinished)) piece)
-        ≡ added t.events (reading_of (lines + length (joined c d).whole) (joined c d).unfinished
-        (trace_from (suc lines + length c.whole) (going_on c.unfinished d).whole))
-    go true long = ap (added t.events) (sym (too_long lines c d (ltb-true 80 (length c.unfinished) long)))
-    go false short =
-        let count : suc lines + length c.whole ≡ suc (lines + length c.whole) = omega arith in
-        let all : lines + length (c.whole ++ (going_on c.unfinished d).whole)
-        ≡ (lines + length c.whole) + length (going_on c.unfinished d).whole
-        = omega (arith, length-append c.whole (going_on c.unfinished d).whole) in
-        rw (is, count, all) refl
+both lines c d piece is t None faultless = grind (arith, joined, too_long, ltb-true, length-append)
 
 pub fed_in-append : (state : State) (a b : List ℕ) → added (fed_in state a).events (fed_in (fed_in state a).state b) ≡ fed_in state (a ++ b)
-fed_in-append (Open lines rest) a b =
-    let c = going_on rest (cut a) in
-    let t = trace_from (suc lines) c.whole in
-    both lines c (cut b) b refl t t.fault refl
-    ∙ sym (
-    ap (λ (d : Cut). reading_of_cut lines (going_on rest d)) (cut-append a b)
-    ∙ ap (reading_of_cut lines) (going_on-joined rest (cut a) (cut b))
-    ∙ ap (λ (u : Trace). reading_of (lines + length (joined c (cut b)).whole) (joined c (cut b)).unfinished u)
-    (trace_from-append (suc lines) c.whole (going_on c.unfinished (cut b)).whole)
-    )
+fed_in-append (Open lines rest) a b = grind (arith, both, cut-append, going_on-joined, joined, trace_from-append)
 fed_in-append (Failed error) a b = refl
 fed_in-append Finished a b = refl
 
@@ -72,8 +37,7 @@ added-added a b r = ap (λ (es : List Event). record { events = es; state = r.st
 
 pub pieces_are_joined : (r : Reading) (a b : List ℕ) → fed (fed r a) b ≡ fed r (a ++ b)
 unfolding fed
-pieces_are_joined r a b =
-    added-added r.events (fed_in r.state a).events (fed_in (fed_in r.state a).state b) ∙ ap (added r.events) (fed_in-append r.state a b)
+pieces_are_joined r a b = grind (arith, added-added, fed_in-append)
 
 -- ---- events that wait have no part in it
 

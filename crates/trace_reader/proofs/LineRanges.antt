@@ -1,8 +1,8 @@
 -- The number of an event's line is not above the most events, and a trace has no more.
-use Rattle.line_text.specs.{FirstFault.{◌>>=◌}, Lines.{words, lines}}
-use Rattle.trace_reader.specs.{TraceLine.{event_of_words, event_of_line}, TraceText.{trace_from, trace_of, with_line}}
-use Rattle.trace_reader.specs.declared.fault.{TraceFault.{TraceFault}, TraceFault.TheVariants.{LineTooLong, TooManyEvents}}
-use Rattle.std.proofs.Common.{◌≡◌, ℕ, ◌≤◌, Bool, true, false, cond, ◌&&◌, ltb, List, [], ◌∷◌, length, Result, Ok, Err, IfOk, refl, arith}
+use Rattle.line_text.specs.{FirstFault.{◌>>=◌}, Lines.{lines}}
+use Rattle.trace_reader.specs.{TraceLine.{event_of_line}, TraceText.{trace_from, trace_of, with_line}}
+use Rattle.trace_reader.specs.declared.fault.{TraceFault.{TraceFault}}
+use Rattle.std.proofs.Common.{◌≡◌, ℕ, ◌≤◌, Bool, true, false, ◌&&◌, List, [], ◌∷◌, length, Result, Ok, Err, IfOk, refl, arith}
 use Rattle.std.proofs.{Common.{suc, ◌+◌}, lemmas.Bool.{ltb-false}}
 use Rattle.trace_event.specs.declared.event.Event.{Event}
 
@@ -23,17 +23,7 @@ IfOk-and_then P Q (Err fault) f holds more = tt
 -- the line of an event is not after the most events
 pub few_events : (number : ℕ) (line : List ℕ) → IfOk (event_of_line number line) (λ event. number ≤ 1000000)
 unfolding event_of_line
-few_events number line = go (ltb 80 (length line)) (ltb 1000000 number) refl (event_of_words (words line))
-  where
-    few : number ≤ 1000000 → (r : Result Event TraceFault) → IfOk r (λ event. number ≤ 1000000)
-    few le (Ok event) = le
-    few le (Err fault) = tt
-
-    go : (v w : Bool) → ltb 1000000 number ≡ w → (r : Result Event TraceFault) →
-        IfOk (cond v (Err LineTooLong) (cond w (Err TooManyEvents) r)) (λ event. number ≤ 1000000)
-    go true w is r = tt
-    go false true is r = tt
-    go false false is r = few (ltb-false 1000000 number is) r
+few_events number line = grind (arith, ltb-false)
 
 -- ---- a text
 

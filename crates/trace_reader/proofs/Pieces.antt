@@ -1,13 +1,13 @@
 -- A text in pieces is the whole text.
-use Rattle.std.proofs.Common.{◌≡◌, ℕ, suc, ◌+◌, Bool, true, false, cond, ltb, List, [], ◌∷◌, ◌++◌, length, Option, Some, None, refl, sym}
+use Rattle.std.proofs.Common.{◌≡◌, ℕ, suc, true, ltb, List, [], ◌∷◌, ◌++◌, length, Option, Some, None, refl, sym}
 use Rattle.std.proofs.{Common.{ap, ◌∙◌, arith, append_assoc, append-nil, ◌≤◌}, lemmas.Bool.{ltb-true}, lemmas.List.{length-append}}
 use Rattle.std.specs.List.{concat}
 use Rattle.trace_reader.proofs.{Cutting.{going_on-nil, last_lines, lines-cut}, Feeding.{pieces_are_joined}, LineRanges.{events_are_few}}
-use Rattle.trace_reader.{proofs.Reaching.{IsPrefix-finished}, specs.Reading.State.{Open, Failed}}
+use Rattle.trace_reader.{proofs.Reaching.{IsPrefix-finished}}
 use Rattle.trace_reader.proofs.Traces.{followed, followed_by, trace_from-append, trace_from-long, trace_from-none, trace_from-one}
 use Rattle.trace_reader.specs.Reading.{state_after, whole_reading, Cut, Reading, added, cut, fed, fed_all, finished, finished_in, last_line}
-use Rattle.trace_reader.specs.{Reading.{nothing_read, reading_of_cut}, TraceText.{Trace, trace_from, trace_of}}
-use Rattle.trace_reader.specs.declared.fault.{TraceError.TheVariants.{Line}, TraceFault.{TraceFault}, TraceFault.TheVariants.{LineTooLong}}
+use Rattle.trace_reader.specs.{Reading.{nothing_read}, TraceText.{Trace, trace_from, trace_of}}
+use Rattle.trace_reader.specs.declared.fault.{TraceFault.{TraceFault}, TraceFault.TheVariants.{LineTooLong}}
 
 fed_all-fed : (r : Reading) (a : List ℕ) (pieces : List (List ℕ)) → fed_all (fed r a) pieces ≡ fed r (a ++ concat pieces)
 fed_all-fed r a [] = ap (fed r) (sym (append-nil a))
@@ -35,27 +35,12 @@ at_end : (n : ℕ) (c : Cut) (t : Trace) (fault : Option (ℕ × TraceFault)) �
     → added t.events (finished_in (state_after n c.unfinished fault))
     ≡ whole_reading (followed_by fault t.events (trace_from (suc n) (last_lines c.unfinished)))
 at_end n c t (Some fault) is = rw (append-nil t.events) refl
-at_end n c t None is = go (ltb 80 (length c.unfinished)) refl
-  where
-    go : (v : Bool) → ltb 80 (length c.unfinished) ≡ v
-        → added t.events (finished_in (cond v (Failed (Line (suc n) LineTooLong)) (Open n c.unfinished)))
-        ≡ whole_reading (followed_by None t.events (trace_from (suc n) (last_lines c.unfinished)))
-    go true long = rw (too_long-trace n c.unfinished long) refl
-    go false short = rw (last_line-trace n c.unfinished) refl
+at_end n c t None is = grind (arith, followed_by, last_lines, too_long-trace, last_line-trace)
 
 -- a text in one piece
 pub one_piece_is_the_text : (text : List ℕ) → finished (fed nothing_read text) ≡ whole_reading (trace_of text)
 unfolding fed finished
-one_piece_is_the_text text =
-    let c = cut text in
-    let t = trace_from 1 c.whole in
-    let n = 0 + length c.whole in
-    let count : suc n ≡ 1 + length c.whole = omega arith in
-    ap (λ (d : Cut). added (reading_of_cut 0 d).events (finished_in (reading_of_cut 0 d).state)) (going_on-nil c)
-    ∙ at_end n c t t.fault refl
-    ∙ ap (λ (k : ℕ). whole_reading (followed t (trace_from k (last_lines c.unfinished)))) count
-    ∙ sym (ap (λ (ls : List (List ℕ)). whole_reading (trace_from 1 ls)) (lines-cut text)
-    ∙ ap whole_reading (trace_from-append 1 c.whole (last_lines c.unfinished)))
+one_piece_is_the_text text = grind (arith, going_on-nil, at_end, followed, last_lines, lines-cut, trace_from-append)
 
 pub pieces_are_the_text : (pieces : List (List ℕ)) → finished (fed_all nothing_read pieces) ≡ whole_reading (trace_of (concat pieces))
 pieces_are_the_text pieces = ap finished (fed_all-concat pieces) ∙ one_piece_is_the_text (concat pieces)

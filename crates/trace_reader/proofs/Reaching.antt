@@ -1,12 +1,12 @@
 -- Readings that a call comes to.
-use Rattle.std.proofs.Common.{◌≡◌, ℕ, suc, ◌+◌, ◌<◌, ◌≤◌, true, false, List, [], ◌∷◌, ◌++◌, length, Result, Ok, Err, IsOk, OnErr, OnOk}
-use Rattle.std.proofs.{Common.{is_err, ◌↔◌, refl, sym, ap, ◌∙◌, arith, append-nil, add-one, add-zero}, lemmas.Bool.{lt-ltb}}
+use Rattle.std.proofs.Common.{◌≡◌, ℕ, ◌+◌, ◌<◌, ◌≤◌, true, false, List, [], ◌∷◌, ◌++◌, length, Result, Ok, Err, IsOk, OnErr, OnOk}
+use Rattle.std.proofs.{Common.{is_err, ◌↔◌, refl, arith, append-nil, add-one, add-zero}, lemmas.Bool.{lt-ltb}}
 use Rattle.std.proofs.lemmas.Bool.Decides.{nat_tests}
 use Rattle.line_text.{proofs.LawLemmas.{equal_is_prefix}, specs.Lines.{IsLine}, specs.Prefixes.{IsPrefix}}
 use Rattle.trace_event.specs.declared.event.Event.{Event}
 use Rattle.trace_reader.{proofs.Cutting.{cut-line}, proofs.Traces.{trace_from-none}, specs.Reached.{HasReached, answer_of}}
-use Rattle.trace_reader.specs.Reading.{Cut, Reading, added, fed, fed_in, finished, finished_in, going_on, is_open, is_open_state}
-use Rattle.trace_reader.specs.{Reading.{reading_of_cut, with_judged, unfinished_state}, Reading.State.{Open, Failed}, Status.{state_of}}
+use Rattle.trace_reader.specs.Reading.{Reading, fed, fed_in, finished, finished_in, is_open, is_open_state}
+use Rattle.trace_reader.specs.{Reading.{with_judged, unfinished_state}, Reading.State.{Open, Failed}, Status.{state_of}}
 use Rattle.trace_reader.specs.declared.fault.{TraceError.{TraceError}, TraceError.TheVariants.{OutOfMemory, Line}, TraceFault.{TraceFault}}
 use Rattle.trace_reader.specs.declared.{fault.TraceFault.TheVariants.{LineTooLong}, status.Status.{Status}}
 use Rattle.trace_reader.specs.declared.status.Status.TheVariants.{Open as IsOpen, Failed as HasFailed, Finished as HasFinished}
@@ -49,9 +49,7 @@ status_open HasFinished lines rest e = absurd cc
 
 pub is_open_at : (old : Reading) (events : List Event) (lines : ℕ) (rest : List ℕ) (status : Status) →
     fields events lines rest status ≡ old → is_open old ≡ true → (status ≡ IsOpen) × (old ≡ open_at events lines rest)
-is_open_at old events lines rest status is open_now =
-    let s = status_open status lines rest (ap is_open is ∙ open_now) in
-    (s, sym is ∙ ap (fields events lines rest) s)
+is_open_at old events lines rest status is open_now = grind (arith, status_open)
 
 -- ---- a line that was judged
 
@@ -82,10 +80,7 @@ pub judged_fault : (old new : Reading) (events : List Event) (lines : ℕ) (rest
     → HasReached old (with_judged old (Err fault)) new result
 unfolding with_judged
 judged_fault old new events lines rest status fault result is open_now failed answer =
-    let s = is_open_at old events lines rest status is open_now in
-    rw s.1
-    (came (open_at events lines rest) _ new result (failed ∙ rw (s.1, append-nil events, add-one lines) refl)
-    (answer ∙ rw (add-one lines) refl) (record { after = []; is = refl }))
+    grind (arith, is_open_at, came, append-nil, add-one)
 
 -- what a call says that did not fail, and what one says that did
 pub pushed : {E : Type 0} (r : Result (Unit {0}) E) (Is : Type 0) → is_err r ≡ false → OnOk r Is → Is
@@ -101,11 +96,7 @@ not_pushed (Err e) Is failed is = is
 pub fed_at-line : (events : List Event) (lines : ℕ) (rest bytes : List ℕ) → IsLine bytes
     → fed (open_at events lines rest) bytes ≡ record { events = events; state = unfinished_state lines (rest ++ bytes) }
 unfolding fed
-fed_at-line events lines rest bytes line =
-    let whole : fed_in (Open lines rest) bytes ≡ record { events = []; state = unfinished_state lines (rest ++ bytes) } =
-    ap (λ (c : Cut). reading_of_cut lines (going_on rest c)) (cut-line bytes line)
-    ∙ rw (trace_from-none (suc lines), add-zero lines) refl in
-    ap (added events) whole ∙ rw (append-nil events) refl
+fed_at-line events lines rest bytes line = grind (arith, cut-line, trace_from-none, add-zero, append-nil)
 
 -- what an extension that fits says
 pub extended : {E : Type 0} (r : Result (Unit {0}) E) (Fits Is : Type 0) → is_err r ≡ false → IsOk r ↔ Fits → OnOk r Is → Fits × Is
@@ -125,6 +116,4 @@ keeps old events lines rest bytes rest' status is open_now line fits all = grind
 pub keeps_not : (old new : Reading) (events : List Event) (lines : ℕ) (rest bytes : List ℕ) (status : Status)
     → fields events lines rest status ≡ old → is_open old ≡ true → IsLine bytes → 80 < length (rest ++ bytes)
     → new ≡ record { events = events; state = Failed (Line (lines + 1) LineTooLong) } → new ≡ fed old bytes
-keeps_not old new events lines rest bytes status is open_now line long failed =
-    let s = is_open_at old events lines rest status is open_now in
-    rw (s.1, fed_at-line events lines rest bytes line, lt-ltb 80 (length (rest ++ bytes)) long, ← add-one lines) failed
+keeps_not old new events lines rest bytes status is open_now line long failed = grind (arith, is_open_at, fed_at-line, lt-ltb, add-one)

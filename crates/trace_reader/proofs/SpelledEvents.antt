@@ -21,14 +21,7 @@ pub line_of_event : (mid : Reading) (events : List Event) (lines : ℕ) (rest : 
     → fields events lines rest status ≡ mid → is_at_start mid ≡ true → lines < 1000000 → IsInRange event
     → line_ended mid (event_line event) ≡ with_judged mid (Ok event)
 line_of_event mid events lines rest status event is start few range =
-    let s = is_open_at mid events lines rest status is (start_is_open mid.state start) in
-    let start_there : is_start (Open lines rest) ≡ true = sym (ap is_at_start s.1) ∙ start in
-    subst (λ (r : Reading). line_ended r (event_line event) ≡ with_judged r (Ok event)) (sym s.1) (go rest start_there)
-  where
-    go : (rest : List ℕ) → is_start (Open lines rest) ≡ true
-        → line_ended (open_at events lines rest) (event_line event) ≡ with_judged (open_at events lines rest) (Ok event)
-    go [] e = ap (with_judged (open_at events lines [])) (event_of_line-spelled (suc lines) event (omega (arith, few)) range)
-    go (b ∷ rest) e = absurd cc
+    grind (arith, is_open_at, start_is_open, event_of_line-spelled)
 
 -- ---- an event that is handed out at once
 
@@ -91,17 +84,7 @@ pub batch_taken : (old : Reading) (events : List Event) (lines : ℕ) (rest : Li
     → text ≡ event_lines es ++ after
     → IsOnTheWay old text (fields (events ++ es) (lines + length es) rest status) after
     × (is_at_start (fields (events ++ es) (lines + length es) rest status) ≡ true)
-batch_taken old events lines rest status es text after is start few range cut =
-    let s = is_open_at old events lines rest status is (start_is_open old.state start) in
-    let none = no_rest lines rest (sym (ap is_at_start s.1) ∙ start) in
-    rw (s.0, s.1, none, cut) (
-      record {
-        still_open = refl;
-        fed_is = fed-lines es events lines after few range;
-        kept = record { after = es; is = refl };
-      },
-      refl,
-    )
+batch_taken old events lines rest status es text after is start few range cut = grind (arith, is_open_at, start_is_open, no_rest, fed-lines)
 
 -- each has a byte at least, so the text after them is shorter
 pub lines_are_long : (es : List Event) (text after : List ℕ) → text ≡ event_lines es ++ after → length es + length after ≤ length text

@@ -1,16 +1,15 @@
 -- From a line to the event that is read from it: it is in its ranges, and the line is its line.
-use Rattle.std.proofs.Common.{◌≡◌, ℕ, ◌<◌, ◌≤◌, ◌^◌, Bool, true, false, cond, ◌&&◌, leb, ltb, List, [], ◌∷◌, length, Option, Some, None}
+use Rattle.std.proofs.Common.{◌≡◌, ℕ, ◌<◌, ◌≤◌, ◌^◌, Bool, true, false, cond, ltb, List, [], ◌∷◌, length, Option, Some, None}
 use Rattle.std.proofs.{Common.{Result, Ok, Err, IfOk, refl, sym, ap, ◌∙◌, arith, nat_abs, codes}, lemmas.Bool.{leb-true}}
-use Rattle.std.{proofs.lemmas.Slice.Eq.{bytes_eq-Decides}, specs.Fmt.{decimal, signed_decimal}, specs.List.{list_any}, specs.Str.{bytes_eq}}
-use Rattle.line_text.{proofs.LawLemmas.{hex_is_spelled, line_is_its_words, number_is_spelled, signed_is_spelled}, specs.Numbers.{number_of}}
-use Rattle.line_text.specs.{Hexadecimal.{hex, hex_of}, Lines.{words, line_of}, Signed.{signed_of}}
+use Rattle.std.{proofs.lemmas.Slice.Eq.{bytes_eq-Decides}, specs.Fmt.{decimal, signed_decimal}, specs.Str.{bytes_eq}}
+use Rattle.line_text.{proofs.LawLemmas.{hex_is_spelled, line_is_its_words, number_is_spelled, signed_is_spelled}}
+use Rattle.line_text.specs.{Hexadecimal.{hex}, Lines.{words, line_of}}
 use Rattle.trace_event.specs.{Ranges.{IsInRange}, declared.event.Event.{Event}}
-use Rattle.trace_event.specs.declared.event.Event.TheVariants.{Malloc, Calloc, Realloc, Addg, Subg}
 use Rattle.trace_reader.proofs.{LineRanges.{IfOk-and_then, both_pass}, Offsets.{fits_signed}}
 use Rattle.trace_reader.specs.TraceLine.{ranged, number_from, variable_of, size_of, offset_of, len_of, byte_of, request_of, free_of}
-use Rattle.trace_reader.specs.TraceLine.{load_of, store_of, move_of, event_line, event_named, event_of_full_words, event_of_words}
-use Rattle.trace_reader.specs.{TraceLine.{event_of_line, event_words, is_empty_word}, declared.fault.TraceFault.{TraceFault}}
-use Rattle.trace_reader.specs.declared.fault.TraceFault.TheVariants.{BadWord, OutOfRange, LineTooLong, TooManyEvents}
+use Rattle.trace_reader.specs.TraceLine.{load_of, store_of, move_of, event_line, event_named, event_of_words}
+use Rattle.trace_reader.specs.{TraceLine.{event_of_line, event_words}, declared.fault.TraceFault.{TraceFault}}
+use Rattle.trace_reader.specs.declared.fault.TraceFault.TheVariants.{LineTooLong, TooManyEvents}
 
 -- ---- words
 
@@ -18,29 +17,17 @@ use Rattle.trace_reader.specs.declared.fault.TraceFault.TheVariants.{BadWord, Ou
 IfOk-ranged_of : {A : Type 0} (P : A → Type 0) (test : A → Bool) (o : Option A) → ((x : A) → o ≡ Some x → test x ≡ true → P x) →
     IfOk (ranged test o) P
 IfOk-ranged_of P test None passed = tt
-IfOk-ranged_of P test (Some x) passed = go (test x) refl
-  where
-    go : (v : Bool) → test x ≡ v → IfOk (cond v (Ok x) (Err OutOfRange)) P
-    go true is = passed x refl is
-    go false is = tt
+IfOk-ranged_of P test (Some x) passed = grind arith
 
 spelled_number : (low high : ℕ) → high < 2 ^ 64 → (word : List ℕ) →
     IfOk (number_from low high word) (λ n. (low ≤ n) × (n ≤ high) × (word ≡ decimal n))
-spelled_number low high small word =
-    IfOk-ranged_of (λ n. (low ≤ n) × (n ≤ high) × (word ≡ decimal n)) (λ n. leb low n && leb n high) (number_of word)
-    (λ n is e.
-    let p = both_pass (leb low n) (leb n high) e in
-    let few = leb-true n high p.1 in
-    (leb-true low n p.0, few, number_is_spelled word n (omega (arith, few, small)) is))
+spelled_number low high small word = grind (arith, IfOk-ranged_of, both_pass, leb-true, number_is_spelled)
 
 spelled_offset : (word : List ℕ) → IfOk (offset_of word) (λ z. (nat_abs z ≤ 1048576) × (word ≡ signed_decimal z))
-spelled_offset word =
-    IfOk-ranged_of (λ z. (nat_abs z ≤ 1048576) × (word ≡ signed_decimal z)) (λ z. leb (nat_abs z) 1048576) (signed_of word)
-    (λ z is e. let near = leb-true (nat_abs z) 1048576 e in (near, signed_is_spelled word z (fits_signed z near) is))
+spelled_offset word = grind (arith, IfOk-ranged_of, leb-true, signed_is_spelled, fits_signed)
 
 spelled_byte : (word : List ℕ) → IfOk (byte_of word) (λ n. (n < 2 ^ 8) × (word ≡ hex n))
-spelled_byte word =
-    IfOk-ranged_of (λ n. (n < 2 ^ 8) × (word ≡ hex n)) (λ n. true) (hex_of word) (λ n is e. hex_is_spelled word n is)
+spelled_byte word = grind (arith, IfOk-ranged_of, hex_is_spelled)
 
 -- ---- the words after a name
 
@@ -115,35 +102,14 @@ read_move name event is (v ∷ w ∷ u6 ∷ u4 ∷ other ∷ ws) = tt
 -- where the name is the one that is tested
 if_named : (name wanted : List ℕ) (ws : List (List ℕ)) (a b : Result Event TraceFault)
     → IfOk a (IsReadFrom (wanted ∷ ws)) → IfOk b (IsReadFrom (name ∷ ws)) → IfOk (cond (bytes_eq name wanted) a b) (IsReadFrom (name ∷ ws))
-if_named name wanted ws a b is other = go (bytes_eq name wanted) refl
-  where
-    go : (v : Bool) → bytes_eq name wanted ≡ v → IfOk (cond v a b) (IsReadFrom (name ∷ ws))
-    go true e = rw ((bytes_eq-Decides name wanted).0 e) is
-    go false e = other
+if_named name wanted ws a b is other = grind (arith, bytes_eq-Decides)
 
 read_named : (name : List ℕ) (ws : List (List ℕ)) → IfOk (event_named name ws) (IsReadFrom (name ∷ ws))
-read_named name ws =
-    if_named name (codes "malloc") ws (request_of Malloc ws) _ (read_request (codes "malloc") Malloc (λ v n a b. ((a, b), refl)) ws)
-    (if_named name (codes "calloc") ws (request_of Calloc ws) _ (read_request (codes "calloc") Calloc (λ v n a b. ((a, b), refl)) ws)
-    (if_named name (codes "realloc") ws (request_of Realloc ws) _ (read_request (codes "realloc") Realloc (λ v n a b. ((a, b), refl)) ws)
-    (if_named name (codes "free") ws (free_of ws) _ (read_free ws)
-    (if_named name (codes "load") ws (load_of ws) _ (read_load ws)
-    (if_named name (codes "store") ws (store_of ws) _ (read_store ws)
-    (if_named name (codes "addg") ws (move_of Addg ws) _ (read_move (codes "addg") Addg (λ v w u6 u4 a b c d. ((a, b, c, d), refl)) ws)
-    (if_named name (codes "subg") ws (move_of Subg ws) (Err BadWord)
-    (read_move (codes "subg") Subg (λ v w u6 u4 a b c d. ((a, b, c, d), refl)) ws) tt)))))))
+read_named name ws = grind (arith, if_named, read_request, read_free, read_load, read_store, read_move)
 
 read_words : (ws : List (List ℕ)) → IfOk (event_of_words ws) (IsReadFrom ws)
 unfolding event_of_words
-read_words ws = go (list_any is_empty_word ws) (full ws)
-  where
-    full : (ws : List (List ℕ)) → IfOk (event_of_full_words ws) (IsReadFrom ws)
-    full [] = tt
-    full (name ∷ ws) = read_named name ws
-
-    go : (v : Bool) → IfOk (event_of_full_words ws) (IsReadFrom ws) → IfOk (cond v (Err BadWord) (event_of_full_words ws)) (IsReadFrom ws)
-    go true is = tt
-    go false is = is
+read_words ws = grind (arith, read_named)
 
 -- what is true of an event that is read from words is true of the event of a line with these words
 of_line : (P : Event → Type 0) (number : ℕ) (line : List ℕ) → ((e : Event) → IsReadFrom (words line) e → P e)

@@ -1,5 +1,5 @@
 -- What the words of an event spell, read one after the other.
-use Rattle.std.proofs.Common.{◌≡◌, ℕ, ℤ, List, [], ◌∷◌, refl, ◌∙◌, false, Result, Ok, arith, length, ne_eqb}
+use Rattle.std.proofs.Common.{◌≡◌, ℕ, ℤ, List, [], ◌∷◌, ◌∙◌, false, Result, Ok, arith, length, ne_eqb}
 use Rattle.line_text.specs.{Hexadecimal.{hex_of}, Numbers.{number_of}, Signed.{signed_of}}
 use Rattle.trace_event.specs.declared.event.{Event.{Event}, Event.TheVariants.{Free, Load, Store}}
 use Rattle.trace_reader.specs.{OnePass.{AreRead, IsRead}, declared.fault.TraceFault.{TraceFault}}
@@ -28,50 +28,27 @@ full_byte (b ∷ word) n e = ne_eqb (length (b ∷ word)) 0 (omega arith)
 pub request_read : (ws more left : List (List ℕ)) (v n : ℕ) (event : ℕ → ℕ → Event)
     → IsRead (number_from 0 1023) ws more v → IsRead (number_from 0 2147483647) more left n → left ≡ [] →
     AreRead (request_of event) ws (event v n)
-request_read ws more left v n event a b none = record {
-  is = rw (a.words, b.words, none) (rw (a.is, b.is) refl);
-  full = rw (a.words, b.words, none) (rw (full_number 0 1023 a.word v a.is, full_number 0 2147483647 b.word n b.is) refl);
-}
+request_read ws more left v n event a b none = grind (arith, full_number)
 
 pub free_read : (ws left : List (List ℕ)) (v : ℕ) → IsRead (number_from 0 1023) ws left v → left ≡ [] → AreRead free_of ws (Free v)
-free_read ws left v a none =
-    record { is = rw (a.words, none) (rw a.is refl); full = rw (a.words, none) (rw (full_number 0 1023 a.word v a.is) refl) }
+free_read ws left v a none = grind (arith, full_number)
 
 pub load_read : (ws more third left : List (List ℕ)) (v len : ℕ) (off : ℤ)
     → IsRead (number_from 0 1023) ws more v → IsRead offset_of more third off → IsRead (number_from 1 64) third left len → left ≡ []
     → AreRead load_of ws (Load v off len)
-load_read ws more third left v len off a o b none = record {
-  is = rw (a.words, o.words, b.words, none) (rw (a.is, o.is, b.is) refl);
-  full =
-      rw (a.words, o.words, b.words, none)
-      (rw (full_number 0 1023 a.word v a.is, full_offset o.word off o.is, full_number 1 64 b.word len b.is) refl);
-}
+load_read ws more third left v len off a o b none = grind (arith, full_number, full_offset)
 
 pub store_read : (ws more third last_one left : List (List ℕ)) (v len byte : ℕ) (off : ℤ)
     → IsRead (number_from 0 1023) ws more v → IsRead offset_of more third off → IsRead (number_from 1 64) third last_one len
     → IsRead byte_of last_one left byte → left ≡ []
     → AreRead store_of ws (Store v off len byte)
-store_read ws more third last_one left v len byte off a o b h none = record {
-  is = rw (a.words, o.words, b.words, h.words, none) (rw (a.is, o.is, b.is, h.is) refl);
-  full = rw (a.words, o.words, b.words, h.words, none)
-      (rw (full_number 0 1023 a.word v a.is, full_offset o.word off o.is, full_number 1 64 b.word len b.is, full_byte h.word byte h.is)
-      refl);
-}
+store_read ws more third last_one left v len byte off a o b h none = grind (arith, full_number, full_offset, full_byte)
 
 pub move_read : (ws more third last_one left : List (List ℕ)) (v w u6 u4 : ℕ) (event : ℕ → ℕ → ℕ → ℕ → Event)
     → IsRead (number_from 0 1023) ws more v → IsRead (number_from 0 1023) more third w → IsRead (number_from 0 63) third last_one u6
     → IsRead (number_from 0 15) last_one left u4 → left ≡ []
     → AreRead (move_of event) ws (event v w u6 u4)
-move_read ws more third last_one left v w u6 u4 event a b c d none = record {
-  is = rw (a.words, b.words, c.words, d.words, none) (rw (a.is, b.is, c.is, d.is) refl);
-  full = rw (a.words, b.words, c.words, d.words, none)
-      (rw (
-        full_number 0 1023 a.word v a.is,
-        full_number 0 1023 b.word w b.is,
-        full_number 0 63 c.word u6 c.is,
-        full_number 0 15 d.word u4 d.is,
-      ) refl);
-}
+move_read ws more third last_one left v w u6 u4 event a b c d none = grind (arith, full_number)
 
 -- ---- the name in front of them
 

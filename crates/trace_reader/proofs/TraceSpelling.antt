@@ -31,9 +31,7 @@ of_ok P r e is holds = subst (λ (r : Result Event TraceFault). IfOk r P) is hol
 
 spelled_lines : (number : ℕ) (ls : List (List ℕ)) (events : List Event) → trace_from number ls ≡ whole events → SpellLines number ls events
 unfolding trace_from
-spelled_lines number [] events is =
-    let none = no_event events is in
-    rw none (record { ranges = All-nil IsInRange; spelled = refl; few = λ some. absurd (omega arith) })
+spelled_lines number [] events is = grind (arith, no_event, All-nil)
 spelled_lines number (line ∷ ls) events is =
     let first = no_fault number (event_of_line number line) (trace_from (suc number) ls) events is in
     let e = first.0 in

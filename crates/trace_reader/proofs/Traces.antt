@@ -15,12 +15,7 @@ followed t u = followed_by t.fault t.events u
 
 followed-line : (number : ℕ) (judged : Result Event TraceFault) (t u : Trace) →
     followed (with_line number judged t) u ≡ with_line number judged (followed t u)
-followed-line number (Ok event) t u = go t.fault
-  where
-    go : (fault : Option (ℕ × TraceFault)) →
-        followed_by fault (event ∷ t.events) u ≡ with_line number (Ok event) (followed_by fault t.events u)
-    go None = refl
-    go (Some fault) = refl
+followed-line number (Ok event) t u = grind arith
 followed-line number (Err fault) t u = refl
 
 pub trace_from-append : (number : ℕ) (a b : List (List ℕ)) →

@@ -56,8 +56,7 @@ module _ (counts : List ℕ) (step : ℕ) (pos : 0 < step) where
   used-to : (low : ℕ) (classes : List ℕ) → 1 ≤ low → AreClassesAbove step low classes → AreUsedAbove counts step low classes
       → (k : ℕ) → k < length classes → IsUsedAt counts step low classes k
   used-to low [] one above used k lt = absurd (omega arith)
-  used-to low (c ∷ cs) one above used zero lt =
-      (used.0.0, used.0.1, used.0.2, class_for-first step pos used.0.0 c cs used.0.3)
+  used-to low (c ∷ cs) one above used zero lt = grind (arith, class_for-first)
   used-to low (c ∷ cs) one above used (suc k) lt =
       let u = used-to c cs (omega (arith, above.0)) above.3 used.1 k (omega arith) in
       (u.0, u.1, omega (arith, above.0, u.2), class_for-later step pos u.0 c cs (omega (arith, above.0)) above.2 u.2 ∙ u.3)
@@ -214,5 +213,4 @@ rows-canonical cost between counts step (suc k) rows ends sums tuned = (record {
 -- there is one canonical table
 pub one_canonical : (cost : List ℕ → ℕ) (counts : List ℕ) (step limit : ℕ) (a b : List ℕ) → IsCanonicalBy cost counts step limit a
     → IsCanonicalBy cost counts step limit b → a ≡ b
-one_canonical cost counts step limit a b of_a of_b =
-    order-antisymmetric a b (of_a.least b of_b.best of_b.used) (of_b.least a of_a.best of_a.used)
+one_canonical cost counts step limit a b of_a of_b = grind (arith, order-antisymmetric)

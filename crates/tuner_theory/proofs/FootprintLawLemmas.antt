@@ -174,8 +174,7 @@ sum-more f g (c ∷ cs) each = omega (arith, sum_by-cons f c cs, sum_by-cons g c
 
 pub snapshot_more : (snapshot : List ℕ) (snapshots : List (List ℕ)) (classes : List ℕ)
     → footprint_of snapshots classes ≤ footprint_of (snapshot ∷ snapshots) classes
-snapshot_more snapshot snapshots classes =
-    sum-more _ _ classes (λ class. mul-le-mul_left (16 * class) (le-max_right (blocks classes class snapshot) _))
+snapshot_more snapshot snapshots classes = grind (arith, sum-more, mul-le-mul_left, le-max_right)
 
 pub counts-more : (f m : List ℕ) → AllZip (λ a b. a ≤ b) f m → (length f ≡ length m) × ((n : ℕ) → slice_index f n ≤ slice_index m n)
 counts-more [] [] each = (refl, λ n. omega arith)
@@ -200,5 +199,4 @@ most-more classes class (f ∷ fs) (m ∷ ms) each =
 
 pub counts_more : (fewer more : List (List ℕ)) (classes : List ℕ) → AllZip (λ f m. AllZip (λ a b. a ≤ b) f m) fewer more
     → footprint_of fewer classes ≤ footprint_of more classes
-counts_more fewer more classes each =
-    sum-more _ _ classes (λ class. mul-le-mul_left (16 * class) (most-more classes class fewer more each))
+counts_more fewer more classes each = grind (arith, sum-more, mul-le-mul_left, most-more)

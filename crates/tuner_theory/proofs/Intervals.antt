@@ -12,10 +12,4 @@ module _ (counts : List ℕ) (step : ℕ) (pos : 0 < step) (between : ℕ → �
   -- and just that where it is a place's need
   pub span-same : (low i j : ℕ) → Reaches counts step low (places counts step) i → j ≤ places counts step
       → between low (need_at counts step j) ≡ span_cost between counts step i j
-  span-same low i j r le =
-      omega (
-        arith,
-        span-least low (need_at counts step j) i j r (reach-at counts step pos j le),
-        cost low (need_at counts step j) (need_at counts step i) (need_at counts step j) (omega arith)
-            (λ n counted above within. omega (arith, r.reached, above)),
-      )
+  span-same low i j r le = grind (arith, span-least, reach-at)

@@ -25,13 +25,11 @@ module _ (cost : ℕ → ℕ → ℕ) (d limit : ℕ) (rows ends : ℕ → ℕ �
   ends_are_later (suc (suc k)) i one le lt = let row = least.later_row (suc k) i (omega arith) (omega arith) lt in (row.0.from, row.0.to)
 
   edge-least : (k i j : ℕ) → 1 ≤ k → k < limit → i < j → j ≤ d → rows (suc k) i ≤ cost i j + rows k j
-  edge-least k i j one few lt le =
-      let row = least.later_row k i one few (omega arith) in omega (arith, row.1, row.0.least j lt le)
+  edge-least k i j one few lt le = grind arith
 
   -- a row is not above the one before it: its best end serves there too
   drop-least : (k i : ℕ) → suc k < limit → i < d → rows (suc (suc k)) i ≤ rows (suc k) i
-  drop-least zero i few lt =
-      omega (arith, edge-least 1 i d (omega arith) few lt (omega arith), least.at_end 1, (least.first_row i (omega arith) lt).0)
+  drop-least zero i few lt = grind (arith, edge-least)
   drop-least (suc k) i few lt =
       let row = least.later_row (suc k) i (omega arith) (omega arith) lt in
       let e = ends (suc (suc k)) i in
@@ -47,12 +45,7 @@ module _ (cost : ℕ → ℕ → ℕ) (d limit : ℕ) (rows ends : ℕ → ℕ �
   stage-drop (suc k) i one few lt = drop-least k i few lt
 
   pub least_rows_are_valid : AreValidPotentials cost d limit rows
-  least_rows_are_valid = record {
-    last_class = λ one i lt. omega (arith, (least.first_row i one lt).0);
-    stage_drop = stage-drop;
-    edge = edge-least;
-    at_end = least.at_end;
-  }
+  least_rows_are_valid = grind (arith, stage-drop, edge-least)
 
 module _ (cost : ℕ → ℕ → ℕ) (d limit : ℕ) (rows ends rows' ends' : ℕ → ℕ → ℕ) (least : AreLeastRows cost d limit rows ends)
     (least' : AreLeastRows cost d limit rows' ends') where
@@ -60,8 +53,7 @@ module _ (cost : ℕ → ℕ → ℕ) (d limit : ℕ) (rows ends rows' ends' : �
   same-at k i same within = grind arith
 
   rows-one : (k i : ℕ) → k < limit → i ≤ d → rows (suc k) i ≡ rows' (suc k) i
-  rows-one zero i few within =
-      same-at 1 i (λ before. omega (arith, (least.first_row i (omega arith) before).0, (least'.first_row i (omega arith) before).0)) within
+  rows-one zero i few within = grind (arith, same-at)
   rows-one (suc k) i few within =
       same-at (suc (suc k)) i (λ before.
       let row = least.later_row (suc k) i (omega arith) few before in

@@ -96,8 +96,7 @@ module _ (counts : List ℕ) (step : ℕ) (pos : 0 < step) (low high : ℕ) (le 
 -- ---- how large they are
 
 pub count-small : (counts : List ℕ) (n : ℕ) → AreCounts counts → slice_index counts n ≤ greatest_count
-count-small counts n are =
-    elim (cases_lt n (length counts)) [ inl within ↦ are.in_range n 0 within | inr past ↦ omega (arith, get_or_past counts n 0 past) ]
+count-small counts n are = grind (arith, cases_lt, get_or_past)
 
 -- a sum of the requests up to a need is not above so many times the largest of its terms
 up_to-bounded : (counts : List ℕ) (step high bound : ℕ) (f : ℕ → ℕ) → ((n : ℕ) → n < length counts → f n ≤ bound)

@@ -1,6 +1,6 @@
 -- What one event changes of the live blocks, and which sizes are live at a moment.
 use Rattle.std.proofs.Common.{◌≡◌, ◌↔◌, ℕ, zero, suc, ◌+◌, ◌<◌, ◌≤◌, List, [], ◌∷◌, length, take, slice_index, get_or, cond, arith, refl}
-use Rattle.std.proofs.{Common.{ap, sym, ◌∙◌, inl, inr, add-one, IsSome}, lemmas.Bool.{cases_lt}, lemmas.Bool.Decides.{nat_tests}}
+use Rattle.std.proofs.{Common.{ap, sym, ◌∙◌, add-one, IsSome}, lemmas.Bool.{cases_lt}, lemmas.Bool.Decides.{nat_tests}}
 use Rattle.std.proofs.lemmas.{List.{get_or-map, length-map, take_all}, List.Sums.{sum_by_more, sum_by-take-le}}
 use Rattle.class_table.specs.{Sizes.{largest_counted}, Tables.{class_for}}
 use Rattle.tuner_theory.proofs.{Footprint.{most-above, peak-at, peaks-length}, FootprintLawLemmas.{most-bounded}}
@@ -58,36 +58,11 @@ peak-of-requested events n timeline le none =
     ))
 
 peak-at-most : (events : List SizeEvent) (n : ℕ) → n ≤ largest_counted → get_or (peaks (moments events)) n 0 ≤ requested events n
-peak-at-most events n le =
-    omega (
-      arith,
-      peak-at (moments events) n 0 le,
-      most-bounded (λ s. slice_index s n) (requested events n) (moments events) (λ k d lt.
-          let within : k ≤ length events = omega (arith, moments-length events) in
-          omega (
-            arith,
-            ap (λ s. slice_index s n) (moment-at events k d within),
-            live-at events k n 0 le,
-            sum_by-take-le (requests_at n) events k,
-          )),
-    )
+peak-at-most events n le = grind (arith, peak-at, most-bounded, moments-length, moment-at, live-at, sum_by-take-le)
 
 pub requested_sizes : (events : List SizeEvent) (classes : List ℕ) → IsTimeline events → Serves (peaks (moments events)) classes
     ↔ ((n : ℕ) → n ≤ largest_counted → 0 < requested events n → IsSome (class_for classes n))
-requested_sizes events classes timeline = (
-  λ serves n le some.
-      serves n (
-        omega (arith, peaks-length (moments events)),
-        elim (cases_lt 0 (get_or (peaks (moments events)) n 0)) [
-          | inl live ↦ live
-          | inr none ↦ omega (arith, peak-of-requested events n timeline le (omega arith))
-        ],
-      ),
-  λ each n counted.
-      let lt = counted.0 in
-      let le : n ≤ largest_counted = omega (arith, peaks-length (moments events)) in
-      each n le (omega (arith, counted.1, peak-at-most events n le)),
-)
+requested_sizes events classes timeline = grind (arith, peaks-length, cases_lt, peak-of-requested, peak-at-most)
 
 -- ---- the largest size
 

@@ -18,8 +18,7 @@ module _ (counts : List ℕ) (step : ℕ) (pos : 0 < step) where
   -- what is above the places that low reaches is above low
   pub next-above : (low i j : ℕ) → Reaches counts step low (places counts step) i → i < j → j ≤ places counts step →
       low < need_at counts step j
-  next-above low i j r lt le =
-      elim (cases_lt low (need_at counts step j)) [ inl above ↦ above | inr not ↦ absurd (omega (arith, r.last j le not)) ]
+  next-above low i j r lt le = grind (arith, cases_lt)
 
 module _ (counts : List ℕ) (step : ℕ) (pos : 0 < step) (between : ℕ → ℕ → ℕ) (cost : IsIntervalCost counts step between) where
   -- no class, where low reaches all places

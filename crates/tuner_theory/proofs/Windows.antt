@@ -1,6 +1,6 @@
 -- What histories of windows say of the run.
 use Rattle.std.proofs.Common.{◌≡◌, ℕ, zero, suc, ◌+◌, ◌-◌, ◌*◌, ◌<◌, ◌≤◌, List, [], ◌∷◌, length, map, slice_index, get_or, arith, refl, ap}
-use Rattle.std.proofs.{Common.{◌∙◌, All, Contains}, Math.Nat.{mul-le-mul_left}, lemmas.List.{length-map}}
+use Rattle.std.proofs.{Common.{◌∙◌, Contains}, Math.Nat.{mul-le-mul_left}, lemmas.List.{length-map}}
 use Rattle.std.{proofs.lemmas.List.FromFn.{get_or-map-range_with_len, length-map-range_with_len}, specs.List.{AllZip, range_with_len}}
 use Rattle.class_table.specs.{Sizes.{largest_counted}, Tables.{IsLegalTable}}
 use Rattle.tuner_theory.{proofs.Footprint.{most-above, peak-at, peaks-length}, specs.Best.{IsCandidate}, specs.Histories.{most, peaks}}

@@ -36,7 +36,8 @@ SOURCES = sources_in(os.path.join(SHIMS, "accesses"), ".c", ".h")
 RUNTIME = "libmte_accesses.so"
 RUNTIME_FLAGS = "-O2 -g -Wall -fPIC -shared -fvisibility=hidden -fno-builtin -fomit-frame-pointer -static-libgcc".split()
 RUNTIME_FLAGS += [f"-Wl,-soname,{RUNTIME}", "-Wl,--exclude-libs,ALL"]
-TRACED_FLAGS = "-g -fno-omit-frame-pointer -fno-optimize-sibling-calls -fno-plt -fsanitize=kernel-address -U_FORTIFY_SOURCE".split()
+# of DWARF 5 addr2line of binutils 2.40 names the wrong file for an inline function or a template that was not inlined
+TRACED_FLAGS = "-g -gdwarf-4 -fno-omit-frame-pointer -fno-optimize-sibling-calls -fno-plt -fsanitize=kernel-address -U_FORTIFY_SOURCE".split()
 # else the compiler takes out a request that is freed unused, and a store to a block that is freed next
 TRACED_FLAGS += [f"-fno-builtin-{name}" for name in ("malloc", "calloc", "realloc", "free")]
 # the same for new and delete

@@ -1,4 +1,4 @@
-"""Names the source lines of return addresses, by addr2line and readelf of binutils."""
+"""Names the source lines of return addresses, by addr2line, nm and readelf of binutils."""
 
 import os
 import re
@@ -9,10 +9,10 @@ from collections import defaultdict, namedtuple
 from collections.abc import Iterable
 
 from mte_scripts.faults.fault_log import Log
+from mte_scripts.recording.calls import named_at, without_parameters
 
 RUNTIME = "libmte_accesses.so"
 SYSTEM = ("/usr/lib", "/lib", "/usr/include")
-NAME = re.compile(r"(?:operator\(\)|\(anonymous namespace\)|[^(])*")  # of a function, without its parameters
 LOADED = re.compile(r"(?m)^ +LOAD +0x(\w+) 0x(\w+) 0x\w+ 0x(\w+) ")  # a line of `readelf -l`: offset, address, bytes in the file
 
 
@@ -64,16 +64,18 @@ class Places:
         words, given = ["addr2line", "-a", "-f", "-C", "-i", "-e", path], "\n".join(map(hex, asked.values())).encode()
         said = subprocess.run(words, input=given, stdout=subprocess.PIPE, stderr=subprocess.DEVNULL).stdout.decode(errors="replace")
         # an address alone, and then a function and a source for each inlined frame
-        for address, text in zip(asked, re.split(r"(?m)^0x.*\n", said)[1:]):
-            lines, frames, function = text.split("\n"), [], "??"
+        for address, text in zip(list(asked), re.split(r"(?m)^0x.*\n", said)[1:]):
+            lines, frames = text.split("\n"), []
             for name, place in zip(lines[::2], lines[1::2]):
-                function, (source, _, line) = NAME.match(name)[0], place.split(" (")[0].rpartition(":")
+                source, _, line = place.split(" (")[0].rpartition(":")
                 if not source.startswith("??"):
-                    frames.append(Frame(function, source, int(line) if line.isdigit() else 0, path))
+                    frames.append(Frame(without_parameters(name), source, int(line) if line.isdigit() else 0, path))
             if frames:
                 self._frames[address] = frames
-            elif not function.startswith("??"):
-                self._frames[address] = [self._frames[address][0]._replace(function=f"{function} of {os.path.basename(path)}")]
+                del asked[address]
+        # without a line addr2line names the symbol before an address, which may end before it
+        for address, name in named_at(path, asked).items():
+            self._frames[address] = [self._frames[address][0]._replace(function=f"{name} of {os.path.basename(path)}")]
 
     def at(self, address: int) -> list[Frame]:
         """The frames of an address that was learned, the innermost inlined first."""

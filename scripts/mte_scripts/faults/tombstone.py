@@ -15,6 +15,7 @@ from mte_scripts.faults.fault_entries import CAUGHT, Entry, Use
 from mte_scripts.faults.fault_log import Error
 from mte_scripts.faults.fault_places import RUNTIME
 from mte_scripts.faults.fault_report import count
+from mte_scripts.recording.calls import without_parameters
 from mte_scripts.running import Refused
 
 BASE, TAG_SHIFT = 0x7000_0000_0000, 56
@@ -145,7 +146,7 @@ def functions(text: str, head: str) -> "list[str]":
 
 def plain(function: str) -> str:
     """A function's name without its parameters and the offset in it."""
-    return re.sub(r"\+\d+$", "", function).split("(")[0].strip() or function
+    return without_parameters(re.sub(r"\+\d+$", "", function)).strip() or function
 
 
 def in_common(one: list[str], other: list[str]) -> int:

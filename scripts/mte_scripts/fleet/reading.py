@@ -117,6 +117,7 @@ class Store:
 
     def take(self, file: BinaryIO, path: str, begin: bytes = b"") -> None:
         """The rows of an open file; what was read of it already is BEGIN."""
+        self.faults.spare(file)
         rest, at = begin, 1
         while piece := texts.next_piece(file, path):
             data = rest + piece

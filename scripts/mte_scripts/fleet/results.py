@@ -43,7 +43,9 @@ class Values(NamedTuple):
 
 def fields_of(path: str, form: "dict[int, str]", found: Faults) -> "Iterator[tuple[int, bytes, list[str]]]":
     """The lines of a file that have one of these numbers of fields, none of them empty; the others are faults."""
-    lines = texts.lines_of(texts.read(path))
+    with texts.opened(path) as file:
+        found.spare(file)
+        lines = texts.lines_of(texts.next_piece(file, path, None))
     if not lines:
         raise Refused(3, f"{texts.named(path)} has no line: did the command that writes it fail?")
     for at, line in enumerate(lines, 1):

@@ -10,12 +10,11 @@ the most of a class over all is the most in any run."""
 
 from bisect import bisect_left
 from collections import Counter
-from collections.abc import Callable, Iterable
+from collections.abc import Callable, Iterable, Iterator
 from typing import NamedTuple, Union
 
 from mte_scripts import texts
 from mte_scripts.formats import GRANULE_BYTES, LARGEST_CLASS, LARGEST_SIZE, MOST_COUNT, MOST_INPUT, MOST_SNAPSHOTS
-from mte_scripts.recording import timelines
 from mte_scripts.running import Refused
 from mte_scripts.tables import figures
 
@@ -38,6 +37,16 @@ class Block(NamedTuple):
         return units * self.unit - self.overhead
 
 
+def events_of(text: bytes) -> Iterator[list[bytes]]:
+    """The events of a timeline, as lines without their newline, in pieces."""
+    begin, piece = text.find(b"\n") + 1, 1 << 22
+    while 0 < begin < len(text):
+        end = text.find(b"\n", min(begin + piece, len(text) - 1))
+        end = len(text) if end < 0 else end
+        yield text[begin:end].split(b"\n")
+        begin = end + 1
+
+
 class Timeline:
     """A run with each of its requests and frees."""
 
@@ -46,7 +55,7 @@ class Timeline:
     def __init__(self, name: str, data: bytes) -> None:
         self.name = name
         self.data = data
-        self.events = set().union(*timelines.events_of(self.data))
+        self.events = set().union(*events_of(self.data))
         self.sizes = {int(event) for event in self.events if event.isdigit()}
         self.has_large = b"large" in self.events
         self.counted: dict[tuple[int, ...], list[int]] = {}
@@ -70,7 +79,7 @@ class Timeline:
             places[event] = place if event == word else ~place
         live = [0] * (len(holds) + 1)
         most = live[:]
-        for piece in timelines.events_of(self.data):
+        for piece in events_of(self.data):
             for place in map(places.__getitem__, piece):
                 if place < 0:
                     live[~place] -= 1
@@ -86,7 +95,7 @@ class Timeline:
         for size, other in given.items():
             words[b"%d" % size], words[b"-%d" % size] = b"%d" % other, b"-%d" % other
         made = bytearray()
-        for piece in timelines.events_of(self.data):
+        for piece in events_of(self.data):
             made += b"\n".join(map(words.__getitem__, piece)) + b"\n"
         if not is_last:
             for event, count in self.left().items():
@@ -96,7 +105,7 @@ class Timeline:
     def left(self) -> Counter[bytes]:
         """How many blocks of each size are live at the end."""
         live: Counter[bytes] = Counter()
-        for piece in timelines.events_of(self.data):
+        for piece in events_of(self.data):
             live.update(piece)
         for event in [event for event in live if event.startswith(b"-")]:
             live[event[1:]] -= live.pop(event)

@@ -7,9 +7,12 @@ import shutil
 import subprocess
 from collections import defaultdict
 from collections.abc import Iterable
-from typing import NamedTuple
+from typing import Any, NamedTuple
 
 from mte_scripts.recording.sites import Module
+
+PART = re.compile(r"(?s)\boperator(?:\(\)|[-<>=!]+)|\(anonymous namespace\)|.")  # of a function's name: what is whole, or a sign
+OPENED = {">": "<", ")": "(", "}": "{"}
 
 Address = tuple[int, int]  # the image that it is of, and the address
 
@@ -58,11 +61,8 @@ class Names:
                 if found := frames_of(text):
                     self.frames[each] = found
                     del unknown[each]
-        named = symbols(path) if unknown and shutil.which("nm") else []
-        for each, place in unknown.items():
-            at = bisect.bisect_right(named, (place, 1 << 64, "")) - 1
-            if at >= 0 and place < named[at][0] + named[at][1]:
-                self.frames[each] = (Frame(f"{named[at][2]} in {os.path.basename(path)}", "", 0),)
+        for each, name in named_at(path, unknown).items():
+            self.frames[each] = (Frame(f"{name} in {os.path.basename(path)}", "", 0),)
 
 
 def frames_of(text: str) -> tuple[Frame, ...]:
@@ -74,6 +74,16 @@ def frames_of(text: str) -> tuple[Frame, ...]:
         if not source.startswith("??") and line.isdigit() and line != "0":
             frames.append(Frame(plain(function), source, int(line)))
     return tuple(frames)
+
+
+def named_at(path: str, places: dict[Any, int]) -> dict[Any, str]:
+    """The function of each place in an object that one holds, by its symbols."""
+    named, found = symbols(path) if places and shutil.which("nm") else [], {}
+    for each, place in places.items():
+        at = bisect.bisect_right(named, (place, 1 << 64, "")) - 1
+        if at >= 0 and place < named[at][0] + named[at][1]:
+            found[each] = named[at][2]
+    return found
 
 
 def symbols(path: str) -> list[tuple[int, int, str]]:
@@ -91,8 +101,22 @@ def plain(function: str) -> str:
     name, depth = "", 0
     if function.startswith("operator") or "::operator" in function:
         return function[:80]
-    for each in re.sub(r"\((?!anonymous).*$", "", function, count=1, flags=re.S) or function:
+    for each in without_parameters(function) or function:
         depth += each == "<" and len(function) > 60
         name += each if not depth else ""
         depth -= each == ">" and depth > 0
+    return name
+
+
+def without_parameters(function: str) -> str:
+    """A function's name without its parameters. Those in a lambda's name stay, which differ only there, and those in the values of templates."""
+    name, inside = "", ""
+    for part in PART.findall(function):
+        if part == "(" and not inside and not name.endswith("decltype "):
+            break
+        name += part
+        if part in OPENED.values():
+            inside += part
+        elif part in OPENED and (part != ">" or inside.endswith("<")):
+            inside = inside[: max(inside.rfind(OPENED[part]), 0)]
     return name

@@ -16,15 +16,14 @@ REASONS = (
 
 
 class Texts(NamedTuple):
-    """The profile, what else was wanted, the numbers of its moments, the upper history, the stacks as sites.py reads them, and the events of a
-    timeline as timelines.py has them; empty where there is none."""
+    """The profile, what else was wanted, the numbers of its moments, the upper history, and the stacks as sites.py reads them; empty
+    where there is none."""
 
     profile: bytes
     wanted: bytes
     moments: bytes
     upper: bytes
     sites: bytes
-    events: bytes
 
 
 def numbers(names: str) -> list:
@@ -53,7 +52,7 @@ class Notes(ctypes.Structure):
         ("processes", ctypes.c_uint64 * 32),
         ("taken", ctypes.c_int64 * (TABLES + 4)),
         ("words", ctypes.c_char * 128),
-        ("room", ctypes.c_char * 120),
+        ("room", ctypes.c_char * 128),  # the name is at a multiple of its bytes
         ("name", ctypes.c_char * 1024),
         ("named", Named * 16),
         ("followed", ctypes.c_char * 24),

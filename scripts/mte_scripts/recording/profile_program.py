@@ -1,6 +1,7 @@
 """Runs a program and prints its profile: how often it requested each size. `profile_program --help` says all."""
 
 import argparse
+import contextlib
 import os
 import re
 import signal
@@ -24,7 +25,7 @@ Run a program, and print how often it requested each size: a profile, the input 
 
 Usage: profile_program [--live] [--only NAME] [--said FILE] PROGRAM ARGS..
        profile_program --timeline|--history[=T]|--windows[=N]|--classes TABLE [--peak FILE] [--upper FILE] [--measured FILE]
-                       [--stacks FILE] [--events FILE] [--processes FILE] [--again FILE] [--only NAME] PROGRAM ARGS..
+                       [--stacks FILE] [--processes FILE] [--again FILE] [--only NAME] PROGRAM ARGS..
        profile_program --library [DIR]
        profile_program --follow STREAM [the options above]
        profile_program --read STREAM
@@ -51,8 +52,6 @@ Usage: profile_program [--live] [--only NAME] [--said FILE] PROGRAM ARGS..
                  or `footprint none` where it does not serve a size; and of each moment of --windows `moment N`, after N events
   --stacks FILE  with --timeline of a run: write into FILE, for tune_program --who, which calls made each request. The run takes
                  more time, by the depth of the calls. FILE is empty where the run is too long for a timeline
-  --events FILE  with --timeline of a run: write into FILE the same events, each in two bytes of this machine's order: its size,
-                 {timelines.LARGE:,} for a large block, and {timelines.FREED:,} more for a free. FILE is empty where the run is too long for a timeline
   --processes FILE
                  with these and --live: write into FILE a line for each program that requested, that of the counted one first:
                  how many, their requests, the most resident memory of one in bytes, 0 where none was seen, and the name
@@ -158,12 +157,11 @@ class Options(argparse.Namespace):
             raise Refused(2, f"there are {len(self.tables)} tables of --classes: it takes {TABLES if over_time else 'one without --windows'}")
         over_time += ["--classes"] * bool(self.tables)
         self.live = over_time[0] if over_time else self.live
-        is_recorded = self.live == "--timeline" and self.words
         goes_with = {
             "peak": (over_time, "--timeline, --history, --windows or --classes"),
             "upper": (self.read or self.live in ("--timeline", "--windows"), "--windows, --timeline or --read"),
             "again": (self.live == "--windows", "--windows"),
-            **dict.fromkeys(("stacks", "events"), (is_recorded, "--timeline and a program to run")),
+            "stacks": (self.live == "--timeline" and self.words, "--timeline and a program to run"),
             **dict.fromkeys(("measured", "as_scudo", "processes"), (self.live, "--live, --timeline, --history, --windows or --classes")),
         }
         for name, (is_there, what) in goes_with.items():
@@ -190,8 +188,7 @@ class Options(argparse.Namespace):
 
     def wanted(self) -> str:
         """What the reader is asked for."""
-        kinds = {None: "all", "--live": "live", "--history": f"history {self.history}", "--classes": "classes",
-                 "--timeline": "timeline events" if self.events else "timeline",
+        kinds = {None: "all", "--live": "live", "--history": f"history {self.history}", "--timeline": "timeline", "--classes": "classes",
                  "--windows": " ".join(map(str, ["windows", self.windows, *self.moments]))}
         return ("-" if self.as_scudo else "") + kinds[self.live]
 
@@ -249,13 +246,12 @@ def say_uncounted(speaker: recording.Speaker, notes: Notes, live: str, program: 
         speaker.say(f"{live} counted one process. Others requested too, and are not counted {others}: {remedy}")
 
 
-def print_run(options: Options, speaker: recording.Speaker, run: recording.Found, program: str) -> bool:
+def print_run(options: Options, speaker: recording.Speaker, notes: Notes, found_: Texts, program: str) -> bool:
     """Prints what was counted, and says what that is not of. False where nothing was."""
-    notes = run.notes()
     recording.refuse_spoiled(notes, program)
     say_uncounted(speaker, notes, options.live or "--live", program)
     recording.say_lost(speaker, notes)
-    return print_found(options, speaker, notes, run.texts())
+    return print_found(options, speaker, notes, found_)
 
 
 # ---- a service
@@ -272,7 +268,7 @@ def follow(options: Options, speaker: recording.Speaker, work: private_folder.Fo
 
 
 def print_service(options: Options, speaker: recording.Speaker, run: recording.Found, stream: str) -> int:
-    if print_run(options, speaker, run, "the service"):
+    if print_run(options, speaker, run.notes(), run.texts(), "the service"):
         return 0
     if run.notes().untouched:
         recording.refuse_nothing("the service", run.notes(), "counted")
@@ -287,7 +283,8 @@ def read_only(options: Options, speaker: recording.Speaker) -> int:
     try:
         with open(path, "rb", opener=private_folder.look_at) as file:
             form, reader, descriptor = HEAD.unpack(file.read(HEAD.size))
-        with open(f"/proc/{reader}/maps", "rb") as maps:
+        is_followed = False
+        with contextlib.suppress(FileNotFoundError, ProcessLookupError), open(f"/proc/{reader}/maps", "rb") as maps:  # it may have been killed
             is_followed = form == FORM and os.fsencode(path) in maps.read()
         if not is_followed:
             raise Refused(3, f"{options.read} is no stream, or nobody follows it: `profile_program --follow` does")
@@ -389,15 +386,14 @@ def say_left(speaker: recording.Speaker, options: Options, notes: Notes) -> None
 def run_program(options: Options, speaker: recording.Speaker, path: str, work: private_folder.Folder) -> int:
     program = options.words[0]
     with recording.Run(speaker, work, options.wanted(), options.only, options.table_words(), bool(options.stacks)) as run:
-        notes = run.run(options.words, path)
-        write_beside(options.stacks, run.found.texts().sites)
-        write_beside(options.events, run.found.texts().events)
+        notes, found_ = run.run(options.words, path), run.found.texts()
+        write_beside(options.stacks, found_.sites)
         write_beside(options.processes, "".join(f"{line}\n" for line in notes.programs()))
         if notes.left:
             say_left(speaker, options, notes)
             run.library.keep()
         whose = options.only or program
-        if not print_run(options, speaker, run.found, whose):
+        if not print_run(options, speaker, notes, found_, whose):
             recording.refuse_nothing(whose, notes, "counted")
         if notes.untouched:
             last = f"the last one in {notes.allocator}"
@@ -421,7 +417,7 @@ def profile(words: list[str], speaker: recording.Speaker) -> int:
         return recording.print_usage(HELP)
     path = recording.find_program(options.words[0])
     if options.live and not options.only:
-        recording.say_script(speaker, options.words[0], path, f"{options.live} counts its interpreter alone; --only NAME counts")
+        recording.say_script(speaker, options.words[0], path, f"{options.live} counts {recording.INTERPRETER}; --only NAME counts")
     with private_folder.temporary_folder() as work:
         return run_program(options, speaker, path, work)
 

@@ -23,11 +23,13 @@ from mte_scripts.running import Refused
 RECORDERS = os.path.join(texts.ROOT, "recorders")  # of a package
 # Without -fno-builtin gcc makes a calloc of a malloc and a memset, also inside calloc.
 LIBRARY, READER = ["-O2", "-fno-builtin", "-shared", "-fPIC", "-Wall"], ["-O2", "-Wall"]
-FLAGS = {"stream": LIBRARY, "follow": READER, "stacks": LIBRARY, "sites": READER}  # the last two record the stack of each request too
+# `stacks` and `sites` record the stack of each request too; what goes over a run's events is no part of a recorder
+FLAGS = {"stream": LIBRARY, "follow": READER, "stacks": LIBRARY, "sites": READER, "passes": LIBRARY}
 ENDINGS = {name: ".so" if flags is LIBRARY else "" for name, flags in FLAGS.items()}
 WATCHED = 1  # a line on a terminal every so many seconds
 NO_NOTES = {3: "there is no room for what is recorded"}  # the reader's status, where it could not note it
 ANOTHER_PLACE = "set XDG_CACHE_HOME to another place"
+INTERPRETER = "its interpreter alone, or what that runs in its own place"  # of a script
 
 
 class Speaker:
@@ -274,6 +276,8 @@ class Run:
             if self.found.notes().error == errno.ENOEXEC and begins(path) != b"\x7fELF":  # it has no line `#!`: a shell reads it
                 status = self.follow("", "/bin/sh", ["/bin/sh", path, *words[1:]])
         notes = self.found.notes()
+        if notes.error and notes.error not in errno.errorcode:
+            raise Refused(3, f"{words[0]} overwrote what was recorded: nothing of it counts")
         if notes.error:
             raise Refused(3, f"{words[0]} can't be run: {os.strerror(notes.error)}")
         self.status = notes.status
@@ -316,12 +320,15 @@ def watched(notes: "Callable[[], Notes]") -> "Iterator[None]":
         return
     end, begin = threading.Event(), time.monotonic()
 
+    def show(line: str) -> None:
+        with contextlib.suppress(OSError):  # the terminal may be closed meanwhile, and what was recorded counts
+            os.write(2, f"\r{line}\033[K\r".encode())
+
     def watch() -> None:
         while not end.wait(WATCHED):
             seen = notes()
             live = f", {seen.live / 2**20:,.1f} MiB live" if seen.live else ""
-            line = f"{time.monotonic() - begin:,.0f} s, {seen.requests:,} requests{live}"
-            os.write(2, f"\r{line}\033[K\r".encode())
+            show(f"{time.monotonic() - begin:,.0f} s, {seen.requests:,} requests{live}")
 
     watcher = threading.Thread(target=watch, daemon=True)
     watcher.start()
@@ -330,7 +337,7 @@ def watched(notes: "Callable[[], Notes]") -> "Iterator[None]":
     finally:
         end.set()
         watcher.join()
-        os.write(2, b"\r\033[K")
+        show("")
 
 
 def spoken(name: str, script: "Callable[[list[str], Speaker], int]") -> "Callable[[list[str]], int]":

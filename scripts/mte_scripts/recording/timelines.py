@@ -1,17 +1,17 @@
-"""What a timeline's text says of moments."""
+"""What a timeline's text says of moments. shims/passes.c reads it, and goes over its events."""
 
 import bisect
 import functools
 import itertools
 from array import array
-from collections import Counter, defaultdict
-from collections.abc import Callable, Iterator
+from collections.abc import Callable, Iterable, Iterator
+from typing import Any
 
-from mte_scripts import texts
+from mte_scripts import private_folder, texts
 
 FREED, SIZE = 1 << 15, (1 << 14) - 1  # the parts of an event
+CODES = 1 << 16  # more than each event's number
 PIECE = 1 << 20  # events
-UNIT, KEPT = 64, 1 << 16  # bytes of events; units of which it is kept what they come to
 LARGE = texts.LARGEST_SIZE + 1
 MOST_TEXT = texts.MOST_INPUT - (1 << 20)  # in bytes: a command takes a table or a fit beside it
 
@@ -36,81 +36,77 @@ def text_of(events: array) -> Iterator[bytes]:
         yield b"".join(map(event_lines().__getitem__, events[at : at + PIECE]))
 
 
-def requested(codes: Counter) -> Counter:
-    """How often each size is requested."""
-    return Counter({code: times for code, times in codes.items() if not code & FREED})
-
-
-def by_size(codes: Counter) -> Counter:
-    """What events add to the live blocks."""
-    found: Counter = Counter()
-    for code, times in codes.items():
-        found[code & SIZE] += -times if code & FREED else times
-    return found
-
-
-def units_of(events: array) -> Iterator[bytes]:
-    """The events in pieces: short ones where most of these come again, as they do in a run that does the same often."""
-    for begin in range(0, len(events), PIECE):
-        data = events[begin : begin + PIECE].tobytes()
-        units = [data[at : at + UNIT] for at in range(0, len(data), UNIT)]
-        yield from units if len(set(units)) * 2 < len(units) else [data]
-
-
-def count(events: array) -> Counter:
-    """How often each event comes."""
-    found, by_times = Counter[int](), defaultdict(list)
-    for unit, times in Counter(units_of(events)).items():
-        by_times[times].append(unit)
-    for times, units in by_times.items():
-        for code, number in Counter(array("H", b"".join(units))).items():
-            found[code] += times * number
-    return found
-
-
-def counted(events: array, moments: list) -> list[Counter]:
-    """How often each event comes between each two of these moments."""
-    return [count(events[begin:end]) for begin, end in zip(moments, moments[1:])]
-
-
 def need_of(size: int) -> int:
     """The least class that serves a size, in granules."""
     return max(-(-size // 16), 1) + 1
 
 
-def peaks(events: array) -> dict:
-    """The live blocks at the moments at which a class of 16 bytes has more of them than at any before, by the number of events."""
-    most: Counter = Counter()
-    now: Counter = Counter()
-    at: dict = {}
-    for place, need in enumerate(map(by_code(need_of).__getitem__, events), 1):
-        if need < 0:
-            now[-need] -= 1
-        elif need:
-            now[need] += 1
-            if now[need] > most[need]:
-                most[need], at[need] = now[need], place
-    return live_at(events, sorted(at.values()))
+# ---- over the events of a run
 
 
-def live_at(events: array, moments: list) -> dict:
-    """The live blocks at these ascending moments, each the number of events before it."""
-    return live_after(counted(events, [0, *moments]), moments)
+@functools.lru_cache(maxsize=None)
+def passes() -> Any:
+    """The functions of shims/passes.c."""
+    import ctypes  # these two are for a run alone
+
+    from mte_scripts.recording import recording
+
+    with private_folder.temporary_folder() as work:
+        return ctypes.CDLL(recording.make("passes", work)), ctypes
 
 
-def live_after(codes: list[Counter], moments: list) -> dict:
-    """The live blocks at these moments, with the events between them."""
-    live: Counter = Counter()
-    at = {}
-    for moment, each in zip(moments, codes):
-        live.update(by_size(each))
-        at[moment] = named(live)
-    return at
+def pass_over(name: str, events: array, begin: int, end: int, *others: array) -> None:
+    """Has a function go over a part of the events, with these arrays."""
+    functions, ctypes = passes()
+    at = [events.buffer_info()[0] + begin * events.itemsize, *(each.buffer_info()[0] for each in others)]
+    first, *rest = map(ctypes.c_void_p, at)
+    getattr(functions, name)(first, ctypes.c_long(end - begin), *rest)
+
+
+def zeros(kind: str, number: int) -> array:
+    return array(kind, [0]) * number
+
+
+def count(events: array) -> dict[int, int]:
+    """How often each event comes."""
+    times = zeros("I", CODES)
+    pass_over("count", events, 0, len(events), times)
+    return {code: times[code] for code in itertools.compress(range(CODES), times)}
+
+
+def requests(codes: dict[int, int]) -> dict[int, int]:
+    """How often each size is requested."""
+    return {code: times for code, times in codes.items() if code < FREED}
+
+
+def live_at(events: array, codes: Iterable[int], moments: Iterable[int]) -> dict[int, dict[int, int]]:
+    """The live blocks at these ascending moments, each the number of events before it. All events have one of these numbers."""
+    sizes, times, begin, found = {code & SIZE for code in codes}, zeros("I", CODES), 0, {}
+    for moment in moments:
+        pass_over("count", events, begin, moment, times)
+        live = {size: times[size] - times[size | FREED] for size in sizes}
+        begin, found[moment] = moment, {size: blocks for size, blocks in live.items() if blocks}
+    return found
+
+
+def by_code(kind: str, of_size: Callable[[int], int], codes: Iterable[int]) -> array:
+    """How much each of these events adds to an amount. Large blocks have none."""
+    amounts = zeros(kind, CODES)
+    for size in {code & SIZE for code in codes} - {LARGE}:
+        amounts[size], amounts[size | FREED] = of_size(size), -of_size(size)
+    return amounts
+
+
+def peaks(events: array, codes: Iterable[int]) -> list[int]:
+    """The moments at which a class of 16 bytes has more blocks than at any before, in the order of time."""
+    live, most, at = (zeros("q", texts.LARGEST_CLASS + 1) for _ in range(3))
+    pass_over("raise_most", events, 0, len(events), by_code("h", need_of, codes), live, most, at)
+    return sorted(filter(None, at))
 
 
 def history_of(moments: dict) -> texts.History:
     """The moments in the order of time, but for those that have no block."""
-    live = [moments[at] for at in sorted(moments) if moments[at]]
+    live = [named(moments[at]) for at in sorted(moments) if moments[at]]
     sizes = set().union(*live)
     return texts.History(len(live), {size: [each.get(size, 0) for each in live] for size in sizes})
 
@@ -118,42 +114,31 @@ def history_of(moments: dict) -> texts.History:
 # ---- a timeline as a text that `mte_tool` takes
 
 
-def events_of(text: bytes) -> Iterator[list[bytes]]:
-    """The events of a timeline, as lines without their newline, in pieces."""
-    begin, piece = text.find(b"\n") + 1, 1 << 22
-    while 0 < begin < len(text):
-        end = text.find(b"\n", min(begin + piece, len(text) - 1))
-        end = len(text) if end < 0 else end
-        yield text[begin:end].split(b"\n")
-        begin = end + 1
-
-
 class Read:
-    """A timeline's events, and how often each comes once that is counted."""
+    """A timeline's events."""
 
     def __init__(self, text: bytes, events: array) -> None:
         self.text, self.events = text, events
-        self.codes: "Counter | None" = None
+
+    @functools.cached_property
+    def codes(self) -> dict[int, int]:
+        """How often each event comes."""
+        return count(self.events)
 
 
 # the last one, since more than one thing is asked of it
 last = Read(b"", array("H"))
 
 
-def known(text: bytes, events: bytes) -> None:
-    """Takes over the events of a timeline, in two bytes each, from what recorded them."""
-    global last
-    if len(events) == 2 * (text.count(b"\n") - 1):
-        last = Read(text, array("H", events))
-
-
 def read(text: bytes) -> Read:
     global last
     if last.text != text:
-        code_of = {line[:-1]: code for code, line in enumerate(event_lines()) if line}
-        last = Read(text, array("H"))
-        for lines in events_of(text):
-            last.events.extend(map(code_of.__getitem__, lines))
+        events, (functions, ctypes) = zeros("H", text.count(b"\n") + 1), passes()
+        number = functions.read_events(ctypes.c_char_p(text), ctypes.c_long(len(text)), ctypes.c_void_p(events.buffer_info()[0]))
+        if number < 0:
+            raise ValueError("a line of the timeline is no event")
+        del events[number:]
+        last = Read(text, events)
     return last
 
 
@@ -164,23 +149,13 @@ def parsed(text: bytes) -> array:
 
 def history_at(text: bytes, moments: list) -> texts.History:
     """The blocks that are live at these ascending moments, each the number of events before it."""
-    found = read(text)
-    codes = counted(found.events, [0, *moments, len(found.events)])
-    found.codes = sum(codes, Counter())
-    return history_of(live_after(codes, moments))
+    run = read(text)
+    return history_of(live_at(run.events, run.codes, moments))
 
 
 def requests_of(text: bytes) -> dict:
     """The profile of all requests."""
-    found = read(text)
-    found.codes = found.codes or count(found.events)
-    return named(requested(found.codes))
-
-
-def by_code(of_size: Callable[[int], int]) -> list:
-    """How much each event adds to an amount. Large blocks have none."""
-    requests = [of_size(size) for size in range(LARGE)] + [0]
-    return requests + [0] * (FREED - len(requests)) + [-amount for amount in requests]
+    return named(requests(read(text).codes))
 
 
 def place_in(classes: list) -> Callable[[int], int]:
@@ -190,47 +165,20 @@ def place_in(classes: list) -> Callable[[int], int]:
 
 def peak_of(text: bytes, amount: Callable[[int], int] = int) -> tuple[int, int]:
     """The most of all live blocks, each with an amount of its size, and the first moment of so many. Large blocks have none."""
-    amounts, seen, now, most, at = by_code(amount), 0, 0, 0, 0
-
-    @functools.lru_cache(maxsize=KEPT)
-    def sums_of(unit: bytes) -> tuple[int, int, int]:
-        sums = list(itertools.accumulate(map(amounts.__getitem__, array("H", unit))))
-        top = max(sums)
-        return top, sums.index(top) + 1, sums[-1]
-
-    for unit in units_of(parsed(text)):
-        top, place, number = sums_of(unit)
-        if now + top > most:
-            most, at = now + top, seen + place
-        now, seen = now + number, seen + len(unit) // 2
-    return most, at
+    run, found = read(text), zeros("q", 2)
+    pass_over("most", run.events, 0, len(run.events), by_code("q", amount, run.codes), found)
+    return found[0], found[1]
 
 
 def heights(text: bytes, classes: list, parts: int) -> list[list[int]]:
     """The most live blocks of each class of a table in each of so many equal parts of a timeline, or of fewer where it has fewer events.
     What the table does not serve is left out."""
-    events, of_event = parsed(text), by_code(place_in(classes))
-    parts, now, rows, begin = min(parts, len(events)), [0] * (len(classes) + 2), [], 0
-
-    @functools.lru_cache(maxsize=KEPT)
-    def changes_of(unit: bytes) -> list[tuple[int, int, int]]:
-        """What it adds to the blocks of classes, by their places, at most and in all."""
-        added, most = [0] * len(now), [0] * len(now)
-        for place in map(of_event.__getitem__, array("H", unit)):
-            if place < 0:
-                added[-place] -= 1
-            elif place:
-                added[place] += 1
-                if added[place] > most[place]:
-                    most[place] = added[place]
-        return [each for each in zip(itertools.count(), most, added) if each[1] or each[2]]
-
-    for part in range(1, parts + 1):
-        end, most = len(events) * part // parts, list(now)
-        for place, top, number in itertools.chain.from_iterable(map(changes_of, units_of(events[begin:end]))):
-            if now[place] + top > most[place]:
-                most[place] = now[place] + top
-            now[place] += number
-        rows.append(most[1:-1])
-        begin = end
+    run, rows = read(text), []
+    groups, number = by_code("h", place_in(classes), run.codes), len(run.events)
+    live, at = zeros("q", len(classes) + 2), zeros("q", len(classes) + 2)
+    ends = [number * part // min(parts, number) for part in range(min(parts, number) + 1)]
+    for begin, end in zip(ends, ends[1:]):
+        most = array("q", live)
+        pass_over("raise_most", run.events, begin, end, groups, live, most, at)
+        rows.append(list(most[1:-1]))
     return rows

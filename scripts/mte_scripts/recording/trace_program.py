@@ -93,7 +93,7 @@ def trace(words: list[str], speaker: recording.Speaker) -> int:
         return recording.print_usage(HELP)
     path = recording.find_program(options.words[0])
     if not options.only:
-        recording.say_script(speaker, options.words[0], path, "its interpreter alone is traced; --only NAME traces")
+        recording.say_script(speaker, options.words[0], path, f"what is traced is {recording.INTERPRETER}; --only NAME traces")
     with private_folder.temporary_folder() as work:
         return run_program(options, speaker, path, work)
 

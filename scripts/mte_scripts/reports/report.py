@@ -43,7 +43,7 @@ def report(words: list[str]) -> int:
     profile, sheet = names
     others = figures.other_tables(options.against)
     given = "the profile" if profile == "-" else os.path.basename(profile)
-    found = figures.Figures(texts.read_profile(profile), texts.read(sheet).decode(errors="replace"), others, given=given)
+    found = figures.Figures(texts.read_profile(profile), texts.read(sheet, texts.MOST_INPUT + 1).decode(errors="replace"), others, given=given)
     name = title or ("the profile" if profile == "-" else figures.without_ending(profile, ".profile"))
     texts.write(report_page.page(found, name, "in the profile", [], [check_command(profile, sheet)]))
     return 1 if found.unheld() else 0

@@ -46,9 +46,9 @@ def class_text(classes: list[int]) -> str:
     return " ".join(["classes", *map(str, classes)])
 
 
-def run(words: list[str], given: "str | bytes") -> tuple[int, str]:
+def run(words: list[str], *given: "str | bytes") -> tuple[int, str]:
     """The output of the program, and its status, 0 or 1: a verdict. Any other ends the script."""
-    status, out, error = texts.mte_tool(words, given if isinstance(given, bytes) else given.encode())
+    status, out, error = texts.mte_tool(words, *map(os.fsencode, given))
     if status not in (0, 1):
         raise texts.Refused(2 if status == 2 else 3, f"`mte_tool {' '.join(words)}` failed: {error or f'its status is {status}'}")
     return status, out.decode("ascii", "replace").strip()
@@ -56,7 +56,7 @@ def run(words: list[str], given: "str | bytes") -> tuple[int, str]:
 
 def footprint(classes: "list[int]", text: bytes) -> "int | None":
     """What a table takes over a history or a timeline; None where it does not serve a size."""
-    status, answer = run(["footprint"], texts.joined(class_text(classes), text))
+    status, answer = run(["footprint"], texts.begin_of(class_text(classes), text), text)
     return int(answer.split()[-1]) if status == 0 else None
 
 
@@ -81,7 +81,7 @@ def peaks(classes: list[int], text: bytes) -> Optional[Peaks]:
 
 @functools.lru_cache(maxsize=8)
 def peaks_of(classes: Classes, text: bytes) -> Optional[Peaks]:
-    status, answer = run(["peaks"], texts.joined(class_text(list(classes)), text))
+    status, answer = run(["peaks"], texts.begin_of(class_text(list(classes)), text), text)
     if status:
         return None
     most, moments, (live,), (freed,) = ([int(word) for word in line.split()[1:]] for line in answer.split("\n"))
@@ -135,7 +135,7 @@ def over_time(kind: str, text: bytes, largest: bool, limit: int, step: int) -> O
         moments, verdict = peaks(fit.classes, text).reached(), f"between {bound.split()[-1]}"
     else:
         fit = texts.parse_fit(answer)
-        _, verdict = run(["check-fit"], texts.joined(answer, text))
+        _, verdict = run(["check-fit"], texts.begin_of(answer, text), text)
         moments = fit.moments or []
     history = texts.parse_history(text) if kind == "history" else timelines.history_at(text, moments)
     return OverTime(kind, text, fit, answer + "\n", verdict, history)
@@ -153,18 +153,18 @@ class Table:
         self.footprint: Optional[int] = None  # over a history or a timeline whose sizes it serves
         self.takes_more = False  # whether it takes that or more over the run
 
-    def over(self, timed: OverTime) -> None:
-        """What it takes over time. Of a run that is longer than its history, what was counted, or what it takes over the moments."""
+    def over(self, timed: OverTime, has_peaks: bool) -> None:
+        """What it takes over time. Of a run that is longer than its history, what was counted, or what it takes over the moments. By its peaks,
+        which take longer, where these are asked for later."""
         counted = timed.interval.counted if timed.interval else {}
         self.takes_more = bool(timed.interval) and tuple(self.classes) not in counted
-        self.footprint = counted[tuple(self.classes)] if tuple(self.classes) in counted else self.footprint_over(timed)
-
-    def footprint_over(self, timed: OverTime) -> Optional[int]:
-        """What it takes over a history or a timeline; None where it does not serve a size."""
-        if timed.kind != "timeline":
-            return footprint(self.classes, timed.text)
-        found = peaks(self.classes, timed.text)
-        return found and sum(GRANULE * each * most for each, most in zip(self.classes, found.most))
+        if tuple(self.classes) in counted:
+            self.footprint = counted[tuple(self.classes)]
+        elif timed.kind == "timeline" and has_peaks:
+            found = peaks(self.classes, timed.text)
+            self.footprint = found and sum(GRANULE * each * most for each, most in zip(self.classes, found.most))
+        else:
+            self.footprint = footprint(self.classes, timed.text)
 
 
 def block_of(classes: list[int], size: int) -> int:
@@ -197,9 +197,9 @@ class Figures:
         self.others = [Table(name, classes, profile) for name, classes in others]
         self.timed = timed
         self.fitted: Optional[Table] = None
+        self.objective = objective
         if timed is not None:
             judged.append(self.take_fit(timed, profile, time_given))
-        self.objective = objective
         # of the tables that are made, in their order
         self.judged = judged[::-1] if objective == "footprint" else judged
         self.first, *self.rest = self.made() + self.others
@@ -210,7 +210,7 @@ class Figures:
         fit, interval = timed.fit, timed.interval
         self.fitted = Table(claims.name(timed.kind), interval.classes if interval else fit.classes, profile)
         for table in (self.best, self.fitted, *self.others):
-            table.over(timed)
+            table.over(timed, has_peaks=table in (self.made()[0], *self.others[:1]))
         cost = interval.low if interval else self.fitted.footprint
         if interval:
             self.fitted.footprint, self.fitted.takes_more = interval.high, False

@@ -27,7 +27,7 @@ Span = tuple[int, int]
 class Recorded(NamedTuple):
     """A run: its status, 0 or 1; what profile_program said of it; what it measured, by name; and what tables take over it, None where one of
     them does not serve a size. `upper` is the upper history, empty where there is a timeline; `moments` are those of the lower one, by the
-    number of events before them, and `events` what it wrote of a timeline by --events."""
+    number of events before them."""
 
     status: int
     notes: list[str]
@@ -35,7 +35,6 @@ class Recorded(NamedTuple):
     counted: dict[figures.Classes, Optional[int]]
     upper: bytes
     moments: tuple[int, ...] = ()
-    events: bytes = b""
 
 
 class Runs:
@@ -55,7 +54,6 @@ class Runs:
         """Runs it once; with these moments in its lower history, if it has them. What is printed goes to the file TO, and the profile at the
         peak to self.file("peak"). The status may be a refusal's."""
         words = [*kind, "--upper", self.file("upper"), "--peak", self.file("peak"), "--measured", self.file("measured")] if kind else []
-        words += ["--events", self.file("events")] if kind == ["--timeline"] else []
         for at, table in enumerate(tables):
             texts.write_file(self.file(f"{at}.classes"), figures.class_text(list(table)) + "\n")
             words += ["--classes", self.file(f"{at}.classes")]
@@ -73,7 +71,7 @@ class Runs:
         found = {name: int(value) for name, value in measured if name not in ("footprint", "moment")}
         seen = tuple(int(value) for name, value in measured if name == "moment")
         said = [line for line in self.taken("said").decode(errors="replace").splitlines() if line]
-        return Recorded(status, said, found, dict(zip(tables, taken)), self.taken("upper"), seen, self.taken("events"))
+        return Recorded(status, said, found, dict(zip(tables, taken)), self.taken("upper"), seen)
 
     def taken(self, name: str) -> bytes:
         """The text of a file that is no longer needed, empty where there is none."""

@@ -5,6 +5,7 @@ from typing import Any
 
 from mte_scripts import texts
 from mte_scripts.claims import numbered
+from mte_scripts.recording import timelines
 from mte_scripts.tables import figures, who
 from mte_scripts.tables.figures import kibibytes, number, percent
 from mte_scripts.tables.result_folder import Folder
@@ -75,13 +76,13 @@ def headline(options: Any, found: figures.Figures, process: int) -> str:
     default = found.others[0]
     saving = found.saving(default)
     if saving is None:
-        return f"{options.name()}: {found.first.name}"
+        return f"{options.counted()}: {found.first.name}"
     share = "" if process else f" ({percent(abs(saving), found.whole(default))})"
     saved = f"{kibibytes(abs(saving))}{share} {'less' if saving >= 0 else 'more'} than {default.name}"
     if not process:
-        return f"{options.name()}: {found.first.name}, {saved}"
+        return f"{options.counted()}: {found.first.name}, {saved}"
     helps = "" if abs(saving) >= figures.WORTH * process else "a table is not worth it here; "
-    return f"{options.name()}: {helps}{found.first.name}, {saved}, {percent(abs(saving), process)} of the process"
+    return f"{options.counted()}: {helps}{found.first.name}, {saved}, {percent(abs(saving), process)} of the process"
 
 
 def summary(options: Any, found: figures.Figures, folder: Folder, noted: list[str], measured: dict[str, int],
@@ -147,7 +148,7 @@ def recorded(timed: figures.OverTime) -> str:
     if timed.interval:
         return f"Recorded: {numbered(timed.history.snapshots, 'moment')} of the run, and the most blocks between them."
     if timed.kind == "timeline":
-        return f"Recorded: each moment of the run, {numbered(timed.text.rstrip(bytes([10])).count(bytes([10])), 'event')}."
+        return f"Recorded: each moment of the run, {numbered(len(timelines.parsed(timed.text)), 'event')}."
     return f"Recorded: {numbered(timed.history.snapshots, 'moment')} of the run, and not what lies between."
 
 

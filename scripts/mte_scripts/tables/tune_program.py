@@ -129,6 +129,10 @@ class Options(argparse.Namespace):
             return os.path.basename(self.words[0]) or self.words[0]
         return "profile" if self.read == "-" else figures.without_ending(self.read, ".profile", ".history", ".timeline")
 
+    def counted(self) -> str:
+        """The name of what is counted, with that of the program that started it."""
+        return self.name() if self.only in (None, self.name()) else f"{self.only} of {self.name()}"
+
 
 def is_long(options: Options) -> bool:
     """Whether --read names a timeline that is too long to be read at once."""
@@ -142,11 +146,9 @@ def is_long(options: Options) -> bool:
 
 def read_given(options: Options) -> "dict[str, str | bytes]":
     """The files of the profile, of the history or of the timeline, that --read names."""
-    data, name = texts.read(options.read), texts.named(options.read)
+    data, name = texts.read_some(options.read, if_empty=3), texts.named(options.read)
     if options.upper is not None and not texts.is_history(data):
         raise texts.Refused(2, f"--upper goes with a history of `profile_program --windows`, and {name} is none")
-    if not data:
-        raise texts.Refused(3, f"{name} is empty: did the command that writes it fail?")
     files: "dict[str, str | bytes]" = {}
     if texts.is_timeline(data):
         options.agree_on(data)
@@ -158,7 +160,7 @@ def read_given(options: Options) -> "dict[str, str | bytes]":
         options.agree_on(history)
         profile, files["program.history"] = figures.at_peak(history), texts.history_text(history)
         if options.upper is not None:
-            files["upper.history"] = texts.history_text(texts.parse_history(texts.read(options.upper), texts.named(options.upper)))
+            files["upper.history"] = texts.history_text(texts.parse_history(texts.read_some(options.upper), texts.named(options.upper)))
     else:
         profile = texts.parse_profile(data, name)
         options.agree_on(None)
@@ -263,7 +265,7 @@ def made(options: Options, folder: Folder, others: list, recorded: long_runs.Rec
     """All that follows from program.profile, and from the record over time, whose fit may be there already; and what writes report.html anew, with
     a further part."""
     profile, sheet = sheet_of(options, folder)
-    timed = fitted(options, folder, timed, recorded.events)
+    timed = fitted(options, folder, timed)
     given = "program.timeline" if timed and timed.kind == "timeline" else "program.history"
     found = Figures(profile, sheet, others, timed, options.objective, "program.profile", given)
     failed = make_others(options, folder, found)
@@ -271,14 +273,14 @@ def made(options: Options, folder: Folder, others: list, recorded: long_runs.Rec
     checks = write_claims(options, folder, found)
     beside = "page.html" if folder.has("page.html") else None
     found_who = who.Who(run, timed) if run and timed else None
-    for name, text in found_who.files(options.name()).items() if found_who else ():
+    for name, text in found_who.files(options.counted()).items() if found_who else ():
         folder.write(name, text)
     part = f"<p>{escape(summary.predicted(found))} {escape(summary.larger_blocks(found))}</p>\n" if timed else ""
     part += who_section.section(found_who) if found_who else ""
     counted = summary.counted(options, timed)
 
     def report(measured: str = "") -> None:
-        folder.write("report.html", report_page.page(found, options.name(), counted, noted, checks, beside, measured + part))
+        folder.write("report.html", report_page.page(found, options.counted(), counted, noted, checks, beside, measured + part))
 
     report()
     text = summary.summary(options, found, folder, noted, recorded.measured, found_who.what_ifs[:1] if found_who else [])
@@ -305,7 +307,7 @@ def make_others(options: Options, folder: Folder, found: Figures) -> list[str]:
     """Makes the map, the picture and the page, which nothing else needs; says which of them failed."""
     makes: dict[str, Callable[[], str]] = {
         "tuned_map.inc": lambda: scudo_map.as_default(found.first.classes),
-        "waste.svg": lambda: draw_waste.picture([draw_waste.Curve(folder.at("program.profile"), options.name())]),
+        "waste.svg": lambda: draw_waste.picture([draw_waste.Curve(folder.at("program.profile"), options.counted())]),
     }
     if engines := web_page.at_hand():  # with nothing to prove or compile before it
         makes["page.html"] = lambda: tables(options, folder, engines)
@@ -330,8 +332,8 @@ def write_claims(options: Options, folder: Folder, found: Figures) -> list[str]:
     return checks
 
 
-def fitted(options: Options, folder: Folder, timed: "figures.OverTime | None", events: bytes) -> "figures.OverTime | None":
-    """The fit of the timeline, whose events may be known, or of the history, if there is one, and its files."""
+def fitted(options: Options, folder: Folder, timed: "figures.OverTime | None") -> "figures.OverTime | None":
+    """The fit of the timeline or of the history, if there is one, and its files."""
     kind = next((kind for kind in ("timeline", "history") if folder.has(f"program.{kind}")), None)
     if kind is None:
         return None
@@ -339,7 +341,6 @@ def fitted(options: Options, folder: Folder, timed: "figures.OverTime | None", e
         text = texts.read(folder.at(f"program.{kind}"))
         if kind == "history":
             text = texts.history_text(texts.parse_history(text)).encode()
-        timelines.known(text, events)
         timed = figures.over_time(kind, text, options.largest, options.limit, options.step)
     folder.write("fitted.fit", timed.fit_text)
     if kind == "timeline":
@@ -357,6 +358,6 @@ def tables(options: Options, folder: Folder, engines: dict[str, bytes]) -> str:
     name = "program.profile"
     if options.objective == "footprint":
         name = "moments.history" if folder.has("moments.history") else "program.history"
-    given = options.name(), texts.read(folder.at(name)).decode()
+    given = options.counted(), texts.read(folder.at(name)).decode()
     begin_with = {"limit": options.limit, "step": options.step, "largest": options.largest}
     return web_page.page(engines, profile=given, options=begin_with)

@@ -118,17 +118,24 @@ static int is_own(const char *path) {
   return *path != '?' && !begins(path, "/usr/lib") && !begins(path, "/lib") && !begins(path, "/usr/include") && !strstr(path, "/bits/");
 }
 
+// where a function's parameters begin: those of lambdas' names and of templates' values are before
+static char *parameters(char *at) {
+  int inside = 0;
+  for (; *at && (*at != '(' || inside > 0 || begins(at, "(anonymous namespace)")); at++)
+    if (begins(at, "operator()")) at += strlen("operator()") - 1;
+    else if (begins(at, "operator")) for (at += strlen("operator") - 1; at[1] && strchr("-<>=!", at[1]);) at++;
+    else inside += (*at == '<' || *at == '{' || *at == '(') - (*at == '>' || *at == '}' || *at == ')');
+  return at;
+}
+
 static void add_source(struct line *line, char *source, char *function) {
   static char here[MOST_NAME];
-  char *note = strstr(source, " ("), *slash = strrchr(source, '/'), *end = function;
+  char *note = strstr(source, " ("), *slash = strrchr(source, '/');
   if (note) *note = 0;
   long length = syscall(SYS_getcwd, here, sizeof here) - 1;
   if (length > 0 && begins(source, here) && source[length] == '/') source += length + 1;
   else if (slash) source = slash + 1;
-  for (; *end && *end != '('; end++)
-    if (begins(end, "operator()")) end += strlen("operator()") - 1;
-    else if (begins(end + 1, "(anonymous namespace)")) end += strlen("(anonymous namespace)");
-  *end = 0;
+  *parameters(function) = 0;
   add(line, source), add(line, " in "), add(line, function);
 }
 

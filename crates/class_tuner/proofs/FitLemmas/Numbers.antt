@@ -26,8 +26,7 @@ module _ (rows : List (List ℕ)) (limit d : ℕ) (shape : HasShape rows limit d
   set-other_place m j ne = grind (arith, row-at (m - 1), row-other (m - 1), get_or-set_other)
 
   pub set-small : (bound : ℕ) → v ≤ bound → ((m j : ℕ) → number_at rows m j ≤ bound) → (m j : ℕ) → number_at after m j ≤ bound
-  set-small bound le small m j =
-      grind (arith, row-at (m - 1), row-other (m - 1), row-length, get_or-set_same, get_or-set_other, small m j)
+  set-small bound le small m j = grind (arith, row-at, row-other, row-length, get_or-set_same, get_or-set_other)
 
   pub set-shape : HasShape after limit d
   set-shape = record {

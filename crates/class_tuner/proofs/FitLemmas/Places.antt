@@ -1,11 +1,11 @@
 -- One place of the rows, row by row.
-use Rattle.std.proofs.Common.{◌≡◌, ℕ, suc, ◌+◌, ◌-◌, ◌/◌, ◌^◌, ◌<◌, ◌≤◌, List, [], ◌∷◌, ◌++◌, length, replicate, slice_index}
-use Rattle.std.proofs.{Common.{slice_index_or, slice_set, arith, ap, ◌∙◌, inl, inr}, lemmas.Bool.{cases_lt}, lemmas.Grind.{common_steps}}
+use Rattle.std.proofs.Common.{◌≡◌, ℕ, suc, ◌+◌, ◌-◌, ◌^◌, ◌<◌, ◌≤◌, List, [], ◌∷◌, ◌++◌, length, replicate, slice_index}
+use Rattle.std.proofs.{Common.{slice_index_or, slice_set, arith, ap, sym, ◌∙◌, inl, inr}, lemmas.Bool.{cases_lt}, lemmas.Grind.{common_steps}}
 use Rattle.std.proofs.lemmas.List.{length-replicate}
 use Rattle.class_tuner.proofs.{FitLemmas.Numbers.{set-here, set-other_place, set-other_row, set-shape, set-small}, Rows.{shape-pushed}}
 use Rattle.class_tuner.specs.Fits.PlaceByPlace.{AreCostsFrom, AreLeastRowsFrom, AreOlderCosts, AreReady, AreRowsSoFar, IsFresh}
-use Rattle.class_tuner.specs.{Fits.PlaceByPlace.{IsPlaceFilled, end_cost}, declared.fits.filling.Memory.{Memory}}
-use Rattle.potential_check.specs.declared.footprints.slack.TheConstants.{BLOCK}
+use Rattle.class_tuner.specs.{Fits.PlaceByPlace.{IsLeastOf, IsPlaceFilled, end_cost}, declared.fits.filling.Memory.{Memory}}
+use Rattle.potential_check.specs.{Footprints.AlikeRows.{AreAlikeFrom}}
 use Rattle.tuner_theory.{proofs.Sheets.{rows-end}, specs.Growing.{IsGrowing}, specs.Lists.{lists_of}}
 use Rattle.tuner_theory.specs.Rows.{IsFilled, IsLeastEnd, number_at}
 
@@ -81,6 +81,46 @@ module _ (costs : List ℕ) (d limit place : ℕ) (rows ends : List (List ℕ)) 
                 ) (least-same _ _ place d end same least, value ∙ same end least.from least.to))
           ]
 
+  -- the rows that are alike at the place, with one row more
+  pub alike-set : (k v old new above : ℕ) → 1 ≤ k → k < limit → old ≤ new → (new ≤ k → v ≡ above) → above ≡ number_at rows k place
+      → ((m : ℕ) → old ≤ m → m < k → number_at rows (suc m) place ≡ number_at rows m place)
+      → (m : ℕ) → new ≤ m → m < suc k
+      → number_at (with_number rows k place v) (suc m) place ≡ number_at (with_number rows k place v) m place
+  alike-set k v old new above one lt order same is are m from_new below =
+      let shape = so_far.rows_shape in
+      let before : number_at (with_number rows k place v) m place ≡ number_at rows m place =
+      set-other_row rows limit d shape k place v lt from.within m place (λ e. omega (arith, e)) in
+      elim (cases_lt m k) [
+        | inl inside ↦ set-other_row rows limit d shape k place v lt from.within (suc m) place (λ e. omega (arith, e))
+            ∙ (are m (omega arith) inside ∙ sym before)
+        | inr past ↦ (let here : m ≡ k = omega arith in
+            rw here (set-here rows limit d shape k place v lt from.within ∙ (same (omega arith) ∙ (is ∙ sym (rw here at before)))))
+      ]
+
+-- what is found for a row is found for the next one, where the rows before them are alike
+pub found-again : (costs : List ℕ) (d place limit k m number end alike : ℕ) (rows rows' ends ends' : List (List ℕ)) (before : List ℕ)
+    → k ≡ suc m → alike < k → k < limit → AreAlikeFrom (number_at rows) limit (place + 1) alike
+    → IsPlaceFilled costs d place k rows rows' ends ends' → before ≡ slice_index_or rows' (k - 1) [] → length before ≡ d
+    → number ≡ number_at rows' k place → end ≡ number_at ends' k place → number ≤ slice_index costs d
+    → IsLeastOf costs before place number end
+found-again costs d place limit k m number end alike rows rows' ends ends' before is after lt are filled read size number_is end_is small =
+    let old = filled.later m (omega (arith, are.some)) (omega arith) in
+    let number_was : number ≡ number_at rows' (suc m) place = number_is ∙ ap (λ (n : ℕ). number_at rows' n place) is in
+    let end_was : end ≡ number_at ends' (suc m) place = end_is ∙ ap (λ (n : ℕ). number_at ends' n place) is in
+    let same : (j : ℕ) → place < j → j ≤ d → end_cost costs (number_at rows m) j ≡ end_cost costs (slice_index before) j =
+    (λ j past to.
+    let other : j ≡ place → ⊥ = (λ e. omega (arith, e)) in
+    let here : slice_index before j ≡ number_at rows' (suc m) j =
+    ap (λ (b : List ℕ). slice_index b j) read ∙ ap (λ (n : ℕ). number_at rows' n j) is in
+    ap (λ (n : ℕ). slice_index costs j + n)
+    (sym (here ∙ (filled.rows_kept (suc m) j other ∙ are.each m j (omega arith) (omega arith) (omega arith))))) in
+    let least = least-same (end_cost costs (number_at rows m)) (end_cost costs (slice_index before)) place d end same (rw (← end_was) at old.0) in
+    record {
+      first = rw size least;
+      value = number_was ∙ (old.1 ∙ (ap (end_cost costs (number_at rows m)) (sym end_was) ∙ same end least.from least.to));
+      small = rw size small;
+    }
+
 -- ---- from this place on
 
 pub rows-from : (cost : ℕ → ℕ → ℕ) (costs : List ℕ) (d limit i : ℕ) (rows rows' ends ends' : List (List ℕ)) → i < d
@@ -124,11 +164,7 @@ module _ (cost : ℕ → ℕ → ℕ) (d i : ℕ) (older costs : List ℕ) (insi
 
   pub costs-older : IsGrowing cost d → length older ≡ d + 1 → ((j : ℕ) → i + 1 < j → j ≤ d → slice_index older j ≡ cost (i + 1) j)
       → AreOlderCosts d i older costs
-  costs-older grows older_size were = record {
-    size = older_size;
-    grow = λ j after le.
-        omega (arith, were j after le, are j (omega arith) le, grows i (i + 1) j j (omega arith) after (omega arith) le);
-  }
+  costs-older grows older_size were = grind arith
 
 -- ---- before any place is filled
 
@@ -154,21 +190,7 @@ zero-at n i = grind (arith, common_steps)
 
 pub ready-at_end : (costs : List ℕ) (d limit : ℕ) (rows ends : List (List ℕ)) (memory : Memory) → IsFresh limit d memory
     → AreRowsSoFar d limit rows ends → AreReady costs memory.slack.items d d limit rows ends (lists_of memory.bounds.items)
-ready-at_end costs d limit rows ends memory fresh so_far = record {
-  slack = fresh.slack;
-  rows = so_far;
-  bounds = record {
-    size = fresh.bounds.size;
-    each = λ k one lt. rw (fresh.bounds.each k lt) (record {
-      long = omega (arith, length-replicate {A = ℕ} (d / BLOCK + 1) 0);
-      below = λ j past to. absurd (omega arith);
-      none = λ b le. zero-at (d / BLOCK + 1) b;
-    });
-  };
-}
+ready-at_end costs d limit rows ends memory fresh so_far = grind (arith, length-replicate, zero-at)
 
 pub least-at_end : (cost : ℕ → ℕ → ℕ) (d limit : ℕ) (rows ends : ℕ → ℕ → ℕ) → AreLeastRowsFrom cost d limit d rows ends
-least-at_end cost d limit rows ends = record {
-  first_row = λ i some from lt. absurd (omega arith);
-  later_row = λ k i one few from lt. absurd (omega arith);
-}
+least-at_end cost d limit rows ends = grind arith

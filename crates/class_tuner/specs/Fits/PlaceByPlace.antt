@@ -32,6 +32,12 @@ pub record AreRowsSoFar (d limit : ℕ) (rows ends : List (List ℕ)) : Type 0 w
 abbrev pub end_cost : List ℕ → (ℕ → ℕ) → ℕ → ℕ
 end_cost costs before j = slice_index costs j + before j
 
+-- Of the ends of a place the first that costs least, with what it costs.
+pub record IsLeastOf (costs before : List ℕ) (place number end : ℕ) : Type 0 where
+  pub first : IsLeastEnd (end_cost costs (slice_index before)) place (length before) end
+  pub value : number ≡ end_cost costs (slice_index before) end
+  pub small : number ≤ slice_index costs (length before)
+
 -- A place is filled in the rows up to row `stop`; the numbers and ends of other places are kept.
 pub record IsPlaceFilled (costs : List ℕ) (d place stop : ℕ) (old_rows rows old_ends ends : List (List ℕ)) : Type 0 where
   pub rows_kept : (k j : ℕ) → (j ≡ place → ⊥) → number_at rows k j ≡ number_at old_rows k j

@@ -1,8 +1,9 @@
 ghost use Rattle.std.specs.Prelude.{◌≡◌, ◌+◌, ◌^◌, ◌<◌, ◌≤◌, IfOk, OnErr, OnOk};
 ghost use Rattle.class_tuner.specs.Fits.PlaceByPlace.{AreCostsFrom, AreOlderCosts, AreReady, AreRowsSoFar, IsFresh, IsPlaceFilled};
+ghost use Rattle.potential_check.specs.Footprints.AlikeRows.{AreAlikeFrom};
 ghost use Rattle.potential_check.specs.Footprints.CallCounts.{span_count};
 ghost use Rattle.tuner_theory.specs.Lists.{lists_of};
-ghost use Rattle.tuner_theory.specs.Rows.{IsFilled};
+ghost use Rattle.tuner_theory.specs.Rows.{IsFilled, number_at};
 
 use crate::filling::{Filled, unfilled_row};
 use crate::fits::place::fill_place;
@@ -106,10 +107,12 @@ fn fill_all<C: SpanCosts>(
         mut from,
         mut older,
     } = memory;
+    // from which row on all have the numbers of the row before them
+    let mut alike = 1;
     for i in (0..places).rev() {
         swap(&mut from, &mut older);
         costs.write_from(i, &mut from);
-        fill_next(
+        alike = fill_next(
             &older,
             &from,
             &mut slack,
@@ -119,11 +122,12 @@ fn fill_all<C: SpanCosts>(
             i,
             places,
             limit,
+            alike,
         );
     }
 }
 
-// fills the place before those that are filled
+// fills the place before those that are filled; `alike` as in `fill_place`
 fn fill_next(
     older: &[u64],
     costs: &[u64],
@@ -134,18 +138,23 @@ fn fill_next(
     place: usize,
     places: usize,
     limit: usize,
-)
+    alike: usize,
+) -> usize
     requires some { 1 ≤ limit }
     requires few { limit ≤ MOST_CLASSES }
     requires costs { AreCostsFrom places place costs.now }
     requires older { AreOlderCosts places place older.now costs.now }
     requires ready { AreReady older.now slack.old (place + 1) places limit (lists_of rows.old) (lists_of ends.old)
         (lists_of bounds.old) }
+    requires alike { AreAlikeFrom (number_at (lists_of rows.old)) limit (place + 1) alike }
     ensures ready { AreReady costs.now slack.new place places limit (lists_of rows.new) (lists_of ends.new)
         (lists_of bounds.new) }
     ensures filled { IsPlaceFilled costs.now places place limit (lists_of rows.old) (lists_of rows.new)
         (lists_of ends.old) (lists_of ends.new) }
+    ensures alike { AreAlikeFrom (number_at (lists_of rows.new)) limit place result }
 {
     lower_slack(older, costs, slack, place, places);
-    fill_place(costs, slack, bounds, rows, ends, place, places, limit);
+    fill_place(
+        costs, slack, bounds, rows, ends, place, places, limit, alike,
+    )
 }

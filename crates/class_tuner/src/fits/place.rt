@@ -1,13 +1,15 @@
 //! One place of all rows.
 ghost use Rattle.std.specs.Prelude.{◌≡◌, ◌≢◌, ℕ, ◌+◌, ◌^◌, ◌<◌, ◌≤◌, [], length, slice_index, slice_index_or, slice_set};
-ghost use Rattle.class_tuner.specs.Fits.PlaceByPlace.{AreCostsFrom, AreRowsSoFar, IsPlaceFilled, end_cost};
+ghost use Rattle.class_tuner.specs.Fits.PlaceByPlace.{AreCostsFrom, AreRowsSoFar, IsLeastOf, IsPlaceFilled};
+ghost use Rattle.potential_check.specs.Footprints.AlikeRows.{AreAlikeFrom};
 ghost use Rattle.potential_check.specs.Footprints.Bounds.{AreBounds, AreRowBounds, IsSlack};
 ghost use Rattle.tuner_theory.specs.Lists.{lists_of};
-ghost use Rattle.tuner_theory.specs.Rows.{IsLeastEnd, number_at};
+ghost use Rattle.tuner_theory.specs.Rows.{number_at};
 
 use crate::fits::ends::least_end;
 
-/// Fills a place in all rows and ends. Those of the later places must be filled.
+/// Fills a place in all rows and ends. Those of the later places must be filled. `alike` says from which row on, counted from 0, all rows have
+/// the numbers of the row before them at the later places, and the result from which one on also at this place.
 pub(crate) fn fill_place(
     costs: &[u64],
     slack: &[u64],
@@ -17,7 +19,8 @@ pub(crate) fn fill_place(
     place: usize,
     places: usize,
     limit: usize,
-)
+    alike: usize,
+) -> usize
     requires some { 1 ≤ limit }
     requires few { limit ≤ 2 ^ 16 }
     requires costs { AreCostsFrom places place costs.now }
@@ -25,21 +28,50 @@ pub(crate) fn fill_place(
     requires rows { AreRowsSoFar places limit (lists_of rows.old) (lists_of ends.old) }
     requires bounds { let before = number_at (lists_of rows.old) in
         AreRowBounds costs.now slack.now place places limit before (lists_of bounds.old) }
+    requires alike { AreAlikeFrom (number_at (lists_of rows.old)) limit (place + 1) alike }
     ensures rows { AreRowsSoFar places limit (lists_of rows.new) (lists_of ends.new) }
     ensures filled { IsPlaceFilled costs.now places place limit (lists_of rows.old) (lists_of rows.new)
         (lists_of ends.old) (lists_of ends.new) }
     ensures bounds { let before = number_at (lists_of rows.old) in
         AreRowBounds costs.now slack.now place places limit before (lists_of bounds.new) }
+    ensures alike { AreAlikeFrom (number_at (lists_of rows.new)) limit place result }
 {
-    set_number(rows, 0, place, costs[places]);
-    set_end(ends, 0, place, places);
+    let mut here = alike;
+    let mut above = (costs[places], places);
+    set_number(rows, 0, place, above.0);
+    set_end(ends, 0, place, above.1);
     for k in 1..limit {
         // mostly the end is that of the next place, or near it
         let hint = end_at(&ends[k], place + 1);
-        let (number, end) = least_end_in(costs, &rows[k - 1], slack, bounds, k, place, hint);
-        set_number(rows, k, place, number);
-        set_end(ends, k, place, end);
+        let found = least_end_in(
+            costs,
+            &rows[k - 1],
+            slack,
+            bounds,
+            k,
+            place,
+            hint,
+            alike,
+            above,
+        );
+        set_number(rows, k, place, found.0);
+        set_end(ends, k, place, found.1);
+        here = alike_with(here, k, found.0, above.0);
+        above = found;
     }
+    here
+}
+
+// from which row on all are alike, up to row k too
+fn alike_with(alike: usize, k: usize, number: u64, above: u64) -> usize
+    requires { k < 2 ^ 16 }
+    ensures order { alike ≤ result }
+    ensures same { result ≤ k → number ≡ above }
+{
+    if number == above {
+        return alike;
+    }
+    alike.max(k + 1)
 }
 
 // the end at a place, and 0 past the last one
@@ -49,7 +81,8 @@ fn end_at(ends: &[usize], place: usize) -> usize
     ends.get(place).copied().unwrap_or(0)
 }
 
-// the least cost of a place over its ends, with the first end that has it, by the bounds of one row
+// The least cost of a place over its ends, with the first end that has it, by the bounds of one row. Where that row and the one before it are
+// alike, it is what was found for the one before.
 fn least_end_in(
     costs: &[u64],
     before: &[u64],
@@ -58,6 +91,8 @@ fn least_end_in(
     k: usize,
     place: usize,
     hint: usize,
+    alike: usize,
+    above: (u64, usize),
 ) -> (u64, usize)
     requires row { k < length bounds.old }
     requires costs { AreCostsFrom (length before.now) place costs.now }
@@ -65,14 +100,16 @@ fn least_end_in(
     requires slack { IsSlack (length before.now) slack.now }
     requires bounds { let its = slice_index_or (lists_of bounds.old) k [] in
         AreBounds costs.now slack.now place (length before.now) (slice_index before.now) its }
+    requires above { alike < k → IsLeastOf costs.now before.now place above.0 above.1 }
     ensures others { (m : ℕ) → m ≢ k
         → slice_index_or (lists_of bounds.new) m [] ≡ slice_index_or (lists_of bounds.old) m [] }
     ensures bounds { let its = slice_index_or (lists_of bounds.new) k [] in
         AreBounds costs.now slack.now place (length before.now) (slice_index before.now) its }
-    ensures least { IsLeastEnd (end_cost costs.now (slice_index before.now)) place (length before.now) result.1 }
-    ensures value { result.0 ≡ end_cost costs.now (slice_index before.now) result.1 }
-    ensures small { result.0 ≤ slice_index costs.now (length before.now) }
+    ensures least { IsLeastOf costs.now before.now place result.0 result.1 }
 {
+    if alike < k {
+        return above;
+    }
     least_end(costs, before, slack, &mut bounds[k], place, hint)
 }
 

@@ -4,9 +4,10 @@ ghost use Rattle.clap.specs.Words.{new_app};
 ghost use Rattle.command_words.specs.AcceptedWords.{HasWords};
 ghost use Rattle.command_words.specs.Options.{with_option};
 
-use crate::options::NumberOption;
+use crate::option_table::number_option;
 use clap::Command;
 use std::alloc::{AllocError, Global};
+use tool_call::OptionName;
 
 /// What a command does.
 #[derive(Clone, Copy)]
@@ -32,14 +33,14 @@ impl Words {
     pub fn command<'a>(
         &self,
         alloc: Global,
-        options: &[NumberOption],
+        options: &[OptionName],
         after: &'static str,
     ) -> Result<Command<'a>, AllocError>
         ensures { IfOk result (λ command. HasWords command (fold with_option (new_app self.now.name.now) options.now)) }
     {
         let mut command = self.without_options(alloc, after);
         for option in options {
-            command = command.arg(option.arg(alloc))?;
+            command = command.arg(number_option(*option).arg(alloc))?;
         }
         Ok(command)
     }

@@ -1,9 +1,31 @@
 //! Calls of the engines, so that one table runs them all.
 use super::streams::{sink, source};
 use super::support::{ended, same};
-use mte_engine::{ByteSink, ByteSource, Call, Status, ToolFault, run_call, run_call_on};
+use mte_engine::{ByteSink, ByteSource, Call, Options, Status, ToolFault, run_call, run_call_on};
 use std::process::Abort;
 use std::test::Fail;
+
+/// The options of the tests: the program's own, on a heap of 64 granules that holds back no block.
+pub const OPTIONS: Options = Options {
+    granules: 64,
+    quarantine: 0,
+    ..Options::DEFAULTS
+};
+
+// the call of a command with these options, and some others
+macro_rules! call {
+    ($command:ident $(, $option:ident: $number:expr)*) => {
+        mte_engine::Call {
+            command: mte_engine::CommandName::$command,
+            options: mte_engine::Options {
+                $($option: $number,)*
+                ..crate::tests::calls::OPTIONS
+            },
+        }
+    };
+}
+
+pub(crate) use call;
 
 /// Runs a call whose options are in their ranges.
 pub fn call_on<R: ByteSource, W: ByteSink>(
@@ -42,7 +64,7 @@ pub fn answers_on(
     wanted: &str,
 ) -> Result<(), Fail> {
     assert!(rt; call.is_valid());
-    assert!(rt; call.has_two_texts());
+    assert!(rt; call.command.has_two_texts());
     let mut to = sink(rt.alloc())?;
     let end = run_call_on(call, rt.alloc(), first, &mut source(input), &mut to);
     let ends = ended(rt.alloc(), end)?;

@@ -9,6 +9,7 @@ ghost use Rattle.tuner_theory.specs.Timelines.{IsTimeline};
 use crate::timelines::line::LARGE_SIZE;
 use crate::timelines::live::{counted, event_size};
 use class_table::{ClassTable, FEWEST_GRANULES, LARGEST_COUNTED, Layout};
+use profile_count::no_counts;
 use std::alloc::{AllocError, Global};
 use tuner_theory::SizeEvent;
 
@@ -192,7 +193,7 @@ fn note(most: &mut [u32], firsts: &mut [usize], number: usize, live: u32, moment
 pub(crate) fn zeros(alloc: Global, n: usize) -> Result<Vec<u32>, AllocError>
     ensures { IfOk result (λ counts. counts.items ≡ replicate n 0) }
 {
-    vec![in alloc; 0u32; n]
+    no_counts(alloc, n)
 }
 
 /// The same mark for this many sizes. The only error is that the allocator refuses memory.

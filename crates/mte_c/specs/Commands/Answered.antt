@@ -22,7 +22,7 @@ IsAnswered answers input Misuse text = ⊥
 -- are the pieces of one.
 abbrev pub IsAnsweredTo : Call → List ℕ → List ℕ → Ended → List ℕ → Type 0
 IsAnsweredTo call held input ended text =
-    MatchBool (has_two_texts call) (IsAnswered (answers_on call held) input ended text)
+    MatchBool (has_two_texts call.command) (IsAnswered (answers_on call held) input ended text)
     (IsAnswered (answers_of call) (held ++ input) ended text)
 
 -- A call that tests its options first. If they are out of their ranges, it says so, and leaves no text.

@@ -1,6 +1,6 @@
 -- The call that a caller from C passes.
 use Rattle.std.specs.Prelude.{ℕ, List, [], ◌∷◌, slice_get, Option, option_map}
-use Rattle.tool_call.specs.{Options.{call_of}, declared.call.Call.{Call}, declared.call.CommandName.{CommandName}}
+use Rattle.tool_call.specs.declared.call.{Call.{Call}, CommandName.{CommandName}}
 use Rattle.tool_call.specs.declared.call.CommandName.TheVariants.{Score, Tune, Check, Footprint, Fit, CheckFit, Peaks, Profile, Replay, Run}
 use Rattle.tool_call.specs.declared.options.Options.{Options}
 
@@ -8,6 +8,6 @@ use Rattle.tool_call.specs.declared.options.Options.{Options}
 abbrev pub commands : List CommandName
 commands = Score ∷ Tune ∷ Check ∷ Footprint ∷ Fit ∷ CheckFit ∷ Profile ∷ Replay ∷ Run ∷ Peaks ∷ []
 
--- The call of the command of this number, with those of the options that are its own.
+-- The call of the command of this number, with these options.
 abbrev pub call_numbered : Options → ℕ → Option Call
-call_numbered options number = option_map (λ name. call_of name options) (slice_get commands number)
+call_numbered options number = option_map (λ name. record { command = name; options = options }) (slice_get commands number)

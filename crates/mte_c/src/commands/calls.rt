@@ -25,7 +25,7 @@ pub fn call(alloc: Global, call: Call, input: &[u8], text: &mut HandedText) -> E
     if !call.is_valid() {
         return Ended::BadOption;
     }
-    if call.has_two_texts() {
+    if call.command.has_two_texts() {
         return call_texts(alloc, call, first, input, text);
     }
     call_parts(alloc, call, first, input, text)
@@ -40,7 +40,7 @@ fn call_texts(
     text: &mut HandedText,
 ) -> Ended
     requires valid { IsValid call }
-    requires two { has_two_texts call ≡ true }
+    requires two { has_two_texts call.command ≡ true }
     ensures answer { IsAnswered (answers_on call first.items) input.now result (bytes_of text.new) }
     ensures left { IsLeft text.new }
 {

@@ -136,11 +136,7 @@ module _ (counts : List ℕ) (step : ℕ) (is_step : IsStep step) where
     -- a size whose rounded need is the last one already
     pub place-same : last_need needs ≡ rounded_need step n → IsBuilt counts step n needs counted bytes total total_bytes
         → HasPlace counts step n needs counted bytes total total_bytes
-    place-same last b =
-        grind (arith, some_place, with_need-in, last-in)
-      where
-        some_place : (xs : List ℕ) → 0 < last_need xs → 0 < length xs
-        some_place xs is = grind arith
+    place-same last b = grind (arith, with_need-in, last-in)
 
     -- a size with a new rounded need
     pub place-new : (last_need needs ≡ rounded_need step n → ⊥) → IsBuilt counts step n needs counted bytes total total_bytes

@@ -1,6 +1,6 @@
 -- Bounds of blocks of ends, from row to row and from place to place.
-use Rattle.std.proofs.Common.{◌≡◌, ◌≢◌, ℕ, ◌+◌, ◌*◌, ◌/◌, ◌<◌, ◌≤◌, List, [], length, slice_index, slice_index_or, slice_set, arith, ap}
-use Rattle.std.{proofs.Common.{◌∙◌, inl, inr, Vec}, proofs.lemmas.Bool.{cases_eq, cases_lt}, specs.declared.alloc.Global.{Global}}
+use Rattle.std.proofs.Common.{◌≡◌, ◌≢◌, ℕ, ◌+◌, ◌/◌, ◌<◌, ◌≤◌, List, [], length, slice_index, slice_index_or, slice_set, arith, ap}
+use Rattle.std.{proofs.Common.{◌∙◌, Vec}, proofs.lemmas.Bool.{cases_eq, cases_lt}, specs.declared.alloc.Global.{Global}}
 use Rattle.std.proofs.lemmas.List.{get_or-replicate, get_or-set_other, get_or-set_same, length-replicate, length-set, map-set}
 use Rattle.potential_check.specs.Footprints.Bounds.{AreBounds, AreRowBounds, AreZeros, IsNarrowed, IsSlack}
 use Rattle.potential_check.specs.declared.footprints.slack.TheConstants.{BLOCK}
@@ -11,82 +11,37 @@ module _ (costs slack : List ℕ) (place d : ℕ) where
   pub bounds-set : (before : ℕ → ℕ) (bounds : List ℕ) (b v : ℕ) → place / BLOCK < b → b < length bounds
       → ((j : ℕ) → j / BLOCK ≡ b → j < d → v ≤ slice_index costs j + before j + slice_index slack b)
       → AreBounds costs slack place d before bounds → AreBounds costs slack place d before (slice_set bounds b v)
-  bounds-set before bounds b v after within le are = record {
-    long = omega (arith, are.long, ap (λ n. BLOCK * n) (length-set bounds b v));
-    below = λ j past to. elim (cases_eq (j / BLOCK) b) [
-      | inl here ↦ (let set = ap (λ (m : ℕ). slice_index (slice_set bounds b v) m) here ∙ get_or-set_same bounds b v 0 within in
-          omega (arith, set, le j here to, ap (slice_index slack) here))
-      | inr other ↦ omega (arith, get_or-set_other bounds b (j / BLOCK) v 0 other, are.below j past to)
-    ];
-    none = λ m le. get_or-set_other bounds b m v 0 (λ e. omega (arith, e)) ∙ are.none m le;
-  }
+  bounds-set before bounds b v after within le are = grind (arith, length-set, cases_eq, get_or-set_same, get_or-set_other)
 
   -- what a row has at the place and before it does not matter
   pub bounds-same : (f g : ℕ → ℕ) (bounds : List ℕ) → ((j : ℕ) → place < j → f j ≡ g j) → AreBounds costs slack place d f bounds
       → AreBounds costs slack place d g bounds
-  bounds-same f g bounds same are = record {
-    long = are.long;
-    below = λ j past to. omega (arith, same j past, are.below j past to);
-    none = are.none;
-  }
+  bounds-same f g bounds same are = grind arith
 
   pub row_bounds-same : (limit : ℕ) (f g : ℕ → ℕ → ℕ) (bounds : List (List ℕ)) → ((k j : ℕ) → place < j → f k j ≡ g k j)
       → AreRowBounds costs slack place d limit f bounds → AreRowBounds costs slack place d limit g bounds
-  row_bounds-same limit f g bounds same are = record {
-    size = are.size;
-    each = λ k one lt. bounds-same (f k) (g k) (slice_index_or bounds k []) (same k) (are.each k one lt);
-  }
+  row_bounds-same limit f g bounds same are = grind (arith, bounds-same)
 
   -- the bounds of one row
   pub row_bounds-set : (limit : ℕ) (rows : ℕ → ℕ → ℕ) (bounds new : List (List ℕ)) (k : ℕ) → length new ≡ length bounds
       → ((m : ℕ) → m ≢ k → slice_index_or new m [] ≡ slice_index_or bounds m [])
       → AreBounds costs slack place d (rows k) (slice_index_or new k [])
       → AreRowBounds costs slack place d limit rows bounds → AreRowBounds costs slack place d limit rows new
-  row_bounds-set limit rows bounds new k size others row are = record {
-    size = size ∙ are.size;
-    each = λ m one lt. elim (cases_eq m k) [
-      | inl here ↦ rw here row
-      | inr other ↦ rw (others m other) (are.each m one lt)
-    ];
-  }
+  row_bounds-set limit rows bounds new k size others row are = grind (arith, cases_eq)
 
 -- from a place to the one before it
 pub row_bounds-next : (older costs old new : List ℕ) (place d limit : ℕ) (rows : ℕ → ℕ → ℕ) (bounds : List (List ℕ))
     → IsNarrowed older costs place d old new → AreRowBounds older old (place + 1) d limit rows bounds
     → AreRowBounds costs new place d limit rows bounds
-row_bounds-next older costs old new place d limit rows bounds narrowed are = record { size = are.size; each = each }
-  where
-    each : (k : ℕ) → 1 ≤ k → k < limit → AreBounds costs new place d (rows k) (slice_index_or bounds k [])
-    each k one lt =
-        let row = are.each k one lt in
-        record {
-          long = row.long;
-          below = λ j past to. elim (cases_lt (place + 1) j) [
-            | inl after ↦ omega (arith, row.below j after to, narrowed.grown j after to)
-            | inr not ↦ (let here : j ≡ place + 1 = omega arith in
-                omega (arith, row.none (j / BLOCK) (omega (arith, ap (λ (n : ℕ). n / BLOCK) here))))
-          ];
-          none = λ b le. row.none b (omega arith);
-        }
+row_bounds-next older costs old new place d limit rows bounds narrowed are = grind (arith, cases_lt)
 
 pub slack-narrowed : (older costs old new : List ℕ) (place d : ℕ) → IsNarrowed older costs place d old new → IsSlack d old → IsSlack d new
-slack-narrowed older costs old new place d narrowed is = record {
-  long = omega (arith, is.long, ap (λ n. BLOCK * n) narrowed.size);
-  small = λ b. omega (arith, narrowed.less b, is.small b);
-}
+slack-narrowed older costs old new place d narrowed is = grind arith
 
 -- no bounds, at the end of all places
 pub row_bounds-none : (costs slack : List ℕ) (d limit : ℕ) (rows : ℕ → ℕ → ℕ) (bounds : List (List ℕ)) → AreZeros limit (d / BLOCK + 1) bounds
     → AreRowBounds costs slack d d limit rows bounds
-row_bounds-none costs slack d limit rows bounds zeros = record { size = zeros.size; each = each }
-  where
-    each : (k : ℕ) → 1 ≤ k → k < limit → AreBounds costs slack d d (rows k) (slice_index_or bounds k [])
-    each k one lt =
-        rw (zeros.each k lt) (record {
-          long = omega (arith, length-replicate {A = ℕ} (d / BLOCK + 1) 0);
-          below = λ j past to. absurd (omega arith);
-          none = λ b le. get_or-replicate (d / BLOCK + 1) b 0 0 (omega arith);
-        })
+row_bounds-none costs slack d limit rows bounds zeros = grind (arith, length-replicate, get_or-replicate)
 
 -- ---- one vector of vectors with other items
 
@@ -98,6 +53,4 @@ module _ (vs : List (Vec ℕ Global)) (k : ℕ) (v : Vec ℕ Global) (xs : List 
   row-others m other = ap (λ (l : List (List ℕ)). slice_index_or l m []) row-set ∙ get_or-set_other (lists_of vs) k m xs [] other
 
   pub row-same : k < length vs → slice_index_or (lists_of (slice_set vs k v)) k [] ≡ xs
-  row-same lt =
-      ap (λ (l : List (List ℕ)). slice_index_or l k []) row-set
-      ∙ get_or-set_same (lists_of vs) k xs [] (omega (arith, lists-length vs, lt))
+  row-same lt = grind (arith, row-set, get_or-set_same, lists-length)

@@ -1,6 +1,7 @@
 -- The conditions on rows, one more row and one more place.
 use Rattle.std.proofs.Common.{◌≡◌, ℕ, suc, ◌+◌, ◌-◌, ◌<◌, ◌≤◌, List, [], length, slice_index, slice_index_or, arith, ap, sym, ◌∙◌, ◌↔◌}
 use Rattle.std.proofs.{Common.{IsTrue, inl, inr}, lemmas.Bool.{cases_lt}}
+use Rattle.potential_check.specs.Footprints.AlikeRows.{AreAlikeFrom}
 use Rattle.potential_check.specs.Footprints.RowConditions.{AreBoth, AreRowTests, AreTestsAt, AreTestsFrom, DropsHoldAt, DropsHoldFrom}
 use Rattle.potential_check.specs.Footprints.RowConditions.{EdgeHoldsAt, EdgesHoldAt, EdgesHoldFrom, LastHoldsFrom}
 use Rattle.potential_check.specs.declared.measured.RowTests.{RowTests}
@@ -22,6 +23,20 @@ module _ (costs : List ℕ) (rows : List (List ℕ)) (d i k number : ℕ) (befor
   pub edges-one : (stop : ℕ) → k < stop → EdgesHoldAt costs rows d i stop → EdgeHoldsAt costs before number i
   edges-one stop lt all = grind arith
 
+-- a row that has the numbers of the row before it has its edges
+pub edges-again : (costs : List ℕ) (rows : List (List ℕ)) (d i k m number above alike : ℕ) (before : List ℕ) → k ≡ suc m → alike < k
+    → k < length rows → AreAlikeFrom (number_at rows) (length rows) (i + 1) alike → number ≡ above → above ≡ number_at rows k i
+    → before ≡ slice_index_or rows (k - 1) [] → length before ≡ d → EdgesHoldAt costs rows d i k → EdgeHoldsAt costs before number i
+edges-again costs rows d i k m number above alike before is after lt alike_are same of read size held = record {
+  each = λ j past to.
+      let edge = held.each m j (omega (arith, alike_are.some)) (omega arith) past (omega arith) in
+      let both = alike_are.each m j (omega arith) (omega arith) (omega arith) in
+      let here : above ≡ number_at rows (suc m) i = of ∙ ap (λ (n : ℕ). number_at rows n i) is in
+      let there : slice_index before j ≡ number_at rows (suc m) j =
+      ap (λ (row : List ℕ). slice_index row j) read ∙ ap (λ (n : ℕ). number_at rows n j) is in
+      omega (arith, edge, both, here, there);
+}
+
 -- ---- one place more
 
 module _ (A B C : Type 0) (a b c : Type 0) (old : a ↔ A) (new : b ↔ B) (both : c ↔ (a × b)) where
@@ -29,12 +44,7 @@ module _ (A B C : Type 0) (a b c : Type 0) (old : a ↔ A) (new : b ↔ B) (both
   one-more make left right = grind arith
 
 drops-more : (d i : ℕ) (rows : List (List ℕ)) → DropsHoldFrom d rows (i + 1) → DropsHoldAt rows i (length rows) → DropsHoldFrom d rows i
-drops-more d i rows old new = record {
-  each = λ m from lt. elim (cases_lt i m) [
-    | inl after ↦ old.each m (omega arith) lt
-    | inr not ↦ (let here : m ≡ i = omega arith in rw here new)
-  ];
-}
+drops-more d i rows old new = grind (arith, cases_lt)
 
 edges-place : (cost : ℕ → ℕ → ℕ) (costs : List ℕ) (d i : ℕ) (rows : List (List ℕ))
     → ((j : ℕ) → i < j → j ≤ d → slice_index costs j ≡ cost i j) → EdgesHoldFrom cost d rows (i + 1)
@@ -51,22 +61,10 @@ module _ (cost : ℕ → ℕ → ℕ) (costs : List ℕ) (d i : ℕ) (rows : Lis
     (are : (j : ℕ) → i < j → j ≤ d → slice_index costs j ≡ cost i j) (a b c : Type 0) where
   last-both : (a ↔ LastHoldsFrom cost d rows (i + 1)) → (b ↔ (number_at rows 1 i ≤ cost i d)) → (c ↔ (a × b))
       → c ↔ LastHoldsFrom cost d rows i
-  last-both old new both =
-      one-more _ _ _ a b c old new both
-      (λ h this. record {
-        each = λ m from lt. elim (cases_lt i m) [
-          | inl after ↦ h.each m (omega arith) lt
-          | inr not ↦ (let here : m ≡ i = omega arith in rw here this)
-        ];
-      })
-      (λ h. record { each = λ m from lt. h.each m (omega arith) lt })
-      (λ h. h.each i (omega arith) within)
+  last-both old new both = grind (arith, one-more, cases_lt)
 
   drops-both : (a ↔ DropsHoldFrom d rows (i + 1)) → (b ↔ DropsHoldAt rows i (length rows)) → (c ↔ (a × b)) → c ↔ DropsHoldFrom d rows i
-  drops-both old new both =
-      one-more _ _ _ a b c old new both (drops-more d i rows)
-      (λ h. record { each = λ m from lt. h.each m (omega arith) lt })
-      (λ h. h.each i (omega arith) within)
+  drops-both old new both = grind (arith, one-more, drops-more)
 
   edges-both : (a ↔ EdgesHoldFrom cost d rows (i + 1)) → (b ↔ EdgesHoldAt costs rows d i (length rows)) → (c ↔ (a × b))
       → c ↔ EdgesHoldFrom cost d rows i
@@ -89,11 +87,7 @@ tests-both cost costs d i rows old at both within are from here each = record {
 
 pub tests-at_end : (cost : ℕ → ℕ → ℕ) (d : ℕ) (rows : List (List ℕ)) (tests : RowTests) → IsTrue tests.last_class → IsTrue tests.stage_drop
     → IsTrue tests.edge → AreTestsFrom cost d rows d tests
-tests-at_end cost d rows tests last drop edge = record {
-  last_class = ((λ _. record { each = λ m from lt. absurd (omega arith) }), (λ _. last));
-  stage_drop = ((λ _. record { each = λ m from lt. absurd (omega arith) }), (λ _. drop));
-  edge = ((λ _. record { each = λ m k j from one few mj le. absurd (omega arith) }), (λ _. edge));
-}
+tests-at_end cost d rows tests last drop edge = grind arith
 
 pub tests-at_start : (cost : ℕ → ℕ → ℕ) (d i : ℕ) (rows : List (List ℕ)) (tests : RowTests) → i ≡ 0 → AreTestsFrom cost d rows i tests
     → AreRowTests cost d rows tests
@@ -114,7 +108,4 @@ tests-at_start cost d i rows tests all are = record {
 pub costs-grow : (cost : ℕ → ℕ → ℕ) (d i next : ℕ) (older from : List ℕ) → i + 1 ≡ next → IsGrowing cost d
     → ((j : ℕ) → next < j → j ≤ d → slice_index older j ≡ cost next j) → ((j : ℕ) → i < j → j ≤ d → slice_index from j ≡ cost i j)
     → (j : ℕ) → i + 1 < j → j ≤ d → slice_index older j ≤ slice_index from j
-costs-grow cost d i next older from is grows old new j after le =
-    let past : next < j = omega (arith, is, after) in
-    let wider = grows i next j j (omega (arith, is)) past (omega arith) le in
-    omega (arith, old j past le, new j (omega (arith, after)) le, wider)
+costs-grow cost d i next older from is grows old new j after le = grind (arith, next)

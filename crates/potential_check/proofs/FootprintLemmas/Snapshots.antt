@@ -1,6 +1,6 @@
 -- Sums up to places, and the most blocks of intervals.
 use Rattle.std.proofs.Common.{◌≡◌, ℕ, zero, suc, ◌+◌, ◌-◌, ◌*◌, ◌^◌, ◌<◌, ◌≤◌, ◌&&◌, max, List, [], ◌∷◌, length, slice_index}
-use Rattle.std.proofs.{Common.{slice_index_or, slice_set, cond, ltb, leb, arith, ap, refl, ◌∙◌, take, inl, inr}, lemmas.Bool.{cases_lt}}
+use Rattle.std.proofs.{Common.{slice_index_or, slice_set, cond, ltb, leb, arith, refl, take}, lemmas.Bool.{cases_lt}}
 use Rattle.std.proofs.lemmas.{Bool.Decides.{nat_tests}, Grind.{common_steps}, List.{get_or-set_other, get_or-set_same, length-set}}
 use Rattle.class_table.specs.declared.sizes.TheConstants.{MOST_NEEDS}
 use Rattle.potential_check.specs.Footprints.SnapshotSums.{AreMostBlocks, AreMostIn, AreScaled, AreSumsAt, AreWritten, HoldsSnapshots}
@@ -44,47 +44,18 @@ take-all xs t is = grind (arith, common_steps)
 pub raised-more : (rows : List (List ℕ)) (i start j x : ℕ) (old numbers : List ℕ) → start ≤ j → j - start < length numbers
     → x ≡ raised_to rows i j (slice_index numbers (j - start)) → IsRaisedBy rows i start j old numbers
     → IsRaisedBy rows i start (j + 1) old (slice_set numbers (j - start) x)
-raised-more rows i start j x old numbers from within value raised = record {
-  size = length-set numbers (j - start) x ∙ raised.size;
-  raised = λ m past to. elim (cases_lt m j) [
-    | inl before ↦ get_or-set_other numbers (j - start) (m - start) x 0 (λ e. omega (arith, e)) ∙ raised.raised m past before
-    | inr not ↦ (let here : m ≡ j = omega arith in
-        rw here
-        (get_or-set_same numbers (j - start) x 0 within
-        ∙ (value ∙ ap (raised_to rows i j) (raised.kept (j - start) (omega arith)))))
-  ];
-  kept = λ m past. get_or-set_other numbers (j - start) m x 0 (λ e. omega (arith, e)) ∙ raised.kept m (omega arith);
-}
+raised-more rows i start j x old numbers from within value raised = grind (arith, length-set, cases_lt, get_or-set_other, get_or-set_same)
 
 -- Rows of sums, from that of snapshot t on.
 abbrev pub AreRowsFrom : List (List ℕ) → ℕ → List (List ℕ) → Type 0
 AreRowsFrom sums t [] = Unit {0}
 AreRowsFrom sums t (row ∷ rows) = (row ≡ slice_index_or sums t []) × AreRowsFrom sums (t + 1) rows
 
-module _ (sums : List (List ℕ)) (t : ℕ) where
-  on : (n m : ℕ) (row : List ℕ) → n ≡ m → row ≡ slice_index_or sums n [] → row ≡ slice_index_or sums m []
-  on n m row e is = is ∙ ap (λ k. slice_index_or sums k []) e
-
-  pub eight-rows : (a b c d e f g h : List ℕ) → a ≡ slice_index_or sums t [] → b ≡ slice_index_or sums (t + 1) []
-      → c ≡ slice_index_or sums (t + 2) [] → d ≡ slice_index_or sums (t + 3) [] → e ≡ slice_index_or sums (t + 4) []
-      → f ≡ slice_index_or sums (t + 5) [] → g ≡ slice_index_or sums (t + 6) [] → h ≡ slice_index_or sums (t + 7) []
-      → AreRowsFrom sums t (a ∷ b ∷ c ∷ d ∷ e ∷ f ∷ g ∷ h ∷ [])
-  eight-rows a b c d e f g h a_is b_is c_is d_is e_is f_is g_is h_is = (
-    a_is,
-    (
-      b_is,
-      (
-        on _ _ c (omega arith) c_is,
-        (
-          on _ _ d (omega arith) d_is,
-          (
-            on _ _ e (omega arith) e_is,
-            (on _ _ f (omega arith) f_is, (on _ _ g (omega arith) g_is, (on _ _ h (omega arith) h_is, tt))),
-          ),
-        ),
-      ),
-    ),
-  )
+pub eight-rows : (sums : List (List ℕ)) (t : ℕ) → {a b c d e f g h : List ℕ} → a ≡ slice_index_or sums t []
+    → b ≡ slice_index_or sums (t + 1) [] → c ≡ slice_index_or sums (t + 2) [] → d ≡ slice_index_or sums (t + 3) []
+    → e ≡ slice_index_or sums (t + 4) [] → f ≡ slice_index_or sums (t + 5) [] → g ≡ slice_index_or sums (t + 6) []
+    → h ≡ slice_index_or sums (t + 7) [] → AreRowsFrom sums t (a ∷ b ∷ c ∷ d ∷ e ∷ f ∷ g ∷ h ∷ [])
+eight-rows sums t a_is b_is c_is d_is e_is f_is g_is h_is = grind arith
 
 module _ (snapshots : List (List ℕ)) (counts : List ℕ) (step : ℕ) (sums : List (List ℕ))
     (holds : HoldsSnapshots snapshots counts step sums) where
@@ -117,14 +88,7 @@ module _ (snapshots : List (List ℕ)) (counts : List ℕ) (step : ℕ) (sums : 
   -- what a snapshot's sums grow by
   grown : (i t : ℕ) (row : List ℕ) → t < length snapshots → row ≡ slice_index_or sums t [] → (j : ℕ) → i < j → j ≤ places counts step
       → slice_index row j - slice_index row i ≡ blocks_between step (need_at counts step i) (need_at counts step j) (slice_index_or snapshots t [])
-  grown i t row lt is j after le =
-      let are = holds.sums_are.each t lt in
-      rw is (omega (
-        arith,
-        are.sums_are i (omega arith),
-        are.sums_are j le,
-        blocks-sums step (need_at counts step i) (need_at counts step j) (slice_index_or snapshots t []) (needs-up i j after le),
-      ))
+  grown i t row lt is j after le = grind (arith, blocks-sums, needs-up)
 
   -- raised by the rows of snapshots in a row
   most-raised_by : (i j : ℕ) → i < j → j ≤ places counts step → (rows : List (List ℕ)) (t : ℕ) → t + length rows ≤ length snapshots
@@ -143,26 +107,17 @@ module _ (snapshots : List (List ℕ)) (counts : List ℕ) (step : ℕ) (sums : 
   pub most-raised_in : (i start stop t : ℕ) (rows : List (List ℕ)) (old new : List ℕ) → i < start → stop ≤ places counts step + 1
       → t + length rows ≤ length snapshots → AreRowsFrom sums t rows → AreMostIn snapshots counts step i start stop t old
       → IsRaisedBy rows i start stop old new → AreMostIn snapshots counts step i start stop (t + length rows) new
-  most-raised_in i start stop t rows old new after within fit are before raised = record {
-    numbers_are = λ j from to.
-        raised.raised j from to
-        ∙ (ap (raised_to rows i j) (before.numbers_are j from to)
-        ∙ most-raised_by i j (omega arith) (omega arith) rows t fit are);
-  }
+  most-raised_in i start stop t rows old new after within fit are before raised = grind (arith, most-raised_by)
 
   -- at all snapshots
   pub most-all_in : (i start stop j : ℕ) (numbers : List ℕ) → start ≤ j → j < stop
       → AreMostIn snapshots counts step i start stop (length snapshots) numbers
       → slice_index numbers (j - start) ≡ most (blocks_between step (need_at counts step i) (need_at counts step j)) snapshots
-  most-all_in i start stop j numbers from to are =
-      are.numbers_are j from to
-      ∙ ap (most (blocks_between step (need_at counts step i) (need_at counts step j))) (take-all snapshots (length snapshots) refl)
+  most-all_in i start stop j numbers from to are = grind (arith, take-all)
 
   pub sums-at : (t : ℕ) (row : List ℕ) → t < length snapshots → row ≡ slice_index_or sums t []
       → AreSumsAt snapshots counts step sums t row
-  sums-at t row lt is =
-      let size = ap length is ∙ sums-size t lt in
-      record { within = lt; read = is; size = size; ascend = λ i j after le. rw is (sums-ascend t i j lt after (omega (arith, le, size))) }
+  sums-at t row lt is = grind (arith, sums-size, sums-ascend)
 
   pub most-all : (i t : ℕ) (numbers : List ℕ) → t ≡ length snapshots → AreMostBlocks snapshots counts step i t numbers
       → AreScaled snapshots counts step i (i + 1) numbers
@@ -196,13 +151,9 @@ module _ (snapshots : List (List ℕ)) (counts : List ℕ) (step : ℕ) (sums : 
   -- one place more
   pub scaled-more : (i j w : ℕ) (numbers : List ℕ) → AreScaled snapshots counts step i j numbers → i < j → j ≤ places counts step
       → w ≡ slice_index numbers j * (16 * need_at counts step j) → AreScaled snapshots counts step i (j + 1) (slice_set numbers j w)
-  scaled-more i j w numbers are ij le product =
-      let is = product-is i j w (slice_index numbers j) ij le (others-at i j numbers are ij le) product in
-      grind (arith, length-set, get_or-set_other, get_or-set_same)
+  scaled-more i j w numbers are ij le product = grind (arith, product-is, others-at, length-set, get_or-set_other, get_or-set_same)
 
   pub written-more : (i j w m : ℕ) (numbers : List ℕ) → AreWritten snapshots counts step i j numbers → i < j → j ≤ places counts step
       → m ≡ most (blocks_between step (need_at counts step i) (need_at counts step j)) snapshots
       → w ≡ m * (16 * need_at counts step j) → AreWritten snapshots counts step i (j + 1) (slice_set numbers j w)
-  written-more i j w m numbers are ij le blocks product =
-      let is = product-is i j w m ij le blocks product in
-      grind (arith, length-set, get_or-set_other, get_or-set_same)
+  written-more i j w m numbers are ij le blocks product = grind (arith, product-is, length-set, get_or-set_other, get_or-set_same)

@@ -50,18 +50,7 @@ sums-none column cuts = record { size = refl; none = refl; each = λ q lt. absur
 
 pub sums-more : (column cuts : List ℕ) (p total : ℕ) (sums : List ℕ) → AreSumsBefore column cuts p sums
     → total ≡ sum_below (slice_index column) (slice_index cuts p) → AreSumsBefore column cuts (p + 1) (sums ++ total ∷ [])
-sums-more column cuts p total sums before is = record {
-  size = omega (arith, before.size, length-append sums (total ∷ []));
-  none = get_or_append_left sums (total ∷ []) 0 0 (omega (arith, before.size)) ∙ before.none;
-  each = λ q lt. at q lt (cases_lt q p);
-}
-  where
-    at : (q : ℕ) → q < p + 1 → ((q < p) ⊎ (p ≤ q)) → slice_index (sums ++ total ∷ []) (q + 1) ≡ sum_below (slice_index column) (slice_index cuts q)
-    at q lt (inl below) = get_or_append_left sums (total ∷ []) 0 (q + 1) (omega (arith, before.size)) ∙ before.each q below
-    at q lt (inr past) =
-        let same : q ≡ p = omega arith in
-        let end : p + 1 ≡ length sums = sym before.size in
-        rw (same, end) (get_or-append_seam sums total [] 0 ∙ is)
+sums-more column cuts p total sums before is = grind (arith, length-append, get_or_append_left, cases_lt, get_or-append_seam)
 
 -- ---- cuts
 
@@ -92,9 +81,7 @@ module _ (snapshot sizes column counts cuts sums : List ℕ) (step : ℕ) (is_st
     (are : AreCounts snapshot) (sizes_are : AreSizes sizes) (counted : CountsSizes snapshot sizes column)
     (cuts_are : AreCuts sizes counts step cuts) (sums_are : AreColumnSums column cuts sums) where
   at : (i : ℕ) → i ≤ places counts step → slice_index sums i ≡ counted_up_to snapshot step (need_at counts step i)
-  at zero le =
-      sums_are.none
-      ∙ sym (counted-cut snapshot step (step-positive step is_step) 0 (inl refl) (omega arith) ∙ sum_below-none (slice_index snapshot))
+  at zero le = grind (arith, counted-cut, step-positive, sum_below-none)
   at (suc p) le =
       let place : p + 1 ≡ suc p = omega arith in
       let need = need_at counts step (p + 1) in

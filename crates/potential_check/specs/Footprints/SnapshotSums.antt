@@ -46,6 +46,11 @@ abbrev pub raised_to : List (List ℕ) → ℕ → ℕ → ℕ → ℕ
 raised_to [] i j x = x
 raised_to (row ∷ rows) i j x = raised_to rows i j (max x (slice_index row j - slice_index row i))
 
+-- Rows that go up to below `stop`, and whose sums after place i are not below that at it.
+abbrev pub MayRaise : List (List ℕ) → ℕ → ℕ → Type 0
+MayRaise [] i stop = Unit {0}
+MayRaise (row ∷ rows) i stop = ((stop ≤ length row) × Ascends row i) × MayRaise rows i stop
+
 -- The numbers are those of the places from `start` on. Up to below `stop` they are raised to what the rows grow from place i on.
 pub record IsRaisedBy (rows : List (List ℕ)) (i start stop : ℕ) (old new : List ℕ) : Type 0 where
   pub size : length new ≡ length old

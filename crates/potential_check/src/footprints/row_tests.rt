@@ -1,6 +1,7 @@
 //! The conditions on the rows of a certificate over any source of costs.
 ghost use Rattle.std.specs.Prelude.{◌≡◌, ◌≢◌, ◌↔◌, ℕ, ◌+◌, ◌-◌, ◌^◌, ◌<◌, ◌≤◌, [], length, slice_index, slice_index_or};
 ghost use Rattle.std.specs.Prelude.{IfOk, IsTrue, OnErr, OnOk};
+ghost use Rattle.potential_check.specs.Footprints.AlikeRows.{AreAlikeFrom};
 ghost use Rattle.potential_check.specs.Footprints.Bounds.{AreBounds, AreRowBounds, IsFresh, IsSlack};
 ghost use Rattle.potential_check.specs.Footprints.CallCounts.{span_count};
 ghost use Rattle.potential_check.specs.Footprints.RowConditions.{AreBoth, AreRowTests, AreTestsAt};
@@ -101,16 +102,21 @@ fn tests_of<C: SpanCosts>(
         stage_drop: true,
         edge: true,
     };
+    let mut alike = 1;
     for i in (0..places).rev() {
         swap(from, older);
         costs.write_from(i, from);
         lower_slack(older, from, slack, i, places);
-        tests = both_tests(&tests, &tests_at(from, rows, slack, bounds, i, places));
+        tests = both_tests(
+            &tests,
+            &tests_at(from, rows, slack, bounds, i, places, &mut alike),
+        );
     }
     tests
 }
 
-// the tests at place i, by the costs from there
+// The tests at place i, by the costs from there. `alike` says from which row on all rows have the numbers of the row before them, at the
+// later places, and then at place i too.
 fn tests_at(
     costs: &[u64],
     rows: &Rows,
@@ -118,6 +124,7 @@ fn tests_at(
     bounds: &mut [Vec<u64>],
     i: usize,
     places: usize,
+    alike: &mut usize,
 ) -> RowTests
     requires few { length rows.now ≤ 2 ^ 16 }
     requires few_places { places ≤ 2 ^ 16 }
@@ -127,13 +134,15 @@ fn tests_at(
     requires slack { IsSlack places slack.now }
     requires bounds { let limit = length rows.now in
         AreRowBounds costs.now slack.now i places limit (number_at rows.now) (lists_of bounds.old) }
+    requires alike { AreAlikeFrom (number_at rows.now) (length rows.now) (i + 1) alike.old }
     ensures tests { AreTestsAt costs.now places rows.now i result }
     ensures bounds { let limit = length rows.now in
         AreRowBounds costs.now slack.now i places limit (number_at rows.now) (lists_of bounds.new) }
+    ensures alike { AreAlikeFrom (number_at rows.now) (length rows.now) i alike.new }
 {
     let last_class = rows.number(1, i) <= costs[places];
     let stage_drop = drops_hold_at(rows, i);
-    let edge = edges_hold_at(costs, rows, slack, bounds, i, places);
+    let edge = edges_hold_at(costs, rows, slack, bounds, i, places, alike);
     RowTests {
         last_class,
         stage_drop,
@@ -175,7 +184,8 @@ fn drops_hold_at(rows: &Rows, i: usize) -> bool
     true
 }
 
-// whether each later row is within its edges at place i
+// Whether each later row is within its edges at place i. Where a row has the numbers of the row before it, at place i too, and so has the row
+// before, the edges are the same.
 fn edges_hold_at(
     costs: &[u64],
     rows: &Rows,
@@ -183,6 +193,7 @@ fn edges_hold_at(
     bounds: &mut [Vec<u64>],
     i: usize,
     places: usize,
+    alike: &mut usize,
 ) -> bool
     requires few { length rows.now ≤ 2 ^ 16 }
     requires few_places { places ≤ 2 ^ 16 }
@@ -192,27 +203,59 @@ fn edges_hold_at(
     requires slack { IsSlack places slack.now }
     requires bounds { let limit = length rows.now in
         AreRowBounds costs.now slack.now i places limit (number_at rows.now) (lists_of bounds.old) }
+    requires alike { AreAlikeFrom (number_at rows.now) (length rows.now) (i + 1) alike.old }
     ensures edges { IsTrue result ↔ EdgesHoldAt costs.now rows.now places i (length rows.now) }
     ensures bounds { let limit = length rows.now in
         AreRowBounds costs.now slack.now i places limit (number_at rows.now) (lists_of bounds.new) }
+    ensures alike { AreAlikeFrom (number_at rows.now) (length rows.now) i alike.new }
 {
+    let later = *alike;
+    let mut here = later;
+    let mut above = rows.number(1, i);
     for k in 1..rows.len() {
+        let number = rows.number(k + 1, i);
+        let is_known = is_as_above(later, k, number, above);
         if !edge_holds_in(
             costs,
             rows.row(k - 1),
             slack,
             bounds,
             k,
-            rows.number(k + 1, i),
+            number,
             i,
+            is_known,
         ) {
+            *alike = rows.len();
             return false;
         }
+        here = alike_with(here, k, number, above);
+        above = number;
     }
+    *alike = here;
     true
 }
 
-// whether a number at place i is within its edges to the later places, by the bounds of one row
+// whether a row has at a place the number of the row before it, after a row from which on all are alike at the later places
+fn is_as_above(alike: usize, k: usize, number: u64, above: u64) -> bool
+    ensures after { IsTrue result → alike < k }
+    ensures same { IsTrue result → number ≡ above }
+{
+    alike < k && number == above
+}
+
+// from which row on all are alike, up to row k too
+fn alike_with(alike: usize, k: usize, number: u64, above: u64) -> usize
+    requires { k < 2 ^ 16 }
+    ensures order { alike ≤ result }
+    ensures same { result ≤ k → number ≡ above }
+{
+    if number == above {
+        return alike;
+    }
+    alike.max(k + 1)
+}
+
+// whether a number at place i is within its edges to the later places, if that is not known, by the bounds of one row
 fn edge_holds_in(
     costs: &[u64],
     before: &[u64],
@@ -221,6 +264,7 @@ fn edge_holds_in(
     k: usize,
     number: u64,
     i: usize,
+    is_known: bool,
 ) -> bool
     requires row { k < length bounds.old }
     requires size { length costs.now ≡ length before.now + 1 }
@@ -229,13 +273,14 @@ fn edge_holds_in(
     requires slack { IsSlack (length before.now) slack.now }
     requires bounds { let its = slice_index_or (lists_of bounds.old) k [] in
         AreBounds costs.now slack.now i (length before.now) (slice_index before.now) its }
+    requires known { IsTrue is_known → EdgeHoldsAt costs.now before.now number i }
     ensures edge { IsTrue result ↔ EdgeHoldsAt costs.now before.now number i }
     ensures others { (m : ℕ) → m ≢ k
         → slice_index_or (lists_of bounds.new) m [] ≡ slice_index_or (lists_of bounds.old) m [] }
     ensures bounds { let its = slice_index_or (lists_of bounds.new) k [] in
         AreBounds costs.now slack.now i (length before.now) (slice_index before.now) its }
 {
-    edge_holds_at(costs, before, slack, &mut bounds[k], number, i)
+    is_known || edge_holds_at(costs, before, slack, &mut bounds[k], number, i)
 }
 
 // Whether a number at place i is within its edges to the later places. A block of ends is passed over where its bound shows that the number

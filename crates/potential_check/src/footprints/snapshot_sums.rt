@@ -1,6 +1,6 @@
-ghost use Rattle.std.specs.Prelude.{◌≡◌, ℕ, ◌+◌, ◌*◌, ◌^◌, ◌<◌, ◌≤◌, [], ◌∷◌, length, slice_index, IfOk, IfSome};
+ghost use Rattle.std.specs.Prelude.{◌≡◌, ℕ, ◌+◌, ◌*◌, ◌^◌, ◌<◌, ◌≤◌, [], ◌∷◌, length, slice_index, IfOk, IfSome, IsTrue};
 ghost use Rattle.potential_check.specs.Footprints.SnapshotSums.{AreColumnSums, AreCuts, AreMostIn, AreNarrow, AreScaled, AreSumsAt};
-ghost use Rattle.potential_check.specs.Footprints.SnapshotSums.{AreWritten, Ascends, HoldsSnapshots, IsRaised, IsRaisedBy};
+ghost use Rattle.potential_check.specs.Footprints.SnapshotSums.{AreWritten, Ascends, HoldsSnapshots, IsRaised, IsRaisedBy, MayRaise};
 ghost use Rattle.tuner_theory.specs.Lists.{lists_of};
 ghost use Rattle.tuner_theory.specs.Footprint.{footprint_between};
 ghost use Rattle.tuner_theory.specs.Growing.{IsGrowing};
@@ -291,22 +291,8 @@ fn raise_eight(
     requires after { i < start }
     requires order { start ≤ stop }
     requires few { stop ≤ start + length numbers.old }
-    requires within_0 { stop ≤ length s0.now }
-    requires within_1 { stop ≤ length s1.now }
-    requires within_2 { stop ≤ length s2.now }
-    requires within_3 { stop ≤ length s3.now }
-    requires within_4 { stop ≤ length s4.now }
-    requires within_5 { stop ≤ length s5.now }
-    requires within_6 { stop ≤ length s6.now }
-    requires within_7 { stop ≤ length s7.now }
-    requires ascend_0 { Ascends s0.now i }
-    requires ascend_1 { Ascends s1.now i }
-    requires ascend_2 { Ascends s2.now i }
-    requires ascend_3 { Ascends s3.now i }
-    requires ascend_4 { Ascends s4.now i }
-    requires ascend_5 { Ascends s5.now i }
-    requires ascend_6 { Ascends s6.now i }
-    requires ascend_7 { Ascends s7.now i }
+    requires rows { let rows = s0.now ∷ s1.now ∷ s2.now ∷ s3.now ∷ s4.now ∷ s5.now ∷ s6.now ∷ s7.now ∷ [] in
+        MayRaise rows i stop }
     ensures { let rows = s0.now ∷ s1.now ∷ s2.now ∷ s3.now ∷ s4.now ∷ s5.now ∷ s6.now ∷ s7.now ∷ [] in
         IsRaisedBy rows i start stop numbers.old numbers.new }
 {
@@ -338,14 +324,35 @@ fn narrowed(alloc: Global, sums: &[Vec<u64>]) -> Result<Vec<Vec<u32>>, AllocErro
 fn narrow_row(alloc: Global, numbers: &[u64]) -> Result<Option<Vec<u32>>, AllocError>
     ensures { IfOk result (λ row. IfSome row (λ row. row.items ≡ numbers.now)) }
 {
-    let mut row = Vec::with_capacity(alloc, numbers.len())?;
-    for j in 0..numbers.len() {
-        if numbers[j] > u64::from(u32::MAX) {
-            return Ok(None);
-        }
-        row.push(numbers[j] as u32)?;
+    if !are_narrow(numbers) {
+        return Ok(None);
     }
+    let mut row = vec![in alloc; 0u32; numbers.len()]?;
+    copy_narrow(numbers, &mut row);
     Ok(Some(row))
+}
+
+// whether all numbers fit 32 bits
+fn are_narrow(numbers: &[u64]) -> bool
+    ensures { IsTrue result → (j : ℕ) → j < length numbers.now → slice_index numbers.now j < 2 ^ 32 }
+{
+    // (all are looked at: then the compiler takes some at once)
+    let mut are_narrow = true;
+    for j in 0..numbers.len() {
+        are_narrow &= numbers[j] <= u64::from(u32::MAX);
+    }
+    are_narrow
+}
+
+// copies numbers that fit 32 bits
+fn copy_narrow(numbers: &[u64], row: &mut [u32])
+    requires size { length row.old ≡ length numbers.now }
+    requires narrow { (j : ℕ) → j < length numbers.now → slice_index numbers.now j < 2 ^ 32 }
+    ensures { row.new ≡ numbers.now }
+{
+    for j in 0..numbers.len() {
+        row[j] = numbers[j] as u32;
+    }
 }
 
 // for each place from 1 on: how many lines its class serves, of all before it too

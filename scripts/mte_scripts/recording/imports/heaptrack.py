@@ -106,7 +106,8 @@ def read(source: Source, kind: str) -> Found:
 
 
 def counted(run: Run, kind: str) -> Found:
-    counts = timelines.by_size(Counter(run.events[: run.peak_at])) if kind == found.LIVE else timelines.requested(Counter(run.events))
+    codes = timelines.count(run.events)
+    counts = timelines.live_at(run.events, codes, [run.peak_at])[run.peak_at] if kind == found.LIVE else timelines.requests(codes)
     events = f"{len(run.events):,} requests and frees"
     told = [f"heaptrack: {events}. Each size is exact; that of an aligned block is without its alignment"]
     if run.is_attached:
@@ -115,4 +116,4 @@ def counted(run: Run, kind: str) -> Found:
         told.append("! it has not the last lines of heaptrack's records: if it was cut off, events are missing")
     if run.unknown:
         told.append(f"! {number(run.unknown, 'free')} of blocks that are not in it are left out")
-    return Found(kind, +counts, told, run.events, run.peak_at)
+    return Found(kind, Counter(counts), told, run.events, run.peak_at)

@@ -82,20 +82,16 @@ def made(result: Found, wanted: str, snapshots: int) -> Imported:
 
 def made_of_run(events: array, peak_at: int, wanted: str, snapshots: int, told: list) -> Imported:
     """The timeline, or the history of some moments."""
-    peak = timelines.live_at(events, [peak_at])[peak_at]
-    if wanted == found.TIMELINE and length_of(events) <= timelines.MOST_TEXT:
-        return Imported("the timeline", timelines.text_of(events), texts.profile_text(peak), told)
+    codes = timelines.count(events)
+    peak = texts.profile_text(timelines.named(timelines.live_at(events, codes, [peak_at])[peak_at]))
     if wanted == found.TIMELINE:
-        moments = {**timelines.peaks(events), peak_at: peak}
+        if sum(times * len(timelines.event_lines()[code]) for code, times in codes.items()) <= timelines.MOST_TEXT:
+            return Imported("the timeline", timelines.text_of(events), peak, told)
+        moments = {*timelines.peaks(events, codes), peak_at}
         of = f"of the {len(moments)} moments at which each class of 16 bytes had the most blocks"
         told.append(f"the timeline would have more than {timelines.MOST_TEXT:,} bytes: a history is made in its place, {of}")
     else:
-        spaced = {round(len(events) * each / snapshots) for each in range(1, snapshots)}
-        moments = timelines.live_at(events, sorted(spaced | {peak_at}))
+        moments = {peak_at, *(round(len(events) * each / snapshots) for each in range(1, snapshots))}
         told.append(f"the history has {found.number(len(moments), 'moment')}, evenly spaced but for that of the most bytes")
-    return Imported("the history", [texts.history_text(timelines.history_of(moments)).encode()], texts.profile_text(peak), told)
-
-
-def length_of(events: array) -> int:
-    """The bytes of the timeline."""
-    return sum(times * len(timelines.event_lines()[code]) for code, times in timelines.count(events).items())
+    history = timelines.history_of(timelines.live_at(events, codes, sorted(moments)))
+    return Imported("the history", [texts.history_text(history).encode()], peak, told)

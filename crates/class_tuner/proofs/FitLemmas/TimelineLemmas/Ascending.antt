@@ -5,11 +5,7 @@ use Rattle.std.proofs.lemmas.List.Edits.{get_or-insert_above, get_or-insert_at, 
 use Rattle.std.specs.List.Sorted.{IsNonDecreasingBy, IsStrictlyIncreasing}
 
 pub ascending-rises : (xs : List ℕ) → IsStrictlyIncreasing xs → IsNonDecreasingBy (λ n. n) xs
-ascending-rises xs up i j d le lt =
-    elim (cases_lt i j) [
-      | inl less ↦ omega (arith, AllPairs-from_increasing xs up i j d less lt)
-      | inr not ↦ (let same : i ≡ j = omega arith in omega (arith, ap (λ k. get_or xs k d) same))
-    ]
+ascending-rises xs up i j d le lt = grind (arith, cases_lt, AllPairs-from_increasing)
 
 -- a number at its place among others
 pub insert-ascends : (xs : List ℕ) (i n : ℕ) → IsStrictlyIncreasing xs → i ≤ length xs → ((k : ℕ) → k < i → slice_index xs k < n)

@@ -81,12 +81,7 @@ pub record AreAdded (start further : List ℕ) (i : ℕ) (xs : List ℕ) : Type 
   pub added : (k : ℕ) → k < i → Contains xs (slice_index further k)
 
 pub added-none : (start further : List ℕ) → IsStrictlyIncreasing start → AreAdded start further 0 start
-added-none start further up = record {
-  ascending = up;
-  members = λ n has. inl has;
-  left = λ n has. has;
-  added = λ k lt. absurd (omega arith);
-}
+added-none start further up = grind arith
 
 pub added-more : (start further xs more : List ℕ) (i : ℕ) → i < length further → AreAdded start further i xs
     → IsUnion xs (slice_index further i ∷ []) more → AreAdded start further (i + 1) more

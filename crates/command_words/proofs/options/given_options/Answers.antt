@@ -1,11 +1,18 @@
-use Rattle.tool_call.specs.Options.{config_of, limits_of}
+use Rattle.std.proofs.{Common.{◌≡◌, List, subst, take}, lemmas.List.{take_all}}
+use Rattle.clap.specs.Words.{found_of, rows_of}
+use Rattle.tool_call.specs.declared.options.OptionName.{OptionName}
+use Rattle.command_words.proofs.GivenOptions.{AreGiven, has_options, one_more}
 use Rattle.command_words.proofs.options.given_options.Goals as goal
 
-pub returns-in-Err : goal.returns-in-Err
-returns-in-Err c = λ options has. c.in-Err.ensures (config_of options) (rw c.in-Replay.is at has)
+pub loop-option-preserved : goal.loop-option-preserved
+loop-option-preserved c =
+    rw c.with-options.ensures
+    (one_more (rows_of (found_of c.args.words.now)) _ _ _ _ _ c.loop-option-test.true c.loop-option.invariant c.in-Ok.ensures)
 
-pub returns-in-Err-config_of : goal.returns-in-Err-config_of
-returns-in-Err-config_of c = λ options has. c.in-Err-config_of.ensures (config_of options) (rw c.in-Run.is at has).1
-
-pub returns-in-Err-limits_of : goal.returns-in-Err-limits_of
-returns-in-Err-limits_of c = λ options has. c.in-Err-limits_of.ensures (limits_of options) (rw c.in-Run.is at has).0
+pub returns : goal.returns
+returns c =
+    let items = c.options_of-option-items.result.now in
+    let all : take c.loop-option.option-index items ≡ items = take_all _ items c.loop-option-test.false in
+    has_options c.args.command (rows_of (found_of c.args.words.now)) c.loop-option.options
+    (subst (λ (names : List OptionName). AreGiven (rows_of (found_of c.args.words.now)) names c.loop-option.options)
+    c.options_of-option-items.ensures (rw all at c.loop-option.invariant))

@@ -1,6 +1,6 @@
 //! `check` from text to text.
 use self::Case::{Fault, Optimal, Refused};
-use crate::tests::calls::answers;
+use crate::tests::calls::{answers, call};
 use mte_engine::Call;
 use std::process::Abort;
 use std::test::Fail;
@@ -27,7 +27,7 @@ fn run_all(rt: &(impl Abort + AllocGlobal), cases: &[Case]) -> Result<(), Fail> 
             Refused(input, written) => (*input, *written, "no"),
             Fault(input, wanted) => (*input, "", *wanted),
         };
-        answers(rt, Call::Check, input, written, wanted)?;
+        answers(rt, call!(Check), input, written, wanted)?;
     }
     Ok(())
 }
@@ -217,7 +217,7 @@ fn answers_front(
     wanted: &str,
 ) -> Result<(), Fail> {
     assert!(rt; len <= WHOLE.len());
-    answers(rt, Call::Check, &WHOLE[..len], written, wanted)
+    answers(rt, call!(Check), &WHOLE[..len], written, wanted)
 }
 
 const SMALL_INPUTS: &[Case] = &[

@@ -1,6 +1,6 @@
 //! `footprint`, `fit` and `check-fit` from text to text.
-use crate::tests::calls::{Case, answer};
-use mte_engine::{Call, Limits};
+use crate::tests::calls::{Case, answer, call};
+use mte_engine::Call;
 use std::test::Fail;
 
 // Three blocks of 16 bytes are live at the first snapshot, and one of 40 at the second. One class of 64 bytes takes 192 bytes for them; one
@@ -232,19 +232,16 @@ const FITS_WITH_THE_LARGEST_CLASS: &[Case] = &[(
 )];
 
 const GROUPS: &[(Call, &[Case])] = &[
-    (Call::Footprint, FOOTPRINTS),
-    (Call::Fit(Limits { limit: 2, step: 1 }, 0), FITS_OF_TWO),
-    (Call::Fit(Limits { limit: 1, step: 1 }, 0), FITS_OF_ONE),
+    (call!(Footprint), FOOTPRINTS),
+    (call!(Fit, limit: 2), FITS_OF_TWO),
+    (call!(Fit, limit: 1), FITS_OF_ONE),
+    (call!(Fit, limit: 2, step: 4), FITS_FOR_STEP_FOUR),
     (
-        Call::Fit(Limits { limit: 2, step: 4 }, 0),
-        FITS_FOR_STEP_FOUR,
-    ),
-    (
-        Call::Fit(Limits { limit: 2, step: 1 }, 1),
+        call!(Fit, limit: 2, largest_class: 1),
         FITS_WITH_THE_LARGEST_CLASS,
     ),
-    (Call::Fit(Limits { limit: 2, step: 1 }, 0), HISTORY_FAULTS),
-    (Call::CheckFit, VERDICTS),
+    (call!(Fit, limit: 2), HISTORY_FAULTS),
+    (call!(CheckFit), VERDICTS),
 ];
 
 #[test]

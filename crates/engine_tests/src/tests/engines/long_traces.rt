@@ -1,7 +1,6 @@
 //! Traces of a million events.
-use crate::tests::calls::answers;
-use crate::tests::support::HEAP;
-use mte_engine::{Call, Limits};
+use crate::tests::calls::{answers, call};
+use mte_engine::Call;
 use std::alloc::{AllocError, Global};
 use std::test::Fail;
 
@@ -30,7 +29,7 @@ fn a_million_events_and_one_more(rt: HostRuntime) -> Result<(), Fail> {
     for (last, wanted) in LAST {
         trace.truncate(7_000_000);
         trace.extend_from_slice(last)?;
-        answers(&rt, Call::Profile, &trace, "", wanted)?;
+        answers(&rt, call!(Profile), &trace, "", wanted)?;
     }
     Ok(())
 }
@@ -38,7 +37,7 @@ fn a_million_events_and_one_more(rt: HostRuntime) -> Result<(), Fail> {
 #[test]
 fn a_run_of_a_million_events(rt: HostRuntime) -> Result<(), Fail> {
     let trace = million_frees(rt.alloc())?;
-    let call = Call::Run(Limits { limit: 1, step: 1 }, HEAP);
+    let call = call!(Run, limit: 1);
     let written =
         "classes\nlimit 1\nwaste 0\nrow\nevents 1000000\nrequests 0\nnull large 0\nnull no-class 0\nnull exhausted 0\n\
                    faults tag 0\nfaults unmapped 0\nrefused frees 0\nloss 0\n";

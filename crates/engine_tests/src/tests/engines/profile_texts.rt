@@ -1,6 +1,7 @@
 //! `profile` from text to text.
 use super::pieces::Case::Text;
 use super::pieces::{Case, check};
+use crate::tests::calls::call;
 use mte_engine::Call;
 use std::test::Fail;
 
@@ -23,5 +24,5 @@ const PROFILES_OF_TRACES: &[Case] = &[
 
 #[test]
 fn profiles_of_traces(rt: HostRuntime) -> Result<(), Fail> {
-    check(&rt, Call::Profile, PROFILES_OF_TRACES)
+    check(&rt, call!(Profile), PROFILES_OF_TRACES)
 }

@@ -1,9 +1,8 @@
 //! `replay` from text to text.
 use super::pieces::Case::{Report, Text};
 use super::pieces::{Case, check};
-use crate::tests::support::HEAP;
+use crate::tests::calls::call;
 use mte_engine::Call;
-use replay_core::Config;
 use std::test::Fail;
 
 const TABLES_AND_REFUSALS: &[Case] = &[
@@ -108,16 +107,9 @@ const QUARANTINES: &[Case] = &[
 
 #[test]
 fn replays(rt: HostRuntime) -> Result<(), Fail> {
-    let unquarantined = Call::Replay(HEAP);
+    let unquarantined = call!(Replay);
     check(&rt, unquarantined, TABLES_AND_REFUSALS)?;
     check(&rt, unquarantined, TAILS_AND_BYTES)?;
     check(&rt, unquarantined, REALLOCS)?;
-    check(
-        &rt,
-        Call::Replay(Config {
-            quarantine: 64,
-            ..HEAP
-        }),
-        QUARANTINES,
-    )
+    check(&rt, call!(Replay, quarantine: 64), QUARANTINES)
 }

@@ -2,23 +2,15 @@
 use self::Answer::{Done, Fault};
 use super::pieces::Case::Report;
 use super::pieces::{Case, append_totals, check};
-use crate::tests::calls::answers;
-use crate::tests::support::HEAP;
-use mte_engine::{Call, Limits};
-use replay_core::Config;
+use crate::tests::calls::{answers, call};
+use mte_engine::Call;
 use std::process::Abort;
 use std::test::Fail;
 
 const TRACE: &str = "malloc 1 16\nstore 1 16 1 aa\nmalloc 2 0\nload 1 32 1\nfree 1\nload 1 0 1\n";
 
 const fn tuned(limit: u8, step: u8) -> Call {
-    Call::Run(
-        Limits { limit, step },
-        Config {
-            quarantine: 64,
-            ..HEAP
-        },
-    )
+    call!(Run, limit: limit, step: step, quarantine: 64)
 }
 
 const A_TUNED_TABLE_AND_ITS_REPLAY: &[Case] = &[Report(

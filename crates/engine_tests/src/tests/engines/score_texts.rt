@@ -1,10 +1,10 @@
 //! `score` from text to text.
-use crate::tests::calls::{Case, answer};
+use crate::tests::calls::{Case, answer, call};
 use mte_engine::Call;
 use std::test::Fail;
 
 /// `score`.
-pub const SCORE: Call = Call::Score;
+pub const SCORE: Call = call!(Score);
 
 const SCORES: &[Case] = &[
     (b"classes 4\n16 3\n40 1\n", "waste 104\n", "done"),

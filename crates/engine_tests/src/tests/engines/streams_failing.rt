@@ -1,11 +1,10 @@
 //! Reads and writes that fail, or move a byte at a time, or never end.
 use super::score_texts::SCORE;
 use super::support::Repeated;
-use crate::tests::calls::call_on;
+use crate::tests::calls::{call, call_on};
 use crate::tests::streams::{sink, source};
-use crate::tests::support::{HEAP, ended, same};
-use mte_engine::{Call, History, Limits, StreamSink, StreamSource};
-use replay_core::Config;
+use crate::tests::support::{ended, same};
+use mte_engine::{Call, History, StreamSink, StreamSource};
 use std::io::{ErrorKind, Read, Write};
 use std::process::Abort;
 use std::test::Fail;
@@ -24,56 +23,47 @@ const FIT: &str =
 const CASES: &[Case] = &[
     Case(SCORE, "classes 4\n16 3\n40 1\n", "waste 104\n"),
     Case(
-        Call::Tune(Limits { limit: 2, step: 1 }, 0),
+        call!(Tune, limit: 2),
         "16 3\n40 1\n",
         "classes 2 4\nlimit 2\nwaste 8\nrow 104 8\nrow 8 8\n",
     ),
-    Case(Call::Check, SHEET, "optimal\n"),
+    Case(call!(Check), SHEET, "optimal\n"),
     Case(
-        Call::Footprint,
+        call!(Footprint),
         "classes 2 4\nsnapshots 2\n16 3 0\n40 0 1\n",
         "footprint 160\n",
     ),
     Case(
-        Call::Fit(Limits { limit: 2, step: 1 }, 0),
+        call!(Fit, limit: 2),
         "snapshots 2\n16 3 0\n40 0 1\n",
         "classes 2 4\nlimit 2\nfootprint 160\nrow 192 64\nrow 160 64\n",
     ),
-    Case(Call::CheckFit, FIT, "optimal\n"),
+    Case(call!(CheckFit), FIT, "optimal\n"),
     Case(
-        Call::Peaks,
+        call!(Peaks),
         "classes 2\ntimeline\n16\n",
         "peaks 1\nmoments 1\nlive 32\nfreed 0\n",
     ),
     Case(
-        Call::Profile,
+        call!(Profile),
         "malloc 1 40\ncalloc 2 16369\n",
         "40 1\nlarge 1\n",
     ),
     Case(
-        Call::Replay(HEAP),
+        call!(Replay),
         "classes\nmalloc 1 16\n",
         "1 null no-class\nevents 1\nrequests 1\nnull large 0\nnull no-class 1\nnull exhausted 0\nfaults tag 0\nfaults unmapped 0\n\
          refused frees 0\nloss 0\n",
     ),
     Case(
-        Call::Replay(Config {
-            quarantine: 64,
-            ..HEAP
-        }),
+        call!(Replay, quarantine: 64),
         "classes 2 4\nmalloc 1 16\nstore 1 16 1 aa\nmalloc 2 0\nload 1 32 1\nfree 1\nload 1 0 1\n",
         "2 fault tag granule 2 memory 0 pointer 1 in header\n4 fault tag granule 3 memory 2 pointer 1 in other\n\
          6 fault tag granule 1 memory 3 pointer 1 in dead\nevents 6\nrequests 2\nnull large 0\nnull no-class 0\nnull exhausted 0\n\
          faults tag 3\nfaults unmapped 0\nrefused frees 0\nloss 16\n",
     ),
     Case(
-        Call::Run(
-            Limits { limit: 2, step: 1 },
-            Config {
-                quarantine: 64,
-                ..HEAP
-            },
-        ),
+        call!(Run, limit: 2, quarantine: 64),
         "malloc 1 16\nstore 1 16 1 aa\nmalloc 2 0\nload 1 32 1\nfree 1\nload 1 0 1\n",
         "classes 2\nlimit 2\nwaste 16\nrow 16\nrow 16\n2 fault tag granule 2 memory 0 pointer 1 in header\n\
          4 fault tag granule 3 memory 2 pointer 1 in other\n6 fault tag granule 1 memory 3 pointer 1 in dead\nevents 6\nrequests 2\n\
@@ -277,7 +267,7 @@ fn a_source_that_never_ends(rt: HostRuntime) -> Result<(), Fail> {
     Ok(())
 }
 
-const REPLAY: Call = Call::Replay(HEAP);
+const REPLAY: Call = call!(Replay);
 
 // how many letters there are, how many come at once, and how the engine ends
 const LETTERS: &[(Call, Option<usize>, usize, &str)] = &[
@@ -304,13 +294,13 @@ const LETTERS: &[(Call, Option<usize>, usize, &str)] = &[
         "error 80 InputTooLong",
     ),
     (
-        Call::Profile,
+        call!(Profile),
         Some(67_108_864),
         usize::MAX,
         "error 73 LineTooLong line 1",
     ),
     (
-        Call::Profile,
+        call!(Profile),
         Some(67_108_865),
         usize::MAX,
         "error 80 InputTooLong",

@@ -1,6 +1,6 @@
-//! `footprint`, `peaks` and `fit` over timelines, however their text is cut.
+//! `footprint`, `peaks`, `fit` and `check-fit` over timelines, however their text is cut.
 use super::pieces::{Case, check};
-use mte_engine::{Call, Limits};
+use crate::tests::calls::call;
 use std::process::Abort;
 use std::test::Fail;
 
@@ -74,9 +74,119 @@ const FITS: &[Case] = &[
     Case::Text("timelines\n16\n", "", "error 34 BadSnapshots line 1"),
 ];
 
+// the events are read as they come
+const EVENTS_AS_THEY_COME: &[Case] = &[
+    Case::Text(
+        "classes 2\nlimit 1\nfootprint 32\nrow 32\nmoments 1\ntimeline\n16\n-16\n",
+        "optimal\n",
+        "done",
+    ),
+    Case::Text(
+        "classes 2\nlimit 1\nfootprint 32\nrow 32\nmoments 1\ntimeline\n16",
+        "optimal\n",
+        "done",
+    ),
+    Case::Text(
+        "classes 2\nlimit 1\nstep 2\nfootprint 32\nrow 32\nmoments 1\ntimeline\n16\n-16\n",
+        "optimal\n",
+        "done",
+    ),
+    Case::Text(
+        "classes 2 1024\nlimit 2\nforced 1024\nfootprint 32\nrow 16384 0\nrow 32 0\nmoments 1\ntimeline\n16\n-16\n",
+        "optimal\n",
+        "done",
+    ),
+    Case::Text(
+        "classes 2\nlimit 1\nfootprint 32\nrow 32\nmoments 3\ntimeline\n16\n-16\n",
+        "refused 53 NotMoments\n",
+        "no",
+    ),
+    Case::Text(
+        "classes 2\nlimit 1\nfootprint 32\nrow 32\nmoments 1\ntimeline\n-16\n",
+        "",
+        "error 38 NotLive line 7",
+    ),
+    Case::Text(
+        "classes 2\nlimit 1\nfootprint 32\nrow 32\nmoments 1\ntimeline\n16\n1x",
+        "",
+        "error 37 BadTimeline line 8",
+    ),
+    Case::Text(
+        "classes 2\nlimit 1\nfootprint 32\nrow 32\nmoments 1\ntimeline\ntimeline\n",
+        "",
+        "error 37 BadTimeline line 7",
+    ),
+    Case::Text(
+        "classes 2\nlimit 1\nfootprint 32\nrow 32\nrow 32\nmoments 1\ntimeline\n-16\n",
+        "",
+        "error 38 NotLive line 8",
+    ),
+];
+
+// the text is kept: no line of events comes, the line of the moments is missing or is there twice, or the fit is faulty
+const TEXTS_THAT_ARE_KEPT: &[Case] = &[
+    Case::Text(
+        "classes 2\nlimit 1\nfootprint 32\nrow 32\nmoments 1\ntimeline",
+        "refused 53 NotMoments\n",
+        "no",
+    ),
+    Case::Text(
+        "classes 2\nlimit 1\nfootprint 32\nrow 32\nmoments 1\n",
+        "",
+        "error 37 BadTimeline line 6",
+    ),
+    Case::Text(
+        "classes 2\nlimit 1\nfootprint 32\nrow 32\nmoments 1\ntimelines\n16\n",
+        "",
+        "error 37 BadTimeline line 6",
+    ),
+    Case::Text(
+        "classes 2\nlimit 1\nfootprint 32\nrow 32\nmoments 1\nmoments 1\ntimeline\n16\n",
+        "",
+        "error 37 BadTimeline line 6",
+    ),
+    Case::Text(
+        "classes 2\nlimit 1\nfootprint 32\nrow 32\ntimeline\n16\n",
+        "",
+        "error 34 BadSnapshots line 5",
+    ),
+    Case::Text(
+        "classes 2\nlimit 1\nfootprint 32\nrow 32\nsnapshots 1\n16 1\n",
+        "optimal\n",
+        "done",
+    ),
+    Case::Text(
+        "classes 2\nlimit 1\nfootprint 32\nrow 32\nsnapshots 1\n16 1\ntimeline\n",
+        "",
+        "error 30 BadLine line 7",
+    ),
+    Case::Text(
+        "classes 2\nlimit 1\nfootprint 32\nrow 32\nmoments 1 1\ntimeline\n-16\n",
+        "",
+        "error 36 BadFit line 5",
+    ),
+    Case::Text(
+        "classes 2\nlimit 1\nfootprint x\nrow 32\nmoments 1\ntimeline\n-16\n",
+        "",
+        "error 36 BadFit line 3",
+    ),
+    Case::Text(
+        "classes 2\nlimit 1\ntimeline\n16\n",
+        "",
+        "error 36 BadFit line 3",
+    ),
+    Case::Text("timeline\n16\n", "", "error 36 BadFit line 1"),
+];
+
 #[test]
 fn timelines_in_pieces(rt: HostRuntime) -> Result<(), Fail> {
-    check(&rt, Call::Footprint, FOOTPRINTS)?;
-    check(&rt, Call::Peaks, PEAKS)?;
-    check(&rt, Call::Fit(Limits { limit: 1, step: 1 }, 0), FITS)
+    check(&rt, call!(Footprint), FOOTPRINTS)?;
+    check(&rt, call!(Peaks), PEAKS)?;
+    check(&rt, call!(Fit, limit: 1), FITS)
+}
+
+#[test]
+fn fits_and_timelines_in_pieces(rt: HostRuntime) -> Result<(), Fail> {
+    check(&rt, call!(CheckFit), EVENTS_AS_THEY_COME)?;
+    check(&rt, call!(CheckFit), TEXTS_THAT_ARE_KEPT)
 }

@@ -1,8 +1,8 @@
 //! Faulty traces, through each engine that reads one.
 use super::pieces::Case::Text;
 use super::pieces::{Case, check};
-use crate::tests::support::HEAP;
-use mte_engine::{Call, Limits};
+use crate::tests::calls::call;
+use mte_engine::Call;
 use std::test::Fail;
 
 // each fault of a trace alone, in its order within a line, and in two lines
@@ -51,8 +51,8 @@ const FAULTS_AFTER_A_LINE: &[Case] = &[
 
 #[test]
 fn faults_of_traces(rt: HostRuntime) -> Result<(), Fail> {
-    check(&rt, Call::Profile, FAULTS)?;
-    let run = Call::Run(Limits { limit: 1, step: 1 }, HEAP);
+    check(&rt, call!(Profile), FAULTS)?;
+    let run = call!(Run, limit: 1);
     check(&rt, run, FAULTS)?;
-    check(&rt, Call::Replay(HEAP), FAULTS_AFTER_A_LINE)
+    check(&rt, call!(Replay), FAULTS_AFTER_A_LINE)
 }

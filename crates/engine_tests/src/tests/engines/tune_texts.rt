@@ -1,7 +1,7 @@
 //! `tune` from text to text.
 use self::Case::{Fault, Tuned, WithLargest};
-use crate::tests::calls::answers;
-use mte_engine::{Call, Limits};
+use crate::tests::calls::{answers, call};
+use mte_engine::Call;
 use std::process::Abort;
 use std::test::Fail;
 
@@ -25,7 +25,7 @@ fn check(rt: &(impl Abort + AllocGlobal), cases: &[Case]) -> Result<(), Fail> {
         };
         answers(
             rt,
-            Call::Tune(Limits { limit, step }, largest_class),
+            call!(Tune, limit: limit, step: step, largest_class: largest_class),
             input,
             written,
             wanted,

@@ -1,6 +1,5 @@
 //! The calls over two texts: what each answers, and the faults of the first text, and those of the second by its own lines.
-use crate::tests::calls::answers_on;
-use crate::tests::support::HEAP;
+use crate::tests::calls::{answers_on, call};
 use mte_engine::Call;
 use std::process::Abort;
 use std::test::Fail;
@@ -192,14 +191,14 @@ const REPLAYS: &[Case] = &[
 
 #[test]
 fn two_texts_are_apart(rt: HostRuntime) -> Result<(), Fail> {
-    run(&rt, &[(Call::Score, SCORES), (Call::Check, CHECKS)])?;
+    run(&rt, &[(call!(Score), SCORES), (call!(Check), CHECKS)])?;
     run(
         &rt,
         &[
-            (Call::Footprint, FOOTPRINTS),
-            (Call::Peaks, PEAKS),
-            (Call::CheckFit, FIT_CHECKS),
+            (call!(Footprint), FOOTPRINTS),
+            (call!(Peaks), PEAKS),
+            (call!(CheckFit), FIT_CHECKS),
         ],
     )?;
-    run(&rt, &[(Call::Replay(HEAP), REPLAYS)])
+    run(&rt, &[(call!(Replay), REPLAYS)])
 }

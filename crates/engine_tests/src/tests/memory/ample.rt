@@ -1,12 +1,12 @@
 //! With ample memory nothing is refused: at each limit and step, at sizes about each power of two, at each number of rows, at each line.
 use super::support::profile as worked_profile;
-use crate::tests::calls::ends;
+use crate::tests::calls::{call, ends};
 use crate::tests::engines::score_texts::SCORE;
 use crate::tests::support::{HEAP, same};
 use class_table::{ClassTable, LARGEST_COUNTED, is_step};
 use class_tuner::tune;
 use granule_memory::Memory;
-use mte_engine::{Call, Limits};
+use mte_engine::Call;
 use potential_check::{OfWaste, Sheet, SheetError, Verdict, check, read_sheet, write_sheet};
 use profile_count::Profile;
 use raw_region::RawRegion;
@@ -129,11 +129,11 @@ fn engines_about_each_power_of_two(rt: HostRuntime) -> Result<(), Fail> {
     Ok(())
 }
 
-const RUN: Call = Call::Run(Limits { limit: 1, step: 1 }, HEAP);
+const RUN: Call = call!(Run, limit: 1);
 
 fn engines_on(rt: &(impl Abort + AllocGlobal), lines: usize) -> Result<(), Fail> {
     let text = "free 0\n".as_bytes().repeat(rt.alloc(), lines)?;
-    ends(rt, Call::Profile, &text, "done")?;
+    ends(rt, call!(Profile), &text, "done")?;
     ends(rt, RUN, &text, "done")?;
     ends(rt, SCORE, &text, "error 23 BadLine line 1")
 }

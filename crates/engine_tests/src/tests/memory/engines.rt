@@ -1,11 +1,10 @@
 //! The engines: where a growth is refused, the sink is as it was.
 use super::support::{PROFILE, SHEET, refused_twice};
-use crate::tests::calls::call_on;
+use crate::tests::calls::{call, call_on};
 use crate::tests::engines::score_texts::SCORE;
 use crate::tests::streams::{sink, source};
-use crate::tests::support::{HEAP, same};
-use mte_engine::{Call, Limits, MemorySink, Status, ToolFault};
-use replay_core::Config;
+use crate::tests::support::same;
+use mte_engine::{Call, MemorySink, Status, ToolFault};
 use std::process::Abort;
 use std::test::Fail;
 
@@ -27,43 +26,39 @@ fn scoring(rt: HostRuntime) -> Result<(), Fail> {
 
 #[test]
 fn tuning(rt: HostRuntime) -> Result<(), Fail> {
-    answers(
-        &rt,
-        Call::Tune(Limits { limit: 2, step: 1 }, 0),
-        PROFILE,
-        SHEET,
-    )
+    answers(&rt, call!(Tune, limit: 2), PROFILE, SHEET)
 }
 
 #[test]
 fn checking(rt: HostRuntime) -> Result<(), Fail> {
     let mut input = String::from_str(rt.alloc(), SHEET)?;
     input.push_str(PROFILE)?;
-    answers(&rt, Call::Check, &input, "optimal\n")
+    answers(&rt, call!(Check), &input, "optimal\n")
 }
 
 #[test]
 fn taking_a_footprint(rt: HostRuntime) -> Result<(), Fail> {
     let mut input = String::from_str(rt.alloc(), "classes 2 4\n")?;
     input.push_str(HISTORY)?;
-    answers(&rt, Call::Footprint, &input, "footprint 160\n")
+    answers(&rt, call!(Footprint), &input, "footprint 160\n")
 }
 
 #[test]
 fn fitting(rt: HostRuntime) -> Result<(), Fail> {
-    answers(
-        &rt,
-        Call::Fit(Limits { limit: 2, step: 1 }, 0),
-        HISTORY,
-        FIT,
-    )
+    answers(&rt, call!(Fit, limit: 2), HISTORY, FIT)
 }
 
 #[test]
 fn checking_a_fit(rt: HostRuntime) -> Result<(), Fail> {
     let mut input = String::from_str(rt.alloc(), FIT)?;
     input.push_str(HISTORY)?;
-    answers(&rt, Call::CheckFit, &input, "optimal\n")
+    answers(&rt, call!(CheckFit), &input, "optimal\n")
+}
+
+#[test]
+fn checking_a_fit_over_a_timeline(rt: HostRuntime) -> Result<(), Fail> {
+    let input = "classes 2\nlimit 1\nfootprint 32\nrow 32\nmoments 1\ntimeline\n16\n-16\n";
+    answers(&rt, call!(CheckFit), input, "optimal\n")
 }
 
 #[test]
@@ -71,7 +66,7 @@ fn counting_peaks(rt: HostRuntime) -> Result<(), Fail> {
     let input = "classes 2 4\ntimeline\n16\n16\n-16\n40\n";
     answers(
         &rt,
-        Call::Peaks,
+        call!(Peaks),
         input,
         "peaks 2 1\nmoments 2 4\nlive 96\nfreed 1\n",
     )
@@ -80,22 +75,14 @@ fn counting_peaks(rt: HostRuntime) -> Result<(), Fail> {
 #[test]
 fn profiling(rt: HostRuntime) -> Result<(), Fail> {
     let trace = "malloc 1 40\ncalloc 2 16369\n";
-    answers(&rt, Call::Profile, trace, "40 1\nlarge 1\n")
+    answers(&rt, call!(Profile), trace, "40 1\nlarge 1\n")
 }
 
 #[test]
 fn replaying(rt: HostRuntime) -> Result<(), Fail> {
     let mut input = String::from_str(rt.alloc(), "classes 2 4\n")?;
     input.push_str(TRACE)?;
-    answers(
-        &rt,
-        Call::Replay(Config {
-            quarantine: 64,
-            ..HEAP
-        }),
-        &input,
-        REPORT,
-    )
+    answers(&rt, call!(Replay, quarantine: 64), &input, REPORT)
 }
 
 #[test]
@@ -103,13 +90,7 @@ fn running(rt: HostRuntime) -> Result<(), Fail> {
     let sheet = "classes 2\nlimit 2\nwaste 16\nrow 16\nrow 16\n";
     let mut written = String::from_str(rt.alloc(), sheet)?;
     written.push_str(REPORT)?;
-    let call = Call::Run(
-        Limits { limit: 2, step: 1 },
-        Config {
-            quarantine: 64,
-            ..HEAP
-        },
-    );
+    let call = call!(Run, limit: 2, quarantine: 64);
     answers(&rt, call, TRACE, &written)
 }
 

@@ -1,7 +1,7 @@
 //! Histories, worked by hand.
 use crate::tests::support::same;
 use class_table::{ClassTable, LARGEST_COUNTED};
-use history_count::History;
+use history_count::{History, TableFootprint, footprint_of_text};
 use std::process::Abort;
 use std::test::Fail;
 
@@ -37,22 +37,30 @@ fn table(classes: &[u16]) -> Result<ClassTable, Fail> {
     Ok(ClassTable::from_classes(classes).ok().ok_or("a table")?)
 }
 
-// what the table takes of a history; none where it does not serve
-fn taken(rt: &impl AllocGlobal, text: &str, classes: &[u16]) -> Result<Option<u64>, Fail> {
-    let history = history(rt, text)?;
-    let table = table(classes)?;
-    match history.unserved(&table) {
-        None => Ok(Some(history.footprint(&table))),
-        Some(_) => Ok(None),
-    }
+// what the table takes over the history of a text
+fn taken(rt: &impl AllocGlobal, text: &str, classes: &[u16]) -> Result<TableFootprint, Fail> {
+    let taken = footprint_of_text(rt.alloc(), text.as_bytes(), &table(classes)?);
+    Ok(taken.ok().ok_or("a history")?)
 }
 
 #[test]
 fn footprints(rt: HostRuntime) -> Result<(), Fail> {
     for (text, classes, bytes) in FOOTPRINTS {
         let taken = taken(&rt, text, classes)?;
-        same(&rt, &taken, &Some(*bytes), &(text, classes));
+        same(
+            &rt,
+            &taken,
+            &TableFootprint::Bytes(*bytes),
+            &(text, classes),
+        );
     }
+    Ok(())
+}
+
+#[test]
+fn unserved_sizes(rt: HostRuntime) -> Result<(), Fail> {
+    let taken = taken(&rt, THREE, &[2])?;
+    same(&rt, &taken, &TableFootprint::Unserved(40), &"class 2");
     Ok(())
 }
 
@@ -61,8 +69,6 @@ fn a_history(rt: HostRuntime) -> Result<(), Fail> {
     let history = history(&rt, THREE)?;
     has_snapshots(&rt, &history);
     has_peaks(&rt, &history);
-    let unserved = history.unserved(&table(&[2])?);
-    same(&rt, &unserved, &Some(40), &"class 2");
     Ok(())
 }
 

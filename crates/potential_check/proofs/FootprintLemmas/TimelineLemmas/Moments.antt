@@ -1,7 +1,6 @@
 -- The numbers that the words of a line name.
-use Rattle.std.proofs.Common.{◌≡◌, ℕ, suc, ◌+◌, ◌≤◌, ◌<◌, Bool, true, false, ◌&&◌, List, [], ◌∷◌, ◌++◌, length, Option, Some, None}
-use Rattle.std.proofs.Common.{option_map, leb, refl, sym, ap, ◌∙◌, arith, add-one, append_assoc, append-nil, length-append}
-use Rattle.std.proofs.lemmas.Bool.{le-leb, lt-leb}
+use Rattle.std.proofs.Common.{◌≡◌, ℕ, ◌+◌, ◌≤◌, ◌<◌, Bool, List, [], ◌∷◌, ◌++◌, length, Option, Some, None, option_map, refl, sym, ap}
+use Rattle.std.proofs.{Common.{arith, add-one, append_assoc, append-nil, length-append}, lemmas.Bool.{le-leb, lt-leb}}
 use Rattle.line_text.specs.Numbers.{number_of}
 use Rattle.tuner_theory.specs.declared.most_snapshots.TheConstants.{MOST_SNAPSHOTS}
 use Rattle.potential_check.specs.Footprints.Timelines.MomentsLine.{moment_of, moments_from, moments_of_words}
@@ -27,44 +26,29 @@ one_more numbers n (Some ns) = ap (λ (l : List ℕ). Some l) (sym (append_assoc
 pub read-more : (all rest new : List (List ℕ)) (next : ℕ) (numbers word : List ℕ) (n : ℕ) → ReadSoFar all rest next numbers
     → rest ≡ word ∷ new → Some n ≡ moment_of next (number_of word) → ReadSoFar all new (n + 1) (numbers ++ n ∷ [])
 unfolding moments_from
-read-more all rest new next numbers word n so_far parts is = record {
-  read = so_far.read ∙ rw (parts, ← is, add-one) (one_more numbers n (moments_from (suc n) new));
-  size = omega (arith, so_far.size, ap length parts, length-append numbers (n ∷ []));
-}
+read-more all rest new next numbers word n so_far parts is = grind (arith, add-one, one_more, length-append)
 
 none_of_words : (all : List (List ℕ)) (wrong : Bool) → moments_from 0 all ≡ None → moments_of_words all ≡ None
-none_of_words all wrong none = go (leb 1 (length all) && leb (length all) MOST_SNAPSHOTS) refl
-  where
-    go : (b : Bool) → (leb 1 (length all) && leb (length all) MOST_SNAPSHOTS) ≡ b → moments_of_words all ≡ None
-    go true is = rw (is, none) refl
-    go false is = rw is refl
+none_of_words all wrong none = grind arith
 
 -- a word that names no number
 pub read-faulty : (all rest new : List (List ℕ)) (next : ℕ) (numbers word : List ℕ) → ReadSoFar all rest next numbers
     → rest ≡ word ∷ new → None ≡ moment_of next (number_of word) → moments_of_words all ≡ None
 unfolding moments_from
-read-faulty all rest new next numbers word so_far parts is =
-    none_of_words all true (so_far.read ∙ rw (parts, ← is) refl)
+read-faulty all rest new next numbers word so_far parts is = grind (arith, none_of_words)
 
 -- too many words
 pub read-long : (all rest new : List (List ℕ)) (next : ℕ) (numbers word : List ℕ) → ReadSoFar all rest next numbers
     → rest ≡ word ∷ new → length numbers ≡ MOST_SNAPSHOTS → moments_of_words all ≡ None
-read-long all rest new next numbers word so_far parts long =
-    let more : MOST_SNAPSHOTS < length all = omega (arith, so_far.size, ap length parts) in
-    let some : 1 ≤ length all = omega (arith, more) in
-    rw (le-leb 1 (length all) some, lt-leb (length all) MOST_SNAPSHOTS more) refl
+read-long all rest new next numbers word so_far parts long = grind (arith, le-leb, lt-leb)
 
 -- no word
 pub read-empty : (all rest : List (List ℕ)) (next : ℕ) (numbers : List ℕ) → ReadSoFar all rest next numbers → rest ≡ []
     → length numbers ≡ 0 → moments_of_words all ≡ None
-read-empty all rest next numbers so_far end none =
-    rw (lt-leb 1 (length all) (omega (arith, so_far.size, ap length end))) refl
+read-empty all rest next numbers so_far end none = grind (arith, lt-leb)
 
 -- all words
 pub read-all : (all rest : List (List ℕ)) (next : ℕ) (numbers : List ℕ) → ReadSoFar all rest next numbers → rest ≡ []
     → 0 < length numbers → length numbers ≤ MOST_SNAPSHOTS → moments_of_words all ≡ Some numbers
 unfolding moments_from
-read-all all rest next numbers so_far end some few =
-    let size : length all ≡ length numbers = omega (arith, so_far.size, ap length end) in
-    let read : moments_from 0 all ≡ Some numbers = so_far.read ∙ rw end (ap (λ (l : List ℕ). Some l) (append-nil numbers)) in
-    rw (le-leb 1 (length all) (omega (arith, size)), le-leb (length all) MOST_SNAPSHOTS (omega (arith, size)), read) refl
+read-all all rest next numbers so_far end some few = grind (arith, append-nil, le-leb)

@@ -1,4 +1,4 @@
-use Rattle.std.proofs.Common.{◌∙◌, ◌++◌, ◌∷◌, ◌/◌, ◌%◌, ◌*◌, ◌+◌, ◌<◌, ◌≤◌, ◌≡◌, List, [], ℕ, ap, arith, drop, get_or, length, refl, take}
+use Rattle.std.proofs.Common.{◌∙◌, ◌++◌, ◌∷◌, ◌*◌, ◌+◌, ◌<◌, ◌≤◌, ◌≡◌, List, ℕ, ap, arith, drop, get_or, length, take}
 use Rattle.std.{proofs.lemmas.List.{take_more, take_rest}, specs.Char.{digit_char}}
 use Rattle.line_text.specs.Hexadecimal.{hex}
 use Rattle.trace_reader.proofs.DigitsInFront.{cut_at}
@@ -6,11 +6,7 @@ use Rattle.trace_reader.proofs.one_pass.byte.Goals as goal
 
 two_digits : (text : List ℕ) (high low : ℕ) → 2 ≤ length text → high < 16 → low < 16 → get_or text 0 0 ≡ digit_char high
     → get_or text 1 0 ≡ digit_char low → take 2 text ≡ hex (16 * high + low)
-two_digits text high low some big small first second =
-    let front : (16 * high + low) / 16 ≡ high = omega arith in
-    let last : (16 * high + low) % 16 ≡ low = omega arith in
-    take_more text 1 0 (omega arith) ∙ ap (λ (t : List ℕ). t ++ get_or text 1 0 ∷ []) (take_more text 0 0 (omega arith))
-    ∙ rw (front, last, first, second) refl
+two_digits text high low some big small first second = grind (arith, take_more)
 
 pub returns-clause-spelled : goal.returns-clause-spelled
 returns-clause-spelled c =

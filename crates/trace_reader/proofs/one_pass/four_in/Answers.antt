@@ -1,4 +1,4 @@
-use Rattle.std.proofs.Common.{ℕ, ◌+◌, ◌-◌, ◌%◌, ◌^◌, refl, arith, ◌≡◌, ◌*◌, ◌/◌, ◌<◌, ◌≤◌, List, [], ◌∷◌, ◌++◌, ap, ◌∙◌}
+use Rattle.std.proofs.Common.{ℕ, ◌+◌, ◌-◌, ◌%◌, ◌^◌, refl, arith, ◌≡◌, ◌*◌, ◌/◌, ◌<◌, ◌≤◌, [], ◌∷◌}
 use Rattle.std.specs.{Fmt.{decimal}, Int.{to_le_bytes, w32}, Int.Bits.{bit_and, bit_or}}
 use Rattle.trace_reader.proofs.{DigitsInFront.{longer}, ThreeDigits.{byte_apart, low_bits, spelled_three}}
 use Rattle.trace_reader.proofs.one_pass.four_in.Goals as goal
@@ -20,18 +20,11 @@ record AreFour (n x : ℕ) : Type 0 where
 
 spelled_four : (h t o u : ℕ) → h < 9 → t < 10 → o < 10 → u < 10 →
     decimal (((h + 1) * 100 + t * 10 + o) * 10 + u) ≡ (49 + h) ∷ (48 + t) ∷ (48 + o) ∷ (48 + u) ∷ []
-spelled_four h t o u h_in t_in o_in u_in =
-    longer ((h + 1) * 100 + t * 10 + o) u (omega arith) u_in (omega (arith, h_in, t_in, o_in, u_in))
-    ∙ ap (λ (front : List ℕ). front ++ (48 + u) ∷ []) (spelled_three h t o h_in t_in o_in)
+spelled_four h t o u h_in t_in o_in u_in = grind (arith, longer, spelled_three)
 
 joined : (x h t o u : ℕ) → x ≡ h + 256 * (t + 256 * (o + 256 * u)) → h < 9 → t < 10 → o < 10 → u < 10 →
     four_joined x ≡ ((h + 1) * 100 + t * 10 + o) * 10 + u
-joined x h t o u is h_in t_in o_in u_in =
-    let pairs : x * 2561 % 2 ^ 32 ≡ h + 256 * ((t + 10 * h) + 256 * ((o + 10 * t) + 256 * (u + 10 * o))) =
-    omega (arith, is, h_in, t_in, o_in, u_in) in
-    let first : x * 2561 % 2 ^ 32 / 256 % 256 ≡ t + 10 * h = omega (arith, pairs, h_in, t_in, o_in, u_in) in
-    let second : x * 2561 % 2 ^ 32 / 16777216 ≡ u + 10 * o = omega (arith, pairs, h_in, t_in, o_in, u_in) in
-    omega (arith, first, second)
+joined x h t o u is h_in t_in o_in u_in = grind arith
 
 are_four : (n x y : ℕ) → n < 2 ^ 32 → x < 2 ^ 32 → (x + 808464433) % 2 ^ 32 ≡ n → y ≡ (x + 1987475063) % 2 ^ 32
     → bit_and (bit_or x y) 2155905152 ≡ 0 → AreFour n x

@@ -1,18 +1,13 @@
-use Rattle.std.{proofs.Common.{◌≤◌, ◌∙◌, arith, refl}, specs.Int.{to_le_bytes, w32}}
+use Rattle.std.{proofs.Common.{◌≤◌, arith}}
 use Rattle.trace_reader.proofs.DigitsInFront.{digit_more, eight_digits, few_more, front_four}
 use Rattle.trace_reader.proofs.one_pass.more_digits.Goals as goal
 
 -- the first four digits are the front of the text
 pub returns-then-text-end-clause-spelled : goal.returns-then-text-end-clause-spelled
-returns-then-text-end-clause-spelled c = λ some.
-    front_four c.args.text.now (to_le_bytes w32 c.in-Some.word) _ c.in-Some.ensures refl ∙ c.in-Some-four_in.ensures.spelled
+returns-then-text-end-clause-spelled c = grind (arith, front_four)
 
 pub loop-place-init : goal.loop-place-init
-loop-place-init c = record {
-  spelled = front_four c.args.text.now (to_le_bytes w32 c.in-Some.word) _ c.in-Some.ensures refl ∙ c.in-Some-four_in.ensures.spelled;
-  some = omega (arith, c.in-Some-four_in.ensures.many);
-  few = omega (arith, c.in-Some-four_in.ensures.few);
-}
+loop-place-init c = grind (arith, front_four)
 
 -- ---- one digit more
 

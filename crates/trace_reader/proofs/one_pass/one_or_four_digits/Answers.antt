@@ -3,9 +3,7 @@ use Rattle.trace_reader.proofs.DigitsInFront.{digit_more, first_digit}
 use Rattle.trace_reader.proofs.one_pass.one_or_four_digits.Goals as goal
 
 pub returns-then-text-end-clause-spelled : goal.returns-then-text-end-clause-spelled
-returns-then-text-end-clause-spelled c = λ some.
-    let value = c.digit_of-value.result in
-    first_digit c.args.text.now value (omega arith) (c.digit_of-value.ensures (omega arith)) (omega arith)
+returns-then-text-end-clause-spelled c = grind (arith, first_digit)
 
 pub returns-clause-spelled : goal.returns-clause-spelled
 returns-clause-spelled c = λ some.

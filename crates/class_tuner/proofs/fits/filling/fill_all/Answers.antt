@@ -3,7 +3,7 @@ use Rattle.std.{proofs.lemmas.List.{with_items_is}, specs.declared.alloc.Global.
 use Rattle.class_table.specs.declared.sizes.TheConstants.{MOST_NEEDS}
 use Rattle.class_tuner.proofs.FitLemmas.Places.{all-filled, costs-from, costs-older, least-at_end, ready-at_end, rows-from}
 use Rattle.class_tuner.specs.Fits.PlaceByPlace.{AreLeastRowsFrom}
-use Rattle.potential_check.{proofs.FootprintLemmas.LawLemmas.{spans_of_places}, specs.Footprints.CallCounts.{span_count}}
+use Rattle.potential_check.{proofs.FootprintLemmas.LawLemmas.{alike-at_end, spans_of_places}, specs.Footprints.CallCounts.{span_count}}
 use Rattle.tuner_theory.specs.{Lists.{lists_of}, Rows.{number_at}}
 use Rattle.class_tuner.proofs.fits.filling.fill_all.Goals as goal
 
@@ -27,6 +27,8 @@ loop-i-init g c =
           (lists_of c.args.rows.now) (lists_of c.args.ends.now) c.args.memory c.requires.memory c.requires.rows);
       least = least-at_end (g.C.SpanCosts.cost c.args.costs.now) d c.args.limit (number_at (lists_of c.args.rows.now))
           (number_at (lists_of c.args.ends.now));
+      alike = rw is (alike-at_end (lists_of c.args.rows.now) c.args.limit (g.C.SpanCosts.place_count c.args.costs.now)
+          c.requires.rows.rows_shape);
       counted = rw none (sym (g.met.C.SpanCosts.adds_none _));
     }
 
@@ -43,8 +45,8 @@ write_from-requires g c =
       room = omega (arith, calls, same_places, spans-few (c.places-places.result - c.loop-i.i) (omega arith));
     }
 
-pub fill_next-requires : goal.fill_next-requires
-fill_next-requires g c =
+pub fill_next-alike-requires : goal.fill_next-alike-requires
+fill_next-alike-requires g c =
     let d = c.places-places.result in
     let i : ℕ = c.loop-i.i - 1 in
     let cost = g.C.SpanCosts.cost c.args.costs.now in
@@ -71,6 +73,7 @@ fill_next-requires g c =
           (λ a x y b ax xy yb bd. g.met.C.SpanCosts.grows c.args.costs.now a x y b ax xy yb (omega arith)) c.loop-i.invariant.from_length
           (rw next c.loop-i.invariant.from_are);
       ready = c.loop-i.invariant.ready;
+      alike = c.loop-i.invariant.alike;
     })
 
 pub loop-i-preserved : goal.loop-i-preserved
@@ -90,10 +93,10 @@ loop-i-preserved g c =
     let written_size : length c.write_from.new.costs ≡ d + 1 =
     c.write_from.ensures.size ∙ (ap length c.deref_mut.ensures.value ∙ spare) in
     let from = with_items_is c.swap.new.x c.write_from.new.costs (omega (arith, written_size, spare)) in
-    let slack = with_items_is c.loop-i.slack c.fill_next.new.slack
-    (omega (arith, c.fill_next.auto.slack, ap length c.deref_mut-in-loop-i.ensures.value)) in
-    let bounds = with_items_is c.loop-i.bounds c.fill_next.new.bounds
-    (omega (arith, c.fill_next.auto.bounds, ap length c.deref_mut-in-loop-i-2.ensures.value)) in
+    let slack = with_items_is c.loop-i.slack c.fill_next-alike.new.slack
+    (omega (arith, c.fill_next-alike.auto.slack, ap length c.deref_mut-in-loop-i.ensures.value)) in
+    let bounds = with_items_is c.loop-i.bounds c.fill_next-alike.new.bounds
+    (omega (arith, c.fill_next-alike.auto.bounds, ap length c.deref_mut-in-loop-i-2.ensures.value)) in
     let are : (j : ℕ) → i < j → j ≤ d → slice_index c.write_from.new.costs j ≡ cost i j =
     (λ j after le. c.write_from.ensures.costs j after (omega (arith, same_places))
     ∙ ap (λ (its : ℕ → ℕ → ℕ). its i j) same_cost) in
@@ -104,10 +107,11 @@ loop-i-preserved g c =
       from_length = written_size;
       older_length = ap (λ (v : Vec ℕ Global). length v.items) c.swap.ensures.y_after ∙ c.loop-i.invariant.from_length;
       from_are = are;
-      ready = rw costs at c.fill_next.ensures.ready;
-      least = rows-from cost c.write_from.new.costs d c.args.limit i (lists_of c.loop-i.rows) (lists_of c.fill_next.new.rows)
-          (lists_of c.loop-i.ends) (lists_of c.fill_next.new.ends) (omega arith) are later
-          (rw costs at c.fill_next.ensures.filled);
+      ready = rw costs at c.fill_next-alike.ensures.ready;
+      least = rows-from cost c.write_from.new.costs d c.args.limit i (lists_of c.loop-i.rows) (lists_of c.fill_next-alike.new.rows)
+          (lists_of c.loop-i.ends) (lists_of c.fill_next-alike.new.ends) (omega arith) are later
+          (rw costs at c.fill_next-alike.ensures.filled);
+      alike = c.fill_next-alike.ensures.alike;
       counted = c.write_from.ensures.counted
           ∙ (ap (λ its. g.C.SpanCosts.after_calls its (g.C.SpanCosts.place_count c.loop-i.costs - i)) counted
           ∙ (g.met.C.SpanCosts.adds_up _ _ _ ∙ ap (g.C.SpanCosts.after_calls c.args.costs.now) more));

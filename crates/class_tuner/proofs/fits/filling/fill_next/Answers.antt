@@ -22,6 +22,7 @@ fill_place-requires c = record {
   rows = c.requires.ready.rows;
   bounds = row_bounds-next c.args.older.now c.args.costs.now c.args.slack.now c.lower_slack.new.slack c.args.place c.args.places
       c.args.limit (number_at (lists_of c.args.rows.now)) (lists_of c.args.bounds.now) c.lower_slack.ensures c.requires.ready.bounds;
+  alike = c.requires.alike;
 }
 
 pub returns : goal.returns
@@ -35,4 +36,5 @@ returns c = record {
         (λ k j past. sym (c.fill_place.ensures.filled.rows_kept k j (λ e. omega (arith, e)))) c.fill_place.ensures.bounds;
   };
   filled = c.fill_place.ensures.filled;
+  alike = c.fill_place.ensures.alike;
 }

@@ -1,7 +1,7 @@
 use Rattle.std.proofs.Common.{◌≡◌, ℕ, ◌+◌, ◌-◌, ◌<◌, ◌≤◌, length, slice_index, arith, ap, refl, sym, ◌∙◌, Vec}
 use Rattle.std.{proofs.lemmas.List.{with_items_is}, specs.declared.alloc.Global.{Global}}
 use Rattle.class_table.specs.declared.sizes.TheConstants.{MOST_NEEDS}
-use Rattle.potential_check.proofs.FootprintLemmas.Bounds.{row_bounds-next, row_bounds-none, slack-narrowed}
+use Rattle.potential_check.proofs.FootprintLemmas.{AlikeRows.{alike-at_end}, Bounds.{row_bounds-next, row_bounds-none, slack-narrowed}}
 use Rattle.potential_check.{proofs.FootprintLemmas.CallCounts.{few_spans, more_spans, no_spans}, specs.Footprints.CallCounts.{span_count}}
 use Rattle.potential_check.proofs.FootprintLemmas.RowConditions.{costs-grow, tests-at_end, tests-at_start, tests-both}
 use Rattle.tuner_theory.specs.{Lists.{lists_of}, Rows.{number_at}}
@@ -36,6 +36,7 @@ loop-i-init g c = record {
   slack = c.requires.fresh.is_slack;
   bounds = row_bounds-none c.args.from.now.items c.args.slack.now c.args.places (length c.args.rows.now) (number_at c.args.rows.now)
       (lists_of c.args.bounds.now) c.requires.fresh.none;
+  alike = alike-at_end c.args.rows.now (length c.args.rows.now) c.args.places c.requires.shape;
   counted = sym (ap (g.C.SpanCosts.after_calls c.args.costs.now) (no_spans c.args.places) ∙ g.met.C.SpanCosts.adds_none c.args.costs.now);
 }
 
@@ -106,6 +107,7 @@ tests_at-requires g c =
       bounds = row_bounds-next c.deref.result.now c.deref-in-loop-i.result.now c.loop-i.slack c.lower_slack.new.slack i d (length rows)
           (number_at rows) (lists_of c.loop-i.bounds) c.lower_slack.ensures
           (rw (older, next c.loop-i.i d c.loop-i-test.true c.loop-i.auto.i) c.loop-i.invariant.bounds);
+      alike = rw (next c.loop-i.i d c.loop-i-test.true c.loop-i.auto.i) c.loop-i.invariant.alike;
     })
 
 pub loop-i-preserved : goal.loop-i-preserved
@@ -136,6 +138,7 @@ loop-i-preserved g c =
       slack = slack-narrowed c.deref.result.now c.deref-in-loop-i.result.now c.loop-i.slack c.lower_slack.new.slack i d c.lower_slack.ensures
           c.loop-i.invariant.slack;
       bounds = rw costs at c.tests_at.ensures.bounds;
+      alike = c.tests_at.ensures.alike;
       counted = c.write_from.ensures.counted
           ∙ (ap (λ its. g.C.SpanCosts.after_calls its (g.C.SpanCosts.place_count c.loop-i.costs - i)) counted
           ∙ (g.met.C.SpanCosts.adds_up _ _ _

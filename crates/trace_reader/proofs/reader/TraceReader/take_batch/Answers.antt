@@ -32,15 +32,7 @@ returns-clause-way g c =
     c.events_in_front-count.ensures.range c.events_in_front-count.ensures.lines).0
 
 pub returns-clause-shorter : goal.returns-clause-shorter
-returns-clause-shorter g c =
-    let count = c.events_in_front-count.result.0 in
-    let batch = c.events_in_front-count.new.batch in
-    omega (
-      arith,
-      length-map (take count batch) event_of,
-      length-take count batch,
-      lines_are_long (map event_of (take count batch)) c.args.text.now c.events_in_front-count.result.1.now c.events_in_front-count.ensures.lines,
-    )
+returns-clause-shorter g c = grind (arith, length-map, length-take, lines_are_long)
 
 pub invariant_of-self-2 : goal.invariant_of-self-2
 invariant_of-self-2 g c = grind (arith, common_steps)
