@@ -10,11 +10,12 @@ import operator
 import os
 import re
 import shlex
+import stat
 import subprocess
 import sys
 import textwrap
 from collections import defaultdict, namedtuple
-from collections.abc import Iterator, Sequence
+from collections.abc import Iterable, Iterator, Sequence
 from typing import Any, BinaryIO
 
 from mte_scripts import claims, manifest, private_folder
@@ -139,6 +140,18 @@ def write_file(path: str, data: "str | bytes") -> None:
         raise Refused(3, f"{path} can't be written: another user has put a file or a link there; name another place") from None
     except OSError as error:
         raise Refused(3, f"{path} can't be written: {error.strerror}") from None
+
+
+def refuse_over(written: "str | None", option: str, read_: "Iterable[str | None]") -> None:
+    """Refuses to write the file that an option names over one that is read; `-` is standard input, and None nothing."""
+    for path in filter(None, read_ if written else ()):
+        try:
+            status = os.fstat(0) if path == "-" else os.stat(path)
+            is_same = stat.S_ISREG(status.st_mode) and os.path.samestat(os.stat(written or ""), status)
+        except (OSError, ValueError):  # one of them is no file yet
+            continue
+        if is_same:
+            raise Refused(2, f"{written} is read, so it can't be written over: name another file by {option}")
 
 
 def wrapped(text: str, width: int = 80, indent: str = "") -> "list[str]":

@@ -8,7 +8,7 @@ from typing import Any
 
 from mte_scripts import private_folder, texts
 from mte_scripts.builds import web_page
-from mte_scripts.faults import compiler_driver, fault_answer, fault_report, findings, real_heaps, sarif, tombstone, unfreed
+from mte_scripts.faults import compiler_driver, fault_answer, fault_report, findings, heap_reader, real_heaps, sarif, tombstone, unfreed
 from mte_scripts.faults.fault_answer import Judged
 from mte_scripts.faults.fault_log import Log, NoLog
 from mte_scripts.faults.heap_answers import Answers
@@ -81,6 +81,8 @@ def read_words(words: list[str]) -> argparse.Namespace:
         parser.error("there is no program" if not options.words else "--read takes no program")
     if options.read and options.keep:
         parser.error("--read and --keep can't be given both")
+    for name in ("page", "json", "sarif", "tombstones"):
+        texts.refuse_over(getattr(options, name), f"--{name}", [options.suppressions, options.tombstone, *options.words[:1]])
     options.children = options.children or options.preload
     if options.children and (options.only or options.page):
         parser.error(f"--{'preload' if options.preload else 'children'} and --{'only' if options.only else 'page'} can't be given both")
@@ -90,7 +92,6 @@ def read_words(words: list[str]) -> argparse.Namespace:
 def record(options: argparse.Namespace, folder: str) -> None:
     """Runs the program; its log is in the folder then."""
     log = os.path.join(folder, "%p" if options.children else "log")
-    recording.find_program(options.words[0])
     environment = dict(os.environ, ACCESSES=log)
     environment.pop("ACCESSES_ONLY", None)
     if options.unfreed:
@@ -198,8 +199,7 @@ def judge(options: argparse.Namespace, path: str, lists: "Lists", heaps: "str | 
     return Judged(name, program, log, answers, table, reports, found, places, odds, values, files, differing)
 
 
-def find(options: argparse.Namespace, folder: str) -> int:
-    lists = Lists(options)
+def find(options: argparse.Namespace, folder: str, lists: "Lists") -> int:
     names = fault_answer.logs(folder, options.children)
     if not names:
         raise Refused(2, f"{folder} has no log of a process")
@@ -332,8 +332,11 @@ def main(words: list[str]) -> int:
         real_heaps.check(options.measure)
     if options.page and not web_page.at_hand():
         texts.say(NAME, f"the engines of the page are not built (`scripts/page` proves and builds them): {options.page} has the report alone")
+    lists = Lists(options)
     if options.read:
-        return find(options, options.read)
+        return find(options, options.read, lists)
+    recording.find_program(options.words[0])
+    heap_reader.path()  # what is missing is said before the program runs
     with place_of_run(options.keep) as folder:
         record(options, folder)
-        return find(options, folder)
+        return find(options, folder, lists)

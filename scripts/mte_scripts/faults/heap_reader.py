@@ -3,6 +3,7 @@ libmte_tool.a, which scripts/library builds first where that was not done: it st
 another folder of that script."""
 
 import fcntl
+import functools
 import os
 import shutil
 import subprocess
@@ -55,6 +56,7 @@ def links_in(folder: str, names: "list[str]") -> "list[str]":
     return [name for name in names if os.path.islink(os.path.join(folder, name))]
 
 
+@functools.lru_cache(maxsize=None)
 def path() -> str:
     """Where the program is, which is compiled once for each version of its source and of the library."""
     if os.access(PACKED, os.X_OK):

@@ -2,8 +2,7 @@
 is silent."""
 
 import os
-import stat
-from typing import Any, BinaryIO, Optional
+from typing import Any, Optional
 
 from mte_scripts import texts
 from mte_scripts.fleet.rows import Faulty
@@ -22,14 +21,6 @@ class Faults:
         self.loads: "dict[str, int]" = {}
         self.lines: "list[bytes]" = []
         self.path = path
-
-    def spare(self, file: BinaryIO) -> None:
-        """Refuses an open file that the rows would be written over."""
-        if not self.path or not os.path.exists(self.path):
-            return
-        status = os.fstat(file.fileno())
-        if stat.S_ISREG(status.st_mode) and os.path.samestat(os.stat(self.path), status):
-            raise texts.Refused(2, f"{self.path} is read, so the rows that don't count can't go there: name another file by --faults")
 
     def add(self, fault: Faulty, path: str, at: int, line: bytes) -> None:
         """A row that can't count."""

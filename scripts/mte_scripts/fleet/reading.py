@@ -92,7 +92,7 @@ def load_of(number: int, weight: int, cells: dict) -> Load:
 def head(text: bytes) -> "Optional[tuple[bytes, int, int, int]]":
     """The key as bytes, load, weight and moment of the first fields of rows; None if something is wrong with them."""
     try:
-        if texts.binary(text):
+        if text.startswith(rows.BOM) or texts.binary(text):
             return None
         words = text.decode().split("\t")
         key, load, weight, moment = rows.head_of([*words[:-1], "0", "0"])
@@ -117,7 +117,6 @@ class Store:
 
     def take(self, file: BinaryIO, path: str, begin: bytes = b"") -> None:
         """The rows of an open file; what was read of it already is BEGIN."""
-        self.faults.spare(file)
         rest, at = begin, 1
         while piece := texts.next_piece(file, path):
             data = rest + piece

@@ -44,15 +44,12 @@ class Values(NamedTuple):
 def fields_of(path: str, form: "dict[int, str]", found: Faults) -> "Iterator[tuple[int, bytes, list[str]]]":
     """The lines of a file that have one of these numbers of fields, none of them empty; the others are faults."""
     with texts.opened(path) as file:
-        found.spare(file)
         lines = texts.lines_of(texts.next_piece(file, path, None))
     if not lines:
         raise Refused(3, f"{texts.named(path)} has no line: did the command that writes it fail?")
     for at, line in enumerate(lines, 1):
         try:
-            if wrong := texts.encoding(line, at):
-                raise Faulty(wrong.replace(f"line {at} ", "a line that "))
-            words = line.decode().split("\t")
+            words = rows.fields_of(line, at)
             if len(words) not in form or not all(words):
                 most = max(form)
                 raise Faulty(f"not the {most} fields {form[most]}, with tabs between", line.decode())

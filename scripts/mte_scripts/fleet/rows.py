@@ -20,6 +20,7 @@ DAY = re.compile("[0-9]{4}-[0-9]{2}-[0-9]{2}")
 FIRST_DAY = "2000-01-01"  # a clock that was never set has one before
 EARLY = 2  # days by which a day may be ahead of the reader's clock: of another time zone
 LARGE = LARGEST_SIZE + 1
+BOM = b"\xef\xbb\xbf"
 EPOCH = datetime.date(1970, 1, 1).toordinal()
 RANGES = {"load": (0, MOST_LOAD), "weight": (1, MOST_COUNT), "moment": (0, MOST_SNAPSHOTS), "size": (0, LARGE), "count": (1, MOST_SUM)}
 
@@ -94,11 +95,18 @@ def number(word: str, column: str) -> int:
     return int(word)
 
 
-def row_of(line: bytes, at: int) -> tuple:
-    """The key, load, weight, moment, size and count of a row, which is line AT of its file. Large sizes are one above the largest."""
+def fields_of(line: bytes, at: int) -> "list[str]":
+    """The fields of line AT of a file. A byte order mark comes also where files that have one are joined."""
+    if line.startswith(BOM):
+        raise Faulty(r"a line that begins with a byte order mark (BOM): remove it by `sed 's/^\xef\xbb\xbf//'`")
     if wrong := texts.encoding(line, at):
         raise Faulty(wrong.replace(f"line {at} ", "a line that "))
-    words = line.decode().split("\t")
+    return line.decode().split("\t")
+
+
+def row_of(line: bytes, at: int) -> tuple:
+    """The key, load, weight, moment, size and count of a row, which is line AT of its file. Large sizes are one above the largest."""
+    words = fields_of(line, at)
     if len(words) not in (len(COLUMNS), len(NUMBERED)):
         raise Faulty(f"not the {len(NUMBERED)} fields of a row, with tabs between: {FORM}", f"{len(words)} fields")
     head = head_of(words)

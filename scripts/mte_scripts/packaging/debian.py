@@ -50,9 +50,9 @@ def packages(tree: Tree, parts: Parts) -> "list[Package]":
 
 
 def commands_fields(tree: Tree) -> str:
-    helped, recommended = "binutils, gcc | c-compiler, g++ | c++-compiler, libc6-dev | libc-dev", ""
+    helped, recommended = "binutils, gcc | c-compiler, g++ | c++-compiler, llvm, libc6-dev | libc-dev", ""
     if not tree.has(f"{packaging.PRIVATE}/recorders"):
-        helped, recommended = "binutils, g++ | c++-compiler", "Recommends: gcc | c-compiler, libc6-dev | libc-dev\n"
+        helped, recommended = "binutils, g++ | c++-compiler, llvm", "Recommends: gcc | c-compiler, libc6-dev | libc-dev\n"
     return f"Depends: GLIBC, python3 (>= 3.9)\n{recommended}Suggests: {helped}, lib{NAME}-dev\n"
 
 

@@ -1,4 +1,5 @@
-"""The names of calls: the functions and lines of addresses, by addr2line and nm of binutils, also of an object's separate debug file."""
+"""The names of calls: the functions and lines of addresses, by llvm-addr2line where it is there, and addr2line and nm of binutils; also of an
+object's separate debug file."""
 
 import bisect
 import os
@@ -11,6 +12,9 @@ from typing import Any, NamedTuple
 
 from mte_scripts.recording.sites import Module
 
+# the first is asked first: of DWARF 5 the other one of binutils 2.40 says a wrong file for what is inline in a header but was not inlined, and
+# leaves out callers
+TOOLS = ("llvm-addr2line", "addr2line")
 PART = re.compile(r"(?s)\boperator(?:\(\)|[-<>=!]+)|\(anonymous namespace\)|.")  # of a function's name: what is whole, or a sign
 OPENED = {">": "<", ")": "(", "}": "{"}
 
@@ -35,6 +39,7 @@ class Names:
     def __init__(self, modules: list[Module]) -> None:
         self.modules = modules
         self.frames: dict[Address, tuple[Frame, ...]] = {}
+        self.unsure: set[str] = set()  # objects of which a file or a caller may be wrong
 
     def learn(self, addresses: Iterable[Address]) -> None:
         """Looks up all of them at once."""
@@ -53,16 +58,27 @@ class Names:
     def ask(self, path: str, places: dict[Address, int]) -> None:
         """Asks for addresses of one object, as its file has them."""
         unknown = dict(places)
-        if shutil.which("addr2line"):
-            words, given = ["addr2line", "-a", "-f", "-C", "-i", "-e", path], "\n".join(map(hex, places.values())).encode()
+        for tool in filter(shutil.which, TOOLS):
+            words, given = [tool, "-a", "-f", "-C", "-i", "-e", path], "\n".join(map(hex, unknown.values())).encode()
             done = subprocess.run(words, input=given, stdout=subprocess.PIPE, stderr=subprocess.DEVNULL)
             said = re.split(r"(?m)^0x[0-9a-f]+\n", done.stdout.decode(errors="replace"))[1:]
-            for each, text in zip(places, said):
-                if found := frames_of(text):
-                    self.frames[each] = found
-                    del unknown[each]
+            found = {each: frames for each, text in zip(unknown, said) if (frames := frames_of(text))}
+            self.frames.update(found)
+            unknown = {each: place for each, place in unknown.items() if each not in found}
+            if found and tool == TOOLS[1] and may_be_of_dwarf_5(path):
+                self.unsure.add(os.path.basename(path))
+            if not unknown:
+                break
         for each, name in named_at(path, unknown).items():
             self.frames[each] = (Frame(f"{name} in {os.path.basename(path)}", "", 0),)
+
+
+def may_be_of_dwarf_5(path: str) -> bool:
+    """Whether an object's lines are in the form of DWARF 5, or in another file."""
+    if not shutil.which("readelf"):
+        return True
+    done = subprocess.run(["readelf", "-SW", "--", path], stdin=subprocess.DEVNULL, stdout=subprocess.PIPE, stderr=subprocess.DEVNULL)
+    return b".debug_line_str" in done.stdout or b"debug_line" not in done.stdout
 
 
 def frames_of(text: str) -> tuple[Frame, ...]:

@@ -147,6 +147,8 @@ class Options(argparse.Namespace):
             self.refuse_beside_import()
         elif self.as_ is not None:
             raise Refused(2, "--as goes with --import")
+        for name in ("measured", "peak", "upper", "stacks", "processes"):
+            texts.refuse_over(getattr(self, name), f"--{name}", [self.import_, self.again, self.read, *self.classes])
 
     def choose(self) -> None:
         """What is printed, and what does not go with that."""

@@ -21,7 +21,7 @@ def section(who: Who) -> str:
 <ul id="what-if">
 {tried}
 </ul>
-<p class="soft">{escape(who.input())}</p>
+<p class="soft">{escape(f"{who.unsure()} {who.input()}".strip())}</p>
 {"".join(figure(kind, pairs) for kind, pairs in who.weights().items() if pairs)}"""
 
 

@@ -6,7 +6,7 @@ import os
 import re
 from array import array
 from collections import Counter, defaultdict
-from collections.abc import Callable, Iterable, Iterator
+from collections.abc import Callable, Iterable, Iterator, Set
 from typing import NamedTuple, Optional
 
 from mte_scripts import claims, texts
@@ -31,11 +31,13 @@ Stack = tuple[Frame, ...]
 
 
 class Run(NamedTuple):
-    """The events of a run, twice their site and 1 for a free; each site's size; and what gives the frames of some sites, the innermost first."""
+    """The events of a run, twice their site and 1 for a free; each site's size; what gives the frames of some sites, the innermost first; and
+    the objects that have been found in them of which a file or a caller may be wrong."""
 
     events: array
     sizes: array
     frames: Callable[[Iterable[int]], dict[int, Stack]]
+    unsure: Set[str] = frozenset()
 
 
 def of_sites(record: Sites) -> Run:
@@ -46,7 +48,7 @@ def of_sites(record: Sites) -> Run:
         names.learn(each for stack in stacks.values() for each in stack)
         return {site: tuple(frame for each in stack for frame in names.frames[each]) for site, stack in stacks.items()}
 
-    return Run(record.events, record.sizes, frames)
+    return Run(record.events, record.sizes, frames, names.unsure)
 
 
 def of_heaptrack(record: heaptrack_stacks.Record) -> Run:
@@ -246,6 +248,16 @@ class Who:
             said = number(size) if len(sizes) == 1 else f"{100 * times // blocks}% {number(size)}"
             yield kibibytes(taken), percent(taken, self.footprint), kibibytes(sum(map(self.lost, parts))), number(blocks), said, place
 
+    def unsure(self) -> str:
+        """What may be wrong of the places."""
+        if not self.run.unsure:
+            return ""
+        objects = claims.listed(sorted(self.run.unsure))
+        return (
+            f"addr2line does not read all debug symbols of DWARF 5 right: in {objects} a file may be wrong, or a caller left out. "
+            "Install llvm-addr2line (of Debian's package llvm), or build with -gdwarf-4."
+        )
+
     def input(self) -> str:
         return claims.who_input(self.timed.fit.limit, self.timed.fit.step) if self.timed.verdict == "optimal" else ""
 
@@ -257,7 +269,7 @@ class Who:
         lines += ["", *(f"{line}  {place}" for line, place in zip(texts.columns(rows, left=10), places)), ""]
         for each in self.what_ifs:
             lines += texts.wrapped(f"- {each.said()}", indent="  ")
-        return "".join(f"{texts.printable(line)}\n" for line in lines + texts.wrapped(self.input()))
+        return "".join(f"{texts.printable(line)}\n" for line in lines + texts.wrapped(self.unsure()) + texts.wrapped(self.input()))
 
     def lead(self) -> str:
         lost = sum(map(self.lost, self.parts))
