@@ -9,7 +9,7 @@ from collections import defaultdict, namedtuple
 from collections.abc import Iterable
 
 from mte_scripts.faults.fault_log import Log
-from mte_scripts.recording.calls import named_at, without_parameters
+from mte_scripts.recording.calls import lines_at, named_at, without_parameters
 
 RUNTIME = "libmte_accesses.so"
 SYSTEM = ("/usr/lib", "/lib", "/usr/include")
@@ -61,19 +61,9 @@ class Places:
         asked = {address: offset - begin + virtual - 1 for address, offset, (begin, virtual, size) in places if begin <= offset < begin + size}
         if not asked:
             return
-        words, given = ["addr2line", "-a", "-f", "-C", "-i", "-e", path], "\n".join(map(hex, asked.values())).encode()
-        said = subprocess.run(words, input=given, stdout=subprocess.PIPE, stderr=subprocess.DEVNULL).stdout.decode(errors="replace")
-        # an address alone, and then a function and a source for each inlined frame
-        for address, text in zip(list(asked), re.split(r"(?m)^0x.*\n", said)[1:]):
-            lines, frames = text.split("\n"), []
-            for name, place in zip(lines[::2], lines[1::2]):
-                source, _, line = place.split(" (")[0].rpartition(":")
-                if not source.startswith("??"):
-                    frames.append(Frame(without_parameters(name), source, int(line) if line.isdigit() else 0, path))
-            if frames:
-                self._frames[address] = frames
-                del asked[address]
-        # without a line addr2line names the symbol before an address, which may end before it
+        for address, calls in lines_at("addr2line", path, asked).items():
+            self._frames[address] = [Frame(without_parameters(name), source, line, path) for name, source, line in calls]
+            del asked[address]
         for address, name in named_at(path, asked).items():
             self._frames[address] = [self._frames[address][0]._replace(function=f"{name} of {os.path.basename(path)}")]
 

@@ -59,13 +59,12 @@ class Names:
         """Asks for addresses of one object, as its file has them."""
         unknown = dict(places)
         for tool in filter(shutil.which, TOOLS):
-            words, given = [tool, "-a", "-f", "-C", "-i", "-e", path], "\n".join(map(hex, unknown.values())).encode()
-            done = subprocess.run(words, input=given, stdout=subprocess.PIPE, stderr=subprocess.DEVNULL)
-            said = re.split(r"(?m)^0x[0-9a-f]+\n", done.stdout.decode(errors="replace"))[1:]
-            found = {each: frames for each, text in zip(unknown, said) if (frames := frames_of(text))}
-            self.frames.update(found)
-            unknown = {each: place for each, place in unknown.items() if each not in found}
-            if found and tool == TOOLS[1] and may_be_of_dwarf_5(path):
+            asked = dict(unknown)
+            for each, said in lines_at(tool, path, asked).items():
+                if frames := [Frame(plain(function), source, line) for function, source, line in said if line]:
+                    self.frames[each] = tuple(frames)
+                    del unknown[each]
+            if unknown != asked and tool == TOOLS[1] and may_be_of_dwarf_5(path):
                 self.unsure.add(os.path.basename(path))
             if not unknown:
                 break
@@ -81,15 +80,21 @@ def may_be_of_dwarf_5(path: str) -> bool:
     return b".debug_line_str" in done.stdout or b"debug_line" not in done.stdout
 
 
-def frames_of(text: str) -> tuple[Frame, ...]:
-    """What addr2line says of an address: a line with a function, and one with its place, for each. Without a line it is none: then the function
-    is the symbol before the address, whose end may be before it too."""
-    lines, frames = text.splitlines(), []
-    for function, place in zip(lines[::2], lines[1::2]):
-        source, _, line = place.split(" (")[0].rpartition(":")
-        if not source.startswith("??") and line.isdigit() and line != "0":
-            frames.append(Frame(plain(function), source, int(line)))
-    return tuple(frames)
+def lines_at(tool: str, path: str, places: dict[Any, int]) -> "dict[Any, list[tuple[str, str, int]]]":
+    """What addr2line says of places in an object: of each of which it knows a file the functions, the innermost inlined one first, each with its
+    file and line, or 0. Of others it names the symbol before the place, which may end before it."""
+    words, given = [tool, "-a", "-f", "-C", "-i", "-e", path], "\n".join(map(hex, places.values())).encode()
+    done = subprocess.run(words, input=given, stdout=subprocess.PIPE, stderr=subprocess.DEVNULL)
+    found = {}
+    for each, text in zip(places, re.split(r"(?m)^0x[0-9a-f]+\n", done.stdout.decode(errors="replace"))[1:]):
+        lines, calls = text.splitlines(), []
+        for function, place in zip(lines[::2], lines[1::2]):
+            source, _, line = place.split(" (")[0].rpartition(":")
+            if not source.startswith("??"):
+                calls.append((function, source, int(line) if line.isdigit() else 0))
+        if calls:
+            found[each] = calls
+    return found
 
 
 def named_at(path: str, places: dict[Any, int]) -> dict[Any, str]:
