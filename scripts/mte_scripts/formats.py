@@ -2,7 +2,8 @@
 
 scripts/tests/formats compares it with the laws that the crates prove of their numbers, with the texts of the codes that contracts cite, and
 with what the program and the documents say. It writes the options of crates/tool_call and command_words, and the parts of include/, library/,
-python/, rust/, web/, bench/plain and scripts/shims that have numbers, sentences, options or a call for each command.
+python/, rust/, web/, bench/plain and scripts/shims that have numbers, sentences, options or a call for each command. Of the totals it writes
+the fields and lines in the definitions and in the crates, what the tests expect of them, and the numbers 0 of new ones in README.md.
 """
 
 import re
@@ -121,8 +122,32 @@ COMMANDS = {
 }
 
 
-# the names of the totals, the last lines of a report
-TOTALS = ("events", "requests", "null large", "null no-class", "null exhausted", "faults tag", "faults unmapped", "refused frees", "loss")
+class Total(NamedTuple):
+    """A total of a replay: what it counts, in words, and the test of an event's result that says so, or its definition over what happened."""
+
+    words: str
+    test: str = ""
+    value: str = ""
+
+
+# by their names in the last lines of a report
+TOTALS = {
+    "events": Total("all events", value="length happened"),
+    "requests": Total("the requests, whatever their results", value="count_by (λ p. is_request p.0) happened"),
+    "null large": Total("the requests that were refused because they ask for more than any class serves", "is_large"),
+    "null no-class": Total("the requests that were refused because no class serves them", "is_no_class"),
+    "null exhausted": Total("the requests that were refused because their class had no slot left", "is_exhausted"),
+    "faults tag": Total("the mapped accesses that touched a granule whose tag differs from their pointer's", "is_tag_fault"),
+    "faults unmapped": Total("the accesses that were not mapped", "is_unmapped"),
+    "refused frees": Total("the frees and reallocs of a pointer that is not null and names no live chunk", "is_refused"),
+    "loss": Total("the bytes that requests left unused in blocks of their classes, over all requests that were not refused",
+                  value="sum_by (loss_of_event classes) happened"),
+}
+
+
+def in_code(total: str) -> str:
+    """A total's name in code, as null_no_class."""
+    return re.sub("[ -]", "_", total)
 
 
 class End(NamedTuple):

@@ -17,7 +17,6 @@ unless MTE_TOOL_BUILD=yes."""
 
 import argparse
 import os
-import re
 import shutil
 import signal
 import subprocess
@@ -29,7 +28,7 @@ import unittest
 from collections.abc import Callable
 from typing import Optional
 
-from mte_scripts.formats import TOTALS
+from mte_scripts.formats import TOTALS, in_code
 from mte_scripts.places import ROOT
 
 SHOWN = 900  # characters of each thing that was seen
@@ -70,7 +69,7 @@ def least(measure: "Callable[[], float]", most: float, rounds: int = 5) -> float
 
 def totals(**counted: int) -> str:
     """The lines of totals of a report: of these counts, as null_no_class=1, and else 0."""
-    return "".join(f"{name} {counted.get(re.sub('[ -]', '_', name), 0)}\n" for name in TOTALS)
+    return "".join(f"{name} {counted.get(in_code(name), 0)}\n" for name in TOTALS)
 
 
 def fail(text: str) -> None:

@@ -5,7 +5,7 @@ import re
 import textwrap
 
 from mte_scripts import formats
-from mte_scripts.formats import CODES, COMMANDS, ENDS, OPTIONS
+from mte_scripts.formats import CODES, COMMANDS, ENDS, OPTIONS, TOTALS, in_code
 from mte_scripts.places import ROOT
 
 WRITTEN = "Written by scripts/tests/formats from scripts/mte_scripts/formats.py."
@@ -587,8 +587,126 @@ def kebab(name):
     return re.sub("(?<=[a-z])(?=[A-Z])", "-", name).lower()
 
 
+# ---- the totals
+
+COUNTED = {name: it for name, it in TOTALS.items() if it.test}
+
+
+def of_each_total(line, totals=TOTALS):
+    """A line for each of the totals, made of its name in code, its name and what it is."""
+    return "".join(line(in_code(name), name, it) for name, it in totals.items())
+
+
+def tests_of_totals():
+    """The import of the tests in the definitions, in lines of at most 140 columns."""
+    head, lines = "use Rattle.replay_theory.specs.Replay.{", [["Answer"]]
+    for test in [*(it.test for it in COUNTED.values()), "is_silent"]:
+        if len(head) + len(", ".join([*lines[-1], test])) + 1 > 140:
+            lines.append([])
+        lines[-1].append(test)
+    return "".join(f"{head}{', '.join(names)}}}\n" for names in lines)
+
+
+def lines_written():
+    """The goal of `Totals::write` by its calls, from the last one to the first."""
+    calls = [f"append_total{f'-{number}' if number > 1 else ''}" for number in range(1, len(TOTALS) + 1)]
+    return (
+        f"    sym (append-nil c.{calls[-1]}.new.text.items)\n" + "".join(f"    ∙ c.{call}.ensures.items _\n" for call in reversed(calls)))
+
+
+def number_of_totals():
+    return "no one two three four five six seven eight nine ten eleven twelve thirteen fourteen fifteen sixteen".split()[len(TOTALS)]
+
+
+def totals_in_help():
+    """What the help of `replay` says after the events' lines."""
+    *names, last = [f"`{name}`".replace(" ", "\0") for name in TOTALS]
+    words = f"and then {number_of_totals()} totals: {', '.join(names)}, and {last}, the bytes of the served requests' payloads"
+    return textwrap.fill(f"{words} beyond what they asked for.", 95, break_on_hyphens=False).replace("\0", " ")
+
+
+def totals_of_tests():
+    """A macro for reports, with two rules for each total."""
+    names = [*map(in_code, TOTALS), "end"]
+    rules = "".join(
+        f"    (@{name} [$($line:literal)*] {name} $n:literal $($rest:tt)*) => {{\n"
+        f'        totals!(@{after} [$($line)* "{said} " $n "\\n"] $($rest)*)\n    }};\n'
+        f"    (@{name} [$($line:literal)*] $($rest:tt)*) => {{\n"
+        f'        totals!(@{after} [$($line)* "{said} 0\\n"] $($rest)*)\n    }};\n'
+        for name, after, said in zip(names, names[1:], TOTALS))
+    return (
+        f"//! The totals of a report. {WRITTEN}\n\n"
+        "// some text, and then the lines of totals: of these, in the order of a report, and else 0\n"
+        "macro_rules! totals {\n"
+        f"    ($before:literal $(, $name:ident: $n:literal)*) => {{\n        totals!(@{names[0]} [$before] $($name $n)*)\n    }};\n"
+        f"{rules}"
+        "    (@end [$($line:literal)*]) => {\n        concat!($($line),*)\n    };\n}\n\npub(crate) use totals;\n"
+    )
+
+
+def standing(path, pattern):
+    """The totals with their numbers where they stand in a file: a new one has the number 0."""
+    with open(os.path.join(ROOT, path), encoding="utf-8") as file:
+        text = re.search(pattern, file.read())[0]
+    numbers = {name: re.search(rf"(?<![a-z] ){name} (\d+)", text) for name in TOTALS}
+    return [f"{name} {found[1] if found else 0}" for name, found in numbers.items()]
+
+
+def totals_in_readme():
+    return "\n".join(f"    {line}" for line in standing("README.md", TOTALS_IN_README))
+
+
+def totals_in_literal(path):
+    """The same as a literal in lines of at most 140 columns."""
+    lines = textwrap.wrap(" ".join(f"{line}\\n".replace(" ", "\0") for line in standing(path, TOTALS_CONSTANT)), 120, break_on_hyphens=False)
+    text = "\\\n    ".join(line.replace(" ", "").replace("\0", " ") for line in lines)
+    return f'const TOTALS: &str =\n    "{text}";'
+
+
+TOTALS_IN_README = r"(?m)^    events \d+\n(?:    [a-z -]+ \d+\n)*    [a-z -]+ \d+$"
+TOTALS_IN_TEXT = r"(?m)^events \d+\n(?:[a-z -]+ \d+\n)*"
+TOTALS_CONSTANT = r'(?s)const TOTALS: &str =\s*".*?";'
+
+PARTS_OF_TOTALS = {
+    "crates/replay_theory/specs/Totals.antt": [
+        (r"(use Rattle\.replay_theory\.specs\.Replay\.\{.*\}\n)+", tests_of_totals()),
+        (r"(  pub \w+ : ℕ\n)+", of_each_total(lambda code, *_: f"  pub {code} : ℕ\n")),
+        (r"(  \w+ = 0;\n)+", of_each_total(lambda code, *_: f"  {code} = 0;\n")),
+        (r"(  \w+ = .* happened;\n)+",
+         of_each_total(lambda code, name, it: f"  {code} = {it.value or f'count_by (λ p. {it.test} p.1) happened'};\n")),
+        (r"(?<=with_answer t answer = record t \{\n)(  .*;\n)+",
+         of_each_total(lambda code, name, it: f"  {code} = t.{code} + one_if ({it.test} answer);\n", COUNTED)),
+    ],
+    "crates/replay_theory/specs/Report.antt": [
+        (r"    total_line \(codes .*\n(    ∷ total_line .*\n)+",
+         "    " + of_each_total(lambda code, name, _: f'∷ total_line (codes "{name}") t.{code}\n    ').removeprefix("∷ ").removesuffix("    ")),
+    ],
+    "crates/replay_core/specs/TheoryValues.antt": [(r"(  \w+ = t\.\w+;\n)+", of_each_total(lambda code, *_: f"  {code} = t.{code};\n"))],
+    "crates/replay_core/specs/TotalsBounds.antt": [
+        (r"(?<=requests ≤ t\.events\n)(  pub \w+ : t\.\w+ ≤ t\.events\n)+",
+         of_each_total(lambda code, *_: f"  pub {code} : t.{code} ≤ t.events\n", COUNTED)),
+    ],
+    "crates/replay_core/src/totals.rt": [
+        (r"(    /// .*\n    pub \w+: u64,\n)+", of_each_total(lambda code, name, it: f"    /// {rust_words(it.words)}\n    pub {code}: u64,\n")),
+        (r"(        \w+: 0,\n)+", of_each_total(lambda code, *_: f"        {code}: 0,\n")),
+        (r"(        append_total\(.*\n)+", of_each_total(lambda code, name, _: f'        append_total(text, b"{name}", self.{code});\n')),
+    ],
+    "crates/replay_core/proofs/totals/Totals/write/Answers.antt": [(r"    sym .*\n(    ∙ c\.append_total.*\n)+", lines_written())],
+    "crates/command_words/src/commands/replay.rt": [(r"(?s)and then \w+ totals: .*?\.(?=\n\n)", totals_in_help())],
+    "crates/engine_tests/src/tests/totals.rt": [(r"(?s).*", totals_of_tests())],
+    "crates/heap_tests/src/tests/replays.rt": [(TOTALS_CONSTANT, totals_in_literal("crates/heap_tests/src/tests/replays.rt"))],
+    "crates/mte_tool/stdout": [(TOTALS_IN_TEXT, "".join(f"{line}\n" for line in standing("crates/mte_tool/stdout", TOTALS_IN_TEXT)))],
+    "README.md": [(TOTALS_IN_README, totals_in_readme()), (r"tail -n \d+ sqlite\.run", f"tail -n {len(TOTALS)} sqlite.run")],
+    "bench/plain/replay.rs": [
+        (r"(    \w+: u64,\n)+", of_each_total(lambda code, *_: f"    {code}: u64,\n")),
+        (r'(            \(".* ", t\.\w+\),\n)+', of_each_total(lambda code, name, _: f'            ("{name} ", t.{code}),\n')),
+    ],
+}
+
+
 # Each file with the parts that the table writes: a pattern that finds the part, and the part.
 PARTS = {
+    **PARTS_OF_TOTALS,
     "include/mte_tool.h": [
         (r"(?s)typedef enum mte_tool_end \{.*?\n\} mte_tool_end;", ends_of_c()),
         (r"(?s)typedef enum mte_tool_code \{.*?\n\} mte_tool_code;", codes_of_c()),

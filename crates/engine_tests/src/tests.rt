@@ -5,4 +5,5 @@ mod engines;
 mod memory;
 mod streams;
 mod support;
+mod totals;
 mod tuner;

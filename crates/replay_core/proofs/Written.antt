@@ -1,7 +1,7 @@
 -- Texts that are written part by part.
 use Rattle.std.proofs.Common.{◌≡◌, ℕ, ◌+◌, ◌≤◌, List, [], ◌∷◌, ◌++◌, ◌∙◌, length, take, ap, sym, codes, append_assoc, arith}
 use Rattle.std.proofs.{Math.Seq.{take-append-add}, lemmas.List.{take-take}}
-use Rattle.line_text.specs.Lines.{ended, line_of, text_of}
+use Rattle.line_text.specs.Lines.{ended, line_of}
 
 pub tag_fault_line : (number granule memory pointer kind : List ℕ) (x0 x1 x2 x3 x4 x5 x6 x7 x8 x9 x10 : List ℕ) →
     x1 ≡ x0 ++ number → x2 ≡ x1 ++ codes " fault tag granule " →
@@ -11,13 +11,6 @@ pub tag_fault_line : (number granule memory pointer kind : List ℕ) (x0 x1 x2 x
     "pointer" ∷ pointer ∷ codes "in" ∷ kind ∷ []))
 tag_fault_line number granule memory pointer kind x0 x1 x2 x3 x4 x5 x6 x7 x8 x9 x10 e1 e2 e3 e4 e5 e6 e7 e8 e9 e10 =
     rw (e10, e9, e8, e7, e6, e5, e4, e3, e2, e1) (simp append_assoc)
-
-pub nine_lines : (a b c d e f g h i x0 x1 x2 x3 x4 x5 x6 x7 x8 x9 : List ℕ) → x0 ≡ [] → x1 ≡ x0 ++ ended a → x2 ≡ x1 ++ ended b →
-    x3 ≡ x2 ++ ended c → x4 ≡ x3 ++ ended d → x5 ≡ x4 ++ ended e →
-    x6 ≡ x5 ++ ended f → x7 ≡ x6 ++ ended g → x8 ≡ x7 ++ ended h → x9 ≡ x8 ++ ended i →
-    x9 ≡ text_of (a ∷ b ∷ c ∷ d ∷ e ∷ f ∷ g ∷ h ∷ i ∷ [])
-nine_lines a b c d e f g h i x0 x1 x2 x3 x4 x5 x6 x7 x8 x9 e0 e1 e2 e3 e4 e5 e6 e7 e8 e9 =
-    rw (e9, e8, e7, e6, e5, e4, e3, e2, e1, e0) (simp append_assoc)
 
 -- a text that is right to the end of what was written is right to each place in it
 pub written_to : (text front bytes : List ℕ) (at len most : ℕ) → length front ≡ at → len ≤ most →

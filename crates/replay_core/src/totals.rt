@@ -55,7 +55,7 @@ impl Totals {
         loss: 0,
     };
 
-    /// Replaces what `text` holds by the nine lines of totals: each the name of a field, in words, and its number.
+    /// Replaces what `text` holds by the lines of totals: each the name of a field, in words, and its number.
     pub fn write(&self, text: &mut ArrayVec<u8, TOTALS_ROOM>)
         ensures { text.new.items ≡ totals_text (totals_in self.now) }
     {
@@ -134,10 +134,12 @@ impl Replay {
     }
 }
 
-// appends a line of totals
+// Appends a line of totals. What follows stands in the contract, so that one line proves each of many calls.
+#[tactic(auto, using(std::proofs::Common::append_assoc))]
 fn append_total(text: &mut ArrayVec<u8, TOTALS_ROOM>, name: &[u8], total: u64)
     requires { length text.old.items + length name.now + 22 ≤ TOTALS_ROOM }
-    ensures items { text.new.items ≡ text.old.items ++ ended (total_line name.now total) }
+    ensures items { (rest : List ℕ) →
+        text.new.items ++ rest ≡ text.old.items ++ (ended (total_line name.now total) ++ rest) }
     ensures len { length text.new.items ≤ length text.old.items + length name.now + 22 }
 {
     append(text, name);

@@ -1,4 +1,4 @@
--- The report on a trace: a line for each event that is not silent, and nine lines of totals.
+-- The report on a trace: a line for each event that is not silent, and the lines of totals.
 use Rattle.std.specs.{Fmt.{decimal}, List.{flat_map}, Prelude.{ℕ, ◌+◌, List, [], ◌∷◌, ◌++◌, codes, zip}}
 use Rattle.line_text.specs.{Hexadecimal.{hex}, Lines.{line_of, ended, text_of}}
 use Rattle.class_table.specs.{Layout.{Partition}, NamedLines.{named_line}}

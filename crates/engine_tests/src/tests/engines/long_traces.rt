@@ -1,5 +1,6 @@
 //! Traces of a million events.
 use crate::tests::calls::{answers, call};
+use crate::tests::totals::totals;
 use mte_engine::Call;
 use std::alloc::{AllocError, Global};
 use std::test::Fail;
@@ -38,8 +39,6 @@ fn a_million_events_and_one_more(rt: HostRuntime) -> Result<(), Fail> {
 fn a_run_of_a_million_events(rt: HostRuntime) -> Result<(), Fail> {
     let trace = million_frees(rt.alloc())?;
     let call = call!(Run, limit: 1);
-    let written =
-        "classes\nlimit 1\nwaste 0\nrow\nevents 1000000\nrequests 0\nnull large 0\nnull no-class 0\nnull exhausted 0\n\
-                   faults tag 0\nfaults unmapped 0\nrefused frees 0\nloss 0\n";
+    let written = totals!("classes\nlimit 1\nwaste 0\nrow\n", events: 1000000);
     answers(&rt, call, &trace, written, "done")
 }

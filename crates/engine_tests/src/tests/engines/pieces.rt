@@ -9,60 +9,14 @@ use mte_engine::{ByteSource, Call, Failure, History};
 use std::process::Abort;
 use std::test::Fail;
 
-/// The input of an engine, and what it writes for it.
+/// The input of an engine, what it writes for it, and how it ends.
 #[derive(Clone, Copy)]
-pub enum Case {
-    /// These lines, and then these totals; it ends well.
-    Report(&'static str, &'static str, [u64; 9]),
-    /// These lines; and how it ends.
-    Text(&'static str, &'static str, &'static str),
-}
-
-const TOTALS: [&str; 9] = [
-    "events",
-    "requests",
-    "null large",
-    "null no-class",
-    "null exhausted",
-    "faults tag",
-    "faults unmapped",
-    "refused frees",
-    "loss",
-];
+pub struct Case(pub &'static str, pub &'static str, pub &'static str);
 
 /// Runs the engine on each case, however the input is cut.
 pub fn check(rt: &(impl Abort + AllocGlobal), call: Call, cases: &[Case]) -> Result<(), Fail> {
-    for case in cases {
-        match case {
-            Case::Report(input, lines, totals) => check_report(rt, call, input, lines, totals)?,
-            Case::Text(input, written, ends) => check_cuts(rt, call, input, written, ends)?,
-        }
-    }
-    Ok(())
-}
-
-fn check_report(
-    rt: &(impl Abort + AllocGlobal),
-    call: Call,
-    input: &str,
-    lines: &str,
-    totals: &[u64; 9],
-) -> Result<(), Fail> {
-    let mut written = String::from_str(rt.alloc(), lines)?;
-    append_totals(rt, totals, &mut written)?;
-    check_cuts(rt, call, input, &written, "done")
-}
-
-/// Appends the lines of totals.
-pub fn append_totals(
-    rt: &impl AllocGlobal,
-    totals: &[u64; 9],
-    text: &mut String,
-) -> Result<(), Fail> {
-    for place in 0..9 {
-        let (name, total) = (TOTALS[place], totals[place]);
-        let line = format!(in rt.alloc(); "{name} {total}\n")?;
-        text.push_str(line.as_str())?;
+    for Case(input, written, ends) in cases {
+        check_cuts(rt, call, input, written, ends)?;
     }
     Ok(())
 }

@@ -1,8 +1,8 @@
 //! `run` from text to text.
 use self::Answer::{Done, Fault};
-use super::pieces::Case::Report;
-use super::pieces::{Case, append_totals, check};
+use super::pieces::{Case, check};
 use crate::tests::calls::{answers, call};
+use crate::tests::totals::totals;
 use mte_engine::Call;
 use std::process::Abort;
 use std::test::Fail;
@@ -13,30 +13,32 @@ const fn tuned(limit: u8, step: u8) -> Call {
     call!(Run, limit: limit, step: step, quarantine: 64)
 }
 
-const A_TUNED_TABLE_AND_ITS_REPLAY: &[Case] = &[Report(
+const A_TUNED_TABLE_AND_ITS_REPLAY: &[Case] = &[Case(
     TRACE,
-    "classes 2\nlimit 2\nwaste 16\nrow 16\nrow 16\n2 fault tag granule 2 memory 0 pointer 1 in header\n\
+    totals!(
+        "classes 2\nlimit 2\nwaste 16\nrow 16\nrow 16\n2 fault tag granule 2 memory 0 pointer 1 in header\n\
              4 fault tag granule 3 memory 2 pointer 1 in other\n6 fault tag granule 1 memory 3 pointer 1 in dead\n",
-    [6, 2, 0, 0, 0, 3, 0, 0, 16],
+        events: 6, requests: 2, faults_tag: 3, loss: 16
+    ),
+    "done",
 )];
 
-const A_STEP_OF_FOUR: &[Case] = &[Report(
+const A_STEP_OF_FOUR: &[Case] = &[Case(
     TRACE,
-    "classes 4\nlimit 2\nstep 4\nwaste 80\nrow 80\nrow 80\n2 fault tag granule 2 memory 0 pointer 1 in tail\n\
+    totals!(
+        "classes 4\nlimit 2\nstep 4\nwaste 80\nrow 80\nrow 80\n2 fault tag granule 2 memory 0 pointer 1 in tail\n\
              4 fault tag granule 3 memory 0 pointer 1 in tail\n6 fault tag granule 1 memory 3 pointer 1 in dead\n",
-    [6, 2, 0, 0, 0, 3, 0, 0, 80],
+        events: 6, requests: 2, faults_tag: 3, loss: 80
+    ),
+    "done",
 )];
 
 const NO_REQUESTS: &[Case] = &[
-    Report(
-        "",
-        "classes\nlimit 1\nwaste 0\nrow\n",
-        [0, 0, 0, 0, 0, 0, 0, 0, 0],
-    ),
-    Report(
+    Case("", totals!("classes\nlimit 1\nwaste 0\nrow\n"), "done"),
+    Case(
         "free 0",
-        "classes\nlimit 1\nwaste 0\nrow\n",
-        [1, 0, 0, 0, 0, 0, 0, 0, 0],
+        totals!("classes\nlimit 1\nwaste 0\nrow\n", events: 1),
+        "done",
     ),
 ];
 
@@ -57,7 +59,7 @@ const ACCESSES: &[&str] = &[
 // What the engine answers to a prefix of the trace: this sheet, the lines of so many accesses and these totals, or a fault.
 #[derive(Clone, Copy)]
 enum Answer {
-    Done(&'static str, usize, [u64; 9]),
+    Done(&'static str, usize, &'static str),
     Fault(&'static str),
 }
 
@@ -69,23 +71,40 @@ const OF_16: &str = "classes 2\nlimit 2\nwaste 0\nrow 0\nrow 0\n";
 
 const OF_16_AND_0: &str = "classes 2\nlimit 2\nwaste 16\nrow 16\nrow 16\n";
 
+// the totals after so many events
+const AFTER_NONE: &str = totals!("");
+
+const AFTER_ONE_OF_15: &str = totals!("", events: 1, requests: 1, loss: 15);
+
+const AFTER_ONE: &str = totals!("", events: 1, requests: 1);
+
+const AFTER_TWO: &str = totals!("", events: 2, requests: 1, faults_tag: 1);
+
+const AFTER_THREE: &str = totals!("", events: 3, requests: 2, faults_tag: 1, loss: 16);
+
+const AFTER_FOUR: &str = totals!("", events: 4, requests: 2, faults_tag: 2, loss: 16);
+
+const AFTER_FIVE: &str = totals!("", events: 5, requests: 2, faults_tag: 2, loss: 16);
+
+const AFTER_SIX: &str = totals!("", events: 6, requests: 2, faults_tag: 3, loss: 16);
+
 // The answers below these lengths of the prefix, from the one before on; worked out by hand.
 const ANSWERS: &[(usize, Answer)] = &[
-    (1, Done(EMPTY, 0, [0, 0, 0, 0, 0, 0, 0, 0, 0])),
+    (1, Done(EMPTY, 0, AFTER_NONE)),
     (10, Fault("error 70 BadWord line 1")),
-    (11, Done(OF_15, 0, [1, 1, 0, 0, 0, 0, 0, 0, 15])),
-    (13, Done(OF_16, 0, [1, 1, 0, 0, 0, 0, 0, 0, 0])),
+    (11, Done(OF_15, 0, AFTER_ONE_OF_15)),
+    (13, Done(OF_16, 0, AFTER_ONE)),
     (26, Fault("error 70 BadWord line 2")),
     (27, Fault("error 71 BadNumber line 2")),
-    (29, Done(OF_16, 1, [2, 1, 0, 0, 0, 1, 0, 0, 0])),
+    (29, Done(OF_16, 1, AFTER_TWO)),
     (38, Fault("error 70 BadWord line 3")),
-    (40, Done(OF_16_AND_0, 1, [3, 2, 0, 0, 0, 1, 0, 0, 16])),
+    (40, Done(OF_16_AND_0, 1, AFTER_THREE)),
     (50, Fault("error 70 BadWord line 4")),
-    (52, Done(OF_16_AND_0, 2, [4, 2, 0, 0, 0, 2, 0, 0, 16])),
+    (52, Done(OF_16_AND_0, 2, AFTER_FOUR)),
     (57, Fault("error 70 BadWord line 5")),
-    (59, Done(OF_16_AND_0, 2, [5, 2, 0, 0, 0, 2, 0, 0, 16])),
+    (59, Done(OF_16_AND_0, 2, AFTER_FIVE)),
     (68, Fault("error 70 BadWord line 6")),
-    (70, Done(OF_16_AND_0, 3, [6, 2, 0, 0, 0, 3, 0, 0, 16])),
+    (70, Done(OF_16_AND_0, 3, AFTER_SIX)),
 ];
 
 // what is written, and how the engine ends
@@ -96,7 +115,7 @@ fn report(rt: &impl AllocGlobal, answer: &Answer) -> Result<(String, &'static st
             for access in ACCESSES.iter().take(*accesses) {
                 written.push_str(access)?;
             }
-            append_totals(rt, totals, &mut written)?;
+            written.push_str(totals)?;
             Ok((written, "done"))
         }
         Fault(ends) => Ok((String::new(rt.alloc()), ends)),

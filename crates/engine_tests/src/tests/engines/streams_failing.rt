@@ -4,6 +4,7 @@ use super::support::Repeated;
 use crate::tests::calls::{call, call_on};
 use crate::tests::streams::{sink, source};
 use crate::tests::support::{ended, same};
+use crate::tests::totals::totals;
 use mte_engine::{Call, History, StreamSink, StreamSource};
 use std::io::{ErrorKind, Read, Write};
 use std::process::Abort;
@@ -52,22 +53,25 @@ const CASES: &[Case] = &[
     Case(
         call!(Replay),
         "classes\nmalloc 1 16\n",
-        "1 null no-class\nevents 1\nrequests 1\nnull large 0\nnull no-class 1\nnull exhausted 0\nfaults tag 0\nfaults unmapped 0\n\
-         refused frees 0\nloss 0\n",
+        totals!("1 null no-class\n", events: 1, requests: 1, null_no_class: 1),
     ),
     Case(
         call!(Replay, quarantine: 64),
         "classes 2 4\nmalloc 1 16\nstore 1 16 1 aa\nmalloc 2 0\nload 1 32 1\nfree 1\nload 1 0 1\n",
-        "2 fault tag granule 2 memory 0 pointer 1 in header\n4 fault tag granule 3 memory 2 pointer 1 in other\n\
-         6 fault tag granule 1 memory 3 pointer 1 in dead\nevents 6\nrequests 2\nnull large 0\nnull no-class 0\nnull exhausted 0\n\
-         faults tag 3\nfaults unmapped 0\nrefused frees 0\nloss 16\n",
+        totals!(
+            "2 fault tag granule 2 memory 0 pointer 1 in header\n4 fault tag granule 3 memory 2 pointer 1 in other\n\
+             6 fault tag granule 1 memory 3 pointer 1 in dead\n",
+            events: 6, requests: 2, faults_tag: 3, loss: 16
+        ),
     ),
     Case(
         call!(Run, limit: 2, quarantine: 64),
         "malloc 1 16\nstore 1 16 1 aa\nmalloc 2 0\nload 1 32 1\nfree 1\nload 1 0 1\n",
-        "classes 2\nlimit 2\nwaste 16\nrow 16\nrow 16\n2 fault tag granule 2 memory 0 pointer 1 in header\n\
-         4 fault tag granule 3 memory 2 pointer 1 in other\n6 fault tag granule 1 memory 3 pointer 1 in dead\nevents 6\nrequests 2\n\
-         null large 0\nnull no-class 0\nnull exhausted 0\nfaults tag 3\nfaults unmapped 0\nrefused frees 0\nloss 16\n",
+        totals!(
+            "classes 2\nlimit 2\nwaste 16\nrow 16\nrow 16\n2 fault tag granule 2 memory 0 pointer 1 in header\n\
+             4 fault tag granule 3 memory 2 pointer 1 in other\n6 fault tag granule 1 memory 3 pointer 1 in dead\n",
+            events: 6, requests: 2, faults_tag: 3, loss: 16
+        ),
     ),
 ];
 

@@ -1,5 +1,6 @@
 //! The calls over two texts: what each answers, and the faults of the first text, and those of the second by its own lines.
 use crate::tests::calls::{answers_on, call};
+use crate::tests::totals::totals;
 use mte_engine::Call;
 use std::process::Abort;
 use std::test::Fail;
@@ -181,12 +182,7 @@ const REPLAYS: &[Case] = &[
         "",
         "error 72 OutOfRange line 2",
     ),
-    (
-        b"classes 2 4",
-        b"",
-        "events 0\nrequests 0\nnull large 0\nnull no-class 0\nnull exhausted 0\nfaults tag 0\nfaults unmapped 0\nrefused frees 0\nloss 0\n",
-        "done",
-    ),
+    (b"classes 2 4", b"", totals!(""), "done"),
 ];
 
 #[test]
