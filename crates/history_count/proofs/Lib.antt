@@ -17,3 +17,4 @@ pub mod SpelledIsRead
 pub mod SpreadLines
 pub mod SumsOfClasses
 pub mod TimelineLemmas
+pub mod WideColumns

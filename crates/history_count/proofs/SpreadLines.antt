@@ -1,5 +1,5 @@
 -- The snapshots that lines spell: which sizes they count, and what is left where a line more is read.
-use Rattle.std.proofs.Common.{◌≡◌, ◌≢◌, ℕ, zero, suc, ◌+◌, ◌<◌, ◌≤◌, ◌++◌, List, [], ◌∷◌, length, length-append, get_or, set, take, refl}
+use Rattle.std.proofs.Common.{◌≡◌, ◌≢◌, ℕ, zero, suc, ◌+◌, ◌<◌, ◌≤◌, ◌++◌, List, [], ◌∷◌, length, length-append, set, refl}
 use Rattle.std.proofs.{Common.{sym, ap, ◌∙◌, arith, All, slice_index, slice_index_or, replicate, ◌⊎◌, inl, inr}, lemmas.Bool.{cases_lt}}
 use Rattle.std.proofs.{Math.Seq.{get_or-append_seam}, lemmas.List.Elements.{All-cons, All-from_get_or, All-head, All-nil, All-tail}}
 use Rattle.std.proofs.lemmas.List.{get_or-map, get_or-set_other, get_or-set_same, get_or_append_left, get_or_past, length-map}
@@ -9,7 +9,7 @@ use Rattle.profile_count.{proofs.LawLemmas.{each_is_zero, length-zeros}, specs.C
 use Rattle.tuner_theory.{proofs.Spans.{count-small}, specs.Profiles.{AreCounts, Profile, greatest_count}}
 use Rattle.tuner_theory.specs.declared.most_snapshots.TheConstants.{MOST_SNAPSHOTS}
 use Rattle.history_count.proofs.{Columns.{with_counts-counts, with_counts-length}, Peaks.{empty-are, peaks-empty, peaks-set}}
-use Rattle.history_count.specs.CountedLines.{AreFew, AreLinesOf, AreSizes, CountsSizes, HoldsLines, each_more, spread, with_sizes}
+use Rattle.history_count.specs.CountedLines.{AreFew, AreLinesOf, AreSizes, CountsSizes, HoldsLines, spread, with_sizes}
 use Rattle.history_count.specs.Histories.{empty_snapshots, greatest_of, with_counts}
 
 -- ---- one snapshot
@@ -55,6 +55,11 @@ with_sizes-at s (m ∷ ms) (c ∷ cs) up small size (suc k) lt =
 
 -- ---- all snapshots
 
+-- Each column with one more count.
+unfoldable pub each_more : List (List ℕ) → List ℕ → List (List ℕ)
+each_more (column ∷ columns) (count ∷ counts) = (column ++ count ∷ []) ∷ each_more columns counts
+each_more columns counts = columns
+
 pub spread-length : (sizes : List ℕ) (columns : List (List ℕ)) → length (spread sizes columns) ≡ length columns
 spread-length sizes columns = length-map columns (λ column. with_sizes (zeros (largest_counted + 1)) sizes column)
 
@@ -63,26 +68,6 @@ unfolding each_more
 each_more-length [] counts = refl
 each_more-length (column ∷ columns) [] = refl
 each_more-length (column ∷ columns) (c ∷ cs) = ap suc (each_more-length columns cs)
-
-pub each_more-none : (columns : List (List ℕ)) → each_more columns [] ≡ columns
-unfolding each_more
-each_more-none [] = refl
-each_more-none (column ∷ columns) = refl
-
-more_set : (columns : List (List ℕ)) (t : ℕ) (counts : List ℕ) → t < length counts → length counts ≤ length columns
-    → set (each_more columns (take t counts)) t (get_or (each_more columns (take t counts)) t [] ++ get_or counts t 0 ∷ [])
-    ≡ each_more columns (take (suc t) counts)
-unfolding each_more
-more_set columns t [] lt le = absurd (omega arith)
-more_set [] t (c ∷ cs) lt le = absurd (omega arith)
-more_set (column ∷ columns) zero (c ∷ cs) lt le = ap (λ (l : List (List ℕ)). (column ++ c ∷ []) ∷ l) (sym (each_more-none columns))
-more_set (column ∷ columns) (suc t) (c ∷ cs) lt le = ap (λ (l : List (List ℕ)). (column ++ c ∷ []) ∷ l) (more_set columns t cs (omega arith) (omega arith))
-
--- one column more
-pub each_more-more : (columns : List (List ℕ)) (t : ℕ) (counts : List ℕ) → t < length counts → length counts ≤ length columns
-    → set (each_more columns (take t counts)) t (get_or (each_more columns (take t counts)) t [] ++ get_or counts t 0 ∷ [])
-    ≡ each_more columns (take (t + 1) counts)
-each_more-more columns t counts lt le = let next : t + 1 ≡ suc t = omega arith in rw next (more_set columns t counts lt le)
 
 -- one line more
 pub spread-more : (sizes : List ℕ) (columns : List (List ℕ)) (n : ℕ) (counts : List ℕ) → All (λ column. length column ≡ length sizes) columns
@@ -163,7 +148,7 @@ holds-more sizes columns kept n counts holds small above few =
     }
 
 -- no line yet
-columns-none : (count : ℕ) → (let none : List ℕ = [] in All (λ column. length column ≡ length none) (replicate count none))
+pub columns-none : (count : ℕ) → (let none : List ℕ = [] in All (λ column. length column ≡ length none) (replicate count none))
 columns-none zero = All-nil (λ (column : List ℕ). length column ≡ 0)
 columns-none (suc n) = All-cons (λ (column : List ℕ). length column ≡ 0) [] (replicate n []) refl (columns-none n)
 

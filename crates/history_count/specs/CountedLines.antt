@@ -1,5 +1,5 @@
 -- The lines of a history, each a size and a count for each snapshot, and the snapshots that they spell.
-use Rattle.std.specs.Prelude.{◌≡◌, ◌≢◌, ℕ, ◌+◌, ◌<◌, ◌≤◌, ◌++◌, List, [], ◌∷◌, All, length, map, slice_index, slice_index_or, slice_set}
+use Rattle.std.specs.Prelude.{◌≡◌, ◌≢◌, ℕ, ◌+◌, ◌<◌, ◌≤◌, List, [], ◌∷◌, All, length, map, slice_index, slice_index_or, slice_set, take}
 use Rattle.class_table.specs.Sizes.{largest_counted}
 use Rattle.profile_count.specs.Counts.{zeros}
 use Rattle.tuner_theory.specs.{Histories.{AreSnapshots}, Profiles.{Profile, greatest_count}}
@@ -13,11 +13,6 @@ with_sizes snapshot sizes counts = snapshot
 -- The snapshots that count these sizes, and no others. Each column has the counts of one snapshot.
 abbrev pub spread : List ℕ → List (List ℕ) → List (List ℕ)
 spread sizes columns = map (λ column. with_sizes (zeros (largest_counted + 1)) sizes column) columns
-
--- Each column with one more count.
-unfoldable pub each_more : List (List ℕ) → List ℕ → List (List ℕ)
-each_more (column ∷ columns) (count ∷ counts) = (column ++ count ∷ []) ∷ each_more columns counts
-each_more columns counts = columns
 
 -- The sizes of the lines ascend, and are counted ones.
 pub record AreSizes (sizes : List ℕ) : Type 0 where
@@ -50,10 +45,25 @@ pub record HoldsLines (count : ℕ) (sizes : List ℕ) (columns : List (List ℕ
   pub snapshots : AreSnapshots (spread sizes columns)
   pub peaks_are : peaks ≡ peak_profile (spread sizes columns)
 
--- Such lines spell these snapshots, and their sizes are below this one.
-pub record SpellLines (sizes : List ℕ) (columns : List (List ℕ)) (peaks : Profile) (snapshots : List (List ℕ)) (next : ℕ) : Type 0 where
+-- Such lines spell these snapshots.
+pub record SpellLines (sizes : List ℕ) (columns : List (List ℕ)) (peaks : Profile) (snapshots : List (List ℕ)) : Type 0 where
   pub are : snapshots ≡ spread sizes columns
   pub holds : HoldsLines (length snapshots) sizes columns peaks
+
+-- The counts of the first lines, in columns that may have room for more of them.
+abbrev pub first_counts : ℕ → List (List ℕ) → List (List ℕ)
+first_counts lines columns = map (λ column. take lines column) columns
+
+-- The columns all have the same room, for so many lines or for more.
+pub record HaveRoom (lines : ℕ) (columns : List (List ℕ)) : Type 0 where
+  pub room : ℕ
+  pub wide : All (λ column. length column ≡ room) columns
+  pub within : lines ≤ room
+
+-- While lines come, in columns with room for more: those so far spell these snapshots, and their sizes are below this one.
+pub record SpellSoFar (sizes : List ℕ) (columns : List (List ℕ)) (peaks : Profile) (snapshots : List (List ℕ)) (next : ℕ) : Type 0 where
+  pub spelled : SpellLines sizes (first_counts (length sizes) columns) peaks snapshots
+  pub room : HaveRoom (length sizes) columns
   pub below : (k : ℕ) → k < length sizes → slice_index sizes k < next
 
 -- What a history keeps: its lines, and for each snapshot a count of large blocks.

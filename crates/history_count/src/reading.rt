@@ -28,6 +28,7 @@ impl History {
         let count = first_count(&mut lines)?;
         let mut counted = CountedLines::new(alloc, count, most_lines(lines.rest().len(), count))?;
         let large = read_into(alloc, count, &mut lines, &mut counted)?;
+        counted.close()?;
         Ok(History::new(counted, large))
     }
 }

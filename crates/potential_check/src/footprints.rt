@@ -10,7 +10,7 @@ mod timelines;
 
 pub use history_spans::HistorySpans;
 pub use on_history::check_fit;
-pub use row_tests::test_rows;
+pub use row_tests::{alike_with, test_rows};
 pub use slack::{BLOCK, WHOLE_SLACK, lower_slack, no_bounds};
 pub use span_costs::SpanCosts;
 pub use timelines::{MOMENTS, OverRefusal, OverVerdict, check_over, moments_in, names_moments};

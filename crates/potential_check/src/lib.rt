@@ -22,8 +22,8 @@ pub use certificates::{Certificate, Fit, Rows, Sheet, Spans, number_in_row};
 pub use cost::{Cost, CostKind, OfFootprint, OfWaste};
 pub use fault::SheetError;
 pub use footprints::{
-    BLOCK, HistorySpans, MOMENTS, OverRefusal, OverVerdict, SpanCosts, WHOLE_SLACK, check_fit,
-    check_over, lower_slack, moments_in, names_moments, no_bounds, test_rows,
+    BLOCK, HistorySpans, MOMENTS, OverRefusal, OverVerdict, SpanCosts, WHOLE_SLACK, alike_with,
+    check_fit, check_over, lower_slack, moments_in, names_moments, no_bounds, test_rows,
 };
 pub use leading_sheet::LeadingSheet;
 pub use measured::RowTests;

@@ -7,6 +7,7 @@ ghost use Rattle.tuner_theory.specs.Lists.{lists_of};
 ghost use Rattle.tuner_theory.specs.Rows.{number_at};
 
 use crate::fits::ends::least_end;
+use potential_check::alike_with;
 
 /// Fills a place in all rows and ends. Those of the later places must be filled. `alike` says from which row on, counted from 0, all rows have
 /// the numbers of the row before them at the later places, and the result from which one on also at this place.
@@ -60,18 +61,6 @@ pub(crate) fn fill_place(
         above = found;
     }
     here
-}
-
-// from which row on all are alike, up to row k too
-fn alike_with(alike: usize, k: usize, number: u64, above: u64) -> usize
-    requires { k < 2 ^ 16 }
-    ensures order { alike ≤ result }
-    ensures same { result ≤ k → number ≡ above }
-{
-    if number == above {
-        return alike;
-    }
-    alike.max(k + 1)
 }
 
 // the end at a place, and 0 past the last one

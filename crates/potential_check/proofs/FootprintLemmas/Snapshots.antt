@@ -1,6 +1,6 @@
 -- Sums up to places, and the most blocks of intervals.
 use Rattle.std.proofs.Common.{◌≡◌, ℕ, zero, suc, ◌+◌, ◌-◌, ◌*◌, ◌^◌, ◌<◌, ◌≤◌, ◌&&◌, max, List, [], ◌∷◌, length, slice_index}
-use Rattle.std.proofs.{Common.{slice_index_or, slice_set, cond, ltb, leb, arith, refl, take}, lemmas.Bool.{cases_lt}}
+use Rattle.std.proofs.{Common.{slice_index_or, slice_set, cond, ltb, leb, ap, ◌∙◌, arith, refl, take}, lemmas.Bool.{cases_lt}}
 use Rattle.std.proofs.lemmas.{Bool.Decides.{nat_tests}, Grind.{common_steps}, List.{get_or-set_other, get_or-set_same, length-set}}
 use Rattle.class_table.specs.declared.sizes.TheConstants.{MOST_NEEDS}
 use Rattle.potential_check.specs.Footprints.SnapshotSums.{AreMostBlocks, AreMostIn, AreScaled, AreSumsAt, AreWritten, HoldsSnapshots}
@@ -37,6 +37,14 @@ most-next : (f : List ℕ → ℕ) (xs : List (List ℕ)) (t : ℕ) → t < leng
     → most f (take (t + 1) xs) ≡ max (most f (take t xs)) (f (slice_index_or xs t []))
 most-next f xs t lt = let next : t + 1 ≡ suc t = omega arith in rw next (most-take f xs t lt)
 
+-- more snapshots have no fewer
+most-up : (f : List ℕ → ℕ) (xs : List (List ℕ)) (s t : ℕ) → s ≤ t → most f (take s xs) ≤ most f (take t xs)
+most-up f [] zero t le = omega arith
+most-up f [] (suc s) t le = omega arith
+most-up f (x ∷ xs) zero t le = omega arith
+most-up f (x ∷ xs) (suc s) zero le = absurd (omega arith)
+most-up f (x ∷ xs) (suc s) (suc t) le = omega (arith, most-up f xs s t (omega arith))
+
 pub take-all : (xs : List (List ℕ)) (t : ℕ) → t ≡ length xs → take t xs ≡ xs
 take-all xs t is = grind (arith, common_steps)
 
@@ -45,6 +53,14 @@ pub raised-more : (rows : List (List ℕ)) (i start j x : ℕ) (old numbers : Li
     → x ≡ raised_to rows i j (slice_index numbers (j - start)) → IsRaisedBy rows i start j old numbers
     → IsRaisedBy rows i start (j + 1) old (slice_set numbers (j - start) x)
 raised-more rows i start j x old numbers from within value raised = grind (arith, length-set, cases_lt, get_or-set_other, get_or-set_same)
+
+-- a number that is raised further
+raised-max : (rows : List (List ℕ)) (i j x y : ℕ) → raised_to rows i j (max x y) ≡ max (raised_to rows i j x) y
+raised-max [] i j x y = refl
+raised-max (row ∷ rows) i j x y =
+    let grown = slice_index row j - slice_index row i in
+    let order : max (max x y) grown ≡ max (max x grown) y = omega arith in
+    rw order (raised-max rows i j (max x grown) y)
 
 -- Rows of sums, from that of snapshot t on.
 abbrev pub AreRowsFrom : List (List ℕ) → ℕ → List (List ℕ) → Type 0
@@ -104,10 +120,25 @@ module _ (snapshots : List (List ℕ)) (counts : List ℕ) (step : ℕ) (sums : 
       let rest = most-raised_by i j after le rows (t + 1) (omega arith) are.1 in
       rw (here, ← next, sum) rest
 
-  pub most-raised_in : (i start stop t : ℕ) (rows : List (List ℕ)) (old new : List ℕ) → i < start → stop ≤ places counts step + 1
-      → t + length rows ≤ length snapshots → AreRowsFrom sums t rows → AreMostIn snapshots counts step i start stop t old
+  -- where the first of them were taken before
+  most-again : (i j : ℕ) → i < j → j ≤ places counts step → (rows : List (List ℕ)) (t done : ℕ) → t + length rows ≤ length snapshots
+      → AreRowsFrom sums t rows → t ≤ done → done ≤ t + length rows
+      → raised_to rows i j (most (blocks_between step (need_at counts step i) (need_at counts step j)) (take done snapshots))
+      ≡ most (blocks_between step (need_at counts step i) (need_at counts step j)) (take (t + length rows) snapshots)
+  most-again i j after le rows t done fit are from to =
+      let f = blocks_between step (need_at counts step i) (need_at counts step j) in
+      let before = most f (take t snapshots) in
+      let so_far = most f (take done snapshots) in
+      let more : so_far ≡ max before so_far = omega (arith, most-up f snapshots t done from) in
+      ap (raised_to rows i j) more
+      ∙ (raised-max rows i j before so_far
+      ∙ omega (arith, most-raised_by i j after le rows t fit are, most-up f snapshots done (t + length rows) to))
+
+  pub most-raised_in : (i start stop t done : ℕ) (rows : List (List ℕ)) (old new : List ℕ) → i < start → stop ≤ places counts step + 1
+      → t + length rows ≤ length snapshots → AreRowsFrom sums t rows → t ≤ done → done ≤ t + length rows
+      → AreMostIn snapshots counts step i start stop done old
       → IsRaisedBy rows i start stop old new → AreMostIn snapshots counts step i start stop (t + length rows) new
-  most-raised_in i start stop t rows old new after within fit are before raised = grind (arith, most-raised_by)
+  most-raised_in i start stop t done rows old new after within fit are from to before raised = grind (arith, most-again)
 
   -- at all snapshots
   pub most-all_in : (i start stop j : ℕ) (numbers : List ℕ) → start ≤ j → j < stop

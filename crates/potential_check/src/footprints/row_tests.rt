@@ -1,5 +1,5 @@
 //! The conditions on the rows of a certificate over any source of costs.
-ghost use Rattle.std.specs.Prelude.{◌≡◌, ◌≢◌, ◌↔◌, ℕ, ◌+◌, ◌-◌, ◌^◌, ◌<◌, ◌≤◌, [], length, slice_index, slice_index_or};
+ghost use Rattle.std.specs.Prelude.{◌≡◌, ◌≢◌, ◌↔◌, ℕ, ◌+◌, ◌-◌, ◌^◌, ◌<◌, ◌≤◌, [], length, max, slice_index, slice_index_or};
 ghost use Rattle.std.specs.Prelude.{IfOk, IsTrue, OnErr, OnOk};
 ghost use Rattle.potential_check.specs.Footprints.AlikeRows.{AreAlikeFrom};
 ghost use Rattle.potential_check.specs.Footprints.Bounds.{AreBounds, AreRowBounds, IsFresh, IsSlack};
@@ -243,9 +243,12 @@ fn is_as_above(alike: usize, k: usize, number: u64, above: u64) -> bool
     alike < k && number == above
 }
 
-// from which row on all are alike, up to row k too
-fn alike_with(alike: usize, k: usize, number: u64, above: u64) -> usize
+/// From which row on, counted from 0, all rows up to the one after row `k` have the number of the row before them, if those up to row `k`
+/// have it from row `alike` on. `number` is that of the row after row `k`, and `above` that of row `k`.
+pub fn alike_with(alike: usize, k: usize, number: u64, above: u64) -> usize
     requires { k < 2 ^ 16 }
+    ensures alike { number ≡ above → result ≡ alike }
+    ensures unlike { number ≢ above → result ≡ max alike (k + 1) }
     ensures order { alike ≤ result }
     ensures same { result ≤ k → number ≡ above }
 {

@@ -164,25 +164,62 @@ impl<'a> SnapshotSums<'a> {
         clear_32(most);
         let eights = self.narrow.len() / 8;
         for e in 0..eights {
-            let t = 8 * e;
-            raise_eight(
-                self.narrow_at(t),
-                self.narrow_at(t + 1),
-                self.narrow_at(t + 2),
-                self.narrow_at(t + 3),
-                self.narrow_at(t + 4),
-                self.narrow_at(t + 5),
-                self.narrow_at(t + 6),
-                self.narrow_at(t + 7),
-                i,
-                start,
-                stop,
-                most,
-            );
+            self.raise_eight_from(8 * e, i, start, stop, most);
         }
-        for t in 8 * eights..self.narrow.len() {
+        self.raise_rest(8 * eights, i, start, stop, most);
+    }
+
+    // raises the numbers by the snapshots after the first `done`, at most eight
+    fn raise_rest(&self, done: usize, i: usize, start: usize, stop: usize, most: &mut [u32])
+        requires after { i < start }
+        requires order { start ≤ stop }
+        requires within { stop ≤ places self.now.spans.now.counts self.now.spans.now.step + 1 }
+        requires few { stop ≤ start + length most.old }
+        requires done { done ≤ length self.now.narrow.items }
+        requires near { length self.now.narrow.items ≤ done + 8 }
+        requires so_far { let snapshots = self.now.history.now.snapshots in let spans = self.now.spans.now in
+            AreMostIn snapshots spans.counts spans.step i start stop done most.old }
+        ensures size { length most.new ≡ length most.old }
+        ensures most { let snapshots = self.now.history.now.snapshots in let spans = self.now.spans.now in
+            AreMostIn snapshots spans.counts spans.step i start stop (length self.now.narrow.items) most.new }
+    {
+        let count = self.narrow.len();
+        if done < count && 8 <= count {
+            // (the last eight: those that were taken before change nothing)
+            self.raise_eight_from(count - 8, i, start, stop, most);
+            return;
+        }
+        for t in done..count {
             raise_one(self.narrow_at(t), i, start, stop, most);
         }
+    }
+
+    // raises the numbers by the eight snapshots from t on, of which the first may have been taken before
+    fn raise_eight_from(&self, t: usize, i: usize, start: usize, stop: usize, most: &mut [u32])
+        requires after { i < start }
+        requires order { start ≤ stop }
+        requires within { stop ≤ places self.now.spans.now.counts self.now.spans.now.step + 1 }
+        requires few { stop ≤ start + length most.old }
+        requires eight { t + 8 ≤ length self.now.narrow.items }
+        ensures size { length most.new ≡ length most.old }
+        ensures most { let snapshots = self.now.history.now.snapshots in let spans = self.now.spans.now in (done : ℕ)
+            → t ≤ done → done ≤ t + 8 → AreMostIn snapshots spans.counts spans.step i start stop done most.old
+            → AreMostIn snapshots spans.counts spans.step i start stop (t + 8) most.new }
+    {
+        raise_eight(
+            self.narrow_at(t),
+            self.narrow_at(t + 1),
+            self.narrow_at(t + 2),
+            self.narrow_at(t + 3),
+            self.narrow_at(t + 4),
+            self.narrow_at(t + 5),
+            self.narrow_at(t + 6),
+            self.narrow_at(t + 7),
+            i,
+            start,
+            stop,
+            most,
+        );
     }
 
     // the bytes of a block of the class that is the need at a place

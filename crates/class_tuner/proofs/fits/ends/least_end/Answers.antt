@@ -43,14 +43,14 @@ loop-block-init c =
     let place : ℕ = c.args.place in
     let last : ℕ = length before in
     let from : ℕ = (place + 1) / 16 + 1 in
-    let near = c.look_into-near in
-    let first = so_far-past f place last c.min-stop.result (BLOCK * from) near.result.end
+    let near = c.look_at_each-near in
+    let first = so_far-past f place last c.min-stop.result (BLOCK * from) near.result.1
     (λ j low high within. absurd (omega (arith, c.min-stop.ensures)))
     (near.ensures.least place last (omega arith) (omega (arith, c.min-stop.ensures)) c.first_guess-guess.ensures.least) in
     record {
       bounds = c.requires.bounds;
       least = so_far-blocks f place last costs c.args.slack.now c.args.bounds.now (slice_index before) from c.next_block-block.result
-          near.result.end near.result.least (λ j. refl) c.requires.bounds (omega arith) near.ensures.value c.next_block-block.ensures.past first;
+          near.result.1 near.result.0 (λ j. refl) c.requires.bounds (omega arith) near.ensures.value c.next_block-block.ensures.past first;
       value = near.ensures.value;
       small = near.ensures.small;
       after = omega (arith, c.next_block-block.ensures.order);

@@ -1,43 +1,52 @@
-use Rattle.std.proofs.Common.{◌≡◌, ℕ, suc, ◌-◌, ◌<◌, List, [], length, slice_index, slice_index_or, add-one, arith, ap, sym, ◌∙◌}
-use Rattle.tuner_theory.{proofs.Lists.{lists-length, row-read}, specs.Lists.{lists_of}, specs.Rows.{number_at}}
+use Rattle.std.proofs.Common.{◌≡◌, ℕ, suc, ◌-◌, ◌<◌, List, [], length, slice_index, slice_index_or, add-one, arith, ap, sym, ◌∙◌, Vec}
+use Rattle.std.specs.declared.alloc.Global.{Global}
+use Rattle.tuner_theory.{proofs.Lists.{lists-length, row-read}, specs.Lists.{lists_of}, specs.Rows.{HasShape, number_at}}
 use Rattle.class_tuner.proofs.{FitLemmas.Numbers.{set-here}, FitLemmas.Places.{alike-set, found-again, place-first, place-more, so_far-set}, Rows.{has-place, has-row}}
 use Rattle.potential_check.proofs.FootprintLemmas.LawLemmas.{alike-more, bounds-same, row_bounds-set}
 use Rattle.class_tuner.proofs.fits.place.fill_place.Goals as goal
 
+-- the row before one
+record IsRowAt (rows : List (List ℕ)) (k places : ℕ) (row : List ℕ) : Type 0 where
+  read : row ≡ slice_index_or rows k []
+  size : length row ≡ places
+
+row-above : (rows : List (Vec ℕ Global)) (limit places : ℕ) → HasShape (lists_of rows) limit places → (k : ℕ) (d : Vec ℕ Global)
+    (row : List ℕ) → k < limit → row ≡ (slice_index_or rows k d).items → IsRowAt (lists_of rows) k places row
+row-above rows limit places shape k d row lt is =
+    let inside : k < length (lists_of rows) = omega (arith, shape.row_count) in
+    let read = row-read rows k d row inside is in
+    record { read = read; size = ap length read ∙ shape.row_lengths k [] inside }
+
 pub least_end_in-found-requires-clause-costs : goal.least_end_in-found-requires-clause-costs
 least_end_in-found-requires-clause-costs c =
     let so_far = c.loop-k.invariant.rows in
-    let read = row-read c.loop-k.rows (c.loop-k.k - 1) c.index-rows-k.result c.deref-in-loop-k.result.now
-    (omega (arith, so_far.rows_shape.row_count)) c.deref-in-loop-k.ensures.value in
-    let size : length c.deref-in-loop-k.result.now ≡ c.args.places = ap length read ∙ so_far.rows_shape.row_lengths (c.loop-k.k - 1) []
-    (omega (arith, so_far.rows_shape.row_count)) in
-    rw size c.requires.costs
+    let row = row-above c.loop-k.rows c.args.limit c.args.places so_far.rows_shape (c.loop-k.k - 1) c.index-rows-k.result
+    c.deref-in-loop-k.result.now (omega arith) c.deref-in-loop-k.ensures.value in
+    rw row.size c.requires.costs
 
 pub least_end_in-found-requires-clause-slack : goal.least_end_in-found-requires-clause-slack
 least_end_in-found-requires-clause-slack c =
     let so_far = c.loop-k.invariant.rows in
-    let read = row-read c.loop-k.rows (c.loop-k.k - 1) c.index-rows-k.result c.deref-in-loop-k.result.now
-    (omega (arith, so_far.rows_shape.row_count)) c.deref-in-loop-k.ensures.value in
-    let size : length c.deref-in-loop-k.result.now ≡ c.args.places = ap length read ∙ so_far.rows_shape.row_lengths (c.loop-k.k - 1) []
-    (omega (arith, so_far.rows_shape.row_count)) in
-    rw size c.requires.slack
+    let row = row-above c.loop-k.rows c.args.limit c.args.places so_far.rows_shape (c.loop-k.k - 1) c.index-rows-k.result
+    c.deref-in-loop-k.result.now (omega arith) c.deref-in-loop-k.ensures.value in
+    rw row.size c.requires.slack
 
 pub least_end_in-found-requires-clause-small : goal.least_end_in-found-requires-clause-small
 least_end_in-found-requires-clause-small c = λ j.
     let so_far = c.loop-k.invariant.rows in
-    let read = row-read c.loop-k.rows (c.loop-k.k - 1) c.index-rows-k.result c.deref-in-loop-k.result.now
-    (omega (arith, so_far.rows_shape.row_count)) c.deref-in-loop-k.ensures.value in
-    rw read (so_far.small c.loop-k.k j)
+    let row = row-above c.loop-k.rows c.args.limit c.args.places so_far.rows_shape (c.loop-k.k - 1) c.index-rows-k.result
+    c.deref-in-loop-k.result.now (omega arith) c.deref-in-loop-k.ensures.value in
+    rw row.read (so_far.small c.loop-k.k j)
 
 pub least_end_in-found-requires-clause-bounds : goal.least_end_in-found-requires-clause-bounds
 least_end_in-found-requires-clause-bounds c =
     let so_far = c.loop-k.invariant.rows in
     let k = c.loop-k.k in
     let row = c.deref-in-loop-k.result.now in
-    let read = row-read c.loop-k.rows (k - 1) c.index-rows-k.result row
-    (omega (arith, so_far.rows_shape.row_count)) c.deref-in-loop-k.ensures.value in
-    let size : length row ≡ c.args.places = ap length read ∙ so_far.rows_shape.row_lengths (k - 1) []
-    (omega (arith, so_far.rows_shape.row_count)) in
+    let above = row-above c.loop-k.rows c.args.limit c.args.places so_far.rows_shape (k - 1) c.index-rows-k.result row (omega arith)
+    c.deref-in-loop-k.ensures.value in
+    let read = above.read in
+    let size = above.size in
     let same : (j : ℕ) → c.args.place < j → number_at (lists_of c.args.rows.now) k j ≡ slice_index row j =
     (λ j past. sym (ap (λ (b : List ℕ). slice_index b j) read ∙ c.loop-k.invariant.filled.rows_kept k j (λ e. omega (arith, e)))) in
     rw size (bounds-same c.args.costs.now c.args.slack.now c.args.place c.args.places (number_at (lists_of c.args.rows.now) k)
@@ -48,10 +57,10 @@ least_end_in-found-requires-clause-above c = λ after.
     let so_far = c.loop-k.invariant.rows in
     let k = c.loop-k.k in
     let row = c.deref-in-loop-k.result.now in
-    let read = row-read c.loop-k.rows (k - 1) c.index-rows-k.result row
-    (omega (arith, so_far.rows_shape.row_count)) c.deref-in-loop-k.ensures.value in
-    let size : length row ≡ c.args.places = ap length read ∙ so_far.rows_shape.row_lengths (k - 1) []
-    (omega (arith, so_far.rows_shape.row_count)) in
+    let above = row-above c.loop-k.rows c.args.limit c.args.places so_far.rows_shape (k - 1) c.index-rows-k.result row (omega arith)
+    c.deref-in-loop-k.ensures.value in
+    let read = above.read in
+    let size = above.size in
     let last : k ≡ suc (k - 1) = omega arith in
     found-again c.args.costs.now c.args.places c.args.place c.args.limit k (k - 1) c.loop-k.above.0 c.loop-k.above.1 c.args.alike
     (lists_of c.args.rows.now) (lists_of c.loop-k.rows) (lists_of c.args.ends.now) (lists_of c.loop-k.ends) row last after
@@ -63,10 +72,10 @@ loop-k-preserved c =
     let so_far = c.loop-k.invariant.rows in
     let k = c.loop-k.k in
     let row = c.deref-in-loop-k.result.now in
-    let read = row-read c.loop-k.rows (k - 1) c.index-rows-k.result row
-    (omega (arith, so_far.rows_shape.row_count)) c.deref-in-loop-k.ensures.value in
-    let size : length row ≡ c.args.places = ap length read ∙ so_far.rows_shape.row_lengths (k - 1) []
-    (omega (arith, so_far.rows_shape.row_count)) in
+    let above = row-above c.loop-k.rows c.args.limit c.args.places so_far.rows_shape (k - 1) c.index-rows-k.result row (omega arith)
+    c.deref-in-loop-k.ensures.value in
+    let read = above.read in
+    let size = above.size in
     let same : (j : ℕ) → c.args.place < j → slice_index row j ≡ number_at (lists_of c.args.rows.now) k j =
     (λ j past. ap (λ (b : List ℕ). slice_index b j) read ∙ c.loop-k.invariant.filled.rows_kept k j (λ e. omega (arith, e))) in
     let found = c.least_end_in-found in

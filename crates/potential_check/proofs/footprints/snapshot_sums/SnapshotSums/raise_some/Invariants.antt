@@ -7,9 +7,3 @@ invariant-loop-e l = record {
   size : length l.most ≡ length l.fn.most;
   most : AreMostIn l.self.history.now.snapshots l.self.spans.now.counts l.self.spans.now.step l.i l.start l.stop (8 * l.e) l.most;
 }
-
-abbrev pub invariant-loop-t : goal.invariant-loop-t
-invariant-loop-t l = record {
-  size : length l.most ≡ length l.fn.most;
-  most : AreMostIn l.self.history.now.snapshots l.self.spans.now.counts l.self.spans.now.step l.i l.start l.stop l.t l.most;
-}
