@@ -8,6 +8,7 @@ use Rattle.tuner_theory.specs.{Sheets.{IsVerdict, Sheet}, declared.verdict.Refus
 use Rattle.tuner_theory.specs.declared.verdict.Verdict.TheVariants.{Optimal, Refused}
 use Rattle.mte_engine.specs.{Outcome.{Answer}, Parts.{AnswersPart, both_parts, profile_part, whole_sheet_part}}
 use Rattle.mte_engine.specs.declared.{engine.Status.TheVariants.{Done, No}, fault.InputFault.{InputFault}}
+use Rattle.tool_call.specs.declared.options.Options.{Options}
 
 -- `optimal`, or `refused` and what is shown of the refusal, with the status of a no.
 abbrev pub verdict_text_by : (Refusal → List ℕ) → Verdict → Answer
@@ -25,6 +26,10 @@ pub record IsChecked (sheet : Sheet) (profile : Counted) (answer : Answer) : Typ
   pub best : verdict ≡ Optimal → IsBest (served sheet.forced profile.counts) sheet.step sheet.limit sheet.table
   pub written : answer ≡ verdict_text verdict
 
+-- What is said of a sheet and a profile, by the options.
+abbrev pub check_says : Options → Sheet × Counted → Answer → Type 0
+check_says options parts answer = IsChecked parts.0 parts.1 answer
+
 -- The lines of a sheet and those that are left of its text, and the lines of a profile, which come after this many of their input. The
 -- answer is the verdict, or the first fault of the two.
 abbrev pub ChecksParts : (sheet others : List (List ℕ)) → ℕ → List (List ℕ) → Result Answer InputFault → Type 0
@@ -36,3 +41,10 @@ ChecksParts sheet others before ls answer =
 abbrev pub CheckAnswers : List ℕ → Result Answer InputFault → Type 0
 CheckAnswers text answer =
     ChecksParts (leading_lines (lines text)) [] (length (leading_lines (lines text))) (lines_after (lines text)) answer
+
+-- By the options: one text; and two, of which the first is a sheet and nothing else.
+abbrev pub check_answers : Options → List ℕ → Result Answer InputFault → Type 0
+check_answers options = CheckAnswers
+
+abbrev pub check_on_answers : Options → List ℕ → List ℕ → Result Answer InputFault → Type 0
+check_on_answers options first text = ChecksParts (leading_lines (lines first)) (lines_after (lines first)) 0 (lines text)

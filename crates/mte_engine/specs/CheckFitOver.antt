@@ -13,6 +13,7 @@ use Rattle.tuner_theory.specs.{Sheets.{Sheet}, Timelines.{IsLeastOver}, declared
 use Rattle.mte_engine.specs.{CheckFit.{CheckFitAnswers, ChecksFitParts}, Outcome.{Answer}, declared.engine.Status.TheVariants.{Done, No}}
 use Rattle.mte_engine.specs.{Parts.{AnswersPart, alone, both_parts, sheet_part, timeline_part}, declared.fault.InputFault.{InputFault}}
 use Rattle.mte_engine.specs.declared.fault.InputFault.TheVariants.{BadFit}
+use Rattle.tool_call.specs.declared.options.Options.{Options}
 
 abbrev pub over_verdict_text : OverVerdict → Answer
 over_verdict_text Optimal = record { text = ended (codes "optimal"); status = Done }
@@ -63,3 +64,10 @@ CheckFitEitherAnswers text answer =
 abbrev pub ChecksEitherParts : (fit others : List (List ℕ)) → ℕ → List (List ℕ) → Result Answer InputFault → Type 0
 ChecksEitherParts fit others before ls answer =
     MatchBool (begins_moments others) (ChecksOverParts fit others before ls answer) (ChecksFitParts fit others before ls answer)
+
+-- By the options: one text; and two, of which the first is a fit, with its moments before a timeline, and nothing else.
+abbrev pub check_fit_answers : Options → List ℕ → Result Answer InputFault → Type 0
+check_fit_answers options = CheckFitEitherAnswers
+
+abbrev pub check_fit_on_answers : Options → List ℕ → List ℕ → Result Answer InputFault → Type 0
+check_fit_on_answers options first text = ChecksEitherParts (leading_lines (lines first)) (lines_after (lines first)) 0 (lines text)

@@ -9,6 +9,7 @@ use Rattle.tuner_theory.specs.declared.size_event.SizeEvent.{SizeEvent}
 use Rattle.mte_engine.specs.{Footprint.{MeasuresHistory}, Outcome.{Answer}, Timelines.{begins_timeline}}
 use Rattle.mte_engine.specs.Parts.{AfterLine, AnswersPart, timeline_part}
 use Rattle.mte_engine.specs.declared.{engine.Status.TheVariants.{Done, No}, fault.InputFault.{InputFault}}
+use Rattle.tool_call.specs.declared.options.Options.{Options}
 
 -- `footprint F` where the table serves each requested size; else `not serving N`, with the status of a no.
 pub record IsTakenText (table : List ℕ) (events : List SizeEvent) (answer : Answer) : Type 0 where
@@ -39,3 +40,10 @@ FootprintOverAnswers text answer = AfterLine MeasuresTimeline text answer
 -- One text: a class line, and then a timeline, or else a history.
 abbrev pub FootprintEitherAnswers : List ℕ → Result Answer InputFault → Type 0
 FootprintEitherAnswers text answer = AfterLine MeasuresCounts text answer
+
+-- By the options: what comes after the table, and one text.
+abbrev pub footprint_after : Options → List ℕ → ℕ → List (List ℕ) → Result Answer InputFault → Type 0
+footprint_after options = MeasuresCounts
+
+abbrev pub footprint_answers : Options → List ℕ → Result Answer InputFault → Type 0
+footprint_answers options = FootprintEitherAnswers

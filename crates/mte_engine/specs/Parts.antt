@@ -80,6 +80,11 @@ AfterTable after class before ls answer =
 abbrev pub AfterLine : (List ℕ → ℕ → List (List ℕ) → Result Answer InputFault → Type 0) → List ℕ → Result Answer InputFault → Type 0
 AfterLine after text answer = AfterTable after (take 1 (lines text)) 1 (drop 1 (lines text)) answer
 
+-- The same of two.
+abbrev pub AfterText : (List ℕ → ℕ → List (List ℕ) → Result Answer InputFault → Type 0) → List ℕ → List ℕ →
+    Result Answer InputFault → Type 0
+AfterText after first text answer = AfterTable after (lines first) 0 (lines text) answer
+
 -- The answers to what follows a part: what is said of it, or its fault.
 abbrev pub AnswersPart : {A : Type 0} → Result A InputFault → (A → Answer → Type 0) → Result Answer InputFault → Type 0
 AnswersPart {A} part says (Ok answer) = (x : A) × (part ≡ Ok x) × says x answer

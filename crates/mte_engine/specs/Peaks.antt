@@ -7,6 +7,7 @@ use Rattle.history_count.specs.Timelines.TimelineText.{timeline_of_lines}
 use Rattle.tuner_theory.specs.{Histories.{most, peaks}, Timelines.{moments}, Waste.{Serves}, declared.size_event.SizeEvent.{SizeEvent}}
 use Rattle.mte_engine.specs.{FootprintOver.{IsUnservedText}, Outcome.{Answer}, Parts.{AfterLine, AnswersPart, timeline_part}}
 use Rattle.mte_engine.specs.declared.{engine.Status.TheVariants.{Done}, fault.InputFault.{InputFault}}
+use Rattle.tool_call.specs.declared.options.Options.{Options}
 
 -- For each class the most of its live blocks, and the first moment of so many; of all together the most live bytes, and the most freed blocks.
 abbrev pub peak_lines : List ℕ → List ℕ → ℕ → ℕ → List (List ℕ)
@@ -34,3 +35,10 @@ PeaksCounts table before ls answer = AnswersPart (timeline_part before (timeline
 -- One text: a class line, and then a timeline.
 abbrev pub PeaksAnswers : List ℕ → Result Answer InputFault → Type 0
 PeaksAnswers text answer = AfterLine PeaksCounts text answer
+
+-- By the options: what comes after the table, and one text.
+abbrev pub peaks_after : Options → List ℕ → ℕ → List (List ℕ) → Result Answer InputFault → Type 0
+peaks_after options = PeaksCounts
+
+abbrev pub peaks_answers : Options → List ℕ → Result Answer InputFault → Type 0
+peaks_answers options = PeaksAnswers

@@ -6,6 +6,7 @@ use Rattle.profile_count.specs.{Counts.{unserved_of}, ProfileText.{profile_of_li
 use Rattle.tuner_theory.specs.{Profiles.{Profile as Counted}, Waste.{waste_of}}
 use Rattle.mte_engine.specs.{Outcome.{Answer}, Parts.{AfterLine, AnswersPart, profile_part}}
 use Rattle.mte_engine.specs.declared.{engine.Status.TheVariants.{Done, No}, fault.InputFault.{InputFault}}
+use Rattle.tool_call.specs.declared.options.Options.{Options}
 
 -- The line of a name and a number, or `not serving N` with the status of a no, where N is the least counted size without a class.
 abbrev pub named_or_unserved : List ℕ → Option ℕ → ℕ → Answer
@@ -27,3 +28,10 @@ ScoresProfile table before ls answer =
 -- One text: a class line, and then a profile.
 abbrev pub ScoreAnswers : List ℕ → Result Answer InputFault → Type 0
 ScoreAnswers text answer = AfterLine ScoresProfile text answer
+
+-- By the options: what comes after the table, and one text.
+abbrev pub score_after : Options → List ℕ → ℕ → List (List ℕ) → Result Answer InputFault → Type 0
+score_after options = ScoresProfile
+
+abbrev pub score_answers : Options → List ℕ → Result Answer InputFault → Type 0
+score_answers options = ScoreAnswers

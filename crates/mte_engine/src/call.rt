@@ -37,14 +37,14 @@ pub fn run_call<R: ByteSource, W: ByteSink>(
 {
     let options = call.options;
     match call.command {
-        CommandName::Score => score(alloc, source, sink),
+        CommandName::Score => score(alloc, options, source, sink),
         CommandName::Tune => tune(alloc, options, source, sink),
-        CommandName::Check => check(alloc, source, sink),
-        CommandName::Footprint => footprint(alloc, source, sink),
+        CommandName::Check => check(alloc, options, source, sink),
+        CommandName::Footprint => footprint(alloc, options, source, sink),
         CommandName::Fit => fit(alloc, options, source, sink),
-        CommandName::CheckFit => check_fit(alloc, source, sink),
-        CommandName::Peaks => peaks(alloc, source, sink),
-        CommandName::Profile => profile(alloc, source, sink),
+        CommandName::CheckFit => check_fit(alloc, options, source, sink),
+        CommandName::Peaks => peaks(alloc, options, source, sink),
+        CommandName::Profile => profile(alloc, options, source, sink),
         CommandName::Replay => replay(alloc, options, source, sink),
         CommandName::Run => run(alloc, options, source, sink),
     }
@@ -65,19 +65,26 @@ pub fn run_call_on<R: ByteSource, W: ByteSink>(
     ensures { Runs (answers_on call first.now) (R.state source.old) (R.state source.new)
         W.state sink.old sink.new result }
 {
+    let options = call.options;
     match call.command {
-        CommandName::Score => beside_profile(alloc, ProfileCommand::Score, first, source, sink),
-        CommandName::Check => beside_profile(alloc, ProfileCommand::Check, first, source, sink),
+        CommandName::Score => {
+            beside_profile(alloc, ProfileCommand::Score, options, first, source, sink)
+        }
+        CommandName::Check => {
+            beside_profile(alloc, ProfileCommand::Check, options, first, source, sink)
+        }
         CommandName::Footprint => {
             let command = BlocksCommand::OfTable(TableCommand::Footprint);
-            beside_blocks(alloc, command, first, source, sink)
+            beside_blocks(alloc, command, options, first, source, sink)
         }
-        CommandName::CheckFit => beside_blocks(alloc, BlocksCommand::CheckFit, first, source, sink),
+        CommandName::CheckFit => {
+            beside_blocks(alloc, BlocksCommand::CheckFit, options, first, source, sink)
+        }
         CommandName::Peaks => {
             let command = BlocksCommand::OfTable(TableCommand::Peaks);
-            beside_blocks(alloc, command, first, source, sink)
+            beside_blocks(alloc, command, options, first, source, sink)
         }
-        CommandName::Replay => replay_beside(alloc, call.options, first, source, sink),
+        CommandName::Replay => replay_beside(alloc, options, first, source, sink),
         _ => run_call(call, alloc, source, sink),
     }
 }
@@ -103,25 +110,37 @@ fn replay_beside<R: ByteSource, W: ByteSink>(
 fn beside_profile<R: ByteSource, W: ByteSink>(
     alloc: Global,
     command: ProfileCommand,
+    options: Options,
     first: &[u8],
     source: &mut R,
     sink: &mut W,
 ) -> Result<Status, ToolFault>
-    ensures { Runs (answers_beside_profile command first.now) (R.state source.old) (R.state source.new)
+    ensures { Runs (answers_beside_profile command options first.now) (R.state source.old) (R.state source.new)
         W.state sink.old sink.new result }
 {
-    run_engine(alloc, &BesideProfile { command, first }, source, sink)
+    let engine = BesideProfile {
+        command,
+        options,
+        first,
+    };
+    run_engine(alloc, &engine, source, sink)
 }
 
 fn beside_blocks<R: ByteSource, W: ByteSink>(
     alloc: Global,
     command: BlocksCommand,
+    options: Options,
     first: &[u8],
     source: &mut R,
     sink: &mut W,
 ) -> Result<Status, ToolFault>
-    ensures { Runs (answers_beside_blocks command first.now) (R.state source.old) (R.state source.new)
+    ensures { Runs (answers_beside_blocks command options first.now) (R.state source.old) (R.state source.new)
         W.state sink.old sink.new result }
 {
-    run_engine(alloc, &BesideBlocks { command, first }, source, sink)
+    let engine = BesideBlocks {
+        command,
+        options,
+        first,
+    };
+    run_engine(alloc, &engine, source, sink)
 }

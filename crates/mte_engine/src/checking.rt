@@ -1,11 +1,9 @@
 //! `check`: the verdict on a sheet, whoever wrote it.
 ghost use Rattle.std.specs.Prelude.{◌≡◌, IfOk};
-ghost use Rattle.line_text.specs.Lines.{lines};
-ghost use Rattle.mte_engine.specs.Check.{CheckAnswers, ChecksParts, IsChecked, verdict_text};
+ghost use Rattle.mte_engine.specs.Check.{check_answers, check_on_answers, check_says, verdict_text};
 ghost use Rattle.mte_engine.specs.Outcome.{GivesAnswer, Runs};
 ghost use Rattle.mte_engine.specs.Parts.{AnswersPart, AreFewLines, profile_part};
 ghost use Rattle.potential_check.specs.Certificates.SheetView.{sheet_of};
-ghost use Rattle.potential_check.specs.Leading.{leading_lines, lines_after};
 ghost use Rattle.profile_count.specs.ProfileText.{profile_of};
 ghost use Rattle.byte_streams.specs.TextLeft.{text_left};
 
@@ -15,6 +13,7 @@ use crate::input_parts::{end_text, read_leading, read_profile};
 use byte_streams::{ByteSink, ByteSource, Text, WholeText};
 use potential_check::{Sheet, Verdict, check as verdict_on};
 use std::alloc::{AllocError, Global};
+use tool_call::Options;
 
 /// Reads a sheet and then a profile. It writes `optimal`, or `refused CODE NAME` with the status of a no: the first refusal (39 to 47) of
 /// the sheet for the profile. `optimal` means that no table wastes less, of all tables that have at most the sheet's limit of classes, all
@@ -25,64 +24,70 @@ use std::alloc::{AllocError, Global};
 /// other faults, and what the sink took when one comes.
 pub fn check<R: ByteSource, W: ByteSink>(
     alloc: Global,
+    options: Options,
     source: &mut R,
     sink: &mut W,
 ) -> Result<Status, ToolFault>
-    ensures { Runs CheckAnswers (R.state source.old) (R.state source.new) W.state sink.old sink.new result }
+    ensures { Runs (check_answers options) (R.state source.old) (R.state source.new) W.state sink.old sink.new result }
 {
-    run_engine(alloc, &CheckEngine, source, sink)
+    run_engine(alloc, &CheckEngine { options }, source, sink)
 }
 
-struct CheckEngine;
+// the options of `check`
+#[derive(Drop)]
+struct CheckEngine {
+    options: Options,
+}
 
 impl Engine for CheckEngine {
     type Input = WholeText;
 
     type Output = Text;
 
-    ghost answers = { λ _. CheckAnswers };
+    ghost answers = { λ e. check_answers e.options };
 
     fn input(&self, alloc: Global) -> Result<WholeText, AllocError> {
         Ok(WholeText::new(alloc))
     }
 
     fn answer(&self, alloc: Global, input: WholeText) -> Result<(Text, Status), AnswerError> {
-        check_text(alloc, &input.text)
+        check_text(alloc, self.options, &input.text)
     }
 }
 
 // the answer to a text
-fn check_text(alloc: Global, text: &[u8]) -> Result<(Text, Status), AnswerError>
-    ensures { GivesAnswer text_left (CheckAnswers text.now) result }
+fn check_text(alloc: Global, options: Options, text: &[u8]) -> Result<(Text, Status), AnswerError>
+    ensures { GivesAnswer text_left (check_answers options text.now) result }
 {
     let leading = read_leading(alloc, text)?;
-    check_profile(alloc, &leading.sheet, leading.rest, leading.lines)
+    check_profile(alloc, options, &leading.sheet, leading.rest, leading.lines)
 }
 
 /// The answer to a sheet's text and a profile's.
 pub(crate) fn check_texts(
     alloc: Global,
+    options: Options,
     sheet: &[u8],
     text: &[u8],
 ) -> Result<(Text, Status), AnswerError>
-    ensures { GivesAnswer text_left
-        (ChecksParts (leading_lines (lines sheet.now)) (lines_after (lines sheet.now)) 0 (lines text.now)) result }
+    ensures { GivesAnswer text_left (check_on_answers options sheet.now text.now) result }
 {
     let leading = read_leading(alloc, sheet)?;
     end_text(leading.rest, InputFault::BadSheet(leading.lines + 1))?;
-    check_profile(alloc, &leading.sheet, text, 0)
+    check_profile(alloc, options, &leading.sheet, text, 0)
 }
 
 // the answer to a sheet and the profile's text that follows this many lines
 fn check_profile(
     alloc: Global,
+    options: Options,
     sheet: &Sheet,
     text: &[u8],
     before: u64,
 ) -> Result<(Text, Status), AnswerError>
     requires { AreFewLines before }
     ensures { GivesAnswer text_left (AnswersPart (profile_part before (profile_of text.now))
-        (λ profile answer. IsChecked (sheet_of sheet.now) profile answer)) result }
+        (λ profile answer. check_says options (sheet_of sheet.now, profile) answer)) result }
 {
     let profile = read_profile(alloc, text, before)?;
     let verdict = verdict_on(alloc, &profile, sheet)?;

@@ -3,11 +3,9 @@ ghost use Rattle.std.specs.Prelude.{◌≡◌, IfOk, List, ℕ};
 ghost use Rattle.byte_streams.specs.TextLeft.{text_left};
 ghost use Rattle.potential_check.specs.Certificates.SheetView.{sheet_of};
 ghost use Rattle.history_count.specs.HistoryText.{history_of};
-ghost use Rattle.line_text.specs.Lines.{lines};
-ghost use Rattle.potential_check.specs.Leading.{leading_lines, lines_after};
 ghost use Rattle.mte_engine.specs.Check.{verdict_text_by};
 ghost use Rattle.mte_engine.specs.CheckFit.{IsFitChecked};
-ghost use Rattle.mte_engine.specs.CheckFitOver.{CheckFitEitherAnswers, ChecksEitherParts};
+ghost use Rattle.mte_engine.specs.CheckFitOver.{CheckFitEitherAnswers, check_fit_answers, check_fit_on_answers};
 ghost use Rattle.mte_engine.specs.CountsInput.{HasTakenCounts};
 ghost use Rattle.mte_engine.specs.FitAndCounts.{HasTakenFit};
 ghost use Rattle.mte_engine.specs.Outcome.{GivesAnswer, Runs};
@@ -26,6 +24,7 @@ use byte_streams::{ByteSink, ByteSource, Text};
 use history_count::History;
 use potential_check::{Fit, Verdict, check_fit as verdict_on};
 use std::alloc::{AllocError, Global};
+use tool_call::Options;
 use tuner_theory::FitRefusal;
 
 /// Reads a fit and then a history, or a fit, the line of its moments and then a timeline. It writes `optimal`, or `refused CODE NAME` with
@@ -38,35 +37,44 @@ use tuner_theory::FitRefusal;
 /// other faults, and what the sink took when one comes.
 pub fn check_fit<R: ByteSource, W: ByteSink>(
     alloc: Global,
+    options: Options,
     source: &mut R,
     sink: &mut W,
 ) -> Result<Status, ToolFault>
-    ensures { Runs CheckFitEitherAnswers (R.state source.old) (R.state source.new) W.state sink.old sink.new result }
+    ensures { Runs (check_fit_answers options) (R.state source.old) (R.state source.new) W.state sink.old sink.new result }
 {
-    run_engine(alloc, &CheckFitEngine, source, sink)
+    run_engine(alloc, &CheckFitEngine { options }, source, sink)
 }
 
-struct CheckFitEngine;
+// the options of `check-fit`
+#[derive(Drop)]
+struct CheckFitEngine {
+    options: Options,
+}
 
 impl Engine for CheckFitEngine {
     type Input = FitAndCounts;
 
     type Output = Text;
 
-    ghost answers = { λ _. CheckFitEitherAnswers };
+    ghost answers = { λ e. check_fit_answers e.options };
 
     fn input(&self, alloc: Global) -> Result<FitAndCounts, AllocError> {
         FitAndCounts::new(alloc)
     }
 
     fn answer(&self, alloc: Global, input: FitAndCounts) -> Result<(Text, Status), AnswerError> {
-        check_fit_input(alloc, input)
+        check_fit_input(alloc, self.options, input)
     }
 }
 
 // the answer to an input
-fn check_fit_input(alloc: Global, input: FitAndCounts) -> Result<(Text, Status), AnswerError>
-    ensures { (bytes : List ℕ) → HasTakenFit input bytes → GivesAnswer text_left (CheckFitEitherAnswers bytes) result }
+fn check_fit_input(
+    alloc: Global,
+    options: Options,
+    input: FitAndCounts,
+) -> Result<(Text, Status), AnswerError>
+    ensures { (bytes : List ℕ) → HasTakenFit input bytes → GivesAnswer text_left (check_fit_answers options bytes) result }
 {
     let FitAndCounts {
         text,
@@ -94,11 +102,12 @@ fn check_fit_text(alloc: Global, text: &[u8]) -> Result<(Text, Status), AnswerEr
 /// The answer to a fit's text and a history or a timeline, by the line after the fit in its text.
 pub(crate) fn check_fit_texts(
     alloc: Global,
+    options: Options,
     fit: &[u8],
     counts: CountsInput,
 ) -> Result<(Text, Status), AnswerError>
-    ensures { (text : List ℕ) → HasTakenCounts counts text → GivesAnswer text_left
-        (ChecksEitherParts (leading_lines (lines fit.now)) (lines_after (lines fit.now)) 0 (lines text)) result }
+    ensures { (text : List ℕ) → HasTakenCounts counts text
+        → GivesAnswer text_left (check_fit_on_answers options fit.now text) result }
 {
     let leading = read_leading(alloc, fit)?;
     if begins_moments(leading.rest) {

@@ -3,7 +3,7 @@ ghost use Rattle.std.specs.Prelude.{◌≡◌, IfOk, List, ℕ};
 ghost use Rattle.line_text.specs.Lines.{lines};
 ghost use Rattle.mte_engine.specs.CountsInput.{HasTakenCounts};
 ghost use Rattle.mte_engine.specs.Footprint.{measured};
-ghost use Rattle.mte_engine.specs.FootprintOver.{FootprintEitherAnswers, MeasuresCounts};
+ghost use Rattle.mte_engine.specs.FootprintOver.{footprint_after, footprint_answers};
 ghost use Rattle.mte_engine.specs.Parts.{AreFewLines};
 ghost use Rattle.mte_engine.specs.Outcome.{GivesAnswer, Runs};
 ghost use Rattle.byte_streams.specs.TextLeft.{text_left};
@@ -21,6 +21,7 @@ use byte_streams::{ByteSink, ByteSource, Text};
 use class_table::ClassTable;
 use history_count::TableFootprint;
 use std::alloc::{AllocError, Global};
+use tool_call::Options;
 
 /// Reads a class line and then a history or a timeline, and writes `footprint F`, the bytes that the table's classes take when most blocks of
 /// each are live, or `not serving N` with the status of a no, where N is the least counted size that has no class.
@@ -30,13 +31,15 @@ use std::alloc::{AllocError, Global};
 /// `ToolFault` has the other faults, and what the sink took when one comes.
 pub fn footprint<R: ByteSource, W: ByteSink>(
     alloc: Global,
+    options: Options,
     source: &mut R,
     sink: &mut W,
 ) -> Result<Status, ToolFault>
-    ensures { Runs FootprintEitherAnswers (R.state source.old) (R.state source.new) W.state sink.old sink.new result }
+    ensures { Runs (footprint_answers options) (R.state source.old) (R.state source.new) W.state sink.old sink.new result }
 {
     let engine = OverLine {
         command: TableCommand::Footprint,
+        options,
     };
     run_engine(alloc, &engine, source, sink)
 }
@@ -44,13 +47,14 @@ pub fn footprint<R: ByteSource, W: ByteSink>(
 /// The answer to a table and the timeline or the history that follows this many lines.
 pub(crate) fn footprint_of_counts(
     alloc: Global,
+    options: Options,
     table: &ClassTable,
     counts: CountsInput,
     before: u64,
 ) -> Result<(Text, Status), AnswerError>
     requires { AreFewLines before }
     ensures { (text : List ℕ) → HasTakenCounts counts text
-        → GivesAnswer text_left (MeasuresCounts table.now before (lines text)) result }
+        → GivesAnswer text_left (footprint_after options table.now before (lines text)) result }
 {
     match read_counts(alloc, counts, before)? {
         Counts::Timeline(timeline) => Ok(footprint_of_timeline(alloc, table, &timeline)?),

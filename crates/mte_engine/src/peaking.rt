@@ -4,7 +4,7 @@ ghost use Rattle.line_text.specs.Lines.{lines, text_of};
 ghost use Rattle.mte_engine.specs.CountsInput.{HasTakenCounts};
 ghost use Rattle.mte_engine.specs.Outcome.{GivesAnswer, Runs};
 ghost use Rattle.mte_engine.specs.Parts.{AreFewLines};
-ghost use Rattle.mte_engine.specs.Peaks.{ArePeaks, PeaksAnswers, PeaksCounts, peak_lines};
+ghost use Rattle.mte_engine.specs.Peaks.{ArePeaks, peak_lines, peaks_after, peaks_answers};
 ghost use Rattle.byte_streams.specs.TextLeft.{text_left};
 
 use crate::counts_input::{CountsInput, read_as_timeline};
@@ -18,6 +18,7 @@ use class_table::ClassTable;
 use history_count::{TablePeaks, Timeline, table_peaks};
 use potential_check::{MOMENTS, append_line};
 use std::alloc::{AllocError, Global};
+use tool_call::Options;
 
 /// Reads a class line and then a timeline, and writes four lines: `peaks` with the most live blocks of each class, `moments` with the first
 /// moment of so many, each as the number of events before it, `live B` with the most bytes of all live blocks together, and `freed N` with the
@@ -28,13 +29,15 @@ use std::alloc::{AllocError, Global};
 /// other faults, and what the sink took when one comes.
 pub fn peaks<R: ByteSource, W: ByteSink>(
     alloc: Global,
+    options: Options,
     source: &mut R,
     sink: &mut W,
 ) -> Result<Status, ToolFault>
-    ensures { Runs PeaksAnswers (R.state source.old) (R.state source.new) W.state sink.old sink.new result }
+    ensures { Runs (peaks_answers options) (R.state source.old) (R.state source.new) W.state sink.old sink.new result }
 {
     let engine = OverLine {
         command: TableCommand::Peaks,
+        options,
     };
     run_engine(alloc, &engine, source, sink)
 }
@@ -42,13 +45,14 @@ pub fn peaks<R: ByteSource, W: ByteSink>(
 /// The answer to a table and the timeline that follows this many lines.
 pub(crate) fn peaks_of_counts(
     alloc: Global,
+    options: Options,
     table: &ClassTable,
     counts: CountsInput,
     before: u64,
 ) -> Result<(Text, Status), AnswerError>
     requires { AreFewLines before }
     ensures { (text : List ℕ) → HasTakenCounts counts text
-        → GivesAnswer text_left (PeaksCounts table.now before (lines text)) result }
+        → GivesAnswer text_left (peaks_after options table.now before (lines text)) result }
 {
     let timeline = read_as_timeline(alloc, counts, before)?;
     Ok(peaks_of_timeline(alloc, table, &timeline)?)

@@ -1,6 +1,6 @@
 //! `profile`: how often each size is requested in a trace.
 ghost use Rattle.mte_engine.specs.Outcome.{GivesAnswer, Runs};
-ghost use Rattle.mte_engine.specs.Profile.{ProfileAnswers};
+ghost use Rattle.mte_engine.specs.Profile.{profile_answers};
 ghost use Rattle.byte_streams.specs.TextLeft.{text_left};
 ghost use Rattle.mte_engine.specs.Traces.{KeepsCounts};
 ghost use Rattle.std.specs.Prelude.{◌≡◌, List, ℕ, false};
@@ -14,6 +14,7 @@ use byte_streams::{ByteSink, ByteSource, Input, Text};
 use line_text::first_line;
 use profile_count::Profile;
 use std::alloc::{AllocError, Global};
+use tool_call::Options;
 use trace_reader::{TraceReader, Unobserved};
 
 /// Reads a trace, and writes the profile of its requests: how often each size was requested by a malloc, a calloc or a realloc, also where
@@ -23,22 +24,27 @@ use trace_reader::{TraceReader, Unobserved};
 /// and what the sink took when one comes.
 pub fn profile<R: ByteSource, W: ByteSink>(
     alloc: Global,
+    options: Options,
     source: &mut R,
     sink: &mut W,
 ) -> Result<Status, ToolFault>
-    ensures { Runs ProfileAnswers (R.state source.old) (R.state source.new) W.state sink.old sink.new result }
+    ensures { Runs (profile_answers options) (R.state source.old) (R.state source.new) W.state sink.old sink.new result }
 {
-    run_engine(alloc, &ProfileEngine, source, sink)
+    run_engine(alloc, &ProfileEngine { options }, source, sink)
 }
 
-struct ProfileEngine;
+// the options of `profile`
+#[derive(Drop)]
+struct ProfileEngine {
+    options: Options,
+}
 
 impl Engine for ProfileEngine {
     type Input = CountedTrace;
 
     type Output = Text;
 
-    ghost answers = { λ _. ProfileAnswers };
+    ghost answers = { λ e. profile_answers e.options };
 
     fn input(&self, alloc: Global) -> Result<CountedTrace, AllocError> {
         let profile = Profile::new(alloc)?;
@@ -49,7 +55,7 @@ impl Engine for ProfileEngine {
     }
 
     fn answer(&self, alloc: Global, input: CountedTrace) -> Result<(Text, Status), AnswerError> {
-        profile_of_trace(alloc, input)
+        profile_of_trace(alloc, self.options, input)
     }
 }
 
@@ -76,9 +82,13 @@ impl Input for CountedTrace {
 }
 
 // the answer to a trace
-fn profile_of_trace(alloc: Global, input: CountedTrace) -> Result<(Text, Status), AnswerError>
+fn profile_of_trace(
+    alloc: Global,
+    options: Options,
+    input: CountedTrace,
+) -> Result<(Text, Status), AnswerError>
     ensures { (bytes : List ℕ) → KeepsCounts input.reader input.profile bytes →
-        GivesAnswer text_left (ProfileAnswers bytes) result }
+        GivesAnswer text_left (profile_answers options bytes) result }
 {
     let CountedTrace {
         mut reader,

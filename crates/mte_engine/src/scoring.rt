@@ -3,8 +3,8 @@ ghost use Rattle.std.specs.Prelude.{◌≡◌, ◌++◌, ◌∷◌, [], IfOk};
 ghost use Rattle.std.specs.Fmt.{decimal};
 ghost use Rattle.line_text.specs.Lines.{lines};
 ghost use Rattle.mte_engine.specs.Outcome.{GivesAnswer, Runs};
-ghost use Rattle.mte_engine.specs.Parts.{AfterTable, AreFewLines};
-ghost use Rattle.mte_engine.specs.Score.{ScoreAnswers, ScoresProfile, scored};
+ghost use Rattle.mte_engine.specs.Parts.{AfterText, AreFewLines};
+ghost use Rattle.mte_engine.specs.Score.{score_after, score_answers, scored};
 ghost use Rattle.byte_streams.specs.TextLeft.{text_left};
 
 use crate::engine::{Engine, Status, run_engine};
@@ -16,6 +16,7 @@ use itoa::Buffer;
 use line_text::lines_in;
 use profile_count::Profile;
 use std::alloc::{AllocError, Global};
+use tool_call::Options;
 
 /// Reads a class line and then a profile, and writes `waste W`, the bytes that the table loses by rounding the requests up,
 /// or `not serving N` with the status of a no, where N is the least counted size that has no class.
@@ -24,65 +25,76 @@ use std::alloc::{AllocError, Global};
 /// other faults, and what the sink took when one comes.
 pub fn score<R: ByteSource, W: ByteSink>(
     alloc: Global,
+    options: Options,
     source: &mut R,
     sink: &mut W,
 ) -> Result<Status, ToolFault>
-    ensures { Runs ScoreAnswers (R.state source.old) (R.state source.new) W.state sink.old sink.new result }
+    ensures { Runs (score_answers options) (R.state source.old) (R.state source.new) W.state sink.old sink.new result }
 {
-    run_engine(alloc, &ScoreEngine, source, sink)
+    run_engine(alloc, &ScoreEngine { options }, source, sink)
 }
 
-struct ScoreEngine;
+// the options of `score`
+#[derive(Drop)]
+struct ScoreEngine {
+    options: Options,
+}
 
 impl Engine for ScoreEngine {
     type Input = WholeText;
 
     type Output = Text;
 
-    ghost answers = { λ _. ScoreAnswers };
+    ghost answers = { λ e. score_answers e.options };
 
     fn input(&self, alloc: Global) -> Result<WholeText, AllocError> {
         Ok(WholeText::new(alloc))
     }
 
     fn answer(&self, alloc: Global, input: WholeText) -> Result<(Text, Status), AnswerError> {
-        score_of_text(alloc, &input.text)
+        score_of_text(alloc, self.options, &input.text)
     }
 }
 
 // the answer to a text
-fn score_of_text(alloc: Global, text: &[u8]) -> Result<(Text, Status), AnswerError>
-    ensures { GivesAnswer text_left (ScoreAnswers text.now) result }
+fn score_of_text(
+    alloc: Global,
+    options: Options,
+    text: &[u8],
+) -> Result<(Text, Status), AnswerError>
+    ensures { GivesAnswer text_left (score_answers options text.now) result }
 {
     let mut lines = lines_in(text);
     let Some(line) = lines.next() else {
         return Err(AnswerError::Input(InputFault::Table(TableError::BadLine)));
     };
     let table = read_table(line)?;
-    score_of_counts(alloc, &table, lines.rest(), 1)
+    score_of_counts(alloc, options, &table, lines.rest(), 1)
 }
 
 /// The answer to a class line and a profile's text.
 pub(crate) fn score_of_texts(
     alloc: Global,
+    options: Options,
     class: &[u8],
     text: &[u8],
 ) -> Result<(Text, Status), AnswerError>
-    ensures { GivesAnswer text_left (AfterTable ScoresProfile (lines class.now) 0 (lines text.now)) result }
+    ensures { GivesAnswer text_left (AfterText (score_after options) class.now text.now) result }
 {
     let table = read_class_text(class)?;
-    score_of_counts(alloc, &table, text, 0)
+    score_of_counts(alloc, options, &table, text, 0)
 }
 
 // the answer to a table and the profile's text that follows this many lines
 fn score_of_counts(
     alloc: Global,
+    options: Options,
     table: &ClassTable,
     text: &[u8],
     before: u64,
 ) -> Result<(Text, Status), AnswerError>
     requires { AreFewLines before }
-    ensures { GivesAnswer text_left (ScoresProfile table.now before (lines text.now)) result }
+    ensures { GivesAnswer text_left (score_after options table.now before (lines text.now)) result }
 {
     let profile = read_profile(alloc, text, before)?;
     Ok(score_of_profile(alloc, table, &profile)?)

@@ -4,7 +4,7 @@ ghost use Rattle.byte_streams.specs.TextLeft.{text_left};
 ghost use Rattle.line_text.specs.Lines.{lines};
 ghost use Rattle.mte_engine.specs.CountsInput.{HasTakenCounts, KeepsLineAnd};
 ghost use Rattle.mte_engine.specs.Outcome.{GivesAnswer};
-ghost use Rattle.mte_engine.specs.Parts.{AfterLine, AfterTable, AreFewLines};
+ghost use Rattle.mte_engine.specs.Parts.{AfterLine, AfterText, AreFewLines};
 ghost use Rattle.mte_engine.specs.TableCommands.{answers_after};
 
 use crate::counts_input::CountsInput;
@@ -17,6 +17,7 @@ use crate::peaking::peaks_of_counts;
 use byte_streams::Text;
 use class_table::ClassTable;
 use std::alloc::{AllocError, Global};
+use tool_call::Options;
 
 /// A command over a table, and the timeline or the history after it.
 #[derive(Clone, Copy)]
@@ -25,10 +26,11 @@ pub(crate) enum TableCommand {
     Peaks,
 }
 
-/// Such a command over one text.
+/// Such a command with its options, over one text.
 #[derive(Drop)]
 pub(crate) struct OverLine {
     pub(crate) command: TableCommand,
+    pub(crate) options: Options,
 }
 
 impl Engine for OverLine {
@@ -36,14 +38,14 @@ impl Engine for OverLine {
 
     type Output = Text;
 
-    ghost answers = { λ e. AfterLine (answers_after e.command) };
+    ghost answers = { λ e. AfterLine (answers_after e.command e.options) };
 
     fn input(&self, alloc: Global) -> Result<LineAndCounts, AllocError> {
         LineAndCounts::new(alloc)
     }
 
     fn answer(&self, alloc: Global, input: LineAndCounts) -> Result<(Text, Status), AnswerError> {
-        answer_to_input(self.command, alloc, input)
+        answer_to_input(self.command, alloc, self.options, input)
     }
 }
 
@@ -51,11 +53,12 @@ impl Engine for OverLine {
 fn answer_to_input(
     command: TableCommand,
     alloc: Global,
+    options: Options,
     input: LineAndCounts,
 ) -> Result<(Text, Status), AnswerError>
     ensures { (bytes : List ℕ)
         → KeepsLineAnd input.line_has_ended input.line.items (HasTakenCounts input.counts) bytes
-        → GivesAnswer text_left (AfterLine (answers_after command) bytes) result }
+        → GivesAnswer text_left (AfterLine (answers_after command options) bytes) result }
 {
     let LineAndCounts {
         line,
@@ -63,37 +66,39 @@ fn answer_to_input(
         counts,
     } = input;
     let table = read_table(&line)?;
-    answer_to_counts(command, alloc, &table, counts, 1)
+    answer_to_counts(command, alloc, options, &table, counts, 1)
 }
 
 /// The answer to a class line and the counts, each in a text of its own.
 pub(crate) fn answer_to_both(
     command: TableCommand,
     alloc: Global,
+    options: Options,
     class: &[u8],
     counts: CountsInput,
 ) -> Result<(Text, Status), AnswerError>
     ensures { (text : List ℕ) → HasTakenCounts counts text
-        → GivesAnswer text_left (AfterTable (answers_after command) (lines class.now) 0 (lines text)) result }
+        → GivesAnswer text_left (AfterText (answers_after command options) class.now text) result }
 {
     let table = read_class_text(class)?;
-    answer_to_counts(command, alloc, &table, counts, 0)
+    answer_to_counts(command, alloc, options, &table, counts, 0)
 }
 
 // the answer to a table and the counts that follow this many lines
 fn answer_to_counts(
     command: TableCommand,
     alloc: Global,
+    options: Options,
     table: &ClassTable,
     counts: CountsInput,
     before: u64,
 ) -> Result<(Text, Status), AnswerError>
     requires { AreFewLines before }
     ensures { (text : List ℕ) → HasTakenCounts counts text
-        → GivesAnswer text_left (answers_after command table.now before (lines text)) result }
+        → GivesAnswer text_left (answers_after command options table.now before (lines text)) result }
 {
     match command {
-        TableCommand::Footprint => footprint_of_counts(alloc, table, counts, before),
-        TableCommand::Peaks => peaks_of_counts(alloc, table, counts, before),
+        TableCommand::Footprint => footprint_of_counts(alloc, options, table, counts, before),
+        TableCommand::Peaks => peaks_of_counts(alloc, options, table, counts, before),
     }
 }

@@ -19,6 +19,7 @@ use crate::trace_feeding::feed;
 use byte_streams::{Input, Text, WholeText};
 use replay_core::Config;
 use std::alloc::{AllocError, Global};
+use tool_call::Options;
 use trace_reader::{TraceReader, Unobserved};
 
 /// A command over a profile, which comes after a first text.
@@ -28,10 +29,11 @@ pub(crate) enum ProfileCommand {
     Check,
 }
 
-/// Such a command with its first text.
+/// Such a command with its options and its first text.
 #[derive(Drop)]
 pub(crate) struct BesideProfile<'a> {
     pub(crate) command: ProfileCommand,
+    pub(crate) options: Options,
     pub(crate) first: &'a [u8],
 }
 
@@ -40,7 +42,7 @@ impl<'a> Engine for BesideProfile<'a> {
 
     type Output = Text;
 
-    ghost answers = { λ e. answers_beside_profile e.command e.first.now };
+    ghost answers = { λ e. answers_beside_profile e.command e.options e.first.now };
 
     fn input(&self, alloc: Global) -> Result<WholeText, AllocError> {
         Ok(WholeText::new(alloc))
@@ -48,8 +50,10 @@ impl<'a> Engine for BesideProfile<'a> {
 
     fn answer(&self, alloc: Global, input: WholeText) -> Result<(Text, Status), AnswerError> {
         match self.command {
-            ProfileCommand::Score => score_of_texts(alloc, self.first, &input.text),
-            ProfileCommand::Check => check_texts(alloc, self.first, &input.text),
+            ProfileCommand::Score => {
+                score_of_texts(alloc, self.options, self.first, &input.text)
+            }
+            ProfileCommand::Check => check_texts(alloc, self.options, self.first, &input.text),
         }
     }
 }
@@ -61,10 +65,11 @@ pub(crate) enum BlocksCommand {
     CheckFit,
 }
 
-/// Such a command with its first text.
+/// Such a command with its options and its first text.
 #[derive(Drop)]
 pub(crate) struct BesideBlocks<'a> {
     pub(crate) command: BlocksCommand,
+    pub(crate) options: Options,
     pub(crate) first: &'a [u8],
 }
 
@@ -73,7 +78,7 @@ impl<'a> Engine for BesideBlocks<'a> {
 
     type Output = Text;
 
-    ghost answers = { λ e. answers_beside_blocks e.command e.first.now };
+    ghost answers = { λ e. answers_beside_blocks e.command e.options e.first.now };
 
     fn input(&self, alloc: Global) -> Result<CountsInput, AllocError> {
         CountsInput::new(alloc)
@@ -81,8 +86,10 @@ impl<'a> Engine for BesideBlocks<'a> {
 
     fn answer(&self, alloc: Global, input: CountsInput) -> Result<(Text, Status), AnswerError> {
         match self.command {
-            BlocksCommand::OfTable(command) => answer_to_both(command, alloc, self.first, input),
-            BlocksCommand::CheckFit => check_fit_texts(alloc, self.first, input),
+            BlocksCommand::OfTable(command) => {
+                answer_to_both(command, alloc, self.options, self.first, input)
+            }
+            BlocksCommand::CheckFit => check_fit_texts(alloc, self.options, self.first, input),
         }
     }
 }

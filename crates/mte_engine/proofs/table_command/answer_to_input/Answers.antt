@@ -10,13 +10,13 @@ returns-in_err-table c = λ bytes keeps.
     let parts = line_and_rest i.line_has_ended i.line.items bytes (HasTakenCounts i.counts) keeps in
     let error = err_from_is_err_and c.from_residual.result c.from_residual.ensures.1 in
     rw (error.1, error.2)
-    (line_refused (answers_after c.args.command) bytes i.line.items parts.1.line_is c.in_err-table.field-0.0
+    (line_refused (answers_after c.args.command c.args.options) bytes i.line.items parts.1.line_is c.in_err-table.field-0.0
     (rw c.deref.ensures.value at c.in_err-table.ensures))
 
 pub returns : goal.returns
 returns c = λ bytes keeps.
     let i = c.args.input in
     let parts = line_and_rest i.line_has_ended i.line.items bytes (HasTakenCounts i.counts) keeps in
-    line_given (answers_after c.args.command) bytes i.line.items parts.1.line_is text_left c.in_ok-table.table
+    line_given (answers_after c.args.command c.args.options) bytes i.line.items parts.1.line_is text_left c.in_ok-table.table
     (rw c.deref.ensures.value at c.in_ok-table.ensures) parts.0 parts.1.others c.answer_to_counts.result
     (c.answer_to_counts.ensures parts.0 parts.2)
