@@ -41,7 +41,8 @@ pub fn check_fit<R: ByteSource, W: ByteSink>(
     source: &mut R,
     sink: &mut W,
 ) -> Result<Status, ToolFault>
-    ensures { Runs (check_fit_answers options) (R.state source.old) (R.state source.new) W.state sink.old sink.new result }
+    ensures { Runs (check_fit_answers options)
+        (R.state source.old) (R.state source.new) W.state sink.old sink.new result }
 {
     run_engine(alloc, &CheckFitEngine { options }, source, sink)
 }
@@ -74,7 +75,8 @@ fn check_fit_input(
     options: Options,
     input: FitAndCounts,
 ) -> Result<(Text, Status), AnswerError>
-    ensures { (bytes : List ℕ) → HasTakenFit input bytes → GivesAnswer text_left (check_fit_answers options bytes) result }
+    ensures { (bytes : List ℕ) → HasTakenFit input bytes
+        → GivesAnswer text_left (check_fit_answers options bytes) result }
 {
     let FitAndCounts {
         text,

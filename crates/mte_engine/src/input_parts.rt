@@ -65,7 +65,8 @@ pub fn read_leading<C: CostKind>(
 ) -> Result<LeadingSheet<'_, C>, AnswerError>
     ensures sheet { MatchResult result
         (λ leading. sheet_part C.kind (read_by C.kind (leading_lines (lines text.now))) ≡ Ok (sheet_of leading.sheet))
-        (λ fault. GivesPart {A = Sheet} (Err fault) (sheet_part C.kind (read_by C.kind (leading_lines (lines text.now))))) }
+        (λ fault. GivesPart {A = Sheet} (Err fault)
+        (sheet_part C.kind (read_by C.kind (leading_lines (lines text.now))))) }
     ensures lines { IfOk result
         (λ leading. (leading.lines ≡ length (leading_lines (lines text.now))) × AreFewLines leading.lines) }
     ensures few { IfOk result (λ leading. AreFewLines (leading.lines + 1)) }

@@ -71,11 +71,13 @@ pub fn law_fault_lines()
     ensures shown { (fault : InputFault) (n : ℕ) → line_of_fault fault ≡ Some n
         → (name : List ℕ) × (shown_input_fault fault ≡ in_line name n) }
     ensures score { (options : Options) (text : List ℕ) (fault : InputFault)
-        → answers_of (record { command = Score; options = options }) text (Err fault) → IsAtFirstFault SpellsTableAndProfile text fault }
+        → answers_of (record { command = Score; options = options }) text (Err fault)
+        → IsAtFirstFault SpellsTableAndProfile text fault }
     ensures tune { (limit step : ℕ) (forced : Bool) (text : List ℕ) (fault : InputFault)
         → TuneAnswers limit step forced text (Err fault) → IsAtFirstFault SpellsProfile text fault }
     ensures check { (options : Options) (text : List ℕ) (n : ℕ) (fault : ProfileFault)
-        → answers_of (record { command = Check; options = options }) text (Err (Profile n fault)) → IsFirstFault SpellsSheetAndProfile text n }
+        → answers_of (record { command = Check; options = options }) text (Err (Profile n fault))
+        → IsFirstFault SpellsSheetAndProfile text n }
     ensures replay { (config : Config) (text : List ℕ) (fault : TableError)
         → ReplayAnswers config text (Err (Table fault)) → IsAtFirstFault BeginsWithTable text (Table fault) }
     ensures footprint { (text : List ℕ) (fault : InputFault) → FootprintAnswers text (Err fault)

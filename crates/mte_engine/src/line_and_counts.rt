@@ -30,7 +30,8 @@ impl LineAndCounts {
 }
 
 impl Input for LineAndCounts {
-    ghost has_taken = { λ input bytes. KeepsLineAnd input.line_has_ended input.line.items (HasTakenCounts input.counts) bytes };
+    ghost has_taken = { λ input bytes.
+        KeepsLineAnd input.line_has_ended input.line.items (HasTakenCounts input.counts) bytes };
 
     fn take(&mut self, piece: &[u8]) -> Result<(), AllocError> {
         if self.line_has_ended {

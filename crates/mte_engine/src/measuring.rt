@@ -35,7 +35,8 @@ pub fn footprint<R: ByteSource, W: ByteSink>(
     source: &mut R,
     sink: &mut W,
 ) -> Result<Status, ToolFault>
-    ensures { Runs (footprint_answers options) (R.state source.old) (R.state source.new) W.state sink.old sink.new result }
+    ensures { Runs (footprint_answers options)
+        (R.state source.old) (R.state source.new) W.state sink.old sink.new result }
 {
     let engine = OverLine {
         command: TableCommand::Footprint,
@@ -67,7 +68,8 @@ pub(crate) fn footprint_of_counts(
 
 // the answer to what a table takes over a history
 fn footprint_line(alloc: Global, footprint: TableFootprint) -> Result<(Text, Status), AllocError>
-    ensures { IfOk result (λ answered. (table : List ℕ) (history : CountedHistory) → Measures table history.snapshots footprint
+    ensures { IfOk result (λ answered. (table : List ℕ) (history : CountedHistory)
+        → Measures table history.snapshots footprint
         → record { text = text_left answered.0; status = answered.1 } ≡ measured table history) }
 {
     match footprint {

@@ -28,7 +28,8 @@ pub fn profile<R: ByteSource, W: ByteSink>(
     source: &mut R,
     sink: &mut W,
 ) -> Result<Status, ToolFault>
-    ensures { Runs (profile_answers options) (R.state source.old) (R.state source.new) W.state sink.old sink.new result }
+    ensures { Runs (profile_answers options)
+        (R.state source.old) (R.state source.new) W.state sink.old sink.new result }
 {
     run_engine(alloc, &ProfileEngine { options }, source, sink)
 }

@@ -35,7 +35,8 @@ pub fn run<S: ByteSource, W: ByteSink, E: ByteSink>(
     ensures { MatchResult words
         (λ read. HasRun (Mean (map string_bytes read.items)) (AreRefused (map string_bytes read.items))
         (S.state source.new) (W.state sink.new) (E.state errors.new) result)
-        (λ refusal. HasRun (λ call. ⊥) (λ why. why ≡ refusal) (S.state source.new) (W.state sink.new) (E.state errors.new) result) }
+        (λ refusal. HasRun (λ call. ⊥) (λ why. why ≡ refusal)
+        (S.state source.new) (W.state sink.new) (E.state errors.new) result) }
 {
     match words {
         Ok(words) => run_words(alloc, words.as_slice(), at_terminal, source, sink, errors),

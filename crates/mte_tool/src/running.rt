@@ -32,7 +32,8 @@ pub fn run_call_of<R: ByteSource, W: ByteSink>(
     ensures { MatchEnd result
         (λ end. (call : Call) × Mean (map string_bytes words.now) call
         × Runs (answers_of call) (R.state source.old) (R.state source.new) W.state sink.old sink.new end)
-        (λ refusal. AreRefused (map string_bytes words.now) refusal × (source.new ≡ source.old) × (sink.new ≡ sink.old)) }
+        (λ refusal. AreRefused (map string_bytes words.now) refusal × (source.new ≡ source.old)
+        × (sink.new ≡ sink.old)) }
 {
     run_read(alloc, read_call(alloc, words), source, sink)
 }

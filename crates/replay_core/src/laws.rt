@@ -21,12 +21,14 @@ pub fn law_report()
     ensures first { (layout : Partition) (seed quarantine : ℕ) →
         stored_of layout seed quarantine [] ≡ first_stored layout seed quarantine }
     ensures stored { (layout : Partition) (seed quarantine : ℕ) (events : List Event) (event : Event) →
-        stored_of layout seed quarantine (events ++ event ∷ []) ≡ stored_after (stored_of layout seed quarantine events) event }
+        stored_of layout seed quarantine (events ++ event ∷ [])
+        ≡ stored_after (stored_of layout seed quarantine events) event }
     ensures none { (layout : Partition) (seed quarantine : ℕ) → lines_of layout seed quarantine [] ≡ [] }
     ensures one_more { (layout : Partition) (seed quarantine : ℕ) (events : List Event) (event : Event) →
         let before = stored_of layout seed quarantine events in
         lines_of layout seed quarantine (events ++ event ∷ []) ≡
-        lines_of layout seed quarantine events ++ report_line (before.totals.events + 1) (answer_of before.replay event) }
+        lines_of layout seed quarantine events
+        ++ report_line (before.totals.events + 1) (answer_of before.replay event) }
     ensures whole { (layout : Partition) (seed quarantine : ℕ) (events : List Event) →
         report layout seed quarantine events ≡ lines_of layout seed quarantine events
         ++ totals_text (stored_of layout seed quarantine events).totals }

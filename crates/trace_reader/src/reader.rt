@@ -181,7 +181,8 @@ impl TraceReader {
     pub fn read_event<'a>(&mut self, text: &'a [u8]) -> Option<(Event, &'a [u8])>
         requires { is_at_start self.old ≡ true }
         ensures line { IfSome result (λ found. text.now ≡ event_line found.0 ++ 10 ∷ found.1.now) }
-        ensures event { IfSome result (λ found. record { events = self.old.events ++ found.0 ∷ []; state = self.new.state }
+        ensures event { IfSome result (λ found.
+            record { events = self.old.events ++ found.0 ∷ []; state = self.new.state }
             ≡ fed self.old (ended (event_line found.0))) }
         ensures events { self.new.events ≡ self.old.events }
         ensures start { is_at_start self.new ≡ true }

@@ -23,7 +23,8 @@ pub fn law_moments()
         → AreSnapshots (history_at events numbers) }
     ensures less { (events : List SizeEvent) (numbers classes : List ℕ) → AreMoments events numbers
         → footprint_of (history_at events numbers) classes ≤ footprint_over events classes }
-    ensures sizes { (events : List SizeEvent) (classes : List ℕ) → IsTimeline events → Serves (peaks (moments events)) classes
+    ensures sizes { (events : List SizeEvent) (classes : List ℕ) → IsTimeline events
+        → Serves (peaks (moments events)) classes
         ↔ ((n : ℕ) → n ≤ largest_counted → 0 < requested events n → IsSome (class_for classes n)) }
     ensures largest { (events : List SizeEvent) (numbers classes : List ℕ) (k largest : ℕ)
         → IsTimeline events → k < length numbers
@@ -46,7 +47,8 @@ pub fn law_fit_over_timeline()
         → AreMoments events numbers → IsLegalTable 1 fit.table → IsFitVerdict (history_at events numbers) fit Optimal
         → IsCandidate (served fit.forced (peaks (moments events))) fit.step fit.limit other
         → fit.cost ≤ footprint_over events other }
-    ensures least { (events : List SizeEvent) (numbers : List ℕ) (fit : Sheet) → IsTimeline events → AreMoments events numbers
+    ensures least { (events : List SizeEvent) (numbers : List ℕ) (fit : Sheet) → IsTimeline events
+        → AreMoments events numbers
         → IsLegalTable 1 fit.table → IsFitVerdict (history_at events numbers) fit Optimal
         → Serves (peaks (moments events)) fit.table → footprint_over events fit.table ≡ fit.cost
         → IsLeastOver fit.forced events fit.step fit.limit fit.table }

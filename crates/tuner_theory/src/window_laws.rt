@@ -28,11 +28,12 @@ pub fn law_windows()
     ensures sizes { (events : List SizeEvent) (upper : List (List ℕ)) (classes : List ℕ)
         → IsUpperHistory events upper → Serves (peaks upper) classes → Serves (peaks (moments events)) classes }
     ensures bound { (events : List SizeEvent) (numbers : List ℕ) (fit : Sheet) (other : List ℕ)
-        → IsLowerHistory events numbers → IsLegalTable 1 fit.table → IsFitVerdict (history_at events numbers) fit Optimal
+        → IsLowerHistory events numbers → IsLegalTable 1 fit.table
+        → IsFitVerdict (history_at events numbers) fit Optimal
         → IsCandidate (served fit.forced (peaks (moments events))) fit.step fit.limit other
         → fit.cost ≤ footprint_over events other }
-    ensures interval { (events : List SizeEvent) (numbers : List ℕ) (upper : List (List ℕ)) (fit : Sheet) (least : List ℕ)
-        → IsLowerHistory events numbers → IsUpperHistory events upper
+    ensures interval { (events : List SizeEvent) (numbers : List ℕ) (upper : List (List ℕ))
+        (fit : Sheet) (least : List ℕ) → IsLowerHistory events numbers → IsUpperHistory events upper
         → IsLegalTable 1 fit.table → IsFitVerdict (history_at events numbers) fit Optimal
         → Serves (peaks (moments events)) fit.table → IsLeastOver fit.forced events fit.step fit.limit least
         → (fit.cost ≤ footprint_over events least) × (footprint_over events least ≤ footprint_over events fit.table)
