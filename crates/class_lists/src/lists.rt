@@ -103,13 +103,15 @@ impl ClassLists {
         ensures taken { IfSome result
             (λ found. TakesFirst layout.now memory.old memory.new self.old self.new number found.0) }
         ensures place { IfSome result (λ found.
-            (found.1.start ≡ (slot_of layout.now found.0).start) × (found.1.class ≡ (slot_of layout.now found.0).class)) }
+            (found.1.start ≡ (slot_of layout.now found.0).start)
+            × (found.1.class ≡ (slot_of layout.now found.0).class)) }
         ensures popped { (list : List ℕ) →
             ShowsList (region_of layout.now memory.old) (slice_index self.old number) list →
             (option_map (λ found. found.0) result ≡ slice_get list 0)
             × ShowsList (region_of layout.now memory.new) (slice_index self.new number) (drop 1 list) }
         ensures others { (front : ℕ) (list : List ℕ) → ShowsList (region_of layout.now memory.old) front list →
-            IfSome result (λ found. Contains list found.0 → ⊥) → ShowsList (region_of layout.now memory.new) front list }
+            IfSome result (λ found. Contains list found.0 → ⊥)
+            → ShowsList (region_of layout.now memory.new) front list }
     {
         let front = self.front(number);
         if front == 0 {

@@ -82,7 +82,8 @@ impl CountedLines {
 }
 
 impl LineSink for CountedLines {
-    ghost has_taken = { λ lines snapshots next. SpellSoFar lines.sizes.items (lists_of lines.columns.items) lines.peaks snapshots next };
+    ghost has_taken = { λ lines snapshots next.
+        SpellSoFar lines.sizes.items (lists_of lines.columns.items) lines.peaks snapshots next };
 
     ghost classes = { λ lines. [] };
 

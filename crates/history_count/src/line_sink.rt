@@ -22,6 +22,7 @@ pub(crate) trait LineSink {
         requires size { size ≤ LARGEST_COUNTED }
         requires in_range { All (λ count. count ≤ greatest_count) counts.now }
         ensures classes { OnOk result (classes self.new ≡ classes self.old) }
-        ensures taken { OnOk result ((snapshots : List (List ℕ)) (next : ℕ) → has_taken self.old snapshots next → next ≤ size
-            → length snapshots ≡ length counts.now → has_taken self.new (with_counts snapshots size counts.now) (size + 1)) };
+        ensures taken { OnOk result ((snapshots : List (List ℕ)) (next : ℕ) → has_taken self.old snapshots next
+            → next ≤ size → length snapshots ≡ length counts.now
+            → has_taken self.new (with_counts snapshots size counts.now) (size + 1)) };
 }

@@ -40,7 +40,8 @@ pub fn footprint_of_text(
     table: &ClassTable,
 ) -> Result<TableFootprint, HistoryError>
     ensures { MatchResult result
-        (λ footprint. (history : Counted) × (history_of text.now ≡ Ok history) × Measures table.now history.snapshots footprint)
+        (λ footprint. (history : Counted) × (history_of text.now ≡ Ok history)
+        × Measures table.now history.snapshots footprint)
         (λ error. IsFaultOf error (history_of text.now)) }
 {
     let mut lines = lines_in(text);

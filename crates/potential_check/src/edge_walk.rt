@@ -177,7 +177,8 @@ fn exceeds_edge(spans: &Spans, before: &[u64], row: &[u64], start: Start, end: E
     requires order { start.place < end.place }
     requires start { IsStart spans.now row.now start }
     requires end { IsEnd spans.now before.now end }
-    ensures { IsTrue result ↔ (edge_bound spans.now before.now start.place end.place < slice_index row.now start.place) }
+    ensures { IsTrue result
+        ↔ (edge_bound spans.now before.now start.place end.place < slice_index row.now start.place) }
 {
     let (number, bound) = sides(spans, before, row, start, end);
     number > bound

@@ -137,7 +137,8 @@ fn forced_at(lines: &mut Lines<'_>) -> Option<bool>
 
 // the cost that the next line states
 fn cost_at(cost: Cost, lines: &mut Lines<'_>) -> Option<u64>
-    ensures { (number : ℕ) → line_at number (cost_in cost) lines.old ≡ ok_or (option_map (λ n. (n, lines.new)) result) number }
+    ensures { (number : ℕ) → line_at number (cost_in cost) lines.old
+        ≡ ok_or (option_map (λ n. (n, lines.new)) result) number }
 {
     cost_in(cost, lines.next()?)
 }

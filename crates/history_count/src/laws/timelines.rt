@@ -9,8 +9,10 @@ ghost use Rattle.tuner_theory.specs.declared.size_event.SizeEvent.{SizeEvent};
 /// A text is refused as a timeline exactly at its first fault: no text that begins with the lines up to it spells a timeline, and some text
 /// that begins with the lines before it does. That line is a line of the text, unless the text has none: only the first line must be there.
 pub fn law_timeline_text()
-    ensures read { (text : List ℕ) (events : List SizeEvent) → timeline_of text ≡ Ok events → SpellsTimeline text events }
-    ensures written { (text : List ℕ) (events : List SizeEvent) → SpellsTimeline text events → timeline_of text ≡ Ok events }
+    ensures read { (text : List ℕ) (events : List SizeEvent) → timeline_of text ≡ Ok events
+        → SpellsTimeline text events }
+    ensures written { (text : List ℕ) (events : List SizeEvent) → SpellsTimeline text events
+        → timeline_of text ≡ Ok events }
     ensures first { (text : List ℕ) (n : ℕ) → IsRefusedAt n text ↔ IsFirstFault SpellsTimeline text n }
     ensures line { (text : List ℕ) (n : ℕ) → IsRefusedAt n text → n ≤ max 1 (length (lines text)) }
 {}

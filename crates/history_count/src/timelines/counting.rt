@@ -151,7 +151,8 @@ fn known_class(known: &mut [u8], layout: &Layout, n: u16) -> Option<usize>
     requires known { AreKnown layout.now.classes known.old }
     ensures known { AreKnown layout.now.classes known.new }
     ensures some { IfSome result (λ number.
-        (n ≤ largest_counted) × (class_number_for layout.now.classes n ≡ Some number) × (number < length layout.now.classes)) }
+        (n ≤ largest_counted) × (class_number_for layout.now.classes n ≡ Some number)
+        × (number < length layout.now.classes)) }
     ensures none { IfNone result ((largest_counted < n) ⊎ (class_number_for layout.now.classes n ≡ None)) }
 {
     let number = known[n as usize];
@@ -166,7 +167,8 @@ fn known_class(known: &mut [u8], layout: &Layout, n: u16) -> Option<usize>
 // the number of the class of a size that is counted
 fn counted_class(layout: &Layout, n: u16) -> Option<usize>
     ensures some { IfSome result (λ number.
-        (n ≤ largest_counted) × (class_number_for layout.now.classes n ≡ Some number) × (number < length layout.now.classes)) }
+        (n ≤ largest_counted) × (class_number_for layout.now.classes n ≡ Some number)
+        × (number < length layout.now.classes)) }
     ensures none { IfNone result ((largest_counted < n) ⊎ (class_number_for layout.now.classes n ≡ None)) }
 {
     if n as u32 > LARGEST_COUNTED {

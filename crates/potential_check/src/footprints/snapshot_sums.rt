@@ -31,7 +31,8 @@ pub(crate) struct SnapshotSums<'a> {
     narrow: Vec<Vec<u32>>,
     ghost holds: { HoldsSnapshots history.now.snapshots spans.now.counts spans.now.step (lists_of sums.items) },
     ghost small: { (i j : ℕ) → i < j → j ≤ places spans.now.counts spans.now.step
-        → span_cost (footprint_between history.now.snapshots spans.now.step) spans.now.counts spans.now.step i j ≤ 2 ^ 60 },
+        → span_cost (footprint_between history.now.snapshots spans.now.step)
+        spans.now.counts spans.now.step i j ≤ 2 ^ 60 },
     ghost same: { AreNarrow (lists_of narrow.items) (lists_of sums.items) },
     ghost grows: { let between = footprint_between history.now.snapshots spans.now.step in
         IsGrowing (span_cost between spans.now.counts spans.now.step) (places spans.now.counts spans.now.step) },
@@ -78,7 +79,8 @@ impl<'a> SnapshotSums<'a> {
         ensures size { length costs.new ≡ length costs.old }
         ensures costs { let s = self.now in (j : ℕ) → i < j → j ≤ places s.spans.now.counts s.spans.now.step
             → slice_index costs.new j
-            ≡ span_cost (footprint_between s.history.now.snapshots s.spans.now.step) s.spans.now.counts s.spans.now.step i j }
+            ≡ span_cost (footprint_between s.history.now.snapshots s.spans.now.step)
+            s.spans.now.counts s.spans.now.step i j }
     {
         if self.narrow.is_empty() {
             self.write_wide(i, costs);

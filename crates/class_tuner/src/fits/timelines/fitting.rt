@@ -66,7 +66,8 @@ pub fn fit_over(
     // the first round that shows a fit, or what all rounds give where none does
     ensures found { IfOk result (λ fitted. IsFound timeline.now step limit forced rounds fitted.rounds fitted.found) }
     // the footprint of each span of each round was asked for once
-    ensures exact { IfOk result (λ fitted. AreRoundCosts timeline.now step limit forced fitted.rounds fitted.evaluations) }
+    ensures exact { IfOk result
+        (λ fitted. AreRoundCosts timeline.now step limit forced fitted.rounds fitted.evaluations) }
     ensures bounded { IfOk result (λ fitted. fitted.evaluations ≤ fitted.rounds * span_count MOST_NEEDS) }
 {
     let events = timeline.events();

@@ -58,7 +58,8 @@ pub(crate) fn round_over(
     ensures firsts { IfOk result (λ round. AreFirsts index.now round.fit.table round.firsts.items) }
     ensures legal { IfOk result (λ round. IsLegalTable 1 round.fit.table) }
     ensures exact { IfOk result
-        (λ round. round.evaluations ≡ span_count (places (served forced (peaks (history_at index.now numbers.now))) step)) }
+        (λ round. round.evaluations
+        ≡ span_count (places (served forced (peaks (history_at index.now numbers.now))) step)) }
 {
     let history = index.history_at(alloc, numbers)?;
     let fitted = fit(alloc, &history, limit, step, forced)?;

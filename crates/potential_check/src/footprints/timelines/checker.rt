@@ -23,7 +23,8 @@ pub fn check_over(
 ) -> Result<OverVerdict, AllocError>
     ensures verdict { IfOk result (λ verdict. IsOverVerdict timeline.now numbers.now (sheet_of fit.now) verdict) }
     ensures least { IfOk result
-        (λ verdict. verdict ≡ Optimal → IsLeastOver fit.now.forced timeline.now fit.now.step fit.now.limit fit.now.table) }
+        (λ verdict. verdict ≡ Optimal
+        → IsLeastOver fit.now.forced timeline.now fit.now.step fit.now.limit fit.now.table) }
 {
     let events = timeline.events();
     if !are_moments(events, numbers) {
