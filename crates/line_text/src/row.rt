@@ -7,7 +7,9 @@ ghost use Rattle.line_text.specs.Rows.{IsRow, IsRowSoFar};
 ghost use Rattle.std.specs.Int.{from_bool};
 ghost use Rattle.std.specs.Option.{option_map};
 
-use crate::leading_number::{leading_number, short_digits, short_leading_number};
+use crate::leading_number::{
+    leading_number, short_digits, short_leading_number, tiny_leading_number,
+};
 use crate::pair::after_byte;
 
 /// The first number of the first line of a text, and the text after that line; the other numbers of the line are then in `numbers`, which
@@ -104,5 +106,9 @@ fn short_in_place(text: &[u8]) -> Option<(u32, &[u8])>
     if text.len() < 9 || text[0] != b' ' {
         return None;
     }
-    short_leading_number(&text[1..])
+    let digits = &text[1..];
+    if let Some(tiny) = tiny_leading_number(digits) {
+        return Some(tiny);
+    }
+    short_leading_number(digits)
 }
