@@ -332,7 +332,8 @@ fn is_within(costs: &[u64], before: &[u64], number: u64, start: usize, stop: usi
     ensures { IsTrue result ↔ WithinEdges costs.now before.now number start stop }
 {
     for j in start..stop {
-        if number > costs[j].saturating_add(before[j]) {
+        // (no sum, which might not fit 64 bits)
+        if before[j] < number && costs[j] < number - before[j] {
             return false;
         }
     }
