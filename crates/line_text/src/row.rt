@@ -32,6 +32,9 @@ pub(crate) fn leading_row<'a>(text: &'a [u8], numbers: &mut [u32]) -> Option<(u6
         rest = after;
         place += 1;
     }
+    if place == numbers.len() {
+        return ended_row(first, rest);
+    }
     rest_of_row(first, rest, numbers, place)
 }
 
@@ -55,6 +58,17 @@ fn rest_of_row<'a>(
         numbers[place] = number;
         rest = after;
     }
+    ended_row(first, rest)
+}
+
+// the same where all numbers were read
+#[inline(always)]
+fn ended_row(first: u64, rest: &[u8]) -> Option<(u64, &[u8])>
+    ensures row { (text numbers : List ℕ) → IsRowSoFar text rest.now first numbers
+        → IfSome result (λ found. IsRow (slice_get (lines text) 0) found.0 numbers) }
+    ensures after { (text numbers : List ℕ) → IsRowSoFar text rest.now first numbers
+        → IfSome result (λ found. lines found.1.now ≡ drop 1 (lines text)) }
+{
     if rest.is_empty() {
         return Some((first, rest));
     }
