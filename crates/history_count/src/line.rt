@@ -48,6 +48,7 @@ pub(crate) fn snapshots_in(line: &[u8]) -> Option<usize>
 
 /// Takes the next line, and returns what it counts; `None` if no line is left. Its counts are then in `counts`, which has a place for each
 /// snapshot. `next` is the least size that may come, and `is_ended` says whether the `large` line came.
+#[inline(always)]
 pub(crate) fn next_entry(
     next: u32,
     is_ended: bool,

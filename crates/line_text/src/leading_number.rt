@@ -1,5 +1,5 @@
 //! The number at the start of a text, in one pass over its digits.
-ghost use Rattle.std.specs.Prelude.{◌≡◌, ◌+◌, ◌<◌, ◌++◌, true, IfSome, Some, drop, length, slice_index};
+ghost use Rattle.std.specs.Prelude.{◌≡◌, ◌+◌, ◌-◌, ◌<◌, ◌≤◌, ◌++◌, false, true, IfNone, IfSome, Some, drop, length, slice_index};
 ghost use Rattle.std.specs.Char.{is_ascii_digit};
 ghost use Rattle.std.specs.Int.{from_bool};
 ghost use Rattle.std.specs.List.{prefix_len};
@@ -35,6 +35,44 @@ pub(crate) fn short_leading_number(text: &[u8]) -> Option<(u32, &[u8])>
         return None;
     }
     Some((value_of(bytes, end) as u32, &text[end..]))
+}
+
+/// The same of a number of at most three digits, byte by byte: most counts are so small, and these steps are fewer than a word's.
+#[inline(always)]
+pub(crate) fn tiny_leading_number(text: &[u8]) -> Option<(u32, &[u8])>
+    requires { 4 ≤ length text.now }
+    ensures number { IfSome result (λ pair. leading_number_of text.now ≡ Some pair.0) }
+    ensures after { IfSome result (λ pair. text.now ≡ leading_digits text.now ++ pair.1.now) }
+{
+    let first = digit_of(text[0])?;
+    let Some(second) = digit_of(text[1]) else {
+        return Some((first, &text[1..]));
+    };
+    if first == 0 {
+        return None;
+    }
+    let two = first * 10 + second;
+    let Some(third) = digit_of(text[2]) else {
+        return Some((two, &text[2..]));
+    };
+    let None = digit_of(text[3]) else {
+        return None;
+    };
+    Some((two * 10 + third, &text[3..]))
+}
+
+// what a byte is as a digit
+#[inline(always)]
+fn digit_of(byte: u8) -> Option<u32>
+    ensures digit { IfSome result (λ digit. (is_ascii_digit byte ≡ true) × (digit ≡ byte - 48)) }
+    ensures small { IfSome result (λ digit. digit ≤ 9) }
+    ensures other { IfNone result (is_ascii_digit byte ≡ false) }
+{
+    let digit = u32::from(byte).wrapping_sub(u32::from(b'0'));
+    if digit > 9 {
+        return None;
+    }
+    Some(digit)
 }
 
 /// The number of digits at the start of a text, after a `-` if it is signed, and how many bytes both take, at most seven, in a text of at least

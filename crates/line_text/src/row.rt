@@ -7,7 +7,9 @@ ghost use Rattle.line_text.specs.Rows.{IsRow, IsRowSoFar};
 ghost use Rattle.std.specs.Int.{from_bool};
 ghost use Rattle.std.specs.Option.{option_map};
 
-use crate::leading_number::{leading_number, short_digits, short_leading_number};
+use crate::leading_number::{
+    leading_number, short_digits, short_leading_number, tiny_leading_number,
+};
 use crate::pair::after_byte;
 
 /// The first number of the first line of a text, and the text after that line; the other numbers of the line are then in `numbers`, which
@@ -29,6 +31,9 @@ pub(crate) fn leading_row<'a>(text: &'a [u8], numbers: &mut [u32]) -> Option<(u6
         numbers[place] = number;
         rest = after;
         place += 1;
+    }
+    if place == numbers.len() {
+        return ended_row(first, rest);
     }
     rest_of_row(first, rest, numbers, place)
 }
@@ -53,6 +58,17 @@ fn rest_of_row<'a>(
         numbers[place] = number;
         rest = after;
     }
+    ended_row(first, rest)
+}
+
+// the same where all numbers were read
+#[inline(always)]
+fn ended_row(first: u64, rest: &[u8]) -> Option<(u64, &[u8])>
+    ensures row { (text numbers : List ℕ) → IsRowSoFar text rest.now first numbers
+        → IfSome result (λ found. IsRow (slice_get (lines text) 0) found.0 numbers) }
+    ensures after { (text numbers : List ℕ) → IsRowSoFar text rest.now first numbers
+        → IfSome result (λ found. lines found.1.now ≡ drop 1 (lines text)) }
+{
     if rest.is_empty() {
         return Some((first, rest));
     }
@@ -104,5 +120,9 @@ fn short_in_place(text: &[u8]) -> Option<(u32, &[u8])>
     if text.len() < 9 || text[0] != b' ' {
         return None;
     }
-    short_leading_number(&text[1..])
+    let digits = &text[1..];
+    if let Some(tiny) = tiny_leading_number(digits) {
+        return Some(tiny);
+    }
+    short_leading_number(digits)
 }

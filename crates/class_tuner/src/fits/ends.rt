@@ -1,6 +1,6 @@
 //! The least cost of a place over its ends. The ends are taken in blocks, each with a bound: a block is passed over where its bound shows
 //! that none of its ends costs as little as the best so far.
-ghost use Rattle.std.specs.Prelude.{◌≡◌, ◌≢◌, ℕ, ◌+◌, ◌-◌, ◌^◌, ◌<◌, ◌≤◌, length, min, slice_index};
+ghost use Rattle.std.specs.Prelude.{◌≡◌, ◌≢◌, ℕ, ◌+◌, ◌-◌, ◌^◌, ◌<◌, ◌≤◌, length, slice_index};
 ghost use Rattle.class_tuner.specs.Fits.Ends.{IsBlock, IsLeastSoFar, IsReached};
 ghost use Rattle.class_tuner.specs.Fits.PlaceByPlace.{AreCostsFrom, end_cost};
 ghost use Rattle.potential_check.specs.Footprints.Bounds.{AreBounds, IsSlack};
@@ -33,7 +33,7 @@ pub(crate) fn least_end(
     // the ends up to the next block have no bound
     let first = place + 1;
     let stop = ((first / BLOCK + 1) * BLOCK).min(last);
-    let near = look_at_each(costs, before, first, stop, guess, guessed);
+    let near = look_at_first(costs, before, first, stop, guess, guessed);
     let (mut least, mut end) = near;
     let blocks = (last - 1) / BLOCK + 1;
     let mut block = next_block(bounds, slack, first / BLOCK + 1, blocks, least);
@@ -98,8 +98,9 @@ fn first_guess(costs: &[u64], before: &[u64], place: usize, hint: usize) -> (u64
     (costs[last], last)
 }
 
-// looks at some ends after those that were seen before, one after the other
-fn look_at_each(
+// Looks at the first ends, one after the other. `end` is none before them. A tie goes to the first end, so one of them wins it against `end`,
+// and against another of them it loses it: one comparison serves for both, as what has to be undercut is at first higher by 1.
+fn look_at_first(
     costs: &[u64],
     before: &[u64],
     start: usize,
@@ -111,29 +112,25 @@ fn look_at_each(
     requires block { IsBlock costs.now before.now start stop }
     requires small { least ≤ 2 ^ 60 }
     requires value { least ≡ end_cost costs.now (slice_index before.now) end }
+    requires from { start ≤ end }
     ensures least { let f = end_cost costs.now (slice_index before.now) in (place last : ℕ) → place < start
         → stop ≤ last → IsLeastSoFar f place start last end → IsLeastSoFar f place stop last result.1 }
     ensures value { result.0 ≡ end_cost costs.now (slice_index before.now) result.1 }
     ensures small { result.0 ≤ 2 ^ 60 }
 {
-    let mut best = (least, end);
+    let mut below = least + 1;
+    let mut first = end;
     for j in start..stop {
-        best = better(best.0, best.1, costs[j] + before[j], j);
+        let cost = costs[j] + before[j];
+        if cost < below {
+            below = cost;
+            first = j;
+        }
     }
-    best
-}
-
-// the better of two ends, by their costs: of two that cost the same, the first
-#[inline(always)]
-fn better(least: u64, end: usize, cost: u64, j: usize) -> (u64, usize)
-    ensures cheaper { cost < least → (result.0 ≡ cost) × (result.1 ≡ j) }
-    ensures dearer { least < cost → (result.0 ≡ least) × (result.1 ≡ end) }
-    ensures same { cost ≡ least → (result.0 ≡ least) × (result.1 ≡ min j end) }
-{
-    if cost < least || cost == least && j < end {
-        return (cost, j);
+    if below > least {
+        return (least, end);
     }
-    (least, end)
+    (below, first)
 }
 
 // what is seen in a block

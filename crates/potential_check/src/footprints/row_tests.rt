@@ -308,7 +308,7 @@ fn edge_holds_at(
     // the ends up to the next block have no bound
     let first = i + 1;
     let stop = ((first / BLOCK + 1) * BLOCK).min(last);
-    if number > least_of(costs, before, first, stop) {
+    if !is_within(costs, before, number, first, stop) {
         return false;
     }
     let blocks = (last - 1) / BLOCK + 1;
@@ -323,6 +323,21 @@ fn edge_holds_at(
         block = next_block(bounds, slack, block + 1, blocks, number);
     }
     number <= costs[last]
+}
+
+// whether a number is within the edges to some ends
+fn is_within(costs: &[u64], before: &[u64], number: u64, start: usize, stop: usize) -> bool
+    requires in_costs { stop ≤ length costs.now }
+    requires in_numbers { stop ≤ length before.now }
+    ensures { IsTrue result ↔ WithinEdges costs.now before.now number start stop }
+{
+    for j in start..stop {
+        // (no sum, which might not fit 64 bits)
+        if before[j] < number && costs[j] < number - before[j] {
+            return false;
+        }
+    }
+    true
 }
 
 // the next block whose bound does not show that the number is within the edges to all of its ends
@@ -350,10 +365,29 @@ fn least_of(costs: &[u64], before: &[u64], start: usize, stop: usize) -> u64
     ensures greatest { (number : ℕ) → number < 2 ^ 64 → WithinEdges costs.now before.now number start stop
         → number ≤ result }
 {
+    if stop == start + BLOCK {
+        return least_of_block(costs, before, start);
+    }
     let mut low = u64::MAX;
     for j in start..stop {
         // (no sum, which might not fit 64 bits)
         low = low.min(costs[j].saturating_add(before[j]));
+    }
+    low
+}
+
+// the same of a whole block: so the compiler knows how many ends there are
+#[inline(always)]
+fn least_of_block(costs: &[u64], before: &[u64], start: usize) -> u64
+    requires in_costs { start + BLOCK ≤ length costs.now }
+    requires in_numbers { start + BLOCK ≤ length before.now }
+    ensures within { WithinEdges costs.now before.now result start (start + BLOCK) }
+    ensures greatest { (number : ℕ) → number < 2 ^ 64
+        → WithinEdges costs.now before.now number start (start + BLOCK) → number ≤ result }
+{
+    let mut low = u64::MAX;
+    for k in 0..BLOCK {
+        low = low.min(costs[start + k].saturating_add(before[start + k]));
     }
     low
 }

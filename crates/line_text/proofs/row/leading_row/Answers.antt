@@ -19,3 +19,7 @@ loop-place-preserved c =
           (take c.loop-place.place c.loop-place.numbers) put.n c.in-Some.number c.loop-place.invariant.row
           c.in-Some.ensures.space put.is c.in-Some.ensures.after put.value;
     })
+
+pub returns-then-place-numbers-clause-after : goal.returns-then-place-numbers-clause-after
+returns-then-place-numbers-clause-after c =
+    c.ended_row.ensures.after c.args.text.now (take c.loop-place.place c.loop-place.numbers) c.loop-place.invariant.row

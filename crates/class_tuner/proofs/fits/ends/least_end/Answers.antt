@@ -43,7 +43,7 @@ loop-block-init c =
     let place : ℕ = c.args.place in
     let last : ℕ = length before in
     let from : ℕ = (place + 1) / 16 + 1 in
-    let near = c.look_at_each-near in
+    let near = c.look_at_first-near in
     let first = so_far-past f place last c.min-stop.result (BLOCK * from) near.result.1
     (λ j low high within. absurd (omega (arith, c.min-stop.ensures)))
     (near.ensures.least place last (omega arith) (omega (arith, c.min-stop.ensures)) c.first_guess-guess.ensures.least) in

@@ -1,6 +1,6 @@
 use Rattle.std.proofs.{Common.{◌≡◌, ℕ, ◌+◌, ◌-◌, ◌*◌, ◌/◌, ◌<◌, ◌≤◌, List, length, slice_index, arith, inl, inr}, lemmas.List.{get_or_past}}
 use Rattle.std.proofs.lemmas.Bool.{cases_lt, false≢true, le-leb, leb-true}
-use Rattle.potential_check.specs.{Footprints.RowConditions.{EdgeHoldsAt}, declared.footprints.slack.TheConstants.{BLOCK}}
+use Rattle.potential_check.specs.{Footprints.RowConditions.{EdgeHoldsAt, WithinEdges}, declared.footprints.slack.TheConstants.{BLOCK}}
 use Rattle.potential_check.proofs.footprints.row_tests.edge_holds_at.Goals as goal
 
 -- the last end is after all blocks
@@ -19,14 +19,12 @@ last_end : (costs before : List ℕ) (number i : ℕ) → i < length before → 
 last_end costs before number i within all =
     omega (arith, all.each (length before) within (omega arith), get_or_past before (length before) 0 (omega arith))
 
-pub returns-then-number-least_of-clause-edge : goal.returns-then-number-least_of-clause-edge
-returns-then-number-least_of-clause-edge c = (
+pub returns-then-not-is_within-clause-edge : goal.returns-then-not-is_within-clause-edge
+returns-then-not-is_within-clause-edge c = (
   (λ no. absurd (false≢true no)),
-  (λ all. absurd (omega (
-    arith,
-    c.least_of.ensures.greatest c.args.number (omega (arith, c.ranges.number))
-        (record { each = λ j from to. all.each j (omega arith) (omega (arith, c.min-stop.ensures)) }),
-  ))),
+  (λ all. (let within : WithinEdges c.args.costs.now c.args.before.now c.args.number (c.args.i + 1) c.min-stop.result =
+      record { each = λ j from to. all.each j (omega arith) (omega (arith, c.min-stop.ensures)) } in
+      absurd (false≢true (rw c.if-not-is_within.true at (c.is_within.ensures.1 within))))),
 )
 
 pub returns-then-number-low-clause-edge : goal.returns-then-number-low-clause-edge
