@@ -142,16 +142,38 @@ def write_file(path: str, data: "str | bytes") -> None:
         raise Refused(3, f"{path} can't be written: {error.strerror}") from None
 
 
-def refuse_over(written: "str | None", option: str, read_: "Iterable[str | None]") -> None:
-    """Refuses to write the file that an option names over one that is read; `-` is standard input, and None nothing."""
-    for path in filter(None, read_ if written else ()):
-        try:
-            status = os.fstat(0) if path == "-" else os.stat(path)
-            is_same = stat.S_ISREG(status.st_mode) and os.path.samestat(os.stat(written or ""), status)
-        except (OSError, ValueError):  # one of them is no file yet
+def refuse_over(written: "Sequence[tuple[str, str | None]]", read_: "Iterable[str | None]" = (), words: "Iterable[str]" = ()) -> None:
+    """Refuses to write the file that an option names, each with its option, over one that is read, that is a word of the program which is run,
+    or that another option or a standard stream writes. `-` of those that are read is standard input, and None nothing."""
+    outputs = [(option, path, leads_to(path)) for option, path in written if path]
+    inputs, programs = ({leads_to(0 if path == "-" else path) for path in paths if path} for paths in (read_, words))
+    writers = {leads_to(1): "standard output", leads_to(2): "standard error"}
+    for option, path, place in outputs:
+        if place is None:
             continue
-        if is_same:
-            raise Refused(2, f"{written} is read, so it can't be written over: name another file by {option}")
+        if place in inputs or place in programs:
+            why = "is read" if place in inputs else "is a word of the program"
+            raise Refused(2, f"{path} {why}, so it can't be written over: name another file by {option}")
+        if place in writers:
+            raise Refused(2, f"{path} is written by {writers[place]} too: name another file by {option}")
+        writers[place] = option
+
+
+def leads_to(path: "str | int") -> "tuple[object, ...] | None":
+    """What tells the file of a path, or of a descriptor, from all others, whatever name or link leads there. One that is not there yet has its
+    folder and its name. What is no regular file has None: several may write to a terminal."""
+    try:
+        status = os.stat(path)
+        return (status.st_dev, status.st_ino) if stat.S_ISREG(status.st_mode) else None
+    except OSError:
+        if isinstance(path, int):
+            return None
+    above, name = os.path.split(os.path.realpath(path))
+    try:
+        status = os.stat(above)
+        return status.st_dev, status.st_ino, name
+    except OSError:
+        return above, name
 
 
 def wrapped(text: str, width: int = 80, indent: str = "") -> "list[str]":

@@ -245,7 +245,7 @@ def main(words: list) -> int:
     options = Words(HELP, "names", defaults, by=named("worst", "total"), hold_out=between(2, 1000), **TABLES).take(words, once=True)
     if not options.names or options.names.count("-") > 1:
         raise Refused(2, "name the loads, standard input once; --help says more")
-    texts.refuse_over(options.output, "--output", options.names)
+    texts.refuse_over([("--output", options.output), ("--certificates", options.certificates)], options.names)
     among = bounds.Among.of(options)
     given = loads.read(options.names)
     if len({load.kind == "profile" for load in given}) > 1:
