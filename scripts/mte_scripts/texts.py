@@ -47,6 +47,7 @@ CERTIFICATE = re.compile(
     rb"classes(?:%(n)s)*\nlimit%(n)s\n(?:step%(n)s\n)?(?:forced%(n)s\n)?"
     rb"(?:waste%(n)s\n(?:row(?:%(n)s)*\n)*|footprint%(n)s\n(?:row(?:%(n)s)*\n)*(?:moments(?:%(n)s)+\n)?)" % {b"n": NUMBER}
 )
+taken: "list[str]" = []  # `-`, once standard input is read
 SHEET_WORDS = (b"classes", b"limit", b"step", b"forced", b"waste", b"footprint", b"row", b"moments")
 
 # `forced` is whether the table has to have class 1024
@@ -197,12 +198,15 @@ def columns(rows: "Sequence[Sequence[str]]", left: int = 0, most: "int | None" =
 
 
 def opened(path: str) -> BinaryIO:
-    """A file that is open for reading as bytes; standard input for `-`."""
+    """A file that is open for reading as bytes; for `-` standard input, which nothing is left of a second time."""
     try:
         if path != "-":
             return open(path, "rb")
         if sys.stdin is None:
             raise Refused(2, "standard input is closed")
+        if taken:
+            raise Refused(2, "standard input is named twice, and can be read once")
+        taken.append(path)
         return open(0, "rb", closefd=False)
     except OSError as error:
         raise Refused(2, f"{named(path)} can't be read: {error.strerror}") from None
