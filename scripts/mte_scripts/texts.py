@@ -600,7 +600,8 @@ def mte_tool(words: list[str], *given: bytes) -> tuple[int, bytes, str]:
         with open(os.memfd_create("given"), "w+b") as file:  # a pipe would take a piece of it at a time
             file.writelines(given)
             file.seek(0)
-            done = subprocess.run([program(), *words], stdin=file, stdout=subprocess.PIPE, stderr=subprocess.PIPE)
+            # its path may be no text, which the program refuses as a word
+            done = subprocess.run(["mte_tool", *words], executable=program(), stdin=file, stdout=subprocess.PIPE, stderr=subprocess.PIPE)
     except OSError as error:
         raise Refused(3, f"{program()} can't be run: {error.strerror}") from None
     return done.returncode, done.stdout, done.stderr.decode(errors="replace").strip()
