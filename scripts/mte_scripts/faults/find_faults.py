@@ -86,6 +86,9 @@ def read_words(words: list[str]) -> argparse.Namespace:
     logs, written = own_files(options)
     written += [(f"--{name}", getattr(options, name)) for name in ("page", "json", "sarif", "tombstones")]
     texts.refuse_over(written, [options.suppressions, options.tombstone, *logs], [*options.words, *["-"] * bool(options.words)])
+    printed = [name for name in ("annotations", "tombstone") if getattr(options, name)]
+    if printed and (taken := [name for name in ("json", "sarif", "tombstones") if getattr(options, name) == "-"]):
+        parser.error(f"--{taken[0]} - takes the place of the text, and so of what --{printed[0]} prints: name a file by --{taken[0]}")
     if options.children and (options.only or options.page):
         parser.error(f"--{'preload' if options.preload else 'children'} and --{'only' if options.only else 'page'} can't be given both")
     return options
