@@ -3,6 +3,7 @@
 docs/FORMATS.md says what the texts are. Files are read as bytes, since they may hold anything; no message shows a byte that is no text.
 """
 
+import errno
 import functools
 import io
 import itertools
@@ -175,6 +176,18 @@ def leads_to(path: "str | int") -> "tuple[object, ...] | None":
         return status.st_dev, status.st_ino, name
     except OSError:
         return above, name
+
+
+def refuse_unwritable(paths: "Iterable[str | None]", made: "str | None" = None) -> None:
+    """Refuses a file that can't be written, before a run that may be long; but not in a folder that is MADE until then."""
+    for path in filter(None, paths):
+        above = os.path.dirname(path) or "."
+        if made is not None and os.path.abspath(above) == os.path.abspath(made):
+            continue
+        wrong = 0 if os.access(path if os.path.exists(path) else above, os.W_OK) else errno.EACCES
+        wrong = errno.EISDIR if os.path.isdir(path) else wrong if os.path.isdir(above) else errno.ENOENT
+        if wrong:
+            raise Refused(3, f"{path} can't be written: {os.strerror(wrong)}")
 
 
 def wrapped(text: str, width: int = 80, indent: str = "") -> "list[str]":

@@ -352,6 +352,8 @@ def main(words: list[str]) -> int:
     if options.read:
         return find(options, options.read, lists)
     recording.find_program(options.words[0])
+    written = [options.page, *(path for path in (options.json, options.sarif, options.tombstones) if path != "-")]
+    texts.refuse_unwritable(written, options.keep)
     heap_reader.path()  # what is missing is said before the program runs
     with place_of_run(options.keep) as folder:
         record(options, folder)

@@ -418,6 +418,7 @@ def profile(words: list[str], speaker: recording.Speaker) -> int:
     if not options.words:
         return recording.print_usage(HELP)
     path = recording.find_program(options.words[0])
+    texts.refuse_unwritable([options.measured, options.peak, options.upper, options.stacks, options.processes, options.said])
     if options.live and not options.only:
         recording.say_script(speaker, options.words[0], path, f"{options.live} counts {recording.INTERPRETER}; --only NAME counts")
     with private_folder.temporary_folder() as work:
