@@ -2,7 +2,7 @@
 
 import ctypes
 from types import TracebackType
-from typing import Any, NamedTuple, Optional, Sequence, Type, TypeVar
+from typing import Any, NamedTuple, NoReturn, Optional, Sequence, Type, TypeVar
 
 from mte_tool import _c, _calls
 from mte_tool._arrays import numbers_of
@@ -46,7 +46,8 @@ class Heap:
     ...     heap.load(p, 8).sentence
     "a granule's tag differs from the address's"
 
-    A call that can't be made raises Error, such as a load of 65 bytes; and so do options and classes that are out of their range."""
+    A call that can't be made raises Error, such as a load of 65 bytes; and so do options and classes that are out of their range. A heap can't be
+    copied or pickled."""
 
     _held: Any = None
 
@@ -67,6 +68,9 @@ class Heap:
 
     def __enter__(self: Own) -> Own:
         return self
+
+    def __reduce__(self) -> NoReturn:
+        raise TypeError("a heap can't be copied or pickled")
 
     def __exit__(self, kind: Optional[Type[BaseException]], error: Optional[BaseException], trace: Optional[TracebackType]) -> None:
         self.close()

@@ -3,6 +3,7 @@
 docs/FORMATS.md says what the texts are. Files are read as bytes, since they may hold anything; no message shows a byte that is no text.
 """
 
+import errno
 import functools
 import io
 import itertools
@@ -47,6 +48,7 @@ CERTIFICATE = re.compile(
     rb"classes(?:%(n)s)*\nlimit%(n)s\n(?:step%(n)s\n)?(?:forced%(n)s\n)?"
     rb"(?:waste%(n)s\n(?:row(?:%(n)s)*\n)*|footprint%(n)s\n(?:row(?:%(n)s)*\n)*(?:moments(?:%(n)s)+\n)?)" % {b"n": NUMBER}
 )
+taken: "list[str]" = []  # `-`, once standard input is read
 SHEET_WORDS = (b"classes", b"limit", b"step", b"forced", b"waste", b"footprint", b"row", b"moments")
 
 # `forced` is whether the table has to have class 1024
@@ -142,16 +144,50 @@ def write_file(path: str, data: "str | bytes") -> None:
         raise Refused(3, f"{path} can't be written: {error.strerror}") from None
 
 
-def refuse_over(written: "str | None", option: str, read_: "Iterable[str | None]") -> None:
-    """Refuses to write the file that an option names over one that is read; `-` is standard input, and None nothing."""
-    for path in filter(None, read_ if written else ()):
-        try:
-            status = os.fstat(0) if path == "-" else os.stat(path)
-            is_same = stat.S_ISREG(status.st_mode) and os.path.samestat(os.stat(written or ""), status)
-        except (OSError, ValueError):  # one of them is no file yet
+def refuse_over(written: "Sequence[tuple[str, str | None]]", read_: "Iterable[str | None]" = (), words: "Iterable[str]" = ()) -> None:
+    """Refuses to write the file that an option names, each with its option, over one that is read, that is a word of the program which is run,
+    or that another option or a standard stream writes. `-` of those that are read is standard input, and None nothing."""
+    outputs = [(option, path, leads_to(path)) for option, path in written if path]
+    inputs, programs = ({leads_to(0 if path == "-" else path) for path in paths if path} for paths in (read_, words))
+    writers = {leads_to(1): "standard output", leads_to(2): "standard error"}
+    for option, path, place in outputs:
+        if place is None:
             continue
-        if is_same:
-            raise Refused(2, f"{written} is read, so it can't be written over: name another file by {option}")
+        if place in inputs or place in programs:
+            why = "is read" if place in inputs else "is a word of the program"
+            raise Refused(2, f"{path} {why}, so it can't be written over: name another file by {option}")
+        if place in writers:
+            raise Refused(2, f"{path} is written by {writers[place]} too: name another file by {option}")
+        writers[place] = option
+
+
+def leads_to(path: "str | int") -> "tuple[object, ...] | None":
+    """What tells the file of a path, or of a descriptor, from all others, whatever name or link leads there. One that is not there yet has its
+    folder and its name. What is no regular file has None: several may write to a terminal."""
+    try:
+        status = os.stat(path)
+        return (status.st_dev, status.st_ino) if stat.S_ISREG(status.st_mode) else None
+    except OSError:
+        if isinstance(path, int):
+            return None
+    above, name = os.path.split(os.path.realpath(path))
+    try:
+        status = os.stat(above)
+        return status.st_dev, status.st_ino, name
+    except OSError:
+        return above, name
+
+
+def refuse_unwritable(paths: "Iterable[str | None]", made: "str | None" = None) -> None:
+    """Refuses a file that can't be written, before a run that may be long; but not in a folder that is MADE until then."""
+    for path in filter(None, paths):
+        above = os.path.dirname(path) or "."
+        if made is not None and os.path.abspath(above) == os.path.abspath(made):
+            continue
+        wrong = 0 if os.access(path if os.path.exists(path) else above, os.W_OK) else errno.EACCES
+        wrong = errno.EISDIR if os.path.isdir(path) else wrong if os.path.isdir(above) else errno.ENOENT
+        if wrong:
+            raise Refused(3, f"{path} can't be written: {os.strerror(wrong)}")
 
 
 def wrapped(text: str, width: int = 80, indent: str = "") -> "list[str]":
@@ -175,12 +211,15 @@ def columns(rows: "Sequence[Sequence[str]]", left: int = 0, most: "int | None" =
 
 
 def opened(path: str) -> BinaryIO:
-    """A file that is open for reading as bytes; standard input for `-`."""
+    """A file that is open for reading as bytes; for `-` standard input, which nothing is left of a second time."""
     try:
         if path != "-":
             return open(path, "rb")
         if sys.stdin is None:
             raise Refused(2, "standard input is closed")
+        if taken:
+            raise Refused(2, "standard input is named twice, and can be read once")
+        taken.append(path)
         return open(0, "rb", closefd=False)
     except OSError as error:
         raise Refused(2, f"{named(path)} can't be read: {error.strerror}") from None
@@ -574,7 +613,8 @@ def mte_tool(words: list[str], *given: bytes) -> tuple[int, bytes, str]:
         with open(os.memfd_create("given"), "w+b") as file:  # a pipe would take a piece of it at a time
             file.writelines(given)
             file.seek(0)
-            done = subprocess.run([program(), *words], stdin=file, stdout=subprocess.PIPE, stderr=subprocess.PIPE)
+            # its path may be no text, which the program refuses as a word
+            done = subprocess.run(["mte_tool", *words], executable=program(), stdin=file, stdout=subprocess.PIPE, stderr=subprocess.PIPE)
     except OSError as error:
         raise Refused(3, f"{program()} can't be run: {error.strerror}") from None
     return done.returncode, done.stdout, done.stderr.decode(errors="replace").strip()

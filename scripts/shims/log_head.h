@@ -4,7 +4,7 @@
 #include <stdint.h>
 
 // Two marks take turns, so that one is whole wherever the program ends. The sum is the CRC-32 of the text.
-enum end { RUNNING = 1, ENDED, CUT };
+enum end { RUNNING = 1, ENDED, CUT, NO_ROOM };
 struct mark { uint64_t length, sum, not_logged, state, check; };
 struct head { char form[8]; uint64_t turn; struct mark marks[2]; char room[32]; };
 enum { HEAD = sizeof(struct head) };

@@ -17,6 +17,7 @@ unless MTE_TOOL_BUILD=yes."""
 
 import argparse
 import os
+import shlex
 import shutil
 import signal
 import subprocess
@@ -154,6 +155,14 @@ def compiled_plain(place: str) -> str:
     plain = os.path.join(place, "plain")
     subprocess.run(["rustc", "-O", "--edition", "2021", os.path.join(ROOT, "bench/plain/main.rs"), "-o", plain], check=True)
     return plain
+
+
+def copying_compiler(path: str, cache: str) -> str:
+    """Makes a compiler, for CC, that copies what this cache has compiled of the recorders' sources, and compiles the others."""
+    with open(path, "w", opener=lambda path, flags: os.open(path, flags, 0o755)) as file:
+        file.write('#!/bin/sh\nfor word; do case $word in *.c) name=${word##*/} ;; esac; [ "$last" != -o ] || to=$word; last=$word; done\n'
+                   f'cp {shlex.quote(cache)}/mte_tool/"${{name%.c}}"-* "$to" 2>/dev/null || exec cc "$@"\n')
+    return path
 
 
 class Part(unittest.TestCase):

@@ -18,7 +18,7 @@ WINDOW = 64  # the bytes of the longest access of a trace
 
 HEAD, FORM = 128, b"ACCESS1\0"
 MARK = struct.Struct("<5Q")  # length, sum, not_logged, state, check
-RUNNING, ENDED, CUT = 1, 2, 3
+RUNNING, ENDED, CUT, NO_ROOM = 1, 2, 3, 4
 MOST_BYTES = (1 << 30) + (8 << 20)  # the runtime takes a gibibyte, and a piece of eight mebibytes
 LONGEST_LINE = 4096
 MOST_SIZE = 1 << 47  # of an address space
@@ -123,6 +123,9 @@ class Text:
         """Adds what is missing where all that there is of the log was read."""
         if self.state == CUT:
             self.missing.append(f"the log could not grow at {self.length} bytes: what the program did later is not in it")
+        elif self.state == NO_ROOM:
+            how = "raise `ulimit -v`, and don't set vm.overcommit_memory to 2"
+            self.missing.append(f"the runtime had no room for its tables, and ended the program: {how}")
         elif self.state != ENDED:
             how = "it was killed, ran another one in its place, or still runs"
             self.missing.append(f"the program did not come to its end: {how}. What it did until then is told")

@@ -71,6 +71,7 @@ RANGES = {  # of an option: the least and the most, and where it is left out
 NAME = "find_faults"
 GRACE = 10  # seconds that the program has to end by a signal that is handed on to it
 ENDED = "status"  # the file of a kept folder that has the exit status of the program
+KEPT = ("profile", "sheet", "trace", "report")  # what is kept of a process beside its log
 
 
 def read_words(words: list[str]) -> argparse.Namespace:
@@ -81,12 +82,27 @@ def read_words(words: list[str]) -> argparse.Namespace:
         parser.error("there is no program" if not options.words else "--read takes no program")
     if options.read and options.keep:
         parser.error("--read and --keep can't be given both")
-    for name in ("page", "json", "sarif", "tombstones"):
-        texts.refuse_over(getattr(options, name), f"--{name}", [options.suppressions, options.tombstone, *options.words[:1]])
     options.children = options.children or options.preload
+    logs, written = own_files(options)
+    written += [(f"--{name}", getattr(options, name)) for name in ("page", "json", "sarif", "tombstones")]
+    texts.refuse_over(written, [options.suppressions, options.tombstone, *logs], [*options.words, *["-"] * bool(options.words)])
+    printed = [name for name in ("annotations", "tombstone") if getattr(options, name)]
+    if printed and (taken := [name for name in ("json", "sarif", "tombstones") if getattr(options, name) == "-"]):
+        parser.error(f"--{taken[0]} - takes the place of the text, and so of what --{printed[0]} prints: name a file by --{taken[0]}")
     if options.children and (options.only or options.page):
         parser.error(f"--{'preload' if options.preload else 'children'} and --{'only' if options.only else 'page'} can't be given both")
     return options
+
+
+def own_files(options: argparse.Namespace) -> "tuple[list[str], list[tuple[str, str]]]":
+    """What is read in the folder of --read or --keep, and what is written there, with the option. Of --keep nobody knows yet which processes
+    there will be."""
+    folder, option = (options.read, "--read") if options.read else (options.keep, "--keep")
+    if not folder:
+        return [], []
+    names = fault_answer.logs(folder, options.children) if not options.children or os.path.isdir(folder) else []
+    kept = [f"{name}.{each}" if options.children else each for name in names for each in KEPT]
+    return [os.path.join(folder, name) for name in (ENDED, *names)], [(option, os.path.join(folder, name)) for name in kept]
 
 
 def record(options: argparse.Namespace, folder: str) -> None:
@@ -336,6 +352,8 @@ def main(words: list[str]) -> int:
     if options.read:
         return find(options, options.read, lists)
     recording.find_program(options.words[0])
+    written = [options.page, *(path for path in (options.json, options.sarif, options.tombstones) if path != "-")]
+    texts.refuse_unwritable(written, options.keep)
     heap_reader.path()  # what is missing is said before the program runs
     with place_of_run(options.keep) as folder:
         record(options, folder)

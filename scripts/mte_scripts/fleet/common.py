@@ -9,6 +9,7 @@ import argparse
 import json
 import math
 import os
+import re
 from collections.abc import Iterable, Sequence
 from fractions import Fraction
 from typing import NamedTuple, Optional
@@ -55,6 +56,7 @@ Examples:
   fleet_table --hold-out 4 days/redis/*.profile
 """
 
+OWN_FILES = re.compile(r"claims\.txt|(joined|load[0-9]+)\.[a-z]+")  # of the folder of certificates
 ROUNDS = 40
 PRECISION = 1 << 20  # of the numbers that loads are joined with
 MOST_WORK = 60_000  # of classes that are moved, times the machines that are looked at
@@ -245,7 +247,10 @@ def main(words: list) -> int:
     options = Words(HELP, "names", defaults, by=named("worst", "total"), hold_out=between(2, 1000), **TABLES).take(words, once=True)
     if not options.names or options.names.count("-") > 1:
         raise Refused(2, "name the loads, standard input once; --help says more")
-    texts.refuse_over(options.output, "--output", options.names)
+    written = [("--certificates", options.certificates)]
+    if options.certificates and options.output and OWN_FILES.fullmatch(os.path.basename(options.output)):
+        written.append(("--certificates", os.path.join(options.certificates, os.path.basename(options.output))))
+    texts.refuse_over([*written, ("--output", options.output)], options.names)
     among = bounds.Among.of(options)
     given = loads.read(options.names)
     if len({load.kind == "profile" for load in given}) > 1:

@@ -191,7 +191,7 @@ def main(words: list) -> int:
         raise Refused(2, "give --day and the rows; --help says more")
     if given.limit_percent is not None and not given.table:
         raise Refused(2, "--limit-percent is of a table: name it by --table")
-    texts.refuse_over(given.faults, "--faults", [*given.names, given.hosts, given.table, given.result])
+    texts.refuse_over([("--faults", given.faults)], [*given.names, given.hosts, given.table, given.result])
     faults = Faults(given.faults)
     hosts = results.groups_of(given.hosts, faults) if given.hosts else {}
     store = reading.Store(faults)

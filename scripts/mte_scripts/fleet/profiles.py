@@ -158,7 +158,7 @@ def main(words: list) -> int:
         texts.say_reading("fleet_profiles")
     if given.rows:
         return write_rows(given.rows, given.load, files)
-    texts.refuse_over(given.faults, "--faults", files)
+    texts.refuse_over([("--output", given.output), ("--faults", given.faults)], files)
     found = reading.read(files, Faults(given.faults))
     first, last = given.days or ("", "~")
     kept = [(key, load) for key, load in found.items() if given.program in (None, key.program) and first <= key.day <= last]

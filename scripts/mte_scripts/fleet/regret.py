@@ -199,7 +199,7 @@ def main(words: list) -> int:
         raise Refused(2, "name a table, and then the loads of its days; --help says more")
     if given.names.count("-") > 1:
         raise Refused(2, "standard input can be named once")
-    texts.refuse_over(given.plot, "--plot", given.names)
+    texts.refuse_over([("--plot", given.plot)], given.names)
     among = bounds.Among.of(given)
     classes = texts.class_line(given.names[0])
     name = texts.printable(figures.without_ending(given.names[0], ".classes", ".sheet", ".fit"))

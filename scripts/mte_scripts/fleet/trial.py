@@ -308,7 +308,7 @@ def plan(words: list) -> int:
 
 def read_result(words: list) -> int:
     given = options_of(words, "names", "predicted", "adjust", "json", "level", "groups", "faults")
-    texts.refuse_over(given.faults, "--faults", [file_of(given), given.groups])
+    texts.refuse_over([("--faults", given.faults)], [file_of(given), given.groups])
     found = Faults(given.faults)
     values = values_of(file_of(given), found, given.groups)
     found.end()

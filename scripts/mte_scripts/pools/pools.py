@@ -134,7 +134,7 @@ def pools(words: list[str]) -> int:
         return check(options)
     if options.serve is not None:
         return serve(options)
-    texts.refuse_over(options.certificate, "--certificate", options.runs)
+    texts.refuse_over([("--certificate", options.certificate)], options.runs)
     runs = pool_runs.runs_of(options.runs)
     if options.units:
         return texts.write(pool_runs.joined(pool_runs.ordered(runs), options.block()).text)

@@ -138,6 +138,8 @@ class Options(argparse.Namespace):
         kinds["windows"] = {"type": between(1, WINDOWS), "nargs": "?", "const": USUAL_WINDOWS}
         kinds["classes"] = {"action": "append", "type": some, "default": []}
         ProgramWords(HELP, as_=named(*importing.NAMES), **kinds).take(words, into=self)
+        written = [(f"--{name}", getattr(self, name)) for name in ("follow", "said", "measured", "peak", "upper", "stacks", "processes")]
+        texts.refuse_over(written, [self.import_, self.again, self.read, *self.classes], [*self.words, *["-"] * bool(self.words)])
         self.tables = [texts.class_line(path) for path in self.classes]
         self.moments = [] if self.again is None else moments_in(self.again)
         if not all(self.tables):
@@ -147,8 +149,6 @@ class Options(argparse.Namespace):
             self.refuse_beside_import()
         elif self.as_ is not None:
             raise Refused(2, "--as goes with --import")
-        for name in ("measured", "peak", "upper", "stacks", "processes"):
-            texts.refuse_over(getattr(self, name), f"--{name}", [self.import_, self.again, self.read, *self.classes])
 
     def choose(self) -> None:
         """What is printed, and what does not go with that."""
@@ -418,6 +418,7 @@ def profile(words: list[str], speaker: recording.Speaker) -> int:
     if not options.words:
         return recording.print_usage(HELP)
     path = recording.find_program(options.words[0])
+    texts.refuse_unwritable([options.measured, options.peak, options.upper, options.stacks, options.processes, options.said])
     if options.live and not options.only:
         recording.say_script(speaker, options.words[0], path, f"{options.live} counts {recording.INTERPRETER}; --only NAME counts")
     with private_folder.temporary_folder() as work:

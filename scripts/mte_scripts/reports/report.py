@@ -38,7 +38,7 @@ Example:
 def report(words: list[str]) -> int:
     options = Words(HELP, "names", title=str, against={"action": "append", "default": []}).take(words)
     names, title = options.names, options.title
-    if len(names) != 2 or names == ["-", "-"]:
+    if len(names) != 2:
         raise texts.Refused(2, "it wants a profile and a sheet: report PROFILE SHEET; --help says more")
     profile, sheet = names
     others = figures.other_tables(options.against)

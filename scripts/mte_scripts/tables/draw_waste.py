@@ -44,7 +44,7 @@ class Curve:
         given = texts.read(path, texts.MOST_INPUT + 1)
         requested = sum(size * count for size, count in texts.parse_profile(given, path).items() if size != "large")
         if not requested:
-            raise Refused(2, f"{path} counts no bytes")
+            raise Refused(2, f"{texts.named(path)} counts no bytes")
         sheet = texts.parse_sheet(answer(path, ["tune", "--limit", str(LIMIT)], given))
         scudo = answer(path, ["score"], texts.joined(texts.read(os.path.join(texts.EXAMPLES, "scudo.classes")), given))
         self.shares = [100.0 * row[0] / requested for row in sheet.rows]

@@ -143,6 +143,7 @@ void drop_begun(void);
 long number_of_wrong(void);
 void take_back(long number);
 enum { NO_STATUS = -1, CRASHED = -2 };
+void end_without_room(void);
 void end_log(int status);  // of the program, or one of these
 extern long not_logged;
 

@@ -36,6 +36,7 @@ void *reserve(address at, size_t size, int mode, int how) {
   if (mapped == MAP_FAILED || (at && mapped != (void *)at)) {
     static const char text[] = "traced_cc: no room for 18 terabytes of addresses: "
                                "raise `ulimit -v`, and don't set vm.overcommit_memory to 2\n";
+    end_without_room();
     if (syscall(SYS_write, 2, text, sizeof text - 1)) _exit(3);
     _exit(3);
   }

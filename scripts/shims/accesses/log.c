@@ -257,14 +257,40 @@ void end_log(int status) {
 static __attribute__((destructor)) void stop(void) { end_log(NO_STATUS); }
 static void stop_with(int status, void *unused) { (void)unused, end_log(status); }
 
+// Whether this process is to be logged.
+static int is_to_log(void) {
+  const char *only = getenv("ACCESSES_ONLY");
+  pattern = getenv("ACCESSES");
+  return pattern && (!only || !strcmp(only, program_invocation_short_name));
+}
+
+// A log of the program's name alone.
+static void write_small_log(void) {
+  static struct { struct head head; char text[MOST_NAME + 16]; } small;
+  make_absolute();
+  int file = make_log();
+  log_start = (char *)&small, text = ended = marked = small.text;
+  put_text("M 0 0 0 ");
+  long length = syscall(SYS_readlink, "/proc/self/exe", text, MOST_NAME);
+  if (length > 0 && !memchr(text, '\n', length)) text += length, put_end();
+  write_mark();
+  if (file >= 0 && syscall(SYS_write, file, &small, ended - log_start) > 0) syscall(SYS_close, file);
+}
+
+// Without room for the runtime's tables the program ends, mostly at its start. A log says so, since the program's own output may be lost.
+void end_without_room(void) {
+  state = NO_ROOM;
+  if (text) write_mark();
+  else if (!log_start && is_to_log()) write_small_log();
+  text = NULL;
+}
+
 // Requests of constructors that ran before are logged now.
 static __attribute__((constructor(101))) void start(void) {
   static const char unasked[] = "traced_cc: the program's requests go to another malloc, so no error is seen and nothing is logged; where "
                                 "only a library that it loads is traced, find_faults --preload sees them\n";
   begin();
-  const char *only = getenv("ACCESSES_ONLY");
-  pattern = getenv("ACCESSES");
-  if (!pattern || (only && strcmp(only, program_invocation_short_name))) return;
+  if (!is_to_log()) return;
   if (!is_asked()) {
     syscall(SYS_write, 2, unasked, sizeof unasked - 1);
     return;
