@@ -1,7 +1,7 @@
 -- The table that least rows give is best, and of the best tables whose every class is used the lexicographically least.
-use Rattle.std.proofs.Common.{◌≡◌, ℕ, zero, suc, ◌<◌, ◌≤◌, List, [], ◌∷◌, length, slice_index, ltb, Some, arith, refl, ap, sym, subst, ◌∙◌}
+use Rattle.std.proofs.Common.{◌≡◌, ℕ, zero, suc, ◌<◌, ◌≤◌, List, [], ◌∷◌, length, slice_index, ltb, Some, arith, refl, subst}
 use Rattle.std.proofs.{Common.{inl, inr, All}, lemmas.Bool.{cases_lt, cond_both, ltb-true}, lemmas.List.{get_or_default}}
-use Rattle.std.{proofs.lemmas.Option.{same_Some}, specs.Bool.{⊤}}
+use Rattle.std.{specs.Bool.{⊤}}
 use Rattle.class_table.proofs.LawLemmas.{AreClassesAbove, class_above, classes_of_legal_table, legal_table_of_classes}
 use Rattle.class_table.specs.Tables.{class_for}
 use Rattle.tuner_theory.proofs.{Bound.{bound, potentials_bound_costs}, Intervals.{span-least}, Rounding.{rounded-positive, step-positive}}
@@ -30,12 +30,7 @@ module _ (step : ℕ) (pos : 0 < step) where
   class_for-above : (low n class : ℕ) (classes : List ℕ) → 1 ≤ low → AreClassesAbove step low classes → class_for classes n ≡ Some class
       → rounded_need step n ≤ class
   class_for-above low n class [] one above e = absurd cc
-  class_for-above low n class (c ∷ cs) one above e =
-      elim (cases_lt c (rounded_need step n)) [
-        | inr le ↦ (let same : c ≡ class = same_Some _ _ (sym (class_for-first step pos n c cs le) ∙ e) in omega arith)
-        | inl lt ↦ class_for-above c n class cs (omega (arith, above.0)) above.3
-            (sym (class_for-later step pos n c cs (omega (arith, above.0)) above.2 lt) ∙ e)
-      ]
+  class_for-above low n class (c ∷ cs) one above e = grind (arith, class_for-above c n class cs (omega (arith, above.0)) above.3, class_for-later)
 
 module _ (counts : List ℕ) (step : ℕ) (pos : 0 < step) where
   used-from : (low : ℕ) (classes : List ℕ) → 1 ≤ low → AreClassesAbove step low classes
@@ -46,20 +41,14 @@ module _ (counts : List ℕ) (step : ℕ) (pos : 0 < step) where
         (first.0, first.1, first.2, class_for-above step pos low first.0 c (c ∷ cs) one above first.3),
         used-from c cs (omega (arith, above.0)) above.3 (λ k lt.
             let u = used (suc k) (omega arith) in
-            elim (cases_lt c (rounded_need step u.0)) [
-              | inl over ↦ (u.0, u.1, over, sym (class_for-later step pos u.0 c cs (omega (arith, above.0)) above.2 over) ∙ u.3)
-              | inr le ↦ absurd (let same : c ≡ slice_index cs k = same_Some _ _ (sym (class_for-first step pos u.0 c cs le) ∙ u.3) in
-                  omega (arith, same, class_above step c k cs above.3 (omega arith)))
-            ]),
+            grind (arith, class_above)),
       )
 
   used-to : (low : ℕ) (classes : List ℕ) → 1 ≤ low → AreClassesAbove step low classes → AreUsedAbove counts step low classes
       → (k : ℕ) → k < length classes → IsUsedAt counts step low classes k
   used-to low [] one above used k lt = absurd (omega arith)
   used-to low (c ∷ cs) one above used zero lt = grind (arith, class_for-first)
-  used-to low (c ∷ cs) one above used (suc k) lt =
-      let u = used-to c cs (omega (arith, above.0)) above.3 used.1 k (omega arith) in
-      (u.0, u.1, omega (arith, above.0, u.2), class_for-later step pos u.0 c cs (omega (arith, above.0)) above.2 u.2 ∙ u.3)
+  used-to low (c ∷ cs) one above used (suc k) lt = grind (arith, used-to c cs (omega (arith, above.0)) above.3 used.1 k (omega arith), class_for-later)
 
   used-from_all : (classes : List ℕ) → AreClassesAbove step 1 classes → All (IsUsed counts classes) classes →
       AreUsedAbove counts step 1 classes
@@ -121,9 +110,7 @@ module _ (counts : List ℕ) (step : ℕ) (pos : 0 < step) (between : ℕ → �
       (λ e. let j = reach counts step c d in
       let later = ServesAbove-later counts step pos low c cs one above.0 above.2 served in
       let all : j.0 ≡ d = nothing-left counts step pos c j.0 cs (omega arith) j.1 later in
-      let row = least.first_row i (omega arith) (ltb-true i d e) in
-      let same : need_at counts step (ends 1 i) ≡ need_at counts step j.0 = ap (need_at counts step) (row.1 ∙ sym all) in
-      elim (cases_lt (need_at counts step (ends 1 i)) c) [ inl lt ↦ inl lt | inr ge ↦ inr (omega (arith, j.1.reached), tt) ])
+      grind arith)
       (λ e. tt)
   tuned-first (suc (suc k)) i low (c ∷ cs) one le r above few served used costs =
       let d = places counts step in
@@ -139,8 +126,7 @@ module _ (counts : List ℕ) (step : ℕ) (pos : 0 < step) (between : ℕ → �
       let first = span-least counts step pos between cost low c i j.0 r j.1 in
       elim (cases_lt (need_at counts step end) c) [
         | inl lt ↦ inl lt
-        | inr ge ↦ (let no_later : j.0 ≤ end = (reach-at counts step pos end row.0.to).last j.0 j.1.within
-            (omega (arith, j.1.reached)) in
+        | inr ge ↦ (let no_later : j.0 ≤ end = grind (arith, reach-at) in
             elim (cases_lt j.0 end) [
               | inl before ↦ absurd (omega (arith, row.0.first j.0 far before, row.1, rest, first, costs))
               | inr not ↦ (let same : j.0 ≡ end = omega arith in

@@ -1,11 +1,11 @@
 -- The footprint is the sum of the intervals of its classes.
 use Rattle.std.proofs.Common.{◌≡◌, ℕ, zero, suc, ◌+◌, ◌*◌, ◌%◌, ◌<◌, ◌≤◌, ◌&&◌, Bool, true, false, List, [], ◌∷◌, length, slice_index}
 use Rattle.std.proofs.{Common.{get_or, cond, ltb, leb, eqb, Option, arith, refl, ap, ◌∙◌, inl, inr, All, sum_by}, Math.Nat.{mul-le-mul}}
-use Rattle.std.proofs.lemmas.{Bool.{cases_lt, cond_both}, Bool.Decides.{nat_tests}, List.Sums.{sum_by-cons}}
+use Rattle.std.proofs.lemmas.{Bool.{cases_lt}, Bool.Decides.{nat_tests}, List.Sums.{sum_by-cons}}
 use Rattle.std.{proofs.lemmas.List.FromFn.{get_or-map-range_with_len, length-map-range_with_len}, specs.Option.{option_map_or}}
 use Rattle.class_table.{proofs.LawLemmas.{AreClassesAbove, classes_of_legal_table}, specs.Sizes.{largest_counted}}
-use Rattle.tuner_theory.proofs.{Rounding.{rounded-positive}, Served.{counted-served, interval-more}, Sums.{sum_at_most, sum_same}}
-use Rattle.tuner_theory.{proofs.Tables.{class_for-first, class_for-later, cost-at_one}, specs.Histories.{AreSnapshots, most, peaks}}
+use Rattle.tuner_theory.proofs.{Rounding.{rounded-positive}, Served.{counted-served}, Sums.{sum_at_most, sum_same}}
+use Rattle.tuner_theory.{proofs.Tables.{class_for-first, cost-at_one}, specs.Histories.{AreSnapshots, most, peaks}}
 use Rattle.tuner_theory.specs.{Footprint.{blocks, blocks_between, footprint_between, footprint_of, is_class_of}, Profiles.{IsCounted}}
 use Rattle.tuner_theory.specs.{Intervals.{IsIntervalCost, IsSumOfIntervals, cost_above}, Served.{served}, Spans.{rounded_need}}
 use Rattle.tuner_theory.specs.Waste.{sum_below}
@@ -49,9 +49,7 @@ module _ (snapshots : List (List ℕ)) (are : AreSnapshots snapshots) where
       sum_at_most _ _ (length (get_or snapshots k d)) (λ n within.
       elim (cases_lt 0 (slice_index (get_or snapshots k d) n)) [
         | inl some ↦ cost-at_one (rounded_need step n) a b low high _ _ bh (has n (counted-at k n d lt within some)) (omega arith)
-        | inr none ↦ cond_both (ltb a (rounded_need step n) && leb (rounded_need step n) b) _ _
-            (λ v. v ≤ cond (ltb low (rounded_need step n) && leb (rounded_need step n) high) (slice_index (get_or snapshots k d) n) 0)
-            (λ e. omega arith) (λ e. omega arith)
+        | inr none ↦ grind arith
       ])))
 
 -- ---- the blocks of each class
@@ -87,32 +85,24 @@ module _ (step : ℕ) (pos : 0 < step) where
 
   pub later-is : (c class n : ℕ) (cs : List ℕ) → 2 ≤ c → c % step ≡ 0 → c < rounded_need step n
       → is_class_of (c ∷ cs) class n ≡ is_class_of cs class n
-  later-is c class n cs two multiple lt =
-      ap (λ (o : Option ℕ). option_map_or (λ its. eqb its class) o false) (class_for-later step pos n c cs two multiple lt)
+  later-is c class n cs two multiple lt = grind arith
 
   -- no size has a class that is not among the classes above low
   pub no-class : (low class n : ℕ) (classes : List ℕ) → 1 ≤ low → class ≤ low → AreClassesAbove step low classes
       → is_class_of classes class n ≡ false
   no-class low class n [] one le above = refl
-  no-class low class n (c ∷ cs) one le above =
-      elim (cases_lt c (rounded_need step n)) [
-        | inr first ↦ first-is c class n cs first ∙ above-number c class (omega (arith, above.0))
-        | inl later ↦ later-is c class n cs (omega (arith, above.0)) above.2 later
-            ∙ no-class c class n cs (omega (arith, above.0)) (omega (arith, above.0)) above.3
-      ]
+  no-class low class n (c ∷ cs) one le above = grind (arith, no-class c class n cs (omega (arith, above.0)) (omega (arith, above.0)) above.3)
 
   module _ (low c : ℕ) (cs : List ℕ) (one : 1 ≤ low) (above : AreClassesAbove step low (c ∷ cs)) where
     blocks-first : (s : List ℕ) → blocks_above step low (c ∷ cs) c s ≡ blocks_between step low c s
     blocks-first s =
         sum_same _ _ (length s)
-        (λ n within. at-first (rounded_need step n) low c (slice_index s n) _ (λ le. first-is c c n cs le ∙ same-number c)
-        (λ lt. later-is c c n cs (omega (arith, above.0)) above.2 lt ∙ no-class c c n cs (omega (arith, above.0)) (omega arith) above.3))
+        (search (arith, at-first, first-is, same-number, later-is, no-class))
 
     blocks-later : (class : ℕ) → c < class → (s : List ℕ) → blocks_above step low (c ∷ cs) class s ≡ blocks_above step c cs class s
     blocks-later class over s =
         sum_same _ _ (length s)
-        (λ n within. at-later (rounded_need step n) low c (slice_index s n) _ _ above.0
-        (λ le. first-is c class n cs le ∙ other-number c class over) (λ lt. later-is c class n cs (omega (arith, above.0)) above.2 lt))
+        (λ n within. grind (arith, at-later, other-number, later-is))
 
   above-each : (low j : ℕ) (classes : List ℕ) → AreClassesAbove step low classes → j < length classes → low < get_or classes j 0
   above-each low j [] above lt = absurd (omega arith)
@@ -123,9 +113,7 @@ module _ (step : ℕ) (pos : 0 < step) where
       → blocks_above step low classes (get_or classes j 0) s ≡ blocks_between step (get_or (low ∷ classes) j 0) (get_or classes j 0) s
   blocks-at low j [] s one above lt = absurd (omega arith)
   blocks-at low zero (c ∷ cs) s one above lt = blocks-first low c cs one above s
-  blocks-at low (suc j) (c ∷ cs) s one above lt =
-      blocks-later low c cs one above (get_or cs j 0) (above-each c j cs above.3 (omega arith)) s
-      ∙ blocks-at c j cs s (omega (arith, above.0)) above.3 (omega arith)
+  blocks-at low (suc j) (c ∷ cs) s one above lt = grind (arith, blocks-at c j cs s (omega (arith, above.0)) above.3 (omega arith), blocks-later, above-each)
 
   needed : (x v : ℕ) → 2 ≤ x → v ≡ cond (ltb 1 x) v 0
   needed x v two = grind (arith, nat_tests)
@@ -141,14 +129,7 @@ module _ (step : ℕ) (pos : 0 < step) where
   pub sum-later : (f g : ℕ → ℕ) (c low : ℕ) (classes : List ℕ) → ((class : ℕ) → c < class → f class ≡ g class) → c ≤ low
       → AreClassesAbove step low classes → sum_by f classes ≡ sum_by g classes
   sum-later f g c low [] each le above = refl
-  sum-later f g c low (d ∷ ds) each le above =
-      omega (
-        arith,
-        sum_by-cons f d ds,
-        sum_by-cons g d ds,
-        each d (omega (arith, above.0)),
-        sum-later f g c d ds each (omega (arith, above.0)) above.3,
-      )
+  sum-later f g c low (d ∷ ds) each le above = grind (arith, sum-later f g c d ds each (omega (arith, above.0)) above.3, sum_by-cons)
 
   pub footprint-above : (snapshots : List (List ℕ)) (low : ℕ) (classes : List ℕ) → 1 ≤ low → AreClassesAbove step low classes
       → sum_by (footprint_above snapshots step low classes) classes ≡ cost_above (footprint_between snapshots step) low classes
@@ -173,8 +154,7 @@ module _ (step : ℕ) (pos : 0 < step) where
 -- where more is counted than the peaks,
 pub footprint-cost_on : (snapshots : List (List ℕ)) (counts : List ℕ) (step : ℕ) → AreSnapshots snapshots
     → ((n : ℕ) → IsCounted (peaks snapshots) n → IsCounted counts n) → IsIntervalCost counts step (footprint_between snapshots step)
-footprint-cost_on snapshots counts step are covers =
-    interval-more (peaks snapshots) counts step (footprint_between snapshots step) covers (footprint-cost snapshots are step)
+footprint-cost_on snapshots counts step are covers = grind (arith, footprint-cost)
 
 -- as where the largest class is forced
 pub footprint_is_sum : (forced : Bool) (snapshots : List (List ℕ)) (step : ℕ) → 0 < step → AreSnapshots snapshots
