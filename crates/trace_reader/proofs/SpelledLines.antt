@@ -1,5 +1,5 @@
 -- From a line to the event that is read from it: it is in its ranges, and the line is its line.
-use Rattle.std.proofs.Common.{◌≡◌, ℕ, ◌<◌, ◌≤◌, ◌^◌, Bool, true, false, cond, ltb, List, [], ◌∷◌, length, Option, Some, None}
+use Rattle.std.proofs.Common.{◌≡◌, ℕ, ◌<◌, ◌≤◌, ◌^◌, Bool, true, false, cond, ltb, List, [], ◌∷◌, length, Option, Some}
 use Rattle.std.proofs.{Common.{Result, Ok, Err, IfOk, refl, sym, ap, ◌∙◌, arith, nat_abs, codes}, lemmas.Bool.{leb-true}}
 use Rattle.std.{proofs.lemmas.Slice.Eq.{bytes_eq-Decides}, specs.Fmt.{decimal, signed_decimal}, specs.Str.{bytes_eq}}
 use Rattle.line_text.{proofs.LawLemmas.{hex_is_spelled, line_is_its_words, number_is_spelled, signed_is_spelled}}
@@ -16,8 +16,7 @@ use Rattle.trace_reader.specs.declared.fault.TraceFault.TheVariants.{LineTooLong
 -- what was read and passes the test
 IfOk-ranged_of : {A : Type 0} (P : A → Type 0) (test : A → Bool) (o : Option A) → ((x : A) → o ≡ Some x → test x ≡ true → P x) →
     IfOk (ranged test o) P
-IfOk-ranged_of P test None passed = tt
-IfOk-ranged_of P test (Some x) passed = grind arith
+IfOk-ranged_of P test o passed = grind arith
 
 spelled_number : (low high : ℕ) → high < 2 ^ 64 → (word : List ℕ) →
     IfOk (number_from low high word) (λ n. (low ≤ n) × (n ≤ high) × (word ≡ decimal n))
