@@ -12,7 +12,7 @@ use Rattle.heap_theory.specs.{Calls.{given_out, next_tag, parity_exclude, chunk_
 use Rattle.heap_theory.specs.Lookups.{MayBeGiven, slot_for, slot_for_request, slot_in_class, lowest_fresh}
 use Rattle.heap_theory.specs.{QueueAndLists.{HasMark, AgreeWithMarks}, Region.{region_of, header_in, next_in}}
 use Rattle.heap_theory.specs.State.{State, Heap, slot_in, state_at, last_tag, is_fresh, payload_place, pointer_to, IsSlot}
-use Rattle.heap_theory.specs.{State.State.{Fresh, Live, Dead}, declared.refusal.NullCause.{NullCause}}
+use Rattle.heap_theory.specs.{State.State.{Live}, declared.refusal.NullCause.{NullCause}}
 use Rattle.heap_theory.specs.declared.refusal.NullCause.TheVariants.{Large, NoClass, Exhausted}
 use Rattle.chunk_header.specs.Links.{SetsLink}
 use Rattle.tagged_heap.proofs.{Changed.{with_link, other_list, counters_changed, kept_alive, alive_memory}, RewrittenHeaders.{link_set}}
@@ -39,9 +39,7 @@ request_served h n number class found few numbered listed given = grind (arith, 
 -- ---- which slot
 
 freed_not_fresh : (x : State) (mark : ℕ) → HasMark x mark → false ≡ is_fresh x
-freed_not_fresh Fresh mark marked = absurd marked
-freed_not_fresh (Live n t) mark marked = absurd marked
-freed_not_fresh (Dead n t m) mark marked = refl
+freed_not_fresh x mark marked = grind arith
 
 -- A slot that was taken for a request of n bytes, and is to be given out.
 pub record IsTaken (h : Heap) (p : Parts) (k : IsKept h p) (m1 : List Granule) (fronts counters : List ℕ) (s n : ℕ) : Type 0 where

@@ -1,5 +1,5 @@
 -- What a granule is, by the header of the slot over it.
-use Rattle.std.proofs.Common.{◌≡◌, ◌≢◌, ℕ, ◌+◌, ◌<◌, ◌≤◌, Bool, true, false, cond, refl, sym, ap, arith, Some, None}
+use Rattle.std.proofs.Common.{◌≡◌, ◌≢◌, ℕ, ◌+◌, ◌<◌, ◌≤◌, Bool, cond, sym, ap, arith, Some, None}
 use Rattle.std.proofs.lemmas.Bool.{and_right, and_from, cond-true, cond-false, eq-eqb, ne_eqb, lt-ltb, le-ltb, le-leb}
 use Rattle.machine_theory.specs.Memory.{is_among}
 use Rattle.class_table.specs.{Layout.{slot_over}, Sizes.{chunk_granules, largest_counted}}
@@ -7,7 +7,7 @@ use Rattle.heap_theory.{proofs.HeaderWords.{size_of-most}, specs.GranuleKinds.{p
 use Rattle.heap_theory.specs.{Header.{Header as TheHeader, Standing, size_of}, Region.{region_of, header_in}}
 use Rattle.heap_theory.specs.Header.Standing.{Fresh as IsFresh, Live as IsLive, Quarantined as IsQuarantined, Freed as IsFreed}
 use Rattle.heap_theory.specs.State.{State, Heap, slot_in, state_at, chunk_granules_of, payload_start, IsSlot}
-use Rattle.heap_theory.specs.{State.State.{Fresh, Live, Dead}, declared.place_kind.PlaceKind.{PlaceKind}}
+use Rattle.heap_theory.specs.{declared.place_kind.PlaceKind.{PlaceKind}}
 use Rattle.heap_theory.specs.declared.place_kind.PlaceKind.TheVariants.{Slack, Header, Tail, Dead as DeadChunk, Other}
 use Rattle.tagged_heap.{proofs.Kept.{class_most}, specs.Representation.{standing_from, Parts, IsKept}}
 use Rattle.tagged_heap.proofs.TheoryLemmas as laws
@@ -24,17 +24,13 @@ kind_by IsQuarantined = DeadChunk
 kind_by IsFreed = DeadChunk
 
 dead_kind : (released : Bool) → DeadChunk ≡ kind_by (cond released IsFreed IsQuarantined)
-dead_kind true = refl
-dead_kind false = refl
+dead_kind released = grind arith
 
 same_tail : (b : Bool) → cond b Tail Tail ≡ Tail
-same_tail true = refl
-same_tail false = refl
+same_tail b = grind arith
 
 chunk_most : (x : State) → chunk_granules_of x ≤ chunk_granules (size_of x)
-chunk_most Fresh = omega arith
-chunk_most (Live size tag) = omega arith
-chunk_most (Dead size tag mark) = omega arith
+chunk_most x = grind arith
 
 -- a granule of the chunk, or of a fresh slot as far as the chunk of size 0 goes
 chunk_kind : (from first g : ℕ) (x : State) → first ≤ g → g < first + chunk_granules (size_of x) →

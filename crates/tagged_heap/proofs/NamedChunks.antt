@@ -1,9 +1,9 @@
 -- The chunk that a pointer names.
-use Rattle.std.proofs.Common.{◌≡◌, ◌≢◌, ℕ, ◌^◌, ◌<◌, refl, ap, ◌∙◌, Ok, Err, arith}
+use Rattle.std.proofs.Common.{◌≡◌, ◌≢◌, ℕ, ◌^◌, ◌<◌, ap, ◌∙◌, Ok, Err, arith}
 use Rattle.std.proofs.{lemmas.Bool.{cond-true, cond-false, eq-eqb, ne_eqb}}
 use Rattle.machine_theory.specs.Address.{logical_tag, place_of}
 use Rattle.heap_theory.specs.{Header.{Header, size_of}, Header.Standing.{Live as IsLive}, Sound.{IsSoundHeap}}
-use Rattle.heap_theory.specs.{Lookups.{chunk_at, chunk_in, chunk_in_slot}, State.State.{Fresh, Live, Dead}}
+use Rattle.heap_theory.specs.{Lookups.{chunk_at, chunk_in, chunk_in_slot}, State.State.{Live}}
 use Rattle.heap_theory.specs.State.{State, Heap, slot_in, state_at, last_tag, payload_place, IsSlot}
 use Rattle.heap_theory.specs.declared.refusal.FreeError.TheVariants.{Misplaced, NotLive, WrongTag}
 use Rattle.tagged_heap.specs.Representation.{standing_from, header_from}
@@ -20,14 +20,10 @@ misplaced h p sound none = grind (arith, laws.pointer)
 
 -- the state of a slot whose header says that it is live
 live_state : (from : ℕ) (x : State) → standing_from from x ≡ IsLive → x ≡ Live (size_of x) (last_tag x)
-live_state from Fresh is = cc
-live_state from (Live n t) is = refl
-live_state from (Dead n t m) is = grind arith
+live_state from x is = grind arith
 
 not_live : (from p s : ℕ) (x : State) → (standing_from from x ≡ IsLive → ⊥) → chunk_in p s x ≡ Err NotLive
-not_live from p s Fresh not = refl
-not_live from p s (Live n t) not = absurd (not refl)
-not_live from p s (Dead n t m) not = refl
+not_live from p s x not = grind arith
 
 module _ (h : Heap) (p s from next : ℕ) {header : Header} (sound : IsSoundHeap h) (names : Names h p s)
     (shows : header ≡ header_from h.layout from s (state_at h s) next) where
