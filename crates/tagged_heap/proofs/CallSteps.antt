@@ -29,9 +29,6 @@ pub ok_named : {T E D : Type 0} (Q : E → D → Type 0) (r : Result T E) (out :
 ok_named {T} {E} {D} Q (Ok y) out x cases is = grind arith
 ok_named {T} {E} {D} Q (Err e) out x cases is = absurd (subst (λ o. IsErrAnd o (Q e)) is cases)
 
-err_under : {T E D : Type 0} (f : E → D) (e : E) (o : Result T D) → IsErrAnd o (λ d. d ≡ f e) → o ≡ Err (f e)
-err_under f e o never = grind arith
-
 -- the address of a chunk that comes with what it loses, where only an error gets a name
 pub addresses_named : {E D : Type 0} (f : E → D) (r : Result (ℕ × ℕ) E) (out : Result (ℕ × ℕ) D) →
     MatchResult r (λ x. out ≡ Ok x) (λ e. IsErrAnd out (λ d. d ≡ f e)) →

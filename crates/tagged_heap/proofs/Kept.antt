@@ -28,10 +28,6 @@ size_most n class room most = omega arith
 
 -- ---- headers
 
--- a header shows its slot's state, from whatever mark on slots are in the quarantine,
-shows_state : (h : Heap) (from s next : ℕ) (x : State) → shown_state (header_from h.layout from s x next) ≡ x
-shows_state h from s next x = grind (arith, cases_lt, cond-true, lt-ltb, cond-false, le-ltb)
-
 -- and has room in its words
 pub header_fits : (h : Heap) (from s next : ℕ) → IsSoundHeap h → IsSlot h s → next < 2 ^ 32 → h.total < 2 ^ 64 →
     FitsWords (header_from h.layout from s (state_at h s) next)

@@ -46,10 +46,6 @@ is_open-kept old bytes open_now line answer =
     short events lines rest answer true is = grind (arith, kept_so)
     short events lines rest answer false is = ap is_open (kept_so events lines rest bytes line false is)
 
-judged_either : (lines : ℕ) (rest other : List ℕ) (judged : Result Event TraceFault) →
-    judged_in (Open lines rest) judged ≡ judged_in (Open lines other) judged
-judged_either lines rest other judged = grind arith
-
 pub line_ended-kept : (old : Reading) (bytes : List ℕ) → is_open old ≡ true → IsLine bytes → Ok tt ≡ answer_of (fed old bytes).state →
     line_ended (fed old bytes) [] ≡ line_ended old bytes
 unfolding with_judged

@@ -1,5 +1,5 @@
 -- A trace's text is read as its events, and no other text is.
-use Rattle.std.proofs.Common.{◌≡◌, ℕ, suc, ◌+◌, ◌<◌, ◌≤◌, List, [], ◌∷◌, length, map, Option, Some, None, Result, Ok, IfOk, refl, sym}
+use Rattle.std.proofs.Common.{◌≡◌, ℕ, suc, ◌+◌, ◌<◌, ◌≤◌, List, [], ◌∷◌, length, map, Some, None, Result, Ok, IfOk, refl, sym}
 use Rattle.std.proofs.{Common.{ap, subst, ◌∙◌, arith, All}, lemmas.List.Elements.{All-nil, All-cons, All-head, All-tail}}
 use Rattle.line_text.{proofs.LawLemmas.{full_lines_are_read, text_is_its_lines}, specs.Lines.{IsTextOf, lines, IsFullLine}}
 use Rattle.trace_event.specs.{Ranges.{IsInRange}, declared.event.Event.{Event}}
@@ -77,10 +77,6 @@ pub text_spells_one_trace : (text : List ℕ) (a b : List Event) → SpellsTrace
 text_spells_one_trace text a b of_a of_b = ap (λ (t : Trace). t.events) (sym (spelled_trace_is_read text a of_a) ∙ spelled_trace_is_read text b of_b)
 
 -- ---- the events before a fault
-
-abbrev number_of_fault : Option (ℕ × TraceFault) → ℕ
-number_of_fault None = 0
-number_of_fault (Some fault) = fault.0
 
 events_before : (number : ℕ) (ls : List (List ℕ)) (at : ℕ) (fault : TraceFault) → (trace_from number ls).fault ≡ Some (at, fault) →
     at ≡ number + length (trace_from number ls).events

@@ -1,5 +1,5 @@
 -- Traces of lines, one after the other.
-use Rattle.std.proofs.Common.{◌≡◌, ℕ, suc, ◌+◌, ◌<◌, List, [], ◌∷◌, ◌++◌, length, Option, Some, None, Result, Err, refl, ap, ◌∙◌}
+use Rattle.std.proofs.Common.{◌≡◌, ℕ, suc, ◌+◌, ◌<◌, List, [], ◌∷◌, ◌++◌, length, Option, Some, None, Err, refl, ap, ◌∙◌}
 use Rattle.std.proofs.{Common.{arith, add-zero}, lemmas.Bool.{lt-ltb}}
 use Rattle.trace_event.specs.declared.event.Event.{Event}
 use Rattle.trace_reader.specs.{TraceLine.{event_of_line}, TraceText.{Trace, no_lines, with_line, trace_from}}
@@ -12,10 +12,6 @@ followed_by (Some fault) events t = record { events = events; fault = Some fault
 
 abbrev pub followed : Trace → Trace → Trace
 followed t u = followed_by t.fault t.events u
-
-followed-line : (number : ℕ) (judged : Result Event TraceFault) (t u : Trace) →
-    followed (with_line number judged t) u ≡ with_line number judged (followed t u)
-followed-line number judged t u = grind arith
 
 pub trace_from-append : (number : ℕ) (a b : List (List ℕ)) →
     trace_from number (a ++ b) ≡ followed (trace_from number a) (trace_from (number + length a) b)

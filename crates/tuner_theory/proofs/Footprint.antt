@@ -76,9 +76,6 @@ same-number c = grind (arith, nat_tests)
 other-number : (c d : ℕ) → c < d → eqb c d ≡ false
 other-number c d lt = grind (arith, nat_tests)
 
-above-number : (c d : ℕ) → d < c → eqb c d ≡ false
-above-number c d lt = grind (arith, nat_tests)
-
 module _ (step : ℕ) (pos : 0 < step) where
   first-is : (c class n : ℕ) (cs : List ℕ) → rounded_need step n ≤ c → is_class_of (c ∷ cs) class n ≡ eqb c class
   first-is c class n cs le = ap (λ (o : Option ℕ). option_map_or (λ its. eqb its class) o false) (class_for-first step pos n c cs le)

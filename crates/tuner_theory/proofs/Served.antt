@@ -5,7 +5,7 @@ use Rattle.std.proofs.lemmas.Bool.{cases_eq, cases_lt, cond-false, cond-true, fa
 use Rattle.std.proofs.lemmas.{List.{get_or-set_other, get_or-set_same, length-set}, List.Elements.{All-head, All-tail}}
 use Rattle.class_table.specs.{Sizes.{IsBlockSize, largest_counted, loss_of}, Tables.{IsLegalTable, class_for}}
 use Rattle.class_table.specs.declared.sizes.TheConstants.{LARGEST_CLASS}
-use Rattle.tuner_theory.{proofs.Sums.{sum_same}, specs.Best.{IsBestBy}, specs.Forced.{IsBestWithLargest}, specs.Intervals.{IsIntervalCost}}
+use Rattle.tuner_theory.{proofs.Sums.{sum_same}, specs.Best.{IsBestBy}, specs.Forced.{IsBestWithLargest}}
 use Rattle.tuner_theory.specs.{Profiles.{AreCounts, IsCounted}, Served.{served}, Waste.{Serves, sum_below, waste_at, waste_of}}
 
 -- ---- what is counted
@@ -42,11 +42,6 @@ served-more forced few more n lt covers counted = elim (served-cases forced few 
 
 pub served_are_counts : (forced : Bool) (counts : List ℕ) → AreCounts counts → AreCounts (served forced counts)
 served_are_counts forced counts are = grind (arith, served-length, served-here, served-other)
-
--- a cost of intervals stays one where more is counted
-pub interval-more : (few more : List ℕ) (step : ℕ) (between : ℕ → ℕ → ℕ) → ((n : ℕ) → IsCounted few n → IsCounted more n)
-    → IsIntervalCost few step between → IsIntervalCost more step between
-interval-more few more step between covers cost a b low high bh has = cost a b low high bh (λ n counted. has n (covers n counted))
 
 -- ---- tables with the largest class
 

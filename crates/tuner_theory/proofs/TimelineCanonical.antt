@@ -1,6 +1,6 @@
 -- A table that is chosen for some moments, and takes no more over all of them, is the one that is chosen for the timeline.
 use Rattle.std.proofs.Common.{◌≡◌, ℕ, zero, suc, ◌+◌, ◌*◌, ◌<◌, ◌≤◌, Bool, true, false, List, [], ◌∷◌, length, slice_index, get_or, cond}
-use Rattle.std.proofs.{Common.{eqb, arith, refl, ap, ◌∙◌, inl, inr, All, sum_by, Option, Some}, lemmas.List.{get_or-map, length-map}}
+use Rattle.std.proofs.{Common.{eqb, arith, refl, ap, ◌∙◌, inl, inr, All, sum_by, Option}, lemmas.List.{get_or-map, length-map}}
 use Rattle.std.proofs.{Math.Nat.{mul-le-mul, mul-le-mul_left}, lemmas.Bool.{cases_lt, eq-eqb}}
 use Rattle.std.{proofs.lemmas.List.Elements.{All-nil}, proofs.lemmas.List.Sums.{sum_by-cons}, specs.Option.{option_map_or}}
 use Rattle.class_table.specs.{Sizes.{largest_counted}}
@@ -38,9 +38,6 @@ term-below f n (suc m) lt = grind (arith, term-below f n m)
 
 masked : (b : Bool) (v : ℕ) → 0 < cond b v 0 → (b ≡ true) × (0 < v)
 masked b v some = grind arith
-
-class-of : (o : Option ℕ) (class : ℕ) → option_map_or (λ its. eqb its class) o false ≡ true → o ≡ Some class
-class-of o class is = grind arith
 
 -- ---- classes that are used
 
