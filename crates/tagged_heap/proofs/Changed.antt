@@ -35,6 +35,9 @@ other_list {next} {fronts} {lists} l number front list within linked = grind (ar
 abbrev pub with_link : Header → ℕ → Header
 with_link header next = record header { next = next }
 
+abbrev pub with_standing : Header → Standing → Header
+with_standing header standing = record header { standing = standing }
+
 module _ (h : Heap) (s : ℕ) (state : State) (memory : List Granule) (total seed tag : ℕ) (within : s < length h.states) where
   -- the slot's header is that of its new state, and in other headers at most the links change
   pub headers_changed : {m new : Region} {from : ℕ} → HasHeaders h m from →

@@ -28,7 +28,7 @@ size_most n class room most = omega arith
 
 -- ---- headers
 
--- and has room in its words
+-- a header has room in its words, from whatever mark on slots are in the quarantine
 pub header_fits : (h : Heap) (from s next : ℕ) → IsSoundHeap h → IsSlot h s → next < 2 ^ 32 → h.total < 2 ^ 64 →
     FitsWords (header_from h.layout from s (state_at h s) next)
 unfolding header_for
