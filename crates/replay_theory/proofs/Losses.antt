@@ -1,20 +1,20 @@
 -- What each event of a served run loses, and so what the run does.
 use Rattle.std.proofs.Common.{◌≡◌, ℕ, ◌+◌, ◌<◌, ◌≤◌, Bool, true, false, cond, List, [], ◌∷◌, refl, ap, ◌∙◌, subst, arith, Result, Ok, Err}
 use Rattle.std.{proofs.Common.{Option, Some, None, ◌==◌, ◌&&◌, nat_le, nat_lt, is_some, zip, count_by, IsSome}, specs.Option.{ok_or}}
-use Rattle.std.proofs.lemmas.{Bool.{true≢false, cond_both, le-leb, leb-false, lt-leb}, List.Elements.{recursion_from_All}}
+use Rattle.std.proofs.lemmas.{Bool.{true≢false, cond_both, leb-false}, List.Elements.{recursion_from_All}}
 use Rattle.std.{proofs.lemmas.List.Sums.{sum_by-cons}, specs.List.{AllByRecursion as ByRecursion, cons_option}}
 use Rattle.machine_theory.specs.declared.fault.Fault.{Fault}
 use Rattle.class_table.specs.{Layout.{Partition}, Sizes.{counted_of, largest_counted}, Tables.{class_for, loss_of_size, rounding_loss}}
 use Rattle.trace_event.specs.declared.event.{Event.{Event}, Event.TheVariants.{Malloc, Calloc, Realloc, Free}}
-use Rattle.heap_theory.specs.Calls.{Step, malloc_with, malloc_step, calloc_with, calloc_step, as_realloc, free_with, free_step, is_class_of}
-use Rattle.heap_theory.specs.{Calls.{resized, move_with, realloc_with, realloc_step}, State.{Heap, slot_in, first_heap}}
-use Rattle.heap_theory.specs.Lookups.{Chunk, class_for_request, slot_for_request, slot_in_class, slot_for, chunk_at}
-use Rattle.heap_theory.specs.declared.refusal.{FreeError.{FreeError}, NullCause.{NullCause}, ReallocError.{ReallocError}}
+use Rattle.heap_theory.specs.Calls.{malloc_with, malloc_step, calloc_with, calloc_step, free_with, free_step}
+use Rattle.heap_theory.specs.{Calls.{realloc_step}, State.{Heap, first_heap}}
+use Rattle.heap_theory.specs.Lookups.{Chunk, class_for_request, slot_for_request, slot_in_class, chunk_at}
+use Rattle.heap_theory.specs.declared.refusal.{FreeError.{FreeError}, NullCause.{NullCause}}
 use Rattle.heap_theory.specs.declared.refusal.NullCause.TheVariants.{Large, NoClass, Exhausted}
 use Rattle.replay_theory.{proofs.LayoutStays.{layout_after}, specs.Losses.{requested_sizes, counted_sizes, LosesAtMostItsWaste, ServesEach}}
 use Rattle.replay_theory.specs.Replay.{Replay, Answer, is_no_class, is_exhausted, is_refused, is_silent, variable, answer_of, answers}
-use Rattle.replay_theory.specs.Replay.{replay_after, first_replay, malloc_answer, free_answer, realloc_answer, access_answer}
-use Rattle.replay_theory.specs.Replay.Answer.{Silent, NoPointer, NotFreed}
+use Rattle.replay_theory.specs.Replay.{replay_after, first_replay, malloc_answer, free_answer, access_answer}
+use Rattle.replay_theory.specs.Replay.Answer.{NotFreed}
 use Rattle.replay_theory.specs.Totals.{one_if, request_size, loss_of_request, loss_of_event, totals_of}
 
 -- ---- one event
@@ -40,22 +40,8 @@ abbrev RequestLoses : Heap → ℕ → Answer → Type 0
 RequestLoses h n answer = LosesAtMost h.layout.classes (Some n) answer
 
 module _ (h : Heap) (n : ℕ) where
-  loss_here : Bool → ℕ
-  loss_here counted = cond counted (loss_of_size h.layout.classes n) 0
-
-  given : n ≤ largest_counted → RequestLoses h n Silent
-  unfolding loss_here
-  given small = grind (arith, le-leb)
-
-  exhausted : RequestLoses h n (NoPointer Exhausted)
-  exhausted = record { no_class = refl; loss = omega arith; all_loss = λ full refused. absurd (true≢false full) }
-
   refused : (error : FreeError) → RequestLoses h n (NotFreed error)
   refused error = record { no_class = refl; loss = omega arith; all_loss = λ full refused. absurd (true≢false refused) }
-
-  too_large : largest_counted < n → RequestLoses h n (NoPointer Large)
-  unfolding loss_here
-  too_large large = grind (arith, lt-leb)
 
 -- ---- requests
 
@@ -71,49 +57,14 @@ class_met : (n : ℕ) (large : Bool) (class : Option ℕ) → nat_lt largest_cou
 class_met n x1 x2 is has = grind arith
 
 slot_met : (h : Heap) (n : ℕ) (class : Result ℕ NullCause) → MayMeet n class → MayMeet n (slot_in_class h class)
-slot_met h n (Ok class) is = elim (slot_for h class) as (λ slot. MayMeet n (ok_or slot Exhausted)) [ None ↦ tt | Some s ↦ is ]
-slot_met h n (Err cause) is = is
+slot_met h n class is = grind arith
 
 module _ (h : Heap) (n : ℕ) where
-  null_loses : (cause : NullCause) → MayMeet n (Err cause) → RequestLoses h n (NoPointer cause)
-  null_loses x0 is = grind arith
-
   malloc_loses : (slot : Result ℕ NullCause) → MayMeet n slot → RequestLoses h n (malloc_answer (malloc_with h n slot).answer)
-  malloc_loses (Ok s) is = given h n is
-  malloc_loses (Err cause) is = null_loses cause is
+  malloc_loses slot is = grind arith
 
   calloc_loses : (slot : Result ℕ NullCause) → MayMeet n slot → RequestLoses h n (malloc_answer (calloc_with h n slot).answer)
-  calloc_loses (Ok s) is = given h n is
-  calloc_loses (Err cause) is = null_loses cause is
-
-  at_null_loses : (slot : Result ℕ NullCause) → MayMeet n slot →
-      RequestLoses h n (realloc_answer (as_realloc (malloc_with h n slot)).answer)
-  at_null_loses (Ok s) is = given h n is
-  at_null_loses (Err cause) is = null_loses cause is
-
-  move_loses : (chunk : Chunk) (slot : Result ℕ NullCause) → MayMeet n slot →
-      RequestLoses h n (realloc_answer (move_with h chunk n slot).answer)
-  move_loses chunk (Ok s) is = given h n is
-  move_loses chunk (Err cause) is = null_loses cause is
-
-  either_loses : (b : Bool) (x y : Step (Result ℕ ReallocError)) → RequestLoses h n (realloc_answer x.answer) →
-      RequestLoses h n (realloc_answer y.answer) → RequestLoses h n (realloc_answer (cond b x y).answer)
-  either_loses true x y left right = left
-  either_loses false x y left right = right
-
-  -- a chunk stays only in a class, so its request is counted
-  stay_loses : (chunk : Chunk) (p : ℕ) (class slot : Result ℕ NullCause) → MayMeet n class → MayMeet n slot →
-      RequestLoses h n
-      (realloc_answer (cond (is_class_of (slot_in h chunk.slot) class)
-      (record { heap = resized h chunk.slot n; answer = Ok p })
-      (move_with h chunk n slot)).answer)
-  stay_loses chunk p (Ok class) slot is met = grind (arith, either_loses, given, move_loses)
-  stay_loses chunk p (Err cause) slot is met = move_loses chunk slot met
-
-  chunk_loses : (p : ℕ) (chunk : Result Chunk FreeError) → MayMeet n (class_for_request h n) → MayMeet n (slot_for_request h n) →
-      RequestLoses h n (realloc_answer (realloc_with h p n chunk).answer)
-  chunk_loses p (Err error) is met = refused h n error
-  chunk_loses p (Ok chunk) is met = stay_loses chunk p (class_for_request h n) (slot_for_request h n) is met
+  calloc_loses slot is = grind arith
 
 -- ---- every event
 
@@ -174,8 +125,7 @@ not_counted : (b : Bool) (before after : ℕ) → after ≡ one_if b + before �
 not_counted b before after is not none = omega (arith, ap one_if not)
 
 none_counted : (b : Bool) (before after : ℕ) → after ≡ one_if b + before → after ≡ 0 → (b ≡ false) × (before ≡ 0)
-none_counted true before after is none = absurd (omega arith)
-none_counted false before after is none = (refl, omega arith)
+none_counted b before after is none = grind arith
 
 one_event_more : (classes : List ℕ) (e : Event) (a : Answer) (events : List Event) (happened : List (Event × Answer)) →
     LosesAtMost classes (request_size e) a → LosesAtMostItsWaste classes events happened →

@@ -6,7 +6,7 @@ use Rattle.class_table.specs.{Layout.{slot_count}, Sizes.{chunk_granules}}
 use Rattle.heap_theory.proofs.CallsKept.{KeepsGiven, KeepsGiven-refl, KeepsGiven-with_payload, KeepsGiven-resized, KeepsGiven-moved}
 use Rattle.heap_theory.proofs.{CallsKept.{HeapChange, state_at-given_out, state_at-given_out_other, layout-given_out}, HeapKept.{in_states}}
 use Rattle.heap_theory.proofs.{Lookups.{slot_for_request-cases, chunk_at-is}, Tags.{IsTagOf-next_tag, next_tag-differs}}
-use Rattle.heap_theory.specs.Calls.{Step, given_out, resized, with_payload, moved, malloc_with, malloc_step, calloc_with}
+use Rattle.heap_theory.specs.Calls.{Step, given_out, with_payload, moved, malloc_with, malloc_step, calloc_with}
 use Rattle.heap_theory.specs.Calls.{calloc_step, stays_in_class, slot_if_moved, move_with, as_realloc, realloc_with, realloc_step}
 use Rattle.heap_theory.specs.{Lookups.{Chunk, IsReusable, MayBeGiven, slot_for_request, chunk_at}}
 use Rattle.heap_theory.specs.State.{Heap, pointer_to}
@@ -137,7 +137,6 @@ module _ (w : Run) (sound : IsSoundRun w) where
       by_chunk (Ok chunk) was =
           let c = chunk_at-is h p chunk was in
           either (stays_in_class h chunk n) _ _ None _
-          (λ _. IsSoundVariable-kept h (resized h chunk.slot n) w.times p (generation_of w v)
-          (KeepsGiven-resized h chunk.slot n chunk.size _ (in_states h chunk.slot sound.heap c.in_range) c.live) (sound.variables v))
+          (grind (arith, IsSoundVariable-kept, KeepsGiven-resized))
           (λ _. slot_for_request-cases h n sound.heap (λ r. After (move_with h chunk n r) (result_ok r)) (λ cause. sound.variables v)
           (λ s given. IsSoundVariable-new (moved h chunk s n) s n given (KeepsGiven-moved h p chunk s n sound.heap c given)))
