@@ -81,10 +81,7 @@ module _ (h : Heap) (sound : IsSoundHeap h) (g : ℕ) where
     where
       -- the chunk of a fresh slot has no granule
       chunk_means : (s : ℕ) → IsChunkGranule h s g → (x : State) → state_at h s ≡ x → Means (kind_of_chunk x)
-      chunk_means s c Fresh was =
-          let from : (slot_in h s).start < g = c.from in
-          let to : g ≤ (slot_in h s).start + 0 = subst (λ x. g ≤ (slot_in h s).start + chunk_granules_of x) was c.to in
-          absurd (omega arith)
+      chunk_means s c Fresh was = grind arith
       chunk_means s c (Live size tag) was = (s, subst IsLive (sym was) tt, c)
       chunk_means s c (Dead size tag mark) was = (s, ap is_dead was, c)
 
@@ -100,9 +97,7 @@ module _ (h : Heap) (sound : IsSoundHeap h) (g : ℕ) where
             | inl first ↦ subst Means (sym (header_is s at.0 first)) (s, at.0, first)
             | inr past ↦ elim (cases_lt ((slot_in h s).start + chunk_granules_of (state_at h s)) g) [
               | inl above ↦
-                  let p : IsPayloadGranule h s g = record { in_range = at.0; from = omega arith; to = at.1.to } in
-                  let rest : IsChunkGranule h s g → ⊥ = λ c. omega (arith, c.to) in
-                  subst Means (sym (tail_is s p rest)) (s, p, rest)
+                  grind (arith, tail_is)
               | inr below ↦
                   let c : IsChunkGranule h s g = record { in_range = at.0; from = omega arith; to = below } in
                   subst Means (sym (chunk_is s c)) (chunk_means s c (state_at h s) refl)

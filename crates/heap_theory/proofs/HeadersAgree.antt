@@ -46,8 +46,7 @@ front_link [] = 0
 front_link (s ∷ rest) = suc s
 
 front_is : (next : ℕ → ℕ) (front : ℕ) (list : List ℕ) → IsLinked next front list → front ≡ front_link list
-front_is next front [] l = l
-front_is next front (s ∷ rest) l = l.0
+front_is next front list l = grind arith
 
 links_agree : (next new : ℕ → ℕ) (front other : ℕ) (list : List ℕ) (s : ℕ) → IsLinked next front list → IsLinked new other list →
     Contains list s → new s ≡ next s

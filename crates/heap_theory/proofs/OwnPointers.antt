@@ -1,6 +1,6 @@
 -- The pointer that was given out for a live chunk is accepted by `free` and by `realloc`, and of the others only null is.
 use Rattle.std.proofs.Common.{◌≡◌, ◌≢◌, ℕ, ◌*◌, ◌^◌, ◌<◌, List, refl, sym, ap, ◌∙◌, subst, inl, inr, arith, Option, None}
-use Rattle.std.proofs.{Common.{Result, Ok, Err, ◌==◌, min, replicate, ◌↔◌}, lemmas.List.{get_or-set_same, get_or-set_other}}
+use Rattle.std.proofs.{Common.{Result, Ok, Err, ◌==◌, replicate, ◌↔◌}, lemmas.List.{get_or-set_same, get_or-set_other}}
 use Rattle.std.proofs.lemmas.Bool.{cases_eq, cond-true, cond-false, cond_both, eq-eqb, eqb-true, false_from_ne_true}
 use Rattle.machine_theory.specs.{Address.{logical_tag, place_of, with_tag}}
 use Rattle.class_table.specs.{Layout.{Partition, slot_count, slot_of}, Sizes.{chunk_granules}}
@@ -10,7 +10,7 @@ use Rattle.heap_theory.proofs.CallsKept.{state_at-with_payload, state_at-given_o
 use Rattle.heap_theory.proofs.{CallsKept.{not_reusable}, HeapKept.{in_states}, Lookups.{slot_for_request-cases, chunk_at-is}}
 use Rattle.heap_theory.{proofs.Pointers.{own_chunk}, specs.Lookups.{Chunk, MayBeGiven, IsLiveChunk, slot_for_request, chunk_at}}
 use Rattle.heap_theory.specs.Calls.{move_with, realloc_with, as_realloc, realloc_step, store_step, Step, given_out, freed}
-use Rattle.heap_theory.specs.Calls.{resized, with_payload, payload_bytes, moved, malloc_with, malloc_step, calloc_with, calloc_step}
+use Rattle.heap_theory.specs.Calls.{resized, with_payload, moved, malloc_with, malloc_step, calloc_with, calloc_step}
 use Rattle.heap_theory.specs.{Calls.{free_with, free_step, stays_in_class}, Sound.{IsSoundHeap}, State.State.{Fresh, Live, Dead}}
 use Rattle.heap_theory.specs.OwnPointers.{GivesOwnPointers, StaysOwnPointer, IsOwnPointer, IsNullOrOwn, FreeAccepts, IsNotRefused}
 use Rattle.heap_theory.specs.{OwnPointers.{ReallocAccepts}, declared.refusal.FreeError.{FreeError}}
@@ -67,10 +67,7 @@ free_accepts h p sound = (
   where
     by_chunk : p ≢ 0 → FreeAccepts h p → (r : Result Chunk FreeError) → chunk_at h p ≡ r → IsNullOrOwn h p
     by_chunk some accepts (Ok chunk) was = inr (chunk.slot, own_of h p chunk was)
-    by_chunk some accepts (Err error) was =
-        let refused : ◌≡◌ {A = Result (Unit {0}) FreeError} (Ok tt) (Err error) =
-        sym accepts ∙ ap answer_of_free (free_some h p (Err error) some was) in
-        absurd cc
+    by_chunk some accepts (Err error) was = grind (arith, free_some)
 
 -- an own pointer is not null
 not_null : (h : Heap) (s : ℕ) → IsSoundHeap h → s < slot_count h.layout → pointer_to h s ≢ 0
@@ -186,8 +183,7 @@ module _ (h : Heap) (s p : ℕ) (sound : IsSoundHeap h) (own : IsOwnPointer h s 
           let other = not_named h s p q chunk own another was in
           cond_both (stays_in_class h chunk n) _ _ Keeps (λ _. state_at-resized_other h chunk.slot n s other)
           (λ _. slot_for_request-cases h n sound (λ r. Keeps (move_with h chunk n r)) (λ cause. refl)
-          (λ r given. state_at-freed_other _ chunk.slot chunk.size s other
-          ∙ state_at-with_payload (given_out h r n) r s (payload_bytes h chunk.slot (min chunk.size n)) ∙ spared n r given))
+          (grind (arith, state_at-freed_other, state_at-with_payload, spared)))
 
   state_after_store : (address : ℕ) (bytes : List ℕ) → state_at (store_step h address bytes) s ≡ state_at h s
   unfolding store_step

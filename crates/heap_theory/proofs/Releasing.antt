@@ -25,9 +25,6 @@ module _ (h : Heap) (from s number : ℕ) (queue : List ℕ) (lists : List (List
   within : number < length lists
   within = subst (λ n. number < n) (sym b.long) is_number.within
 
-  after : ℕ
-  after = from + block_bytes (slot_in h s)
-
   wide : 0 < block_bytes (slot_in h s)
   wide = let two : 2 ≤ (slot_in h s).class = sound.slots.wide s b.chain.0 in omega arith
 
@@ -59,21 +56,7 @@ module _ (h : Heap) (from s number : ℕ) (queue : List ℕ) (lists : List (List
   freed_list : (other : ℕ) → other < length lists →
       IsFreedList h (get_or h.layout.classes other 0) (from + block_bytes (slot_in h s))
       (list_of (slice_set lists number (s ∷ list_of lists number)) other)
-  freed_list other in_lists =
-      let some = wide in
-      elim (cases_eq other number) [
-        | inl is ↦
-            subst (λ n. IsFreedList h (get_or h.layout.classes n 0) (from + block_bytes (slot_in h s))
-            (list_of (slice_set lists number (s ∷ list_of lists number)) n)) (sym is)
-            (subst (IsFreedList h (get_or h.layout.classes number 0) (from + block_bytes (slot_in h s)))
-            (sym (list_of-here lists number (s ∷ list_of lists number) within))
-            (from, b.chain.0, sym is_number.is, b.chain.1, omega arith, b.freed number within))
-        | inr not ↦
-            subst (IsFreedList h (get_or h.layout.classes other 0) (from + block_bytes (slot_in h s)))
-            (sym (list_of-there lists number other (s ∷ list_of lists number) not))
-            (list_weaker h (get_or h.layout.classes other 0) from (from + block_bytes (slot_in h s)) (list_of lists other) (omega arith)
-            (b.freed other in_lists))
-      ]
+  freed_list other in_lists = grind (arith, list_of-here, is_number, list_of-there, list_weaker)
 
   pub release : h.quarantine < bytes_of h.layout (s ∷ queue) →
       AgreeWithMarksFrom h (from + block_bytes (slot_in h s)) queue (slice_set lists number (s ∷ list_of lists number))
@@ -91,14 +74,7 @@ module _ (h : Heap) (from s number : ℕ) (queue : List ℕ) (lists : List (List
           | inl before ↦ stays_listed r other (b.listed r mark other in_range d before found)
           | inr le ↦
               let is = is_front r mark d lt (b.queued r mark in_range d le) in
-              subst (λ q. Contains (list_of (slice_set lists number (s ∷ list_of lists number)) other) q) is
-              (front_listed other (subst (λ q. slice_get h.layout.classes other ≡ Some (slot_in h q).class) (sym is) found))
+              grind (arith, front_listed)
         ];
-        released = λ r mark in_range d lt. elim (cases_lt mark from) [
-          | inl before ↦ b.released r mark in_range d before
-          | inr le ↦
-              let is = is_front r mark d lt (b.queued r mark in_range d le) in
-              let same : mark ≡ from = one_mark (state_at h r) mark from d (subst (λ q. HasMark (state_at h q) from) is b.chain.1) in
-              omega arith
-        ];
+        released = grind (arith, is_front);
       }

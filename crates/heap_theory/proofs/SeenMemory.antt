@@ -1,5 +1,5 @@
 -- What is seen of a memory without the bytes of its headers.
-use Rattle.std.proofs.Common.{◌≡◌, ◌⊎◌, ℕ, ◌+◌, ◌-◌, ◌*◌, ◌/◌, ◌<◌, ◌≤◌, Bool, true, false, cond, List, [], length, replicate, refl}
+use Rattle.std.proofs.Common.{◌≡◌, ◌⊎◌, ℕ, ◌+◌, ◌*◌, ◌/◌, ◌<◌, ◌≤◌, Bool, true, false, cond, List, [], length, replicate, refl}
 use Rattle.std.proofs.Common.{sym, ap, ◌∙◌, subst, inl, inr, arith, slice_index, IsTrue, ◌≢◌, None, IsFalse}
 use Rattle.std.proofs.lemmas.Bool.{cases_lt, cases_Bool, cases_order, cond-false, cond_both, eqb-true, both_ways, and_left, and_right}
 use Rattle.std.proofs.lemmas.{Bool.{lt-leb, le-ltb, false_from_ne_true}, List.Folds.{Any-from_list_any}, List.FromFn.{fill_by_all}}
@@ -98,9 +98,7 @@ granule_at-written i g new memory is apart = elim (cases_lt g (length memory)) [
       let same : bytes_after i new g (granule_at memory g).bytes ≡ (granule_at memory g).bytes = sym
       (fill_by_all (λ k. byte_after i new (16 * g + k) (slice_index (granule_at memory g).bytes k)) (granule_at memory g).bytes
       (length (granule_at memory g).bytes) 0 refl
-      (λ k inside. sym (cond-false (is_among i (length new) (16 * g + k)) (slice_index new (16 * g + k - i))
-      (slice_index (granule_at memory g).bytes k)
-      (outside k (omega (arith, granule.sixteen)))))) in
+      (grind arith)) in
       laws.each_at (λ g granule. record granule { bytes = bytes_after i new g granule.bytes }) memory g within
       ∙ (λ j. record { tag = (granule_at memory g).tag; bytes = same j })
   | inr past ↦
