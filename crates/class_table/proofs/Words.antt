@@ -1,6 +1,6 @@
 -- Reading the numbers of a line, word by word.
 use Rattle.std.proofs.Common.{◌≡◌, ℕ, ◌<◌, ◌≤◌, Bool, true, false, List, [], ◌∷◌, ◌++◌, length, map, min, take, Option, Some, None, Result}
-use Rattle.std.proofs.Common.{Err, refl, sym, ap, ◌∙◌, arith, append_assoc, append-nil, codes, ltb, leb, length-append, option_and_then}
+use Rattle.std.proofs.Common.{Err, refl, sym, ap, ◌∙◌, arith, append_assoc, append-nil, codes, ltb, length-append, option_and_then}
 use Rattle.std.{proofs.lemmas.Bool.{lt-ltb, le-ltb, ltb-false}, proofs.lemmas.Bool.Decides.{nat_tests}, specs.Option.{option_map}}
 use Rattle.std.{proofs.lemmas.List.{take_all, take-append-le, length-take, length-map, map-append}, specs.Str.{bytes_eq}}
 use Rattle.line_text.specs.Numbers.{number_of}
@@ -22,23 +22,12 @@ clip_small n e = grind (arith, nat_tests)
 same_faults : (below : ℕ) (ns : List ℕ) → fault_from below (map clip ns) ≡ fault_from below ns
 unfolding fault_from
 same_faults below [] = refl
-same_faults below (n ∷ ns) = go (is_out_of_range n) refl (same_faults n ns)
-  where
-    go : (out : Bool) → is_out_of_range n ≡ out → fault_from n (map clip ns) ≡ fault_from n ns →
-        fault_from below (map clip (n ∷ ns)) ≡ fault_from below (n ∷ ns)
-    go true e others = rw (clipped_range n, e) refl
-    go false e others = rw (clip_small n e, e, others) refl
+same_faults below (n ∷ ns) = grind (arith, same_faults n ns, clipped_range, clip_small)
 
 same_classes : (below : ℕ) (ns : List ℕ) → fault_from below ns ≡ None → map clip ns ≡ ns
 unfolding fault_from
 same_classes below [] none = refl
-same_classes below (n ∷ ns) none = go (is_out_of_range n) refl (leb n below) refl (same_classes n ns)
-  where
-    go : (out : Bool) → is_out_of_range n ≡ out → (low : Bool) → leb n below ≡ low → (fault_from n ns ≡ None → map clip ns ≡ ns) →
-        map clip (n ∷ ns) ≡ n ∷ ns
-    go true e low f others = let g = rw e at none in absurd cc
-    go false e true f others = let g = rw (e, f) at none in absurd cc
-    go false e false f others = rw (clip_small n e, others (rw (e, f) at none)) refl
+same_classes below (n ∷ ns) none = grind (arith, same_classes n ns)
 
 same_table : (ns : List ℕ) → length ns ≤ 32 → table_of_classes (map clip ns) ≡ table_of_classes ns
 same_table ns few = grind (arith, length-map, le-ltb, same_faults, same_classes)
