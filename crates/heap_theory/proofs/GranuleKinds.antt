@@ -1,7 +1,7 @@
 -- What the kinds of granules mean.
 use Rattle.std.proofs.Common.{◌≡◌, ℕ, ◌+◌, ◌<◌, ◌≤◌, true, cond, refl, sym, ap, ◌∙◌, subst, inl, inr, arith, Some, None, Option, ◌==◌}
 use Rattle.std.proofs.Common.{nat_le, nat_lt}
-use Rattle.std.proofs.lemmas.Bool.{false_from_ne_true, le-leb, lt-ltb, ltb-true, and_parts, ne_eqb, and_from, cases_eq, cases_lt, cond-true}
+use Rattle.std.proofs.lemmas.Bool.{false_from_ne_true, ltb-true, and_parts, ne_eqb, cases_eq, cases_lt, cond-true}
 use Rattle.std.proofs.lemmas.Bool.{cond-false, eq-eqb}
 use Rattle.machine_theory.specs.Memory.{is_among}
 use Rattle.class_table.specs.Layout.{Covers, slot_over}
@@ -10,9 +10,6 @@ use Rattle.heap_theory.specs.{Sound.{IsSoundHeap}, State.State.{Fresh, Live, Dea
 use Rattle.heap_theory.specs.State.{State, Heap, IsLive, is_dead, slot_in, state_at, chunk_granules_of, payload_start, IsSlot}
 use Rattle.heap_theory.specs.declared.place_kind.PlaceKind.TheVariants.{Slack, Header, Tail, Dead as DeadChunk, Other}
 use Rattle.heap_theory.proofs.TheoryLemmas as laws
-
-is_among-from : (first count n : ℕ) → first ≤ n → n < first + count → is_among first count n ≡ true
-is_among-from first count n from to = grind (arith, and_from, le-leb, lt-ltb)
 
 is_among-to : (first count n : ℕ) → is_among first count n ≡ true → n < first + count
 is_among-to first count n among = ltb-true n (first + count) (and_parts (nat_le first n) (nat_lt n (first + count)) among).1
@@ -46,14 +43,11 @@ module _ (h : Heap) (sound : IsSoundHeap h) (g : ℕ) where
       in_slot s p.in_range (record { from = omega arith; to = p.to })
       ∙ cond-false ((slot_in h s).start == g) Header _ (ne_eqb _ _ (λ is. omega arith))
 
-  chunk_in_payload : (s : ℕ) → IsChunkGranule h s g → IsPayloadGranule h s g
-  chunk_in_payload s c = grind arith
-
   chunk_is : (s : ℕ) → IsChunkGranule h s g → place_kind h g ≡ kind_of_chunk (state_at h s)
   chunk_is s c =
-      in_payload s (chunk_in_payload s c)
+      in_payload s (grind arith)
       ∙ cond-true (is_among (payload_start (slot_in h s)) (chunk_granules_of (state_at h s)) g) (kind_of_chunk (state_at h s)) Tail
-      (is_among-from (payload_start (slot_in h s)) (chunk_granules_of (state_at h s)) g (omega (arith, c.from)) (omega (arith, c.to)))
+      (grind arith)
 
   tail_is : (s : ℕ) → IsPayloadGranule h s g → (IsChunkGranule h s g → ⊥) → place_kind h g ≡ Tail
   tail_is s p rest =

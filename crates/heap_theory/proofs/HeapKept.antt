@@ -2,7 +2,7 @@
 use Rattle.std.proofs.Common.{◌≡◌, ◌≢◌, ◌⊎◌, ℕ, ◌+◌, ◌<◌, ◌≤◌, List, length, get_or, refl, sym, ◌∙◌, subst, inl, inr, ⊎_elim, arith}
 use Rattle.std.proofs.{Common.{slice_set}, lemmas.Bool.{cases_lt, cases_eq}, lemmas.List.{get_or-set_same, get_or-set_other, length-set}}
 use Rattle.machine_theory.specs.{Memory.{Granule, tag_at, tagged, written}, Seed.{next_seed}}
-use Rattle.class_table.specs.{Layout.{Slot, end_of, slot_count, Covers, block_bytes}, Sizes.{chunk_granules}}
+use Rattle.class_table.specs.{Layout.{Slot, end_of, slot_count, block_bytes}, Sizes.{chunk_granules}}
 use Rattle.heap_theory.{proofs.Tags.{IsTagOf-next_tag, next_tag-differs}, specs.Sound.{IsTagOf, IsTaggedSlot, IfDead, IsSoundHeap}}
 use Rattle.heap_theory.specs.{Calls.{next_tag, chunk_tagged, given_out, freed, resized, with_payload}, State.State.{Fresh, Live, Dead}}
 use Rattle.heap_theory.specs.State.{State, Heap, slot_in, state_at, last_tag, chunk_granules_of, payload_start}
@@ -35,10 +35,6 @@ module _ (h : Heap) (s : ℕ) (state : State) (memory : List Granule) (total see
       (g ≤ (slot_in h s).start) ⊎ (end_of (slot_in h s) ≤ g)
   apart r g within not from to = grind (arith, cases_lt)
 
-  outside : (g : ℕ) → ((r : ℕ) → r < slot_count h.layout → Covers (slot_in h r) g → ⊥) →
-      (g ≤ (slot_in h s).start) ⊎ (end_of (slot_in h s) ≤ g)
-  outside g none = grind (arith, cases_lt)
-
   pub IsSoundHeap-retagged : length memory ≡ length h.memory →
       ((g : ℕ) → (g ≤ (slot_in h s).start) ⊎ (end_of (slot_in h s) ≤ g) → tag_at memory g ≡ tag_at h.memory g) →
       IsTaggedSlot memory s (slot_in h s) state → h.total ≤ total → IfDead state (λ mark. (h.total ≤ mark) × (mark < total)) → tag < 16 →
@@ -51,7 +47,7 @@ module _ (h : Heap) (s : ℕ) (state : State) (memory : List Granule) (total see
         states = length-set h.states s state ∙ sound.states;
         tag_below = tag_below;
         tagged = λ r within. ⊎_elim (λ is. tagged_here r is) (λ not. tagged_there r within not) (cases_eq r s);
-        slack = λ g none. others g (outside g none) ∙ sound.slack g none;
+        slack = grind arith;
         marks = λ r. ⊎_elim
             (grind (arith, here))
             (grind (arith, there))

@@ -1,11 +1,11 @@
 -- The front of the queue is released to its class's list.
-use Rattle.std.proofs.Common.{◌≡◌, ℕ, ◌+◌, ◌<◌, ◌≤◌, List, [], ◌∷◌, length, get_or, sym, ◌∙◌, subst, inl, inr, arith, Contains, slice_get}
+use Rattle.std.proofs.Common.{◌≡◌, ℕ, ◌+◌, ◌<◌, ◌≤◌, List, [], ◌∷◌, length, sym, ◌∙◌, subst, inl, inr, arith, Contains, slice_get}
 use Rattle.std.proofs.{Common.{slice_set, Some}, lemmas.Bool.{cases_eq, cases_lt}}
 use Rattle.std.proofs.lemmas.List.{get_or-set_same, get_or-set_other, length-set}
 use Rattle.class_table.specs.Layout.{block_bytes}
 use Rattle.heap_theory.{proofs.ListSearch.{Contains-tail, Contains-cases}, specs.Links.{list_of}, specs.Sound.{IsSoundHeap}}
-use Rattle.heap_theory.proofs.Marks.{one_mark, bytes_of-cons, chain_bytes, chain_mark, list_weaker, one_number, IsNumberOf, number_is}
-use Rattle.heap_theory.specs.{QueueAndLists.{HasMark, IsFreedList, AgreeWithMarksFrom, bytes_of}, State.{Heap, slot_in, state_at}}
+use Rattle.heap_theory.proofs.Marks.{bytes_of-cons, chain_bytes, chain_mark, list_weaker, one_number, IsNumberOf, number_is}
+use Rattle.heap_theory.specs.{QueueAndLists.{HasMark, AgreeWithMarksFrom, bytes_of}, State.{Heap, slot_in, state_at}}
 
 -- a list for one class is another one
 pub list_of-here : (lists : List (List ℕ)) (number : ℕ) (list : List ℕ) → number < length lists →
@@ -28,10 +28,6 @@ module _ (h : Heap) (from s number : ℕ) (queue : List ℕ) (lists : List (List
   wide : 0 < block_bytes (slot_in h s)
   wide = let two : 2 ≤ (slot_in h s).class = sound.slots.wide s b.chain.0 in omega arith
 
-  still_queued : (r mark : ℕ) → HasMark (state_at h r) mark → from + block_bytes (slot_in h s) ≤ mark → Contains (s ∷ queue) r →
-      Contains queue r
-  still_queued r mark d le there = grind (arith, Contains-cases, one_mark, wide)
-
   is_front : (r mark : ℕ) → HasMark (state_at h r) mark → mark < from + block_bytes (slot_in h s) → Contains (s ∷ queue) r → s ≡ r
   is_front r mark d lt there = grind (arith, Contains-cases, chain_mark)
 
@@ -53,11 +49,6 @@ module _ (h : Heap) (from s number : ℕ) (queue : List ℕ) (lists : List (List
       one_number 1 h.layout.classes other number sound.partition.table there.within is_number.within (there.is ∙ sym is_number.is) in
       grind (arith, list_of-here)
 
-  freed_list : (other : ℕ) → other < length lists →
-      IsFreedList h (get_or h.layout.classes other 0) (from + block_bytes (slot_in h s))
-      (list_of (slice_set lists number (s ∷ list_of lists number)) other)
-  freed_list other in_lists = grind (arith, list_of-here, is_number, list_of-there, list_weaker)
-
   pub release : h.quarantine < bytes_of h.layout (s ∷ queue) →
       AgreeWithMarksFrom h (from + block_bytes (slot_in h s)) queue (slice_set lists number (s ∷ list_of lists number))
   release over =
@@ -68,8 +59,8 @@ module _ (h : Heap) (from s number : ℕ) (queue : List ℕ) (lists : List (List
       record {
         chain = b.chain.2;
         long = length-set lists number (s ∷ list_of lists number) ∙ b.long;
-        freed = λ other in_lists. freed_list other (subst (λ n. other < n) (length-set lists number (s ∷ list_of lists number)) in_lists);
-        queued = λ r mark in_range d le. still_queued r mark d le (b.queued r mark in_range d (omega arith));
+        freed = grind (arith, list_of-here, is_number, list_of-there, list_weaker, length-set);
+        queued = grind arith;
         listed = λ r mark other in_range d lt found. elim (cases_lt mark from) [
           | inl before ↦ stays_listed r other (b.listed r mark other in_range d before found)
           | inr le ↦

@@ -124,13 +124,9 @@ pub header_starts : (layout : Partition) (g : ℕ) → is_header_granule layout 
     (s : ℕ) × (s < slot_count layout) × ((slot_of layout s).start ≡ g)
 header_starts layout g is = grind (arith, Any-from_list_any, eqb-true, get_or_default)
 
--- and has tag 0
-header_tag : (h : Heap) (g : ℕ) → IsSoundHeap h → is_header_granule h.layout g ≡ true → tag_at h.memory g ≡ 0
-header_tag h g sound is = grind (arith, header_starts)
-
 -- an access that succeeds under another tag than 0 touches no header
 pub headers_spared : (heap : Heap) (address len g : ℕ) → IsSoundHeap heap → logical_tag address ≢ 0 → access_fault heap.memory address len
     ≡ None → Touches address len g → IsFalse (is_header_granule heap.layout g)
 headers_spared h address len g sound tagged succeeds touches = false_from_ne_true (is_header_granule h.layout g) (λ is.
-    let fault = laws.other_tag_faults h.memory address len g touches (λ same. tagged (sym same ∙ header_tag h g sound is)) in
+    let fault = laws.other_tag_faults h.memory address len g touches (grind (arith, header_starts)) in
     grind (arith, both_ways))
