@@ -9,15 +9,10 @@ use Rattle.trace_event.specs.declared.event.{Event.{Event}, Event.TheVariants.{S
 use Rattle.heap_theory.specs.{Calls.{store_step}, GranuleKinds.{place_kind}}
 use Rattle.heap_theory.specs.{State.{Heap}}
 use Rattle.replay_theory.specs.AccessLaws.{IsAnswerTo, IsAnswered, AccessesAreAnswered}
-use Rattle.replay_theory.specs.Replay.{Replay, Answer, IsFaultAnswer, is_tag_fault, variable, heap_after, replay_after, access_answer}
+use Rattle.replay_theory.specs.Replay.{Replay, Answer, IsFaultAnswer, variable, heap_after, replay_after, access_answer}
 use Rattle.replay_theory.specs.Replay.{answer_of, answers, replay_of}
 use Rattle.replay_theory.specs.Replay.Answer.{Silent, NotMapped, TagFault}
 use Rattle.replay_theory.proofs.TheoryLemmas as laws
-
--- ---- which answers are faults
-
-tag_fault_faults : (a : Answer) → is_tag_fault a ≡ true → IsFaultAnswer a
-tag_fault_faults x0 is = grind arith
 
 -- ---- the three answers of an access
 
@@ -30,7 +25,7 @@ module _ (h : Heap) (address len : ℕ) (done : Answer) (no_fault : IsFaultAnswe
 
   done_answer : IsMapped (length h.memory) address len → ((g : ℕ) → Touches address len g → tag_at h.memory g ≡ logical_tag address) →
       IsAnswerTo h address len done done
-  done_answer mapped each = grind (arith, tag_fault_faults)
+  done_answer mapped each = grind arith
 
   pub access_is_answered : 0 < len → IsAnswerTo h address len done (access_answer h done (access_fault h.memory address len))
   unfolding access_fault
@@ -70,15 +65,11 @@ pub event_is_answered : (replay : Replay) (event : Event) → IsAnswered replay 
 unfolding answer_of
 event_is_answered r event = grind (arith, access_is_answered)
 
--- a fault is not silent
-not_silent : (h : Heap) (fault : Fault) → access_answer h Silent (Some fault) ≡ Silent → ⊥
-not_silent h x1 is = grind arith
-
 pub store_is_done : (replay : Replay) (v : ℕ) (off : ℤ) (len byte : ℕ) → let address = moved_by (variable replay v) off in
     let answer = answer_of replay (Store v off len byte) in let after = heap_after replay (Store v off len byte) in (answer ≡ Silent → after
     ≡ record replay.heap { memory = stored replay.heap.memory address (replicate len byte) }) × (answer ≢ Silent → after ≡ replay.heap)
 unfolding answer_of heap_after store_step
-store_is_done r v off len byte = grind (arith, length-replicate, not_silent)
+store_is_done r v off len byte = grind (arith, length-replicate)
 
 -- ---- whole traces
 

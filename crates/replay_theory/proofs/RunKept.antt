@@ -31,9 +31,6 @@ lengths_kept w x1 long = grind (arith, length-set)
 layout_kept : (h new : Heap) (o : Option ℕ) → HeapChange h new o → new.layout ≡ h.layout
 layout_kept h new o change = grind (arith, layout-given_out)
 
-limit_kept : (h new : Heap) (o : Option ℕ) → HeapChange h new o → new.quarantine ≡ h.quarantine
-limit_kept h new o change = grind (arith, quarantine-given_out)
-
 -- ---- all runs
 
 -- the limit of the quarantine is that of the first heap
@@ -115,7 +112,7 @@ module _ where
   unfolding run_after replay_after
   IsRunWith-run_after quarantine w e over =
       let change = (kept w e over.sound).change in
-      grind (arith, IsSoundRun-run_after, limit_kept)
+      grind (arith, IsSoundRun-run_after, quarantine-given_out)
 
   IsRunWith-first : (layout : Partition) (seed quarantine : ℕ) → IsPartition layout →
       IsRunWith quarantine (first_run layout seed quarantine)

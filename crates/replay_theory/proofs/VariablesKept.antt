@@ -2,7 +2,7 @@
 use Rattle.std.proofs.Common.{◌≡◌, ℕ, suc, ◌*◌, ◌<◌, Bool, true, false, cond, List, length, get_or, set, refl, sym, subst, inl}
 use Rattle.std.proofs.{Common.{arith, Some, None, Option, Result, Ok, Err, ◌==◌, slice_set, replicate}, lemmas.Bool.{cases_eq}}
 use Rattle.std.{proofs.lemmas.List.{get_or-set_same, get_or-set_other}, specs.Result.{result_ok, result_unwrap_or}}
-use Rattle.class_table.specs.{Layout.{slot_count}, Sizes.{chunk_granules}}
+use Rattle.class_table.specs.{Sizes.{chunk_granules}}
 use Rattle.heap_theory.proofs.CallsKept.{KeepsGiven, KeepsGiven-refl, KeepsGiven-with_payload, KeepsGiven-resized, KeepsGiven-moved}
 use Rattle.heap_theory.proofs.{CallsKept.{HeapChange, state_at-given_out, state_at-given_out_other, layout-given_out}, HeapKept.{in_states}}
 use Rattle.heap_theory.proofs.{Lookups.{slot_for_request-cases, chunk_at-is}, Tags.{IsTagOf-next_tag, next_tag-differs}}
@@ -39,11 +39,6 @@ module _ (h : Heap) (times : List ℕ) (r n : ℕ) (tag_below : h.tag < 16) (wit
         layout-given_out,
       )
 
-  -- the address that is given
-  IsAddressOf-new : r < slot_count h.layout →
-      IsAddressOf (given_out h r n) (slice_set times r (suc (get_or times r 0))) (pointer_to (given_out h r n) r) r (suc (get_or times r 0))
-  IsAddressOf-new in_range = grind (arith, IsTagOf-next_tag, state_at-given_out, layout-given_out, times_now)
-
 -- ---- variables
 
 IsSoundVariable-kept : (h new : Heap) (times : List ℕ) (a : ℕ) (g : Option Generation) → KeepsGiven h new → IsSoundVariable h times a g →
@@ -78,11 +73,7 @@ module _ (w : Run) (sound : IsSoundRun w) where
   IsSoundVariable-new : (new : Heap) (s n : ℕ) → MayBeGiven w.replay.heap n s → KeepsGiven (given_out w.replay.heap s n) new →
       IsSoundVariable new (times_with w (Some s)) (pointer_to (given_out w.replay.heap s n) s)
       (Some (record { slot = s; time = suc (times_of w s) }))
-  IsSoundVariable-new new s n given kept =
-      let i =
-      IsAddressOf-new w.replay.heap w.times s n sound.heap.tag_below (in_states_of s given.reusable) (in_times_of s given.reusable)
-      given.reusable.in_range in
-      grind (arith, IsAddressOf-kept)
+  IsSoundVariable-new new s n given kept = grind (arith, IsTagOf-next_tag, state_at-given_out, layout-given_out, times_now)
 
   -- ---- what a call gives
 
