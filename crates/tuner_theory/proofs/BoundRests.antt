@@ -1,12 +1,12 @@
 -- Valid potentials bound what every rest costs from below: what is counted above any place.
 use Rattle.std.proofs.Common.{◌≡◌, ℕ, zero, suc, ◌+◌, ◌*◌, ◌<◌, ◌≤◌, ◌%◌, max, List, [], ◌∷◌, length, slice_index, cond, ltb, leb}
 use Rattle.std.proofs.Common.{arith, refl, sym, ◌∙◌, inl, inr}
-use Rattle.std.proofs.lemmas.Bool.{cases_lt, cond_both, cond-false, le-ltb}
+use Rattle.std.proofs.lemmas.Bool.{cases_lt, cond_both, le-ltb}
 use Rattle.class_table.proofs.LawLemmas.{AreClassesAbove, classes_of_legal_table}
 use Rattle.tuner_theory.proofs.{Bound.{bound}, Needs.{Reaches, place_is_counted, places_ascend}, Rounding.{rounded-positive}}
 use Rattle.tuner_theory.proofs.{Sums.{sum_same}, Tables.{ServesAbove, class_for-later, waste_above, waste_above-costs}}
 use Rattle.tuner_theory.specs.{Best.{IsCandidate}, Intervals.{IsIntervalCost, cost_above, span_cost}, Potentials.{AreValidPotentials}}
-use Rattle.tuner_theory.specs.{Profiles.{IsCounted}, Rests.{counts_above, counts_above_from}, Waste.{waste_at, waste_of}}
+use Rattle.tuner_theory.specs.{Profiles.{IsCounted}, Rests.{counts_above, counts_above_from}, Waste.{waste_of}}
 use Rattle.tuner_theory.specs.Spans.{need_at, places, rounded_need, waste_between}
 
 -- ---- the counts above a need
@@ -112,15 +112,11 @@ module _ (counts : List ℕ) (step : ℕ) (pos : 0 < step) (i : ℕ) where
       ≡ waste_above counts step (max 1 (need_at counts step i)) classes
   waste-above classes = grind (arith, length-above, masked, left-above)
 
-  same-waste : (low c n : ℕ) (cs : List ℕ) → c ≤ low → 2 ≤ c → c % step ≡ 0
-      → cond (ltb low (rounded_need step n)) (waste_at counts (c ∷ cs) n) 0 ≡ cond (ltb low (rounded_need step n)) (waste_at counts cs n) 0
-  same-waste low c n cs le two multiple = grind (arith, cases_lt, class_for-later, cond-false, le-ltb)
-
   pub waste-rest : IsRestCost (waste_of (counts_above counts step i)) (waste_between counts step) counts (counts_above counts step i) step i
   waste-rest = record {
     from = counted-above counts step i;
     to = counted-to counts step i;
     sum = λ classes above. waste-above classes ∙ waste_above-costs counts step pos _ classes (omega arith) above;
-    drop = λ c cs le two multiple above. waste-above (c ∷ cs) ∙ sum_same _ _ (length counts) (λ n lt. same-waste _ c n cs le two multiple)
+    drop = λ c cs le two multiple above. waste-above (c ∷ cs) ∙ sum_same _ _ (length counts) (λ n lt. grind (arith, class_for-later, le-ltb))
         ∙ sym (waste-above cs);
   }

@@ -6,7 +6,7 @@ use Rattle.class_table.proofs.LawLemmas.{AreClassesAbove, class_above, classes_o
 use Rattle.class_table.specs.Tables.{class_for}
 use Rattle.tuner_theory.proofs.{Bound.{bound, potentials_bound_costs}, Intervals.{span-least}, Rounding.{rounded-positive, step-positive}}
 use Rattle.tuner_theory.proofs.{LeastRows.{ends_are_later, least_rows_are_valid}, TunedTable.{IsTableFor, next-above, table-tuned}}
-use Rattle.tuner_theory.proofs.Needs.{Reaches, place_is_counted, places_ascend, reach, reach-at, reach-covers, reach-one}
+use Rattle.tuner_theory.proofs.Needs.{Reaches, place_is_counted, reach, reach-at, reach-covers, reach-one}
 use Rattle.tuner_theory.proofs.Tables.{ServesAbove, ServesAbove-later, class_for-first, class_for-later, nothing-left}
 use Rattle.tuner_theory.specs.{Best.{IsBestBy, IsCandidate, IsCanonicalBy, IsLexicographicallyAtMost, IsUsed}, Profiles.{IsCounted}}
 use Rattle.tuner_theory.specs.{Intervals.{IsIntervalCost, IsSumOfIntervals, cost_above, span_cost}, Rows.{AreLeastRows, table_of_ends}}
@@ -62,11 +62,6 @@ module _ (counts : List ℕ) (step : ℕ) (pos : 0 < step) where
       let u = used-to 1 classes (omega arith) above used k lt in
       subst (IsUsed counts classes) (get_or_default classes k 0 d lt) (u.0, u.1, u.3)
 
-  -- a used class reaches farther than what is below it
-  used-farther : (low c i j n : ℕ) → Reaches counts step low (places counts step) i → Reaches counts step c (places counts step) j
-      → IsCounted counts n → low < rounded_need step n → rounded_need step n ≤ c → i < j
-  used-farther low c i j n ri rj counted over le = grind (arith, reach-covers, cases_lt, places_ascend)
-
 -- ---- the order of tables
 
 pub order-antisymmetric : (a b : List ℕ) → IsLexicographicallyAtMost a b → IsLexicographicallyAtMost b a → a ≡ b
@@ -116,7 +111,7 @@ module _ (counts : List ℕ) (step : ℕ) (pos : 0 < step) (between : ℕ → �
       let d = places counts step in
       cond_both (ltb i d) _ _ (λ table. IsLexicographicallyAtMost table (c ∷ cs))
       (λ e. let j = reach counts step c d in
-      let far : i < j.0 = used-farther counts step pos low c i j.0 used.0.0 r j.1 used.0.1 used.0.2 used.0.3 in
+      let far : i < j.0 = grind (arith, reach-covers) in
       let later = ServesAbove-later counts step pos low c cs one above.0 above.2 served in
       let row = least.later_row (suc k) i (omega arith) (omega arith) (ltb-true i d e) in
       let end = ends (suc (suc k)) i in

@@ -1,11 +1,11 @@
 -- The footprint is the sum of the intervals of its classes.
-use Rattle.std.proofs.Common.{◌≡◌, ℕ, zero, suc, ◌+◌, ◌*◌, ◌%◌, ◌<◌, ◌≤◌, ◌&&◌, Bool, true, false, List, [], ◌∷◌, length, slice_index}
-use Rattle.std.proofs.{Common.{get_or, cond, ltb, leb, eqb, Option, arith, refl, ap, ◌∙◌, inl, inr, All, sum_by}, Math.Nat.{mul-le-mul}}
+use Rattle.std.proofs.Common.{◌≡◌, ℕ, zero, suc, ◌+◌, ◌*◌, ◌%◌, ◌<◌, ◌≤◌, Bool, false, List, [], ◌∷◌, length, slice_index}
+use Rattle.std.proofs.{Common.{get_or, cond, ltb, arith, refl, ap, ◌∙◌, inl, inr, All, sum_by}, Math.Nat.{mul-le-mul}}
 use Rattle.std.proofs.lemmas.{Bool.{cases_lt}, Bool.Decides.{nat_tests}, List.Sums.{sum_by-cons}}
-use Rattle.std.{proofs.lemmas.List.FromFn.{get_or-map-range_with_len, length-map-range_with_len}, specs.Option.{option_map_or}}
+use Rattle.std.{proofs.lemmas.List.FromFn.{get_or-map-range_with_len, length-map-range_with_len}}
 use Rattle.class_table.{proofs.LawLemmas.{AreClassesAbove, classes_of_legal_table}, specs.Sizes.{largest_counted}}
 use Rattle.tuner_theory.proofs.{Rounding.{rounded-positive}, Served.{counted-served}, Sums.{sum_at_most, sum_same}}
-use Rattle.tuner_theory.{proofs.Tables.{class_for-first, cost-at_one}, specs.Histories.{AreSnapshots, most, peaks}}
+use Rattle.tuner_theory.{proofs.Tables.{cost-at_one}, specs.Histories.{AreSnapshots, most, peaks}}
 use Rattle.tuner_theory.specs.{Footprint.{blocks, blocks_between, footprint_between, footprint_of, is_class_of}, Profiles.{IsCounted}}
 use Rattle.tuner_theory.specs.{Intervals.{IsIntervalCost, IsSumOfIntervals, cost_above}, Served.{served}, Spans.{rounded_need}}
 use Rattle.tuner_theory.specs.Waste.{sum_below}
@@ -62,24 +62,7 @@ blocks_above step low classes class s =
 abbrev pub footprint_above : List (List ℕ) → ℕ → ℕ → List ℕ → ℕ → ℕ
 footprint_above snapshots step low classes class = 16 * class * most (blocks_above step low classes class) snapshots
 
-at-first : (x low c v : ℕ) (b : Bool) → (x ≤ c → b ≡ true) → (c < x → b ≡ false)
-    → cond (ltb low x) (cond b v 0) 0 ≡ cond (ltb low x && leb x c) v 0
-at-first x low c v b le lt = grind (arith, nat_tests)
-
-at-later : (x low c v : ℕ) (b later : Bool) → low < c → (x ≤ c → b ≡ false) → (c < x → b ≡ later)
-    → cond (ltb low x) (cond b v 0) 0 ≡ cond (ltb c x) (cond later v 0) 0
-at-later x low c v b later lc le lt = grind (arith, nat_tests)
-
-same-number : (c : ℕ) → eqb c c ≡ true
-same-number c = grind (arith, nat_tests)
-
-other-number : (c d : ℕ) → c < d → eqb c d ≡ false
-other-number c d lt = grind (arith, nat_tests)
-
 module _ (step : ℕ) (pos : 0 < step) where
-  first-is : (c class n : ℕ) (cs : List ℕ) → rounded_need step n ≤ c → is_class_of (c ∷ cs) class n ≡ eqb c class
-  first-is c class n cs le = ap (λ (o : Option ℕ). option_map_or (λ its. eqb its class) o false) (class_for-first step pos n c cs le)
-
   pub later-is : (c class n : ℕ) (cs : List ℕ) → 2 ≤ c → c % step ≡ 0 → c < rounded_need step n
       → is_class_of (c ∷ cs) class n ≡ is_class_of cs class n
   later-is c class n cs two multiple lt = grind arith
@@ -94,12 +77,10 @@ module _ (step : ℕ) (pos : 0 < step) where
     blocks-first : (s : List ℕ) → blocks_above step low (c ∷ cs) c s ≡ blocks_between step low c s
     blocks-first s =
         sum_same _ _ (length s)
-        (search (arith, at-first, first-is, same-number, later-is, no-class))
+        (grind (arith, nat_tests, later-is, no-class))
 
     blocks-later : (class : ℕ) → c < class → (s : List ℕ) → blocks_above step low (c ∷ cs) class s ≡ blocks_above step c cs class s
-    blocks-later class over s =
-        sum_same _ _ (length s)
-        (λ n within. grind (arith, at-later, other-number, later-is))
+    blocks-later class over s = grind (arith, nat_tests, later-is)
 
   above-each : (low j : ℕ) (classes : List ℕ) → AreClassesAbove step low classes → j < length classes → low < get_or classes j 0
   above-each low j [] above lt = absurd (omega arith)

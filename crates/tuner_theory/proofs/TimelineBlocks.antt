@@ -1,5 +1,5 @@
 -- What one event changes of the blocks of a class, and of the most that were live.
-use Rattle.std.proofs.Common.{◌≡◌, ℕ, zero, suc, ◌+◌, ◌*◌, ◌<◌, ◌≤◌, Bool, List, [], ◌∷◌, ◌++◌, length, map, max, slice_index}
+use Rattle.std.proofs.Common.{◌≡◌, ℕ, zero, suc, ◌+◌, ◌<◌, ◌≤◌, Bool, List, [], ◌∷◌, ◌++◌, length, map, max, slice_index}
 use Rattle.std.proofs.{Common.{get_or, cond, eqb, ltb, arith, refl, ap, sym, ◌∙◌, add-one}}
 use Rattle.std.{proofs.lemmas.Bool.Decides.{nat_tests}, specs.List.{range_with_len}}
 use Rattle.std.proofs.lemmas.List.FromFn.{get_or-map-range_with_len, length-map-range_with_len, map-range_with_len_more}
@@ -50,10 +50,6 @@ large-does-nothing classes class size lt = grind (arith, sum_none)
 
 -- ---- the blocks of a class, event by event
 
-masked-balance : (b : Bool) (more fewer now then : ℕ) → then + fewer ≡ now + more
-    → cond b then 0 + cond b fewer 0 + 1 * 0 ≡ 1 * cond b now 0 + cond b more 0
-masked-balance b more fewer now then is = grind arith
-
 pub blocks-step : (events : List SizeEvent) (classes : List ℕ) (class k : ℕ) (d : SizeEvent) → IsTimeline events → k < length events
     → blocks classes class (snapshot_at events (suc k)) + goes_at classes class (get_or events k d)
     ≡ blocks classes class (snapshot_at events k) + comes_at classes class (get_or events k d)
@@ -62,7 +58,7 @@ blocks-step events classes class k d timeline lt =
     let p = is_class_of classes class in
     let balance = sum_balance (λ n. cond (p n) (slice_index (snapshot_at events (suc k)) n) 0) (λ n. cond (p n) (frees_at n e) 0) (λ n. 0)
     (λ n. cond (p n) (slice_index (snapshot_at events k) n) 0) (λ n. cond (p n) (requests_at n e) 0) 1 (largest_counted + 1)
-    (λ n within. masked-balance (p n) (requests_at n e) (frees_at n e) _ _ (at n (omega arith))) in
+    (grind (arith, at)) in
     omega (
       arith,
       balance,
