@@ -4,7 +4,7 @@ use Rattle.std.proofs.Common.{Err, refl, sym, ap, ◌∙◌, arith, append_assoc
 use Rattle.std.{proofs.lemmas.Bool.{lt-ltb, le-ltb, ltb-false}, proofs.lemmas.Bool.Decides.{nat_tests}, specs.Option.{option_map}}
 use Rattle.std.{proofs.lemmas.List.{take_all, take-append-le, length-take, length-map, map-append}, specs.Str.{bytes_eq}}
 use Rattle.line_text.specs.Numbers.{number_of}
-use Rattle.class_table.specs.{ClassLine.{table_of_numbers}, Faults.{fault_from, is_out_of_range, table_of_classes}}
+use Rattle.class_table.specs.{ClassLine.{table_of_numbers}, Faults.{fault_from, table_of_classes}}
 use Rattle.class_table.specs.{NamedLines.{numbers_of, words_after}, declared.fault.TableError.{TableError}}
 use Rattle.class_table.specs.declared.fault.TableError.TheVariants.{BadLine, TooMany}
 
@@ -13,16 +13,10 @@ use Rattle.class_table.specs.declared.fault.TableError.TheVariants.{BadLine, Too
 abbrev pub clip : ℕ → ℕ
 clip n = min n 65535
 
-clipped_range : (n : ℕ) → is_out_of_range (clip n) ≡ is_out_of_range n
-clipped_range n = grind (arith, nat_tests)
-
-clip_small : (n : ℕ) → is_out_of_range n ≡ false → clip n ≡ n
-clip_small n e = grind (arith, nat_tests)
-
 same_faults : (below : ℕ) (ns : List ℕ) → fault_from below (map clip ns) ≡ fault_from below ns
 unfolding fault_from
 same_faults below [] = refl
-same_faults below (n ∷ ns) = grind (arith, same_faults n ns, clipped_range, clip_small)
+same_faults below (n ∷ ns) = grind (arith, same_faults n ns, nat_tests)
 
 same_classes : (below : ℕ) (ns : List ℕ) → fault_from below ns ≡ None → map clip ns ≡ ns
 unfolding fault_from
