@@ -1,15 +1,15 @@
 -- Lines that end, and the end of the text.
 use Rattle.std.proofs.Common.{◌≡◌, ℕ, suc, Bool, true, false, cond, eqb, eq-eqb, ltb, List, [], ◌∷◌, ◌++◌, length, Result, Ok, Err}
-use Rattle.std.proofs.{Common.{refl, sym, ap, ◌∙◌, arith, append_assoc, append-nil, add-one, Option}}
+use Rattle.std.proofs.{Common.{refl, sym, ap, ◌∙◌, arith, append_assoc, append-nil, add-one}}
 use Rattle.line_text.{proofs.LawLemmas.{equal_is_prefix, prefix_of_prefix}, specs.Lines.{IsLine}, specs.Prefixes.{IsPrefix}}
 use Rattle.trace_event.specs.declared.event.Event.{Event}
 use Rattle.trace_reader.proofs.{Cutting.{cut-ended}, Feeding.{pieces_are_joined}, Traces.{event_of_line-long, trace_from-one}}
 use Rattle.trace_reader.proofs.Reaching.{IsPrefix-fed, IsPrefix-finished, came, fed_at-line, fields, is_open_at, open_at}
 use Rattle.trace_reader.specs.{Reached.{HasReached, IsOnTheWay, answer_of}, Reading.State.{Open, Failed, Finished}}
 use Rattle.trace_reader.specs.Reading.{State, Reading, cut, fed, fed_in, finished, finished_in, is_open, judged_in}
-use Rattle.trace_reader.specs.Reading.{judgement_in, line_ended, state_after, whole_reading, with_judged, is_finished}
+use Rattle.trace_reader.specs.Reading.{judgement_in, line_ended, whole_reading, with_judged, is_finished}
 use Rattle.trace_reader.specs.{TraceLine.{event_of_line}, TraceText.{no_lines, with_line}}
-use Rattle.trace_reader.specs.declared.fault.{TraceError.{TraceError}, TraceError.TheVariants.{Line}, TraceFault.{TraceFault}}
+use Rattle.trace_reader.specs.declared.fault.{TraceError.{TraceError}, TraceError.TheVariants.{Line}}
 use Rattle.trace_reader.specs.declared.{fault.TraceFault.TheVariants.{LineTooLong}, status.Status.{Status}}
 use Rattle.trace_reader.specs.declared.status.Status.TheVariants.{Failed as HasFailed}
 
@@ -107,13 +107,9 @@ pub finished-failed : (r : Reading) (error : TraceError) → r.state ≡ Failed 
 unfolding finished
 finished-failed r error failed = rw failed (ap (λ (es : List Event). at es (Failed error)) (append-nil r.events))
 
--- a call that reads a piece does not finish
-is_unfinished : (lines : ℕ) (rest : List ℕ) (fault : Option (ℕ × TraceFault)) → is_finished (at [] (state_after lines rest fault)) ≡ false
-is_unfinished lines rest fault = grind arith
-
 is_finished-fed : (r : Reading) (piece : List ℕ) → is_finished r ≡ false → is_finished (fed r piece) ≡ false
 unfolding fed
-is_finished-fed r piece unfinished = grind (arith, is_unfinished)
+is_finished-fed r piece unfinished = grind arith
 
 pub unfinished_after : (old new : Reading) (piece : List ℕ) (result : Answer) → is_finished old ≡ false →
     HasReached old (fed old piece) new result → is_finished new ≡ false

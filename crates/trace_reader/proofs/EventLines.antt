@@ -161,10 +161,7 @@ words_of_line : (ws : List (List ℕ)) → 0 < length ws → All IsWord ws → w
 words_of_line [] some all = absurd (omega arith)
 words_of_line (w ∷ ws) some all = written_words_are_read w ws all
 
-some_words : (event : Event) → 0 < length (event_words event)
-some_words x0 = grind arith
-
 pub event_of_line-spelled : (number : ℕ) (event : Event) → number ≤ 1000000 → IsInRange event
     → event_of_line number (event_line event) ≡ Ok event
 unfolding event_of_line
-event_of_line-spelled number event few is = grind (arith, words_of_line, some_words, event_texts, event_read, le-ltb, event_len)
+event_of_line-spelled number event few is = grind (arith, words_of_line, event_texts, event_read, le-ltb, event_len)

@@ -5,7 +5,7 @@ use Rattle.line_text.{proofs.LawLemmas.{full_lines_are_read, text_is_its_lines},
 use Rattle.trace_event.specs.{Ranges.{IsInRange}, declared.event.Event.{Event}}
 use Rattle.trace_reader.proofs.{EventLines.{event_line-is_line, event_line-some, event_of_line-spelled}, LineRanges.{few_events}}
 use Rattle.trace_reader.{proofs.SpelledLines.{IfOk-event_of_line, spelled_line}, specs.TraceLine.{event_line, event_of_line}}
-use Rattle.trace_reader.specs.TraceText.{SpellsTrace, Trace, no_lines, trace_from, trace_of, with_line}
+use Rattle.trace_reader.specs.TraceText.{SpellsTrace, Trace, trace_from, trace_of, with_line}
 use Rattle.trace_reader.specs.declared.fault.TraceFault.{TraceFault}
 
 abbrev pub whole : List Event → Trace
@@ -23,15 +23,12 @@ no_fault : (number : ℕ) (r : Result Event TraceFault) (t : Trace) (events : Li
     (e : Event) × (es : List Event) × (r ≡ Ok e) × (events ≡ e ∷ es) × (t ≡ whole es)
 no_fault number x1 t events is = grind arith
 
-no_event : (events : List Event) → no_lines ≡ whole events → events ≡ []
-no_event events is = sym (ap (λ (x : Trace). x.events) is)
-
 of_ok : (P : Event → Type 0) (r : Result Event TraceFault) (e : Event) → r ≡ Ok e → IfOk r P → P e
 of_ok P r e is holds = subst (λ (r : Result Event TraceFault). IfOk r P) is holds
 
 spelled_lines : (number : ℕ) (ls : List (List ℕ)) (events : List Event) → trace_from number ls ≡ whole events → SpellLines number ls events
 unfolding trace_from
-spelled_lines number [] events is = grind (arith, no_event, All-nil)
+spelled_lines number [] events is = grind arith
 spelled_lines number (line ∷ ls) events is =
     let first = no_fault number (event_of_line number line) (trace_from (suc number) ls) events is in
     let e = first.0 in
