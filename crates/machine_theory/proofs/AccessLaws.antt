@@ -2,7 +2,7 @@
 use Rattle.std.proofs.Common.{◌≡◌, ◌≢◌, ◌⊎◌, ℕ, zero, suc, ◌+◌, ◌-◌, ◌*◌, ◌<◌, ◌≤◌, Bool, true, false, not, List, length, refl, ap}
 use Rattle.std.proofs.Common.{◌∙◌, inl, inr, arith, Some, None, Option, ◌==◌, ◌↔◌, IsSome, IsTrue, option_map}
 use Rattle.std.proofs.lemmas.Bool.{cases_Bool, false_from_ne_true, iff_false, cond-true, cond-false, eqb-true}
-use Rattle.std.proofs.lemmas.Bool.{not-false, and_parts, and_from, ltb-true, leb-true, lt-ltb, le-leb}
+use Rattle.std.proofs.lemmas.Bool.{not-false, and_parts, ltb-true, leb-true}
 use Rattle.std.specs.List.{find, range_with_len}
 use Rattle.machine_theory.specs.{Access.{IsMapped, IsTagFault, is_mapped, touched, tag_fault, access_fault}, Memory.{Granule, tag_at}}
 use Rattle.machine_theory.specs.{Address.{logical_tag, place_of, region_start, granule_of, Holds, Touches}, declared.fault.Fault.{Fault}}
@@ -22,11 +22,8 @@ module _ (p : ℕ → Bool) where
 pub IsMapped-from : (granules address len : ℕ) → is_mapped granules address len ≡ true → IsMapped granules address len
 IsMapped-from granules address len e = grind (arith, and_parts, ltb-true, leb-true)
 
-is_mapped-from : (granules address len : ℕ) → IsMapped granules address len → is_mapped granules address len ≡ true
-is_mapped-from granules address len m = grind (arith, and_from, lt-ltb, le-leb)
-
 pub mapped_test : (granules address len : ℕ) → IsTrue (is_mapped granules address len) ↔ IsMapped granules address len
-mapped_test granules address len = (IsMapped-from granules address len, is_mapped-from granules address len)
+mapped_test granules address len = grind arith
 
 -- the granules that a mapped access touches
 module _ (place len : ℕ) (from : region_start ≤ place) where
