@@ -22,9 +22,6 @@ module _ (xs ys : List ℕ) (count : ℕ) (long : length xs ≡ 17 * count) (sam
   same_tag : (g : ℕ) → (g < count → SameAt (16 * count + g)) → tag_at new g ≡ tag_at old g
   same_tag g same = grind (arith, tag_is, both_past)
 
-  same_byte : (k : ℕ) → (k < 16 * count → SameAt k) → byte_at new k ≡ byte_at old k
-  same_byte k same = grind (arith, byte_is, both_past)
-
   same_word : (k : ℕ) → ((j : ℕ) → j < 8 → byte_at new (k + j) ≡ byte_at old (k + j)) → word_at new k ≡ word_at old k
   unfolding word_at
   same_word k same = ap (from_le_bytes w64) (bytes_at_agree new old k 8 same)
@@ -38,7 +35,7 @@ module _ (xs ys : List ℕ) (count : ℕ) (long : length xs ≡ 17 * count) (sam
           grind (arith, same_number_lists, slice_range_long, slice_range_byte)
 
   pub changes_bytes : (from to : ℕ) → to ≤ 16 * count → ((k : ℕ) → (k < from) ⊎ (to ≤ k) → SameAt k) → ChangesOnlyBytes old new from to
-  changes_bytes from to within same = grind (arith, granules_counted, same_byte, same_word, same_bytes, same_tag)
+  changes_bytes from to within same = grind (arith, granules_counted, byte_is, same_word, same_bytes, same_tag)
 
   pub changes_tags : (from to : ℕ) → ((k : ℕ) → (k < 16 * count + from) ⊎ (16 * count + to ≤ k) → SameAt k) →
       ChangesOnlyTags old new from to

@@ -29,10 +29,6 @@ same_from n m k (suc d) ends small few same =
     let rest = same_from n m (suc k) d (omega arith) small few (λ i from to. same i (omega arith) to) in
     grind (arith, from_byte)
 
--- a number that eight bytes spell has no more bytes
-spelled_fits : (bs : List ℕ) → ((k : ℕ) → slice_index bs k < 256) → from_le_bytes w64 bs < 2 ^ 64
-spelled_fits bs small = omega (arith, small 0, small 1, small 2, small 3, small 4, small 5, small 6, small 7)
-
 -- byte i of the number that eight bytes spell
 spelled_byte : (bs : List ℕ) (i : ℕ) → length bs ≡ 8 → ((k : ℕ) → slice_index bs k < 256) → i < 8 →
     byte_in (from_le_bytes w64 bs) i ≡ slice_index bs i
@@ -93,7 +89,7 @@ module _ (bytes : List ℕ) (count first last tag : ℕ) (laid : IsLaidOut bytes
         sym (tag_byte i g (omega arith) (omega (arith, within, laid.least)))
         ∙ bytes_same word (72340172838076673 * tag) from (g - first) same ∙ repeated_byte tag i small (omega arith),
     λ each.
-        same_from word (72340172838076673 * tag) from (8 - from) (omega arith) (spelled_fits _ byte) (omega (arith, small))
+        same_from word (72340172838076673 * tag) from (8 - from) (omega arith) (grind (arith, byte)) (omega (arith, small))
         (λ i low high.
         tag_byte i (first + (i - from)) high (omega (arith, within, laid.least)) ∙ each (first + (i - from)) (omega arith) (omega arith)
         ∙ sym (repeated_byte tag i small high)),

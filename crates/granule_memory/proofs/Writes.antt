@@ -3,9 +3,9 @@
 use Rattle.std.proofs.Common.{◌≡◌, ℕ, zero, suc, ◌+◌, ◌-◌, ◌*◌, ◌<◌, ◌≤◌, ◌++◌, List, length, take, drop, refl, sym, ap, subst, ◌∙◌, lit<}
 use Rattle.std.proofs.Common.{arith, inl, inr, ⊎_elim, if◌then◌else◌, slice_range, slice_index, ◌⊎◌, All, replicate}
 use Rattle.std.proofs.lemmas.Bool.{cases_lt, cond-false, and_left, lt-leb}
-use Rattle.std.proofs.lemmas.{Grind.{same_number_lists}, List.Elements.{All-nil, All-cons, All-take, All-drop, All-append, All-replicate}}
+use Rattle.std.proofs.lemmas.{Grind.{same_number_lists}, List.Elements.{All-nil, All-take, All-drop, All-append, All-replicate}}
 use Rattle.std.proofs.lemmas.List.{length-append, length-take-le, length-drop, length-replicate, get_or-take, get_or-drop}
-use Rattle.std.{proofs.lemmas.List.{get_or_append_left, get_or-append_right, get_or-replicate}, specs.Int.{byte_at, bytes_low_first}}
+use Rattle.std.{proofs.lemmas.List.{get_or_append_left, get_or-append_right, get_or-replicate}, specs.Int.{bytes_low_first}}
 use Rattle.std.proofs.lemmas.List.FromFn.{get_or-map-range_with_len, length-map-range_with_len, fill_by_all}
 use Rattle.machine_theory.specs.Memory.{Granule, no_granule, granule_at, tag_at, bytes_at, each_granule, is_among, tagged, byte_after}
 use Rattle.machine_theory.specs.Memory.{bytes_after, written, new_granule}
@@ -17,13 +17,9 @@ use Rattle.granule_memory.specs.Changes.{ChangesOnlyBytes, ChangesOnlyTags}
 abbrev Below : ℕ → Type 0
 Below byte = byte < 256
 
--- the bytes of a number
-byte_below : (i n : ℕ) → byte_at i n < 256
-byte_below i n = grind arith
-
 pub bytes_below : (i k n : ℕ) → All Below (bytes_low_first i k n)
 bytes_below i zero n = All-nil Below
-bytes_below i (suc k) n = All-cons Below (byte_at i n) (bytes_low_first (suc i) k n) (byte_below i n) (bytes_below (suc i) k n)
+bytes_below i (suc k) n = grind (arith, bytes_below (suc i) k n)
 
 -- a byte of a list in which a run is written
 byte-with_bytes : (xs new : List ℕ) (i k : ℕ) → i + length new ≤ length xs →
