@@ -36,17 +36,13 @@ places_odd : (w k half : ℕ) → places (suc w) k (half * 2 + 1) ≡ k ∷ plac
 unfolding places
 places_odd w k half = grind (arith, places)
 
-places_even : (w k half : ℕ) → places (suc w) k (half * 2 + 0) ≡ places w (k + 1) half
-unfolding places
-places_even w k half = grind (arith, places)
-
 -- there are as many as `count_ones` says
 length-places : (w k n : ℕ) → n < 2 ^ w → length (places w k n) ≡ ones n
 unfolding places ones ones_in
 length-places zero k n h = let none : n ≡ 0 = omega arith in ap ones (sym none)
 length-places (suc w) k n h =
     by_lowest_bit (λ m. m < 2 * 2 ^ w → length (places (suc w) k m) ≡ ones m)
-    (λ half below. ap length (places_even w k half) ∙ length-places w (k + 1) half (omega arith)
+    (λ half below. ap length (grind arith) ∙ length-places w (k + 1) half (omega arith)
     ∙ sym (ones_cat 1 half 0 (omega arith) ∙ omega arith))
     (λ half below. ap length (places_odd w k half) ∙ ap suc (length-places w (k + 1) half (omega arith))
     ∙ sym (ones_cat 1 half 1 (omega arith) ∙ omega arith))
