@@ -1,6 +1,6 @@
 -- What is known of a heap that is kept in its parts.
 use Rattle.std.proofs.Common.{◌≡◌, ℕ, ◌+◌, ◌^◌, ◌<◌, ◌≤◌, List, length, refl, sym, ap, ◌∙◌, subst, inl, inr, arith, Contains, map}
-use Rattle.std.proofs.{Common.{slice_index}, lemmas.Bool.{cases_lt, lt-ltb, le-ltb, cond-true, cond-false}}
+use Rattle.std.proofs.{Common.{slice_index}, lemmas.Bool.{cases_lt, lt-ltb, cond-true}}
 use Rattle.std.proofs.lemmas.List.{ext_get_or, get_or-map, length-map}
 use Rattle.heap_theory.proofs.{Marks.{IsQueued, IsListed, chain_bytes, chain_dead, list_dead}, Regions.{length-headers_of}}
 use Rattle.heap_theory.{proofs.SeenMemory.{length-without_headers}, specs.Header.Standing.{Freed, Quarantined}, specs.Links.{list_of}}

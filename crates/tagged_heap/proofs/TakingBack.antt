@@ -1,10 +1,10 @@
 -- The chunk of a live slot is taken back, and the slot goes into the quarantine.
 use Rattle.std.proofs.Common.{lit<, ◌≡◌, ◌≢◌, ℕ, zero, suc, ◌+◌, ◌^◌, ◌<◌, ◌≤◌, List, [], ◌∷◌, ◌++◌, length, refl, sym, ap, ◌∙◌, subst}
-use Rattle.std.proofs.{Common.{arith, Contains, bit_or}, lemmas.Bool.{cases_eq}}
-use Rattle.machine_theory.specs.{Instructions.{drawn_tag}, Machine.{Machine}, Memory.{Granule, IsMemory, tagged}, Seed.{next_seed}}
+use Rattle.std.proofs.{Common.{arith, Contains}, lemmas.Bool.{cases_eq}}
+use Rattle.machine_theory.specs.{Machine.{Machine}, Memory.{Granule, IsMemory, tagged}, Seed.{next_seed}}
 use Rattle.class_table.specs.{Layout.{block_bytes}, Sizes.{chunk_granules}}
 use Rattle.heap_theory.proofs.{ChangedSlot.{state_here}, Marks.{not_marked}, SeenMemory.{length-without_headers}}
-use Rattle.heap_theory.specs.{Calls.{freed, next_tag, parity_exclude}, Header.{Header, FitsWords, with_header, size_of}}
+use Rattle.heap_theory.specs.{Calls.{freed, next_tag}, Header.{Header, FitsWords, with_header}}
 use Rattle.heap_theory.specs.{QueueAndLists.{HasMark}, Region.{region_of, header_in, next_in}}
 use Rattle.heap_theory.specs.{Sound.{IsSoundHeap}, State.State.{Live, Dead}}
 use Rattle.heap_theory.specs.State.{State, Heap, slot_in, state_at, is_fresh, last_tag, chunk_granules_of, payload_start, without_headers}
@@ -22,13 +22,10 @@ module _ {h : Heap} {frees : ℕ} {p : Parts} {counters : List ℕ} (held : IsAt
     (live : state_at h s ≡ Live n tag) where
   -- ---- the slot
 
-  header_size : (header_in (region_of h.layout p.memory) s).size ≡ n
-  header_size = ap (λ (x : Header). x.size) (held.kept.headers.headers s in_range) ∙ ap size_of live
-
   pub retire_room : HasRoom h.layout p.memory s (header_in (region_of h.layout p.memory) s).size
   retire_room =
       let room = subst (λ x. chunk_granules_of x < (slot_in h s).class) live (held.kept.sound.tagged s in_range).room in
-      subst (HasRoom h.layout p.memory s) (sym header_size)
+      subst (HasRoom h.layout p.memory s) (grind arith)
       (has_room held.kept s n in_range (size_most n _ room (class_most h s held.kept.sound in_range)) room)
 
   -- the header says what is known of the chunk,
@@ -53,9 +50,6 @@ module _ {h : Heap} {frees : ℕ} {p : Parts} {counters : List ℕ} (held : IsAt
   retired_is =
       let sum = bytes_from held.kept in
       grind arith
-
-  drawn_is : tag_for h.layout (record { memory = p.memory; seed = h.seed; tag = h.tag }) s ≡ next_tag h s
-  drawn_is = ap (λ (x : Header). drawn_tag h.tag h.seed (bit_or (parity_exclude s) (2 ^ x.tag))) (held.kept.headers.headers s in_range)
 
   sound_after : IsSoundHeap (freed h s n)
   sound_after = laws.freed_sound h s n tag held.kept.sound in_range live
@@ -209,4 +203,4 @@ module _ {h : Heap} {frees : ℕ} {p : Parts} {counters : List ℕ} (held : IsAt
   unfolding freed
   freed_shown kept machine retired total is =
       shown_is kept total machine.seed machine.tag is (ap (λ (x : Machine). x.seed) retired)
-      (ap (λ (x : Machine). x.tag) retired ∙ drawn_is)
+      (grind arith)
