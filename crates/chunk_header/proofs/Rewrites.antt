@@ -4,7 +4,7 @@ use Rattle.std.proofs.{Common.{arith, slice_index}, lemmas.List.FromFn.{fill_by_
 use Rattle.std.specs.Int.{w64, to_le_bytes}
 use Rattle.granule_memory.specs.Changes.{ChangesOnlyBytes}
 use Rattle.machine_theory.proofs.ByteLaws.{byte_below, bytes_at-below, get_or-bytes_at, length-bytes_at}
-use Rattle.machine_theory.specs.Memory.{Granule, IsGranule, IsMemory, no_granule, granule_at, byte_at, bytes_at, word_at, is_among, written}
+use Rattle.machine_theory.specs.Memory.{Granule, IsGranule, IsMemory, no_granule, granule_at, byte_at, bytes_at, word_at, written}
 use Rattle.machine_theory.specs.Memory.{byte_after, bytes_after}
 use Rattle.machine_theory.specs.Memory as memory_words
 
