@@ -89,7 +89,8 @@ module _ (layout : Partition) (is : IsPartition layout) where
   pub region_of-read : (memory new : List Granule) (s : ℕ) (header : Header) → IsMemory memory → s < slot_count layout →
       new ≡ with_header memory (slot_of layout s).start header → header_at new (slot_of layout s).start ≡ header →
       region_of layout new ≡ with_slot_header (region_of layout memory) s header
-  region_of-read memory new s header memory_is within written read = grind (arith, header_at-elsewhere, header_unseen, region_of-rewritten, starts_differ)
+  region_of-read memory new s header memory_is within written read =
+      grind (arith, header_at-elsewhere, header_unseen, region_of-rewritten, starts_differ)
 
   pub region_of-header : (memory : List Granule) (s : ℕ) (header : Header) → IsMemory memory → length memory ≡ layout.granules →
       s < slot_count layout → FitsWords header →
