@@ -30,7 +30,8 @@ module _ (step : ℕ) (pos : 0 < step) where
   class_for-above : (low n class : ℕ) (classes : List ℕ) → 1 ≤ low → AreClassesAbove step low classes → class_for classes n ≡ Some class
       → rounded_need step n ≤ class
   class_for-above low n class [] one above e = absurd cc
-  class_for-above low n class (c ∷ cs) one above e = grind (arith, class_for-above c n class cs (omega (arith, above.0)) above.3, class_for-later)
+  class_for-above low n class (c ∷ cs) one above e =
+      grind (arith, class_for-above c n class cs (omega (arith, above.0)) above.3, class_for-later)
 
 module _ (counts : List ℕ) (step : ℕ) (pos : 0 < step) where
   used-from : (low : ℕ) (classes : List ℕ) → 1 ≤ low → AreClassesAbove step low classes
@@ -48,7 +49,8 @@ module _ (counts : List ℕ) (step : ℕ) (pos : 0 < step) where
       → (k : ℕ) → k < length classes → IsUsedAt counts step low classes k
   used-to low [] one above used k lt = absurd (omega arith)
   used-to low (c ∷ cs) one above used zero lt = grind (arith, class_for-first)
-  used-to low (c ∷ cs) one above used (suc k) lt = grind (arith, used-to c cs (omega (arith, above.0)) above.3 used.1 k (omega arith), class_for-later)
+  used-to low (c ∷ cs) one above used (suc k) lt =
+      grind (arith, used-to c cs (omega (arith, above.0)) above.3 used.1 k (omega arith), class_for-later)
 
   used-from_all : (classes : List ℕ) → AreClassesAbove step 1 classes → All (IsUsed counts classes) classes →
       AreUsedAbove counts step 1 classes

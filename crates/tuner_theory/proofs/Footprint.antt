@@ -71,7 +71,8 @@ module _ (step : ℕ) (pos : 0 < step) where
   pub no-class : (low class n : ℕ) (classes : List ℕ) → 1 ≤ low → class ≤ low → AreClassesAbove step low classes
       → is_class_of classes class n ≡ false
   no-class low class n [] one le above = refl
-  no-class low class n (c ∷ cs) one le above = grind (arith, no-class c class n cs (omega (arith, above.0)) (omega (arith, above.0)) above.3)
+  no-class low class n (c ∷ cs) one le above =
+      grind (arith, no-class c class n cs (omega (arith, above.0)) (omega (arith, above.0)) above.3)
 
   module _ (low c : ℕ) (cs : List ℕ) (one : 1 ≤ low) (above : AreClassesAbove step low (c ∷ cs)) where
     blocks-first : (s : List ℕ) → blocks_above step low (c ∷ cs) c s ≡ blocks_between step low c s
@@ -91,7 +92,8 @@ module _ (step : ℕ) (pos : 0 < step) where
       → blocks_above step low classes (get_or classes j 0) s ≡ blocks_between step (get_or (low ∷ classes) j 0) (get_or classes j 0) s
   blocks-at low j [] s one above lt = absurd (omega arith)
   blocks-at low zero (c ∷ cs) s one above lt = blocks-first low c cs one above s
-  blocks-at low (suc j) (c ∷ cs) s one above lt = grind (arith, blocks-at c j cs s (omega (arith, above.0)) above.3 (omega arith), blocks-later, above-each)
+  blocks-at low (suc j) (c ∷ cs) s one above lt =
+      grind (arith, blocks-at c j cs s (omega (arith, above.0)) above.3 (omega arith), blocks-later, above-each)
 
   needed : (x v : ℕ) → 2 ≤ x → v ≡ cond (ltb 1 x) v 0
   needed x v two = grind (arith, nat_tests)

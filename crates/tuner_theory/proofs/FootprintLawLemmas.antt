@@ -115,7 +115,8 @@ module _ (counts : List ℕ) (step : ℕ) (pos : 0 < step) where
       → cost_above (footprint_between (counts ∷ []) step) low classes
       ≡ cost_above (waste_between counts step) low classes + asked_above low
   held-above low [] one above served = omega (arith, asked-none low served)
-  held-above low (c ∷ cs) one above served = grind (arith, held-above c cs (omega (arith, above.0)) above.3 (ServesAbove-later counts step pos low c cs one above.0 above.2 served), held-between, asked-split)
+  held-above low (c ∷ cs) one above served =
+      grind (arith, held-above c cs (omega (arith, above.0)) above.3 (ServesAbove-later counts step pos low c cs one above.0 above.2 served), held-between, asked-split)
 
 pub one_snapshot : (counts classes : List ℕ) (step : ℕ) → IsStep step → IsLegalTable step classes → Serves counts classes
     → footprint_of (counts ∷ []) classes

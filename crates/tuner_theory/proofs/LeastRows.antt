@@ -54,7 +54,8 @@ module _ (cost : ℕ → ℕ → ℕ) (d limit : ℕ) (rows ends rows' ends' : �
 
   rows-one : (k i : ℕ) → k < limit → i ≤ d → rows (suc k) i ≡ rows' (suc k) i
   rows-one zero i few within = grind (arith, same-at)
-  rows-one (suc k) i few within = grind (arith, rows-one k (ends (suc (suc k)) i) (omega arith), rows-one k (ends' (suc (suc k)) i) (omega arith), same-at)
+  rows-one (suc k) i few within =
+      grind (arith, rows-one k (ends (suc (suc k)) i) (omega arith), rows-one k (ends' (suc (suc k)) i) (omega arith), same-at)
 
 -- ---- rows as lists: those of one shape are the same if their numbers are
 
