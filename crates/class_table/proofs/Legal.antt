@@ -84,7 +84,8 @@ faultless-above : (step low below : ℕ) (classes : List ℕ) → 1 ≤ low → 
     fault_from below classes ≡ None
 unfolding fault_from
 faultless-above step low below [] one le above = refl
-faultless-above step low below (class ∷ classes) one le above = grind (arith, faultless-above step class class classes (omega (arith, above.0)) (omega arith) above.3)
+faultless-above step low below (class ∷ classes) one le above =
+    grind (arith, faultless-above step class class classes (omega (arith, above.0)) (omega arith) above.3)
 
 pub no_fault-from_classes : (classes : List ℕ) → AreClassesAbove 1 1 classes → fault_from 0 classes ≡ None
 no_fault-from_classes classes above = faultless-above 1 1 0 classes (omega arith) (omega arith) above

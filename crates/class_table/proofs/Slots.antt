@@ -80,7 +80,8 @@ spread_apart : (a b : ℕ) (slots : List Slot) (s r : ℕ) → IsSpread a b slot
 spread_apart a b [] s r spread before within = absurd (omega arith)
 spread_apart a b (slot ∷ slots) s zero spread before within = absurd (omega arith)
 spread_apart a b (slot ∷ slots) zero (suc r) spread before within = (spread_at (end_of slot) b slots r spread.2 (omega arith)).after
-spread_apart a b (slot ∷ slots) (suc s) (suc r) spread before within = grind (arith, spread_apart (end_of slot) b slots s r spread.2 (omega arith) (omega arith))
+spread_apart a b (slot ∷ slots) (suc s) (suc r) spread before within =
+    grind (arith, spread_apart (end_of slot) b slots s r spread.2 (omega arith) (omega arith))
 
 pub legal_slots_are_in_order : (step : ℕ) (layout : Partition) → IsLegalTable step layout.classes → AreInOrder layout
 legal_slots_are_in_order step layout legal =
@@ -123,8 +124,10 @@ slot_in_class : (first share : ℕ) (classes : List ℕ) (number k : ℕ) → nu
     ≡ record { start = first + share * number + get_or classes number 0 * k; class = get_or classes number 0 }
 unfolding slots_of_classes
 slot_in_class first share [] number k within fits = absurd (omega arith)
-slot_in_class first share (class ∷ classes) zero k within fits = grind (arith, get_or_append_left, length-slots_of_class, get_or-map-range_with_len)
-slot_in_class first share (class ∷ classes) (suc number) k within fits = grind (arith, slot_in_class (first + share) share classes number k (omega arith) fits, slots_before-suc, length-slots_of_class, get_or-append-add)
+slot_in_class first share (class ∷ classes) zero k within fits =
+    grind (arith, get_or_append_left, length-slots_of_class, get_or-map-range_with_len)
+slot_in_class first share (class ∷ classes) (suc number) k within fits =
+    grind (arith, slot_in_class (first + share) share classes number k (omega arith) fits, slots_before-suc, length-slots_of_class, get_or-append-add)
 
 pub slot_of-class : (layout : Partition) (number k : ℕ) → number < length layout.classes →
     k < share_of layout / get_or layout.classes number 0 →
