@@ -59,7 +59,8 @@ read_lines : (number : ℕ) (events : List Event) → All IsInRange events → n
     → trace_from number (map event_line events) ≡ whole events
 unfolding trace_from
 read_lines number [] ranges few = refl
-read_lines number (e ∷ es) ranges few = grind (arith, read_lines (suc number) es (All-tail IsInRange e es ranges) (omega (arith, few)), event_of_line-spelled, All-head)
+read_lines number (e ∷ es) ranges few =
+    grind (arith, read_lines (suc number) es (All-tail IsInRange e es ranges) (omega (arith, few)), event_of_line-spelled, All-head)
 
 full_lines : (events : List Event) → All IsInRange events → All IsFullLine (map event_line events)
 full_lines [] ranges = All-nil IsFullLine
