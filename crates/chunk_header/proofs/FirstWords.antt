@@ -1,7 +1,7 @@
 -- The first word with another link, that of a released slot, and that of a slot in quarantine.
-use Rattle.std.proofs.Common.{◌≡◌, ℕ, ◌+◌, ◌*◌, ◌/◌, ◌%◌, ◌^◌, ◌∙◌, ap, arith}
-use Rattle.heap_theory.proofs.HeaderWords.{code_fits, code_of-standing_of, standing_of-code_of}
-use Rattle.heap_theory.specs.{Header.{Header, Standing, code_of, standing_of, first_word, header_of}, Header.Standing.{Freed, Quarantined}}
+use Rattle.std.proofs.Common.{◌≡◌, ℕ, ◌+◌, ◌*◌, ◌/◌, ◌%◌, ◌^◌, arith}
+use Rattle.heap_theory.proofs.HeaderWords.{code_fits, code_of-standing_of}
+use Rattle.heap_theory.specs.{Header.{Header, Standing, code_of, first_word, header_of}, Header.Standing.{Freed, Quarantined}}
 
 pub first_word-with_next : (first second next : ℕ) →
     first_word (record (header_of first second) { next = next }) ≡ first % 2 ^ 32 + 2 ^ 32 * next
@@ -27,15 +27,4 @@ header_of-relinked standing first second next =
     let word = first_word header in
     let few = code_fits header.standing in
     let code_is : word % 2 ^ 2 ≡ code_of header.standing = omega arith in
-    let size_is : word / 2 ^ 2 % 2 ^ 14 ≡ header.size = omega arith in
-    let tag_is : word / 2 ^ 16 % 2 ^ 4 ≡ header.tag = omega arith in
-    let class_is : word / 2 ^ 20 % 2 ^ 12 ≡ header.class = omega arith in
-    let next_is : word / 2 ^ 32 ≡ next = omega arith in
-    λ i. record {
-      standing = (ap standing_of code_is ∙ standing_of-code_of header.standing) i;
-      size = size_is i;
-      tag = tag_is i;
-      class = class_is i;
-      next = next_is i;
-      mark = second;
-    }
+    grind arith

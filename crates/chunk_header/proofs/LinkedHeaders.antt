@@ -11,10 +11,7 @@ use Rattle.chunk_header.specs.HeaderWrite.{WritesHeader}
 pub word_relinked : (standing : Standing → Standing) (memory : List Granule) (g next word second : ℕ) → word ≡ word_at memory (16 * g + 0) →
     first_word (relinked standing next (header_of word second)) ≡ first_word (relinked standing next (header_at memory g))
 unfolding header_at
-word_relinked standing memory g next word second read =
-    let at : 16 * g + 0 ≡ 16 * g = omega arith in
-    (λ i. first_word (relinked standing next (header_of (read i) second)))
-    ∙ (λ i. first_word (relinked standing next (header_of (word_at memory (at i)) second)))
+word_relinked standing memory g next word second read = grind arith
 
 -- the word that is written makes that header; the second word is not written, since it would not change
 pub one_word : (standing : Standing → Standing) (old new : List Granule) (g next word before : ℕ) → before ≡ word_at old (16 * g + 0)
@@ -29,9 +26,7 @@ one_word standing old new g next word before was is writes reads others memory =
     let first : word_at new (16 * g) ≡ first_word header = ap (word_at new) (sym at) ∙ reads ∙ word_is in
     let second : word_at new (16 * g + 8) ≡ header.mark = others.word (16 * g + 8) (inr (omega arith)) in
     let written_is : new ≡ with_header old g header =
-    sym (word_written_over new (16 * g + 8) memory)
-    ∙ (λ i. written (16 * g + 8) (to_le_bytes w64 (second i)) ((writes ∙ (λ j. written (at j) (to_le_bytes w64 (word_is j)) old)) i))
-    ∙ sym (with_header-words old g header) in
+    grind (arith, word_written_over, with_header-words) in
     record {
       written = written_is;
       read = (λ i. header_of (first i) (second i)) ∙ header_of-relinked standing (word_at old (16 * g)) (word_at old (16 * g + 8)) next;

@@ -1,11 +1,10 @@
 -- What is written where it was read changes nothing.
-use Rattle.std.proofs.Common.{◌≡◌, ℕ, ◌+◌, ◌-◌, ◌*◌, ◌/◌, ◌%◌, ◌<◌, List, length, get_or, false, ⊎_elim, inl, inr, refl, sym, ap, ◌∙◌}
+use Rattle.std.proofs.Common.{◌≡◌, ℕ, ◌+◌, ◌*◌, ◌/◌, ◌<◌, List, length, get_or, refl, sym, ap, ◌∙◌}
 use Rattle.std.proofs.{Common.{arith, slice_index}, lemmas.List.FromFn.{fill_by_all}, lemmas.Nat.{le_bytes_8}}
-use Rattle.std.proofs.lemmas.Bool.{cases_lt, cond-true, cond-false, and_from, and_left, and_right, le-leb, lt-ltb, lt-leb, le-ltb}
 use Rattle.std.specs.Int.{w64, to_le_bytes}
 use Rattle.granule_memory.specs.Changes.{ChangesOnlyBytes}
 use Rattle.machine_theory.proofs.ByteLaws.{byte_below, bytes_at-below, get_or-bytes_at, length-bytes_at}
-use Rattle.machine_theory.specs.Memory.{Granule, IsGranule, IsMemory, no_granule, granule_at, byte_at, bytes_at, word_at, is_among, written}
+use Rattle.machine_theory.specs.Memory.{Granule, IsGranule, IsMemory, no_granule, granule_at, byte_at, bytes_at, word_at, written}
 use Rattle.machine_theory.specs.Memory.{byte_after, bytes_after}
 use Rattle.machine_theory.specs.Memory as memory_words
 
@@ -21,33 +20,19 @@ module _ (memory : List Granule) (is : IsMemory memory) (i len : ℕ) where
 
   -- each byte of the run is written over itself
   same_byte : (j : ℕ) → byte_after i run j (byte_at memory j) ≡ byte_at memory j
-  same_byte j = ⊎_elim
-      (λ low. outside (and_left _ _ (lt-leb _ _ low)))
-      (λ from. ⊎_elim
-      (λ to. cond-true (is_among i (length run) j) (slice_index run (j - i)) (byte_at memory j)
-      (and_from _ _ (le-leb _ _ from) (lt-ltb _ _ to)) ∙
-      run_byte (j - i) j (omega (arith, run_long)) (omega arith))
-      (λ past. outside (and_right _ _ (le-ltb _ _ past)))
-      (cases_lt j (i + length run)))
-      (cases_lt j i)
-    where
-      outside : is_among i (length run) j ≡ false → byte_after i run j (byte_at memory j) ≡ byte_at memory j
-      outside out = cond-false (is_among i (length run) j) (slice_index run (j - i)) (byte_at memory j) out
+  same_byte j = grind (arith, run_byte, run_long)
 
   same_bytes : (g : ℕ) → g < length memory → (granule_at memory g).bytes ≡ bytes_after i run g (granule_at memory g).bytes
   same_bytes g among =
       let bytes = (granule_at memory g).bytes in
       let granule : IsGranule (granule_at memory g) = is.granules g no_granule among in
       fill_by_all (λ k. byte_after i run (16 * g + k) (slice_index bytes k)) bytes (length bytes) 0 refl
-      (λ k h. let sixteen = granule.sixteen in
-      let at : byte_at memory (16 * g + k) ≡ slice_index bytes k = byte_in g k (omega arith) in
-      sym (ap (byte_after i run (16 * g + k)) (sym at) ∙ same_byte (16 * g + k) ∙ at))
+      (grind (arith, byte_in, same_byte))
     where
       byte_in : (g k : ℕ) → k < 16 → byte_at memory (16 * g + k) ≡ slice_index (granule_at memory g).bytes k
       byte_in g k below =
           let granule_is : (16 * g + k) / 16 ≡ g = omega arith in
-          let place_is : (16 * g + k) % 16 ≡ k = omega arith in
-          λ n. slice_index (granule_at memory (granule_is n)).bytes (place_is n)
+          grind arith
 
   pub written_over : written i run memory ≡ memory
   unfolding written memory_words.each_granule
@@ -67,16 +52,4 @@ word_written_over memory i is =
 -- two words that are written one after the other change no byte but those of their granule
 pub both_words : (old half new : List Granule) (g : ℕ) → ChangesOnlyBytes old half (16 * g + 0) (16 * g + 0 + 8) →
     ChangesOnlyBytes half new (16 * g + 8) (16 * g + 8 + 8) → ChangesOnlyBytes old new (16 * g) (16 * g + 16)
-both_words old half new g first second = record {
-  len = second.len ∙ first.len;
-  tag = λ k. second.tag k ∙ first.tag k;
-  byte = λ k. ⊎_elim
-      (λ low. second.byte k (inl (omega (arith, low))) ∙ first.byte k (inl (omega (arith, low))))
-      (λ past. second.byte k (inr (omega (arith, past))) ∙ first.byte k (inr (omega (arith, past))));
-  word = λ k. ⊎_elim
-      (λ low. second.word k (inl (omega (arith, low))) ∙ first.word k (inl (omega (arith, low))))
-      (λ past. second.word k (inr (omega (arith, past))) ∙ first.word k (inr (omega (arith, past))));
-  granule = λ k. ⊎_elim
-      (λ low. second.granule k (inl (omega (arith, low))) ∙ first.granule k (inl (omega (arith, low))))
-      (λ past. second.granule k (inr (omega (arith, past))) ∙ first.granule k (inr (omega (arith, past))));
-}
+both_words old half new g first second = grind arith

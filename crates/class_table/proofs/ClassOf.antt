@@ -24,10 +24,7 @@ firsts_of-ascending layout a b d le within = grind (arith, length-firsts_of, get
 -- the last of them is above each slot
 pub last_of_firsts : (layout : Partition) (slot : ℕ) → slot < slot_count layout →
     slot < slice_index (firsts_of layout) (length (firsts_of layout) - 1)
-last_of_firsts layout slot within =
-    let long = length-firsts_of layout in
-    let at : length (firsts_of layout) - 1 ≡ length layout.classes = omega arith in
-    rw (at, get_or-firsts_of layout (length layout.classes) 0 (omega arith), ← slots_of_classes_are_all layout) within
+last_of_firsts layout slot within = grind (arith, length-firsts_of, get_or-firsts_of, slots_of_classes_are_all)
 
 pub class_of_point : (layout : Partition) (slot point : ℕ) → slot < slot_count layout → point ≤ length (firsts_of layout) →
     ((k d : ℕ) → k < length (firsts_of layout) → k < point → get_or (firsts_of layout) k d ≤ slot) →

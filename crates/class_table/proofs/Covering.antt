@@ -1,6 +1,6 @@
 -- The slot that covers a granule.
-use Rattle.std.proofs.{Common.{◌≡◌, ℕ, ◌<◌, ◌≤◌, true, ltb, Some, None, ◌∙◌, ap, cond, arith, ◌↔◌}, lemmas.List.Quantifiers.{position-Some}}
-use Rattle.std.proofs.lemmas.{Bool.{and_from, le-leb, lt-ltb, cond-true, false_from_ne_true}, List.Sums.{position_or_len_is}}
+use Rattle.std.proofs.{Common.{◌≡◌, ℕ, ◌<◌, ◌≤◌, true, Some, arith, ◌↔◌}, lemmas.List.Quantifiers.{position-Some}}
+use Rattle.std.proofs.lemmas.{Bool.{and_from, le-leb, lt-ltb, false_from_ne_true}, List.Sums.{position_or_len_is}}
 use Rattle.std.specs.List.{position_or_len}
 use Rattle.class_table.{proofs.Slots.{legal_slots_are_in_order}, specs.Tables.{IsLegalTable}}
 use Rattle.class_table.specs.Layout.{Partition, Slot, no_slot, end_of, slots_of, slot_count, slot_of, Covers, covers, slot_over}
@@ -35,5 +35,4 @@ one_slot_covers step layout granule s legal = (found, finds)
         (λ r before. false_from_ne_true (covers (slot_of layout r) granule)
         (λ test. one_covers step layout granule s r legal before at.0 at.1 (Covers-true (slot_of layout r) granule test)))
         (λ within. true-Covers (slot_of layout s) granule at.1) in
-        ap (λ p. cond (ltb p (slot_count layout)) (Some p) None) place
-        ∙ cond-true (ltb s (slot_count layout)) (Some s) None (lt-ltb s (slot_count layout) at.0)
+        grind arith

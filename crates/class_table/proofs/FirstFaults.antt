@@ -6,10 +6,6 @@ use Rattle.class_table.proofs.Spelled.{line_is_its_text, lines-spelled, read_lin
 use Rattle.class_table.specs.ClassLine.{BeginsWithTable, SpellsTable, class_line, table_of_lines, table_of_line, table_of}
 use Rattle.class_table.specs.declared.fault.TableError.TheVariants.{BadLine}
 
--- what is read is not refused
-read_or_refused : (read : Result (List ℕ) TableError) (table : List ℕ) → IsErr read → read ≡ Ok table → ⊥
-read_or_refused read table is also = grind arith
-
 -- ---- texts that spell a table, and texts that begin with one
 
 -- the line of a table alone spells it
@@ -19,15 +15,6 @@ spells-class_line table legal = record { legal = legal; line = line_is_its_text 
 -- what spells a table begins with it
 begins-spelled : (text table : List ℕ) → SpellsTable text table → BeginsWithTable text table
 begins-spelled text table spells = grind (arith, lines-spelled)
-
--- lists of one line
-same_line : (x y : List ℕ) → x ∷ [] ≡ y ∷ [] → x ≡ y
-same_line x y e = cc
-
--- the first line of what begins with a table is read as that table
-read-begins : (text line table : List ℕ) → take 1 (lines text) ≡ line ∷ [] → BeginsWithTable text table
-    → table_of_line line ≡ Ok table
-read-begins text line table first begins = grind (arith, same_line, table_line_is_read)
 
 -- ---- line 1
 
@@ -56,7 +43,7 @@ pub first_fault_is_refused : (text line : List ℕ) → take 1 (lines text) ≡ 
 first_fault_is_refused text line first = (refused_is, is_refused (table_of_line line) refl)
   where
     refused_is : IsErr (table_of_line line) → IsFirstFault BeginsWithTable text 1
-    refused_is refused = first_line_fault text (grind (arith, read_or_refused, read-begins))
+    refused_is refused = first_line_fault text (grind (arith, table_line_is_read))
 
     is_refused : (read : Result (List ℕ) TableError) → table_of_line line ≡ read → IsFirstFault BeginsWithTable text 1
         → IsErr (table_of_line line)

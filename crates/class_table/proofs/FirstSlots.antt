@@ -1,8 +1,8 @@
 -- The numbers of first slots: how large they are, and where they lead.
-use Rattle.std.proofs.Common.{◌≡◌, ℕ, ◌+◌, ◌*◌, ◌/◌, ◌%◌, ◌<◌, ◌≤◌, length, take, get_or, arith, length-take, subst, All, sum_by}
-use Rattle.std.proofs.lemmas.{List.{take-take}, List.Elements.{All-take, All-weaker}, List.Sums.{sum_by-le, sum_by_more, sum_by-take-le}}
-use Rattle.std.proofs.lemmas.Nat.{mul-le, div-add-mod'}
-use Rattle.class_table.{proofs.Slots.{length-slots_of_classes}, specs.Sizes.{IsBlockSize}}
+use Rattle.std.proofs.Common.{◌≡◌, ℕ, ◌+◌, ◌*◌, ◌/◌, ◌<◌, ◌≤◌, length, take, get_or, arith, length-take, subst, All, sum_by}
+use Rattle.std.proofs.lemmas.{List.{take-take}, List.Elements.{All-take}, List.Sums.{sum_by-le, sum_by_more, sum_by-take-le}}
+use Rattle.std.proofs.lemmas.Nat.{mul-le}
+use Rattle.class_table.{proofs.Slots.{length-slots_of_classes}}
 use Rattle.class_table.specs.Layout.{Partition, IsPartition, share_of, slots_of, slot_count, first_slot}
 
 pub first_slot-suc : (layout : Partition) (number : ℕ) → number < length layout.classes →
@@ -27,14 +27,8 @@ first_slot-few layout number is =
     let share = share_of layout in
     let count = length layout.classes in
     let each : All (λ class. share / class ≤ share / 2) layout.classes =
-    All-weaker IsBlockSize (λ class. share / class ≤ share / 2) (λ class range. halved share class range.0)
-    layout.classes is.table.in_range in
+    grind (arith, halved) in
     let sum : first_slot layout number ≤ length (take number layout.classes) * (share / 2) =
     sum_by-le (λ class. share / class) (share / 2) (take number layout.classes)
     (All-take (λ class. share / class ≤ share / 2) number layout.classes each) in
-    let some : length (take number layout.classes) ≤ count = omega (arith, length-take number layout.classes) in
-    let all : length (take number layout.classes) * (share / 2) ≤ count * (share / 2) =
-    mul-le (length (take number layout.classes)) (share / 2) count (share / 2) some (omega arith) in
-    let split : share * count + layout.granules % count ≡ layout.granules = div-add-mod' layout.granules count in
-    let double : count * (share / 2 * 2) ≤ count * share = mul-le count (share / 2 * 2) count share (omega arith) (omega arith) in
-    omega (arith, is.most)
+    grind (arith, length-take, mul-le)

@@ -24,11 +24,7 @@ module _ (layout : Partition) (filled numbers : List ℕ) (count number : ℕ) (
   pub IsFilled-more : number < length layout.classes →
       IsFilled layout (filled ++ get_or layout.classes number 0 ∷ []) (numbers ++ count ∷ [])
       (count + share_of layout / get_or layout.classes number 0) (number + 1)
-  IsFilled-more within = record {
-    classes = ap (λ classes. classes ++ get_or layout.classes number 0 ∷ []) is.classes ∙ sym (take_more layout.classes number 0 within);
-    firsts = firsts_more;
-    slots = ap (λ n. n + share_of layout / get_or layout.classes number 0) is.slots ∙ sym (first_slot-suc layout number within);
-  }
+  IsFilled-more within = grind (arith, take_more, firsts_more, first_slot-suc)
 
   -- and of all
   pub classes_all : number ≡ length layout.classes → filled ≡ layout.classes

@@ -1,8 +1,8 @@
 -- The first class that serves a size is the least one.
-use Rattle.std.proofs.Common.{◌≡◌, ℕ, ◌<◌, ◌≤◌, Bool, true, false, List, [], ◌∷◌, length, slice_index, get_or, Option, Some, None, arith}
-use Rattle.std.{proofs.Common.{refl, sym, ◌∙◌, inl, inr, subst, IfSome, IfNone, slice_get, option_and_then, All}, specs.Int.{div_ceil}}
-use Rattle.std.proofs.lemmas.{Bool.{cases_order, cases_lt, both_ways, lt-ltb, le-ltb, le-leb, lt-leb}, Grind.{div_ceil_times}}
-use Rattle.std.proofs.lemmas.{List.{get_or_default}, List.Elements.{All-nil, All-cons}, List.Folds.{find_at}}
+use Rattle.std.proofs.Common.{◌≡◌, ℕ, ◌<◌, ◌≤◌, true, false, List, [], ◌∷◌, length, slice_index, get_or, Option, Some, None, arith}
+use Rattle.std.{proofs.Common.{sym, ◌∙◌, subst, IfSome, IfNone, slice_get, option_and_then, All}, specs.Int.{div_ceil}}
+use Rattle.std.proofs.lemmas.{Bool.{cases_lt, lt-ltb, le-ltb, le-leb, lt-leb}, Grind.{div_ceil_times}}
+use Rattle.std.proofs.lemmas.{List.{get_or_default}, List.Elements.{All-nil}, List.Folds.{find_at}}
 use Rattle.std.proofs.lemmas.List.{Kept.{AllPairs-from_increasing}, Quantifiers.{position-Some}, Sums.{position_or_len_is}}
 use Rattle.std.{proofs.lemmas.Option.{get_or_from_slice_get, slice_get_past}, specs.List.{position_or_len}}
 use Rattle.std.specs.List.Sorted.{IsNonDecreasingBy, IsStrictlyIncreasing}
@@ -19,13 +19,7 @@ least_at step classes n number legal found =
         serving = first.1;
         least = λ k d inside serving.
             let at_zero : get_or classes k d ≡ get_or classes k 0 = get_or_default classes k d 0 inside in
-            let serving_there : serves n (get_or classes k 0) ≡ true = subst (λ (class : ℕ). serves n class ≡ true) at_zero serving in
-            elim (cases_order k number) [
-              | inl same ↦ rw (at_zero, same) (omega arith)
-              | inr (inl before) ↦ absurd (both_ways _ (first.2 k before) serving_there)
-              | inr (inr after) ↦ let larger =
-                  AllPairs-from_increasing classes legal.ascending number k 0 after inside in omega (arith, larger, at_zero)
-            ];
+            grind (arith, AllPairs-from_increasing);
       },
     )
 
@@ -55,12 +49,7 @@ first_is_least step n class classes legal found =
 
 pub no_class_serves : (n : ℕ) (classes : List ℕ) → class_for classes n ≡ None → All (λ class. serves n class ≡ false) classes
 no_class_serves n [] none = All-nil (λ class. serves n class ≡ false)
-no_class_serves n (class ∷ classes) none = go (serves n class) refl (no_class_serves n classes)
-  where
-    go : (test : Bool) → serves n class ≡ test → (class_for classes n ≡ None → All (λ c. serves n c ≡ false) classes) →
-        All (λ c. serves n c ≡ false) (class ∷ classes)
-    go true e others = let f = rw e at none in absurd cc
-    go false e others = All-cons (λ c. serves n c ≡ false) class classes e (others (rw e at none))
+no_class_serves n (class ∷ classes) none = grind (arith, no_class_serves n classes)
 
 pub none_of : (classes : List ℕ) (n : ℕ) (number : Option ℕ) → number ≡ class_number_for classes n →
     IfNone number (All (λ class. serves n class ≡ false) classes)
@@ -76,10 +65,7 @@ large_enough : (n class : ℕ) → div_ceil n 16 < class → serves n class ≡ 
 large_enough n class large = le-leb n _ (omega (arith, div_ceil_times n 16 (omega arith)))
 
 pub ascending_classes : (classes : List ℕ) → IsStrictlyIncreasing classes → IsNonDecreasingBy (λ class. class) classes
-ascending_classes classes ascending i j d le within = elim (cases_lt i j) [
-  | inl less ↦ let larger = AllPairs-from_increasing classes ascending i j d less within in omega (arith, larger)
-  | inr not_less ↦ let same : i ≡ j = omega arith in rw same (omega arith)
-]
+ascending_classes classes ascending i j d le within = grind (arith, AllPairs-from_increasing)
 
 pub counted_place : (step : ℕ) (classes : List ℕ) (n number : ℕ) → IsLegalTable step classes → number ≤ length classes →
     ((k d : ℕ) → k < length classes → k < number → get_or classes k d ≤ div_ceil n 16) →

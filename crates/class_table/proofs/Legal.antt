@@ -1,6 +1,6 @@
 -- A legal table, class by class: classes without a fault are one, and the classes of a legal table have no fault.
 use Rattle.std.proofs.Common.{◌≡◌, ℕ, zero, suc, ◌%◌, ◌<◌, ◌≤◌, Bool, true, false, List, [], ◌∷◌, length, slice_index, get_or, None, refl}
-use Rattle.std.proofs.{Common.{arith, leb}, lemmas.Bool.{lt-leb, le-ltb, or_from, or_parts, ltb-false, leb-false}}
+use Rattle.std.proofs.{Common.{arith, leb}, lemmas.Bool.{or_parts, ltb-false, leb-false}}
 use Rattle.std.{proofs.lemmas.List.Kept.{AllPairs-from_increasing}, specs.List.{All, AllPairs}}
 use Rattle.class_table.specs.{Faults.{fault_from, is_out_of_range}, Sizes.{IsBlockSize}, Tables.{FitsStep, IsLegalTable}}
 
@@ -16,8 +16,7 @@ class_in : (step low k d : ℕ) (classes : List ℕ) → AreClassesAbove step lo
     → (low < get_or classes k d) × (get_or classes k d ≤ 1024) × (get_or classes k d % step ≡ 0)
 class_in step low k d [] above within = absurd (omega arith)
 class_in step low zero d (class ∷ classes) above within = (above.0, above.1, above.2)
-class_in step low (suc k) d (class ∷ classes) above within =
-    let later = class_in step class k d classes above.3 (omega arith) in (omega (arith, above.0, later.0), later.1, later.2)
+class_in step low (suc k) d (class ∷ classes) above within = grind (arith, class_in step class k d classes above.3 (omega arith))
 
 pub class_above : (step low k : ℕ) (classes : List ℕ) → AreClassesAbove step low classes → k < length classes → low < slice_index classes k
 class_above step low k classes above within = (class_in step low k 0 classes above within).0
@@ -86,10 +85,7 @@ faultless-above : (step low below : ℕ) (classes : List ℕ) → 1 ≤ low → 
 unfolding fault_from
 faultless-above step low below [] one le above = refl
 faultless-above step low below (class ∷ classes) one le above =
-    let in_range : is_out_of_range class ≡ false =
-    or_from _ _ (le-ltb class 2 (omega (arith, above.0))) (le-ltb 1024 class above.1) in
-    let larger : leb class below ≡ false = lt-leb class below (omega (arith, above.0)) in
-    rw (in_range, larger) (faultless-above step class class classes (omega (arith, above.0)) (omega arith) above.3)
+    grind (arith, faultless-above step class class classes (omega (arith, above.0)) (omega arith) above.3)
 
 pub no_fault-from_classes : (classes : List ℕ) → AreClassesAbove 1 1 classes → fault_from 0 classes ≡ None
 no_fault-from_classes classes above = faultless-above 1 1 0 classes (omega arith) (omega arith) above

@@ -49,12 +49,8 @@ pub named_line_is_line : (name ns : List ℕ) → IsName name → AreSmall ns �
 named_line_is_line name ns is_name small =
     laws.makes_line (name ∷ map decimal ns) (All-cons IsLine name (map decimal ns) is_name.line (decimals-lines ns small))
 
--- not an empty one,
-named_line-some : (name ns : List ℕ) → IsName name → 0 < length (named_line name ns)
-named_line-some name ns is = grind (arith, length-append)
-
 pub named_line_is_full : (name ns : List ℕ) → IsName name → AreSmall ns → IsFullLine (named_line name ns)
-named_line_is_full name ns is_name small = (named_line_is_line name ns is_name small, named_line-some name ns is_name)
+named_line_is_full name ns is_name small = grind (arith, named_line_is_line, length-append)
 
 -- and these are its words,
 pub words_of_named_line : (name ns : List ℕ) → IsName name → AreSmall ns → words (named_line name ns) ≡ name ∷ map decimal ns
@@ -72,10 +68,6 @@ first_number : (w : List ℕ) (ws : List (List ℕ)) (ns : List ℕ) → numbers
 unfolding numbers_of
 first_number w ws ns e = grind arith
 
-decimals_more : (w : List ℕ) (ws : List (List ℕ)) (n : ℕ) (others ns : List ℕ) → w ≡ decimal n → ws ≡ map decimal others → ns ≡ n ∷ others →
-    w ∷ ws ≡ map decimal ns
-decimals_more w ws n others ns word after is = rw (is, word, after) refl
-
 -- words that are read as these numbers
 decimals-numbers_of : (ws : List (List ℕ)) (ns : List ℕ) → numbers_of ws ≡ Some ns → AreSmall ns → ws ≡ map decimal ns
 unfolding numbers_of
@@ -87,7 +79,7 @@ decimals-numbers_of (w ∷ ws) ns e small =
     let all : AreSmall (n ∷ others) = rw first.4 at small in
     let word : w ≡ decimal n = laws.spelled w n (All-head (λ n. n < 2 ^ 64) n others all) first.2 in
     let after : ws ≡ map decimal others = decimals-numbers_of ws others first.3 (All-tail (λ n. n < 2 ^ 64) n others all) in
-    decimals_more w ws n others ns word after first.4
+    grind arith
 
 -- A line that is read as these numbers is their line.
 pub line_of_read_numbers : (name line ns : List ℕ) → numbers_in name line ≡ Some ns → AreSmall ns → line ≡ named_line name ns

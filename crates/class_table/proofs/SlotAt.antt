@@ -1,6 +1,6 @@
 -- Which slot covers a granule, by arithmetic on the share.
 use Rattle.std.proofs.Common.{◌≡◌, ℕ, ◌+◌, ◌-◌, ◌*◌, ◌/◌, ◌%◌, ◌<◌, ◌≤◌, length, get_or, Option, Some, None, refl, sym, ◌∙◌, ap, arith}
-use Rattle.std.proofs.lemmas.Nat.{mul-le, div-add-mod', div-mul-add, mod-mul-add, mod_below}
+use Rattle.std.proofs.lemmas.Nat.{mul-le, div-add-mod', mod-mul-add, mod_below}
 use Rattle.class_table.proofs.{Covering.{one_slot_covers}, FirstSlots.{first_slot-suc, first_slot-most}}
 use Rattle.class_table.proofs.Slots.{Place, place_of, slot_of-class}
 use Rattle.class_table.specs.Layout.{Partition, IsPartition, Slot, share_of, slot_count, slot_of, first_slot, Covers, slot_over}
@@ -17,12 +17,7 @@ divided share granule number class k fits from to =
     let inner : ℕ = granule - share * number in
     let below : inner < share = omega arith in
     let whole : granule ≡ number * share + inner = omega arith in
-    let rest : inner ≡ k * class + (inner - class * k) = omega arith in
-    let remainder : granule % share ≡ inner = ap (λ n. n % share) whole ∙ mod-mul-add number share inner below in
-    record {
-      number_is = sym (ap (λ n. n / share) whole ∙ div-mul-add number share inner below);
-      k_is = sym (ap (λ n. n / class) (remainder ∙ rest) ∙ div-mul-add k class (inner - class * k) (omega arith));
-    }
+    grind (arith, mod-mul-add)
 
 -- where a slot stands that covers the granule
 covered : (layout : Partition) (granule s : ℕ) (place : Place layout s) → Covers (slot_of layout s) granule →

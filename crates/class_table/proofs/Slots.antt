@@ -31,10 +31,7 @@ slots_in_a_row first class j n = map (λ k. record { start = first + class * k; 
 
 spread_row : (first class j n : ℕ) → 2 ≤ class → IsSpread (first + class * j) (first + class * (j + n)) (slots_in_a_row first class j n)
 spread_row first class j zero wide = omega arith
-spread_row first class j (suc n) wide =
-    let rest : IsSpread (first + class * (j + 1)) (first + class * (j + 1 + n)) (slots_in_a_row first class (j + 1) n) =
-    spread_row first class (j + 1) n wide in
-    grind arith
+spread_row first class j (suc n) wide = grind (arith, spread_row first class (j + 1) n wide)
 
 spread_class : (first share class : ℕ) → 2 ≤ class → IsSpread first (first + share) (slots_of_class first share class)
 spread_class first share class wide =
@@ -75,11 +72,8 @@ spread_below a b (slot ∷ slots) spread = omega (arith, spread.0, spread_below 
 
 spread_at : (a b : ℕ) (slots : List Slot) (s : ℕ) → IsSpread a b slots → s < length slots → IsBetween a b (get_or slots s no_slot)
 spread_at a b [] s spread within = absurd (omega arith)
-spread_at a b (slot ∷ slots) zero spread within =
-    record { after = spread.0; wide = spread.1; before = spread_below (end_of slot) b slots spread.2 }
-spread_at a b (slot ∷ slots) (suc s) spread within =
-    let rest = spread_at (end_of slot) b slots s spread.2 (omega arith) in
-    record { after = omega (arith, rest.after, spread.0); wide = rest.wide; before = rest.before }
+spread_at a b (slot ∷ slots) zero spread within = grind (arith, spread_below)
+spread_at a b (slot ∷ slots) (suc s) spread within = grind (arith, spread_at (end_of slot) b slots s spread.2 (omega arith))
 
 spread_apart : (a b : ℕ) (slots : List Slot) (s r : ℕ) → IsSpread a b slots → s < r → r < length slots →
     end_of (get_or slots s no_slot) ≤ (get_or slots r no_slot).start
@@ -87,7 +81,7 @@ spread_apart a b [] s r spread before within = absurd (omega arith)
 spread_apart a b (slot ∷ slots) s zero spread before within = absurd (omega arith)
 spread_apart a b (slot ∷ slots) zero (suc r) spread before within = (spread_at (end_of slot) b slots r spread.2 (omega arith)).after
 spread_apart a b (slot ∷ slots) (suc s) (suc r) spread before within =
-    spread_apart (end_of slot) b slots s r spread.2 (omega arith) (omega arith)
+    grind (arith, spread_apart (end_of slot) b slots s r spread.2 (omega arith) (omega arith))
 
 pub legal_slots_are_in_order : (step : ℕ) (layout : Partition) → IsLegalTable step layout.classes → AreInOrder layout
 legal_slots_are_in_order step layout legal =
@@ -131,17 +125,9 @@ slot_in_class : (first share : ℕ) (classes : List ℕ) (number k : ℕ) → nu
 unfolding slots_of_classes
 slot_in_class first share [] number k within fits = absurd (omega arith)
 slot_in_class first share (class ∷ classes) zero k within fits =
-    grind (arith, zero-add, get_or_append_left, length-slots_of_class, get_or-map-range_with_len)
+    grind (arith, get_or_append_left, length-slots_of_class, get_or-map-range_with_len)
 slot_in_class first share (class ∷ classes) (suc number) k within fits =
-    let place : slots_before share (suc number) (class ∷ classes) + k ≡ length (slots_of_class first share class) + (slots_before share number classes + k) =
-    omega (arith, slots_before-suc share number class classes, length-slots_of_class first share class) in
-    let start : first + share + share * number + get_or classes number 0 * k ≡ first + share * suc number + get_or classes number 0 * k =
-    omega arith in
-    ap (λ place. get_or (slots_of_class first share class ++ slots_of_classes (first + share) share classes) place no_slot) place
-    ∙ get_or-append-add (slots_of_class first share class) (slots_of_classes (first + share) share classes)
-    (slots_before share number classes + k) no_slot
-    ∙ slot_in_class (first + share) share classes number k (omega arith) fits
-    ∙ ap (λ n. record { start = n; class = get_or classes number 0 }) start
+    grind (arith, slot_in_class (first + share) share classes number k (omega arith) fits, slots_before-suc, length-slots_of_class, get_or-append-add)
 
 pub slot_of-class : (layout : Partition) (number k : ℕ) → number < length layout.classes →
     k < share_of layout / get_or layout.classes number 0 →

@@ -5,8 +5,8 @@ use Rattle.std.proofs.lemmas.List.Elements.{All-nil, All-cons}
 use Rattle.line_text.{proofs.LawLemmas.{text_laws as laws}, specs.Lines.{lines, words, ended, IsFullLine, IsLine, IsTextOf}}
 use Rattle.class_table.proofs.Legal.{classes-from_no_fault, legal_table_of_classes, classes_of_legal_table, no_fault-from_classes}
 use Rattle.class_table.proofs.NamedLines.{AreSmall, IsName, line_of_read_numbers, named_line_is_full, named_numbers_are_read, plain_name}
-use Rattle.class_table.specs.ClassLine.{SpellsTable, class_line, table_of_numbers, table_of_lines, table_of_line, table_of}
-use Rattle.class_table.specs.{Faults.{fault_from, table_of_classes}, NamedLines.{numbers_in}, Tables.{IsLegalTable}}
+use Rattle.class_table.specs.ClassLine.{SpellsTable, class_line, table_of_lines, table_of_line, table_of}
+use Rattle.class_table.specs.{Faults.{fault_from, table_of_classes}, Tables.{IsLegalTable}}
 use Rattle.class_table.specs.declared.fault.TableError.{TableError}
 
 -- ---- classes
@@ -60,16 +60,10 @@ spelled_table_is_read text table spells = rw (lines-spelled text table spells) (
 
 -- ---- what is read is spelled so
 
-of_numbers : (numbers : Option (List ℕ)) (table : List ℕ) → table_of_numbers numbers ≡ Ok table →
-    (numbers ≡ Some table) × IsLegalTable 1 table
-of_numbers numbers table is = grind (arith, faultless_is_legal)
-
 -- What is read as a table is its line,
 pub read_line_is_spelled : (line table : List ℕ) → table_of_line line ≡ Ok table → (line ≡ class_line table) × IsLegalTable 1 table
 unfolding table_of_line
-read_line_is_spelled line table e =
-    let parts = of_numbers (numbers_in (codes "classes") line) table e in
-    (line_of_read_numbers (codes "classes") line table parts.0 (classes_are_small table parts.1), parts.1)
+read_line_is_spelled line table e = grind (arith, faultless_is_legal, line_of_read_numbers)
 
 of_lines : (text : List ℕ) (ls : List (List ℕ)) (table : List ℕ) → IsTextOf text ls →
     table_of_lines ls ≡ Ok table → SpellsTable text table

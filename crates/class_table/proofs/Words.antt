@@ -1,10 +1,10 @@
 -- Reading the numbers of a line, word by word.
 use Rattle.std.proofs.Common.{◌≡◌, ℕ, ◌<◌, ◌≤◌, Bool, true, false, List, [], ◌∷◌, ◌++◌, length, map, min, take, Option, Some, None, Result}
-use Rattle.std.proofs.Common.{Err, refl, sym, ap, ◌∙◌, arith, append_assoc, append-nil, codes, ltb, leb, length-append, option_and_then}
+use Rattle.std.proofs.Common.{Err, refl, sym, ap, ◌∙◌, arith, append_assoc, append-nil, codes, ltb, length-append, option_and_then}
 use Rattle.std.{proofs.lemmas.Bool.{lt-ltb, le-ltb, ltb-false}, proofs.lemmas.Bool.Decides.{nat_tests}, specs.Option.{option_map}}
 use Rattle.std.{proofs.lemmas.List.{take_all, take-append-le, length-take, length-map, map-append}, specs.Str.{bytes_eq}}
 use Rattle.line_text.specs.Numbers.{number_of}
-use Rattle.class_table.specs.{ClassLine.{table_of_numbers}, Faults.{fault_from, is_out_of_range, table_of_classes}}
+use Rattle.class_table.specs.{ClassLine.{table_of_numbers}, Faults.{fault_from, table_of_classes}}
 use Rattle.class_table.specs.{NamedLines.{numbers_of, words_after}, declared.fault.TableError.{TableError}}
 use Rattle.class_table.specs.declared.fault.TableError.TheVariants.{BadLine, TooMany}
 
@@ -13,32 +13,15 @@ use Rattle.class_table.specs.declared.fault.TableError.TheVariants.{BadLine, Too
 abbrev pub clip : ℕ → ℕ
 clip n = min n 65535
 
-clipped_range : (n : ℕ) → is_out_of_range (clip n) ≡ is_out_of_range n
-clipped_range n = grind (arith, nat_tests)
-
-clip_small : (n : ℕ) → is_out_of_range n ≡ false → clip n ≡ n
-clip_small n e = grind (arith, nat_tests)
-
 same_faults : (below : ℕ) (ns : List ℕ) → fault_from below (map clip ns) ≡ fault_from below ns
 unfolding fault_from
 same_faults below [] = refl
-same_faults below (n ∷ ns) = go (is_out_of_range n) refl (same_faults n ns)
-  where
-    go : (out : Bool) → is_out_of_range n ≡ out → fault_from n (map clip ns) ≡ fault_from n ns →
-        fault_from below (map clip (n ∷ ns)) ≡ fault_from below (n ∷ ns)
-    go true e others = rw (clipped_range n, e) refl
-    go false e others = rw (clip_small n e, e, others) refl
+same_faults below (n ∷ ns) = grind (arith, same_faults n ns, nat_tests)
 
 same_classes : (below : ℕ) (ns : List ℕ) → fault_from below ns ≡ None → map clip ns ≡ ns
 unfolding fault_from
 same_classes below [] none = refl
-same_classes below (n ∷ ns) none = go (is_out_of_range n) refl (leb n below) refl (same_classes n ns)
-  where
-    go : (out : Bool) → is_out_of_range n ≡ out → (low : Bool) → leb n below ≡ low → (fault_from n ns ≡ None → map clip ns ≡ ns) →
-        map clip (n ∷ ns) ≡ n ∷ ns
-    go true e low f others = let g = rw e at none in absurd cc
-    go false e true f others = let g = rw (e, f) at none in absurd cc
-    go false e false f others = rw (clip_small n e, others (rw (e, f) at none)) refl
+same_classes below (n ∷ ns) none = grind (arith, same_classes n ns)
 
 same_table : (ns : List ℕ) → length ns ≤ 32 → table_of_classes (map clip ns) ≡ table_of_classes ns
 same_table ns few = grind (arith, length-map, le-ltb, same_faults, same_classes)

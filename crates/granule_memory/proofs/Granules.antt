@@ -1,5 +1,5 @@
 -- What the granules that lie in a list of bytes are.
-use Rattle.std.proofs.Common.{◌≡◌, ℕ, ◌+◌, ◌-◌, ◌*◌, ◌/◌, ◌%◌, ◌<◌, ◌≤◌, List, [], ◌∷◌, map, length, take, drop, get_or, refl, sym, ap}
+use Rattle.std.proofs.Common.{◌≡◌, ℕ, ◌+◌, ◌-◌, ◌*◌, ◌<◌, ◌≤◌, List, [], ◌∷◌, map, length, drop, refl, sym, ap}
 use Rattle.std.proofs.{Common.{subst, ◌∙◌, arith, slice_range, slice_index, slice_index_or}, lemmas.Grind.{same_number_lists}}
 use Rattle.std.proofs.lemmas.{List.{length-take-le, length-drop, get_or-take, get_or-drop, get_or_past}, List.Elements.{All-take, All-drop}}
 use Rattle.std.{proofs.lemmas.List.FromFn.{get_or-map-range_with_len, length-map-range_with_len}, specs.Int.{w64, from_le_bytes}}
@@ -25,18 +25,13 @@ tag_is bytes count g inside = ap (λ (x : Granule). x.tag) (granule_is bytes cou
 
 -- a byte of a run
 pub slice_range_byte : (xs : List ℕ) (i n k : ℕ) → k < n → slice_index (slice_range xs i (i + n)) k ≡ slice_index xs (i + k)
-slice_range_byte xs i n k inside =
-    let long : i + n - i ≡ n = omega arith in
-    ap (λ (m : ℕ). get_or (take m (drop i xs)) k 0) long ∙ get_or-take n (drop i xs) k 0 inside ∙ get_or-drop i xs k 0
+slice_range_byte xs i n k inside = grind (arith, get_or-take, get_or-drop)
 
 pub slice_range_long : (xs : List ℕ) (i n : ℕ) → i + n ≤ length xs → length (slice_range xs i (i + n)) ≡ n
 slice_range_long xs i n fits = length-take-le (i + n - i) (drop i xs) (omega (arith, length-drop i xs)) ∙ omega arith
 
 pub byte_is : (bytes : List ℕ) (count i : ℕ) → i < 16 * count → byte_at (granules_of bytes count) i ≡ slice_index bytes i
-byte_is bytes count i inside =
-    let place : 16 * (i / 16) + i % 16 ≡ i = omega arith in
-    ap (λ (x : Granule). slice_index x.bytes (i % 16)) (granule_is bytes count (i / 16) no_granule (omega arith)) ∙
-    slice_range_byte bytes (16 * (i / 16)) 16 (i % 16) (omega arith) ∙ ap (λ (k : ℕ). slice_index bytes k) place
+byte_is bytes count i inside = grind (arith, granule_is, slice_range_byte)
 
 pub bytes_are : (bytes : List ℕ) (count i n : ℕ) → length bytes ≡ 17 * count → i + n ≤ 16 * count →
     bytes_at (granules_of bytes count) i n ≡ slice_range bytes i (i + n)

@@ -1,6 +1,6 @@
 -- Words that are compared from one of their bytes on, and the tags that are the bytes.
-use Rattle.std.proofs.Common.{◌≡◌, ℕ, zero, suc, ◌+◌, ◌-◌, ◌*◌, ◌/◌, ◌%◌, ◌^◌, ◌<◌, ◌≤◌, ◌↔◌, List, length, refl, sym, ap, subst, ◌∙◌}
-use Rattle.std.proofs.{Common.{arith, inl, inr, slice_range, slice_index}, lemmas.Bool.{cases_lt}, lemmas.List.{get_or_past}}
+use Rattle.std.proofs.Common.{◌≡◌, ℕ, zero, suc, ◌+◌, ◌-◌, ◌*◌, ◌/◌, ◌%◌, ◌^◌, ◌<◌, ◌≤◌, ◌↔◌, List, length, refl, sym, ap, ◌∙◌}
+use Rattle.std.proofs.{Common.{arith, slice_range, slice_index}}
 use Rattle.std.{proofs.lemmas.Nat.{le_bytes_8, pow-add}, specs.Int.{w64, from_le_bytes, to_le_bytes}}
 use native.Mathlib.Nat.{div-div-eq-div-mul}
 use Rattle.raw_region.specs.Bytes.{word_at}
@@ -14,34 +14,20 @@ byte_in n i = n / 2 ^ (8 * i) % 256
 from_byte : (n i : ℕ) → n / 2 ^ (8 * i) ≡ byte_in n i + n / 2 ^ (8 * suc i) * 256
 from_byte n i =
     let next : 2 ^ (8 * suc i) ≡ 2 ^ (8 * i) * 256 = (let e : 8 * suc i ≡ 8 * i + 8 = omega arith in ap (λ (k : ℕ). 2 ^ k) e) ∙ pow-add 2 (8 * i) 8 in
-    let rest : n / 2 ^ (8 * i) ≡ byte_in n i + n / (2 ^ (8 * i) * 256) * 256 = omega (arith, div-div-eq-div-mul n (2 ^ (8 * i)) 256) in
-    rest ∙ ap (λ (p : ℕ). byte_in n i + n / p * 256) (sym next)
+    grind (arith, div-div-eq-div-mul)
 
 -- two numbers that are the same from byte k on have the same bytes from there on
 bytes_same : (n m k d : ℕ) → n / 2 ^ (8 * k) ≡ m / 2 ^ (8 * k) → byte_in n (k + d) ≡ byte_in m (k + d)
-bytes_same n m k zero same =
-    let at : k + 0 ≡ k = omega arith in
-    ap (byte_in n) at ∙ ap (λ (x : ℕ). x % 256) same ∙ sym (ap (byte_in m) at)
-bytes_same n m k (suc d) same =
-    let next : n / 2 ^ (8 * suc k) ≡ m / 2 ^ (8 * suc k) = omega (arith, from_byte n k, from_byte m k, same) in
-    let at : k + suc d ≡ suc k + d = omega arith in
-    ap (byte_in n) at ∙ bytes_same n m (suc k) d next ∙ sym (ap (byte_in m) at)
+bytes_same n m k zero same = grind arith
+bytes_same n m k (suc d) same = grind (arith, bytes_same n m (suc k) d, from_byte)
 
 -- two numbers of eight bytes are the same from byte k on if these bytes are
 same_from : (n m k d : ℕ) → k + d ≡ 8 → n < 2 ^ 64 → m < 2 ^ 64 → ((i : ℕ) → k ≤ i → i < 8 → byte_in n i ≡ byte_in m i) →
     n / 2 ^ (8 * k) ≡ m / 2 ^ (8 * k)
-same_from n m k zero ends small few same =
-    let last : k ≡ 8 = omega arith in
-    let none : (x : ℕ) → x < 2 ^ 64 → x / 2 ^ 64 ≡ 0 = (λ x less. omega arith) in
-    ap (λ (i : ℕ). n / 2 ^ (8 * i)) last ∙ none n small ∙ sym (none m few) ∙ sym (ap (λ (i : ℕ). m / 2 ^ (8 * i)) last)
+same_from n m k zero ends small few same = grind arith
 same_from n m k (suc d) ends small few same =
     let rest = same_from n m (suc k) d (omega arith) small few (λ i from to. same i (omega arith) to) in
-    from_byte n k ∙ ap (λ (b : ℕ). b + n / 2 ^ (8 * suc k) * 256) (same k (omega arith) (omega arith))
-    ∙ ap (λ (r : ℕ). byte_in m k + r * 256) rest ∙ sym (from_byte m k)
-
--- a number that eight bytes spell has no more bytes
-spelled_fits : (bs : List ℕ) → ((k : ℕ) → slice_index bs k < 256) → from_le_bytes w64 bs < 2 ^ 64
-spelled_fits bs small = omega (arith, small 0, small 1, small 2, small 3, small 4, small 5, small 6, small 7)
+    grind (arith, from_byte)
 
 -- byte i of the number that eight bytes spell
 spelled_byte : (bs : List ℕ) (i : ℕ) → length bs ≡ 8 → ((k : ℕ) → slice_index bs k < 256) → i < 8 →
@@ -89,18 +75,10 @@ module _ (bytes : List ℕ) (count first last tag : ℕ) (laid : IsLaidOut bytes
   fits = omega (arith, laid.long, within, laid.least)
 
   byte : (k : ℕ) → slice_index (slice_range bytes at (at + 8)) k < 256
-  byte k = elim (cases_lt k 8) [
-    | inl inside ↦
-        subst (λ b. b < 256) (sym (slice_range_byte bytes at 8 k inside)) (laid.below (at + k) 0 (omega (arith, fits, inside)))
-    | inr past ↦
-        subst (λ b. b < 256) (sym (get_or_past (slice_range bytes at (at + 8)) k 0 (omega (arith, past, slice_range_long bytes at 8 fits))))
-        (omega arith)
-  ]
+  byte k = grind (arith, slice_range_byte)
 
   tag_byte : (i g : ℕ) → i < 8 → at + i ≡ 16 * count + g → byte_in word i ≡ slice_index bytes (16 * count + g)
-  tag_byte i g less is =
-      spelled_byte (slice_range bytes at (at + 8)) i (slice_range_long bytes at 8 fits) byte less ∙ slice_range_byte bytes at 8 i less
-      ∙ ap (slice_index bytes) is
+  tag_byte i g less is = grind (arith, spelled_byte, slice_range_long, byte, slice_range_byte)
 
   pub tags_compared : (word_at bytes at / 2 ^ (8 * from) ≡ 72340172838076673 * tag / 2 ^ (8 * from))
       ↔ ((g : ℕ) → first ≤ g → g ≤ last → slice_index bytes (16 * count + g) ≡ tag)
@@ -111,7 +89,7 @@ module _ (bytes : List ℕ) (count first last tag : ℕ) (laid : IsLaidOut bytes
         sym (tag_byte i g (omega arith) (omega (arith, within, laid.least)))
         ∙ bytes_same word (72340172838076673 * tag) from (g - first) same ∙ repeated_byte tag i small (omega arith),
     λ each.
-        same_from word (72340172838076673 * tag) from (8 - from) (omega arith) (spelled_fits _ byte) (omega (arith, small))
+        same_from word (72340172838076673 * tag) from (8 - from) (omega arith) (grind (arith, byte)) (omega (arith, small))
         (λ i low high.
         tag_byte i (first + (i - from)) high (omega (arith, within, laid.least)) ∙ each (first + (i - from)) (omega arith) (omega arith)
         ∙ sym (repeated_byte tag i small high)),

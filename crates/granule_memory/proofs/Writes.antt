@@ -2,10 +2,10 @@
 -- granules.
 use Rattle.std.proofs.Common.{◌≡◌, ℕ, zero, suc, ◌+◌, ◌-◌, ◌*◌, ◌<◌, ◌≤◌, ◌++◌, List, length, take, drop, refl, sym, ap, subst, ◌∙◌, lit<}
 use Rattle.std.proofs.Common.{arith, inl, inr, ⊎_elim, if◌then◌else◌, slice_range, slice_index, ◌⊎◌, All, replicate}
-use Rattle.std.proofs.lemmas.Bool.{cases_lt, cond-true, cond-false, and_from, and_left, and_right, le-leb, lt-ltb, lt-leb, le-ltb}
-use Rattle.std.proofs.lemmas.{Grind.{same_number_lists}, List.Elements.{All-nil, All-cons, All-take, All-drop, All-append, All-replicate}}
+use Rattle.std.proofs.lemmas.Bool.{cases_lt, cond-false, and_left, lt-leb}
+use Rattle.std.proofs.lemmas.{Grind.{same_number_lists}, List.Elements.{All-nil, All-take, All-drop, All-append, All-replicate}}
 use Rattle.std.proofs.lemmas.List.{length-append, length-take-le, length-drop, length-replicate, get_or-take, get_or-drop}
-use Rattle.std.{proofs.lemmas.List.{get_or_append_left, get_or-append_right, get_or-replicate}, specs.Int.{byte_at, bytes_low_first}}
+use Rattle.std.{proofs.lemmas.List.{get_or_append_left, get_or-append_right, get_or-replicate}, specs.Int.{bytes_low_first}}
 use Rattle.std.proofs.lemmas.List.FromFn.{get_or-map-range_with_len, length-map-range_with_len, fill_by_all}
 use Rattle.machine_theory.specs.Memory.{Granule, no_granule, granule_at, tag_at, bytes_at, each_granule, is_among, tagged, byte_after}
 use Rattle.machine_theory.specs.Memory.{bytes_after, written, new_granule}
@@ -17,14 +17,9 @@ use Rattle.granule_memory.specs.Changes.{ChangesOnlyBytes, ChangesOnlyTags}
 abbrev Below : ℕ → Type 0
 Below byte = byte < 256
 
--- the bytes of a number
-byte_below : (i n : ℕ) → byte_at i n < 256
-byte_below zero n = omega arith
-byte_below (suc i) n = omega arith
-
 pub bytes_below : (i k n : ℕ) → All Below (bytes_low_first i k n)
 bytes_below i zero n = All-nil Below
-bytes_below i (suc k) n = All-cons Below (byte_at i n) (bytes_low_first (suc i) k n) (byte_below i n) (bytes_below (suc i) k n)
+bytes_below i (suc k) n = grind (arith, bytes_below (suc i) k n)
 
 -- a byte of a list in which a run is written
 byte-with_bytes : (xs new : List ℕ) (i k : ℕ) → i + length new ≤ length xs →
@@ -47,44 +42,26 @@ byte-with_bytes xs new i k fits = ⊎_elim before (λ from. ⊎_elim (inside fro
     inside from to =
         get_or_append_left (take i xs ++ new) (drop (i + length new) xs) 0 k (omega (arith, both)) ∙
         get_or-append_right (take i xs) new i k 0 front from ∙
-        sym (cond-true (is_among i (length new) k) (slice_index new (k - i)) (slice_index xs k)
-        (and_from _ _ (le-leb _ _ from) (lt-ltb _ _ to)))
+        sym (grind arith)
 
     after : i + length new ≤ k → slice_index (with_bytes xs i new) k ≡ byte_after i new k (slice_index xs k)
     after past =
         let back : i + length new + (k - (i + length new)) ≡ k = omega arith in
-        get_or-append_right (take i xs ++ new) (drop (i + length new) xs) (i + length new) k 0 both past ∙
-        get_or-drop (i + length new) xs (k - (i + length new)) 0 ∙ ap (λ (n : ℕ). slice_index xs n) back ∙
-        sym (cond-false (is_among i (length new) k) (slice_index new (k - i)) (slice_index xs k) (and_right _ _ (le-ltb _ _ past)))
+        grind (arith, get_or-append_right, both, get_or-drop)
 
 -- the list xs, in which a run is written, becomes ys
 module _ (xs ys : List ℕ) (i : ℕ) (run : List ℕ) (at : ys ≡ with_bytes xs i run) (within : i + length run ≤ length xs) where
   run_length : length ys ≡ length xs
-  run_length =
-      let front = length-take-le i xs (omega (arith, within)) in
-      ap length at ∙ omega (
-        arith,
-        within,
-        front,
-        length-append (take i xs ++ run) (drop (i + length run) xs),
-        length-append (take i xs) run,
-        length-drop (i + length run) xs,
-      )
+  run_length = grind (arith, length-take-le, length-append, length-drop)
 
   run_byte : (k : ℕ) → slice_index ys k ≡ byte_after i run k (slice_index xs k)
   run_byte k = ap (λ (zs : List ℕ). slice_index zs k) at ∙ byte-with_bytes xs run i k within
 
   run_outside : (k : ℕ) → (k < i) ⊎ (i + length run ≤ k) → slice_index ys k ≡ slice_index xs k
-  run_outside k out = run_byte k ∙ cond-false (is_among i (length run) k) (slice_index run (k - i)) (slice_index xs k)
-      (⊎_elim (λ low. and_left _ _ (lt-leb _ _ low)) (λ past. and_right _ _ (le-ltb _ _ past)) out)
+  run_outside k out = grind (arith, run_byte)
 
   run_inside : (j : ℕ) → j < length run → slice_index ys (i + j) ≡ slice_index run j
-  run_inside j inner =
-      let back : i + j - i ≡ j = omega arith in
-      run_byte (i + j) ∙
-      cond-true (is_among i (length run) (i + j)) (slice_index run (i + j - i)) (slice_index xs (i + j))
-      (and_from _ _ (le-leb i (i + j) (omega arith)) (lt-ltb (i + j) (i + length run) (omega arith))) ∙
-      ap (λ (k : ℕ). slice_index run k) back
+  run_inside j inner = grind (arith, run_byte)
 
   run_below : All Below xs → All Below run → All Below ys
   run_below old new =
@@ -106,8 +83,7 @@ changed_is change xs ys count agrees =
     let memory = granules_of xs count in let counted = granules_counted xs count in
     fill_by_all (λ g. change g (granule_at memory g)) (granules_of ys count) (length memory) no_granule
     (granules_counted ys count ∙ sym counted)
-    (λ g h. let inside : g < count = subst (λ (n : ℕ). g < n) counted h in
-    granule_is ys count g no_granule inside ∙ agrees g inside ∙ ap (change g) (sym (granule_is xs count g no_granule inside)))
+    (grind (arith, granule_is))
 
 -- the list xs, whose granules are the memory, becomes ys
 module _ (xs ys : List ℕ) (count : ℕ) (memory : List Granule) (laid : IsLaidOut xs count) (view : granules_of xs count ≡ memory) where
@@ -145,9 +121,7 @@ module _ (xs ys : List ℕ) (count : ℕ) (memory : List Granule) (laid : IsLaid
 
     pub written_is : granules_of ys count ≡ written i run memory
     unfolding written
-    written_is =
-        changed_is (λ g granule. record granule { bytes = bytes_after i run g granule.bytes }) xs ys count granule_written ∙
-        ap (each_granule (λ g granule. record granule { bytes = bytes_after i run g granule.bytes })) view
+    written_is = grind (arith, changed_is, granule_written)
 
     pub written_reads : bytes_at (granules_of ys count) i (length run) ≡ run
     written_reads =
@@ -163,13 +137,7 @@ module _ (xs ys : List ℕ) (count : ℕ) (memory : List Granule) (laid : IsLaid
         (changes_bytes xs ys count laid.long same_length i (i + length run) inside outside)
 
     pub written_fits : All Below run → IsLaidOut ys count
-    written_fits below = record {
-      long = same_length ∙ laid.long;
-      least = laid.least;
-      most = laid.most;
-      below = run_below xs ys i run at within laid.below below;
-      tags = λ g among. subst (λ (n : ℕ). n < 16) (sym (outside (16 * count + g) (inr (omega (arith, inside))))) (laid.tags g among);
-    }
+    written_fits below = grind (arith, same_length, run_below, outside, inside)
 
   -- by a run past the bytes, which are the tags of n granules from `first` on
   module _ (first n t place : ℕ) (lies : place ≡ 16 * length memory + first)
@@ -199,9 +167,7 @@ module _ (xs ys : List ℕ) (count : ℕ) (memory : List Granule) (laid : IsLaid
         get_or-replicate (place + n - place) (g - first) t 0 (omega arith)
 
     elsewhere : (k : ℕ) → (k < 16 * count + first) ⊎ (16 * count + (first + n) ≤ k) → slice_index ys k ≡ slice_index xs k
-    elsewhere k out =
-        run_outside xs ys place run at in_list k
-        (⊎_elim (λ low. inl (omega (arith, starts))) (λ past. inr (omega (arith, starts, as_many))) out)
+    elsewhere k out = grind (arith, run_outside, starts, as_many)
 
     other_tag : (h : ℕ) → (h < first) ⊎ (first + n ≤ h) → slice_index ys (16 * count + h) ≡ slice_index xs (16 * count + h)
     other_tag h out = elsewhere (16 * count + h) (⊎_elim (λ low. inl (omega arith)) (λ past. inr (omega arith)) out)
@@ -210,34 +176,15 @@ module _ (xs ys : List ℕ) (count : ℕ) (memory : List Granule) (laid : IsLaid
     same_range h inner =
         let long = laid.long in let same_long = as_long in
         let sixteen = slice_range_long ys (16 * h) 16 (omega arith) in
-        same_number_lists _ _ (sixteen ∙ sym (slice_range_long xs (16 * h) 16 (omega arith)))
-        (λ j l. let low : j < 16 = subst (λ (k : ℕ). j < k) sixteen l in
-        slice_range_byte ys (16 * h) 16 j low ∙ elsewhere (16 * h + j) (inl (omega arith)) ∙ sym (slice_range_byte xs (16 * h) 16 j low))
+        grind (arith, same_number_lists, slice_range_long, slice_range_byte, elsewhere)
 
     granule_tagged : (h : ℕ) → h < count →
         granule_in ys count h ≡ (if is_among first n h then record (granule_in xs count h) { tag = t } else granule_in xs count h)
-    granule_tagged h inner =
-        ⊎_elim (λ low. other (inl low)) (λ from. ⊎_elim (among from) (λ past. other (inr past)) (cases_lt h (first + n))) (cases_lt h first)
-      where
-        among : first ≤ h → h < first + n →
-            granule_in ys count h ≡ (if is_among first n h then record (granule_in xs count h) { tag = t } else granule_in xs count h)
-        among from to =
-            granule_from _ _ _ _ (there h from to) (same_range h inner) ∙
-            sym (cond-true (is_among first n h) (record (granule_in xs count h) { tag = t }) (granule_in xs count h)
-            (and_from _ _ (le-leb _ _ from) (lt-ltb _ _ to)))
-
-        other : (h < first) ⊎ (first + n ≤ h) →
-            granule_in ys count h ≡ (if is_among first n h then record (granule_in xs count h) { tag = t } else granule_in xs count h)
-        other out =
-            granule_from _ _ _ _ (other_tag h out) (same_range h inner) ∙
-            sym (cond-false (is_among first n h) (record (granule_in xs count h) { tag = t }) (granule_in xs count h)
-            (⊎_elim (λ low. and_left _ _ (lt-leb _ _ low)) (λ past. and_right _ _ (le-ltb _ _ past)) out))
+    granule_tagged h inner = grind (arith, there, same_range, other_tag)
 
     pub tagged_is : granules_of ys count ≡ tagged first n t memory
     unfolding tagged
-    tagged_is =
-        changed_is (λ h granule. if is_among first n h then record granule { tag = t } else granule) xs ys count granule_tagged ∙
-        ap (each_granule (λ h granule. if is_among first n h then record granule { tag = t } else granule)) view
+    tagged_is = grind (arith, changed_is, granule_tagged)
 
     pub tagged_reads : (g : ℕ) → first ≤ g → g < first + n → tag_at (granules_of ys count) g ≡ t
     tagged_reads g from to = tag_is ys count g (omega (arith, ends)) ∙ there g from to
@@ -253,11 +200,7 @@ module _ (xs ys : List ℕ) (count : ℕ) (memory : List Granule) (laid : IsLaid
       least = laid.least;
       most = laid.most;
       below = run_below xs ys place run at in_list laid.below (All-replicate Below (place + n - place) t (omega arith));
-      tags = λ h inner. ⊎_elim
-          (λ low. old h inner (inl low))
-          (λ from. ⊎_elim (λ to. subst (λ (k : ℕ). k < 16) (sym (there h from to)) small) (λ past. old h inner (inr past))
-          (cases_lt h (first + n)))
-          (cases_lt h first);
+      tags = grind (arith, old, there);
     }
       where
         old : (h : ℕ) → h < count → (h < first) ⊎ (first + n ≤ h) → slice_index ys (16 * count + h) < 16
@@ -292,8 +235,7 @@ module _ (xs zs : List ℕ) (count : ℕ) (memory : List Granule) (laid : IsLaid
   second_fits = omega (arith, fits, same_long)
 
   pub cleared_is : granules_of zs count ≡ tagged (first + n) rest 0 (tagged first n t memory)
-  cleared_is =
-      tagged_is once zs count (tagged first n t memory) once_fits once_is (first + n) rest 0 (place + n) second_lies at second_fits
+  cleared_is = grind (arith, tagged_is, once_fits, second_lies)
 
   pub cleared_fits : IsLaidOut zs count
   cleared_fits =
@@ -303,27 +245,14 @@ module _ (xs zs : List ℕ) (count : ℕ) (memory : List Granule) (laid : IsLaid
 -- ---- a list of zeros
 
 repeated_range : (n from len v : ℕ) → from + len ≤ n → slice_range (replicate n v) from (from + len) ≡ replicate len v
-repeated_range n from len v fits =
-    let xs = replicate n v in
-    let long : length (slice_range xs from (from + len)) ≡ len = slice_range_long xs from len (omega (arith, length-replicate n v)) in
-    same_number_lists (slice_range xs from (from + len)) (replicate len v) (long ∙ sym (length-replicate len v))
-    (λ j h. let inner : j < len = subst (λ (k : ℕ). j < k) long h in
-    slice_range_byte xs from len j inner ∙ get_or-replicate n (from + j) v 0 (omega arith) ∙ sym (get_or-replicate len j v 0 inner))
+repeated_range n from len v fits = grind (arith, slice_range_long, length-replicate, same_number_lists, slice_range_byte, get_or-replicate)
 
 pub new_is : (count : ℕ) → granules_of (replicate (17 * count) 0) count ≡ replicate count new_granule
 unfolding granules_of
 new_is count =
     sym (fill_by_all (granule_in (replicate (17 * count) 0) count) (replicate count new_granule) count no_granule
     (length-replicate count new_granule)
-    (λ g h. get_or-replicate count g new_granule no_granule h ∙
-    sym (granule_from _ _ _ _ (get_or-replicate (17 * count) (16 * count + g) 0 0 (omega arith))
-    (repeated_range (17 * count) (16 * g) 16 0 (omega arith)))))
+    (grind (arith, get_or-replicate, repeated_range)))
 
 pub new_fits : (count : ℕ) → 64 ≤ count → count ≤ 262144 → IsLaidOut (replicate (17 * count) 0) count
-new_fits count least most = record {
-  long = length-replicate (17 * count) 0;
-  least = least;
-  most = most;
-  below = All-replicate Below (17 * count) 0 (lit< tt);
-  tags = λ g inside. subst (λ (n : ℕ). n < 16) (sym (get_or-replicate (17 * count) (16 * count + g) 0 0 (omega arith))) (lit< tt);
-}
+new_fits count least most = grind (arith, length-replicate, get_or-replicate)

@@ -119,9 +119,6 @@ module _ where
     sound_copied =
         IsSoundHeap-with_payload (given_out h s n) s (payload_bytes h chunk.slot (min chunk.size n)) (given_sound h n s sound given)
 
-    another : chunk.slot ≡ s → ⊥
-    another is = not_reusable h chunk.slot chunk.size (logical_tag p) (subst (IsReusable h) (sym is) given.reusable) c.live
-
     live_copied : state_at copied chunk.slot ≡ Live chunk.size (logical_tag p)
     unfolding copied
     live_copied = grind (arith, state_at-with_payload, state_at-given_out_other)
@@ -176,8 +173,7 @@ module _ where
   IsKept-either : {A : Type 0} (h : Heap) (b : Bool) (x y : Step A) (o q : Option ℕ) → (b ≡ true → IsKept h x.heap o) →
       (b ≡ false → IsKept h y.heap q) →
       IsKept h (cond b x y).heap (cond b o q)
-  IsKept-either h true x y o q so not_so = so refl
-  IsKept-either h false x y o q so not_so = not_so refl
+  IsKept-either h b x y o q so not_so = grind arith
 
   pub IsKept-free : (h : Heap) (p : ℕ) → IsSoundHeap h → IsKept h (free_step h p).heap None
   unfolding free_step

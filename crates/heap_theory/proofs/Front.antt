@@ -1,15 +1,14 @@
 -- The front of a class's list is the slot that the class gives out next.
 use Rattle.std.proofs.Common.{◌≡◌, ℕ, ◌-◌, ◌<◌, ◌≤◌, true, List, [], ◌∷◌, refl, sym, ap, ◌∙◌, subst, inl, inr, arith, Some, None, Option}
-use Rattle.std.proofs.{Common.{◌==◌, ◌&&◌, nat_le, slice_get, Contains}, lemmas.List.Sums.{AllPass-from_list_all, list_all-from_AllPass}}
-use Rattle.std.{proofs.lemmas.Bool.{cases_eq, eq-eqb, leb-true, le-leb, ltb-true, and_from, and_parts}, specs.List.{range_with_len}}
+use Rattle.std.proofs.{Common.{nat_le, slice_get, Contains}, lemmas.List.Sums.{AllPass-from_list_all, list_all-from_AllPass}}
+use Rattle.std.{proofs.lemmas.Bool.{cases_eq, le-leb, ltb-true, and_parts}}
 use Rattle.std.specs.Option.{option_or}
-use Rattle.class_table.specs.Layout.{slot_count}
 use Rattle.heap_theory.{proofs.ListSearch.{find_only, in_filter, Contains-range, Contains-cases, Contains-none}, specs.Links.{list_of}}
 use Rattle.heap_theory.{proofs.Lookups.{IsCandidate, All-slots_with, is_latest, freed_last-is}, specs.Sound.{IsSoundHeap}}
-use Rattle.heap_theory.proofs.Marks.{HasMark-own, mark_of-is, same_mark, released_from_mark, chain_bytes, list_mark, IsNumberOf, number_is}
+use Rattle.heap_theory.proofs.Marks.{HasMark-own, mark_of-is, same_mark, chain_bytes, list_mark, IsNumberOf, number_is}
 use Rattle.heap_theory.specs.Lookups.{slots_with, freed_last, lowest_fresh, slot_for}
 use Rattle.heap_theory.specs.QueueAndLists.{HasMark, IsFreedList, AgreeWithMarks}
-use Rattle.heap_theory.specs.State.{Heap, slot_in, state_at, is_dead, is_released, mark_of}
+use Rattle.heap_theory.specs.State.{Heap, state_at, is_dead, is_released, mark_of}
 
 module _ (h : Heap) (queue : List ℕ) (lists : List (List ℕ)) (number class : ℕ) (sound : IsSoundHeap h) (b : AgreeWithMarks h queue lists)
     (numbered : slice_get h.layout.classes number ≡ Some class) where
@@ -17,9 +16,7 @@ module _ (h : Heap) (queue : List ℕ) (lists : List (List ℕ)) (number class :
   is_number = number_is h.layout.classes number class numbered
 
   pub freed_list : IsFreedList h class b.from (list_of lists number)
-  freed_list =
-      subst (λ c. IsFreedList h c b.from (list_of lists number)) is_number.is
-      (b.agree.freed number (subst (λ n. number < n) (sym b.agree.long) is_number.within))
+  freed_list = grind (arith, is_number)
 
   -- a released slot of the class stands in its list
   pub listed : (r : ℕ) → IsCandidate h (is_released h) class r → Contains (list_of lists number) r
@@ -39,9 +36,7 @@ module _ (h : Heap) (queue : List ℕ) (lists : List (List ℕ)) (number class :
       let f : IsFreedList h class b.from (s ∷ rest) = subst (λ list. IsFreedList h class b.from list) is freed_list in
       let over : h.quarantine < h.total - f.0 = b.agree.released s f.0 f.1 f.3 f.4 in
       let candidate : Contains (slots_with h (is_released h) class) s =
-      in_filter (λ s. (slot_in h s).class == class && is_released h (state_at h s)) (range_with_len 0 (slot_count h.layout)) s
-      (Contains-range (slot_count h.layout) s f.1)
-      (and_from _ _ (eq-eqb _ _ f.2) (released_from_mark h (state_at h s) f.0 f.3 over)) in
+      grind (arith, in_filter, Contains-range) in
       ap (λ o. option_or o (lowest_fresh h class))
       (find_only (is_latest h (slots_with h (is_released h) class)) (slots_with h (is_released h) class) s candidate
       (list_all-from_AllPass (λ r. nat_le (mark_of (state_at h r)) (mark_of (state_at h s))) (slots_with h (is_released h) class)
@@ -64,9 +59,7 @@ module _ (h : Heap) (queue : List ℕ) (lists : List (List ℕ)) (number class :
       only f candidate r c latest =
           let here : mark_of (state_at h s) ≡ f.0 = mark_of-is (state_at h s) f.0 f.3 in
           let above : mark_of (state_at h s) ≤ mark_of (state_at h r) =
-          subst (λ q. mark_of (state_at h q) ≤ mark_of (state_at h r)) candidate.2
-          (leb-true _ _ (AllPass-from_list_all (λ q. nat_le (mark_of (state_at h q)) (mark_of (state_at h r)))
-          (slots_with h (is_released h) class) latest candidate.0 s candidate.1)) in
+          grind (arith, AllPass-from_list_all) in
           let under : mark_of (state_at h r) ≤ mark_of (state_at h s) = before f r c in
           elim (cases_eq r s) [
             | inl same ↦ same

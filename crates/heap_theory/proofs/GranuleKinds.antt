@@ -1,7 +1,7 @@
 -- What the kinds of granules mean.
 use Rattle.std.proofs.Common.{◌≡◌, ℕ, ◌+◌, ◌<◌, ◌≤◌, true, cond, refl, sym, ap, ◌∙◌, subst, inl, inr, arith, Some, None, Option, ◌==◌}
 use Rattle.std.proofs.Common.{nat_le, nat_lt}
-use Rattle.std.proofs.lemmas.Bool.{false_from_ne_true, le-leb, lt-ltb, ltb-true, and_parts, ne_eqb, and_from, cases_eq, cases_lt, cond-true}
+use Rattle.std.proofs.lemmas.Bool.{false_from_ne_true, ltb-true, and_parts, ne_eqb, cases_eq, cases_lt, cond-true}
 use Rattle.std.proofs.lemmas.Bool.{cond-false, eq-eqb}
 use Rattle.machine_theory.specs.Memory.{is_among}
 use Rattle.class_table.specs.Layout.{Covers, slot_over}
@@ -10,9 +10,6 @@ use Rattle.heap_theory.specs.{Sound.{IsSoundHeap}, State.State.{Fresh, Live, Dea
 use Rattle.heap_theory.specs.State.{State, Heap, IsLive, is_dead, slot_in, state_at, chunk_granules_of, payload_start, IsSlot}
 use Rattle.heap_theory.specs.declared.place_kind.PlaceKind.TheVariants.{Slack, Header, Tail, Dead as DeadChunk, Other}
 use Rattle.heap_theory.proofs.TheoryLemmas as laws
-
-is_among-from : (first count n : ℕ) → first ≤ n → n < first + count → is_among first count n ≡ true
-is_among-from first count n from to = grind (arith, and_from, le-leb, lt-ltb)
 
 is_among-to : (first count n : ℕ) → is_among first count n ≡ true → n < first + count
 is_among-to first count n among = ltb-true n (first + count) (and_parts (nat_le first n) (nat_lt n (first + count)) among).1
@@ -46,14 +43,11 @@ module _ (h : Heap) (sound : IsSoundHeap h) (g : ℕ) where
       in_slot s p.in_range (record { from = omega arith; to = p.to })
       ∙ cond-false ((slot_in h s).start == g) Header _ (ne_eqb _ _ (λ is. omega arith))
 
-  chunk_in_payload : (s : ℕ) → IsChunkGranule h s g → IsPayloadGranule h s g
-  chunk_in_payload s c = grind arith
-
   chunk_is : (s : ℕ) → IsChunkGranule h s g → place_kind h g ≡ kind_of_chunk (state_at h s)
   chunk_is s c =
-      in_payload s (chunk_in_payload s c)
+      in_payload s (grind arith)
       ∙ cond-true (is_among (payload_start (slot_in h s)) (chunk_granules_of (state_at h s)) g) (kind_of_chunk (state_at h s)) Tail
-      (is_among-from (payload_start (slot_in h s)) (chunk_granules_of (state_at h s)) g (omega (arith, c.from)) (omega (arith, c.to)))
+      (grind arith)
 
   tail_is : (s : ℕ) → IsPayloadGranule h s g → (IsChunkGranule h s g → ⊥) → place_kind h g ≡ Tail
   tail_is s p rest =
@@ -81,10 +75,7 @@ module _ (h : Heap) (sound : IsSoundHeap h) (g : ℕ) where
     where
       -- the chunk of a fresh slot has no granule
       chunk_means : (s : ℕ) → IsChunkGranule h s g → (x : State) → state_at h s ≡ x → Means (kind_of_chunk x)
-      chunk_means s c Fresh was =
-          let from : (slot_in h s).start < g = c.from in
-          let to : g ≤ (slot_in h s).start + 0 = subst (λ x. g ≤ (slot_in h s).start + chunk_granules_of x) was c.to in
-          absurd (omega arith)
+      chunk_means s c Fresh was = grind arith
       chunk_means s c (Live size tag) was = (s, subst IsLive (sym was) tt, c)
       chunk_means s c (Dead size tag mark) was = (s, ap is_dead was, c)
 
@@ -100,9 +91,7 @@ module _ (h : Heap) (sound : IsSoundHeap h) (g : ℕ) where
             | inl first ↦ subst Means (sym (header_is s at.0 first)) (s, at.0, first)
             | inr past ↦ elim (cases_lt ((slot_in h s).start + chunk_granules_of (state_at h s)) g) [
               | inl above ↦
-                  let p : IsPayloadGranule h s g = record { in_range = at.0; from = omega arith; to = at.1.to } in
-                  let rest : IsChunkGranule h s g → ⊥ = λ c. omega (arith, c.to) in
-                  subst Means (sym (tail_is s p rest)) (s, p, rest)
+                  grind (arith, tail_is)
               | inr below ↦
                   let c : IsChunkGranule h s g = record { in_range = at.0; from = omega arith; to = below } in
                   subst Means (sym (chunk_is s c)) (chunk_means s c (state_at h s) refl)

@@ -1,26 +1,14 @@
 -- Which tags the granules of a sound heap have.
-use Rattle.std.proofs.Common.{◌≡◌, ◌⊎◌, ℕ, ◌+◌, ◌<◌, ◌≤◌, true, false, refl, sym, ◌∙◌, arith, Some, None, Option}
-use Rattle.std.proofs.lemmas.Bool.{cases_lt, eqb-true, eqb-false, and_cases, leb-false, ltb-false}
-use Rattle.machine_theory.specs.Memory.{tag_at, is_among}
-use Rattle.class_table.{proofs.LawLemmas.{one_slot_covers}, specs.Layout.{Slot, Covers, slot_over}}
-use Rattle.heap_theory.specs.GranuleKinds.{IsBookkeeping, IsChunkGranule, IsPayloadGranule, kind_of_chunk, kind_in_slot, kind_at}
+use Rattle.std.proofs.Common.{◌≡◌, ◌⊎◌, ℕ, ◌<◌, refl, sym, ◌∙◌, arith, Some, None, Option}
+use Rattle.std.proofs.lemmas.Bool.{cases_lt, eqb-false}
+use Rattle.machine_theory.specs.Memory.{tag_at}
+use Rattle.class_table.{proofs.LawLemmas.{one_slot_covers}, specs.Layout.{Covers, slot_over}}
+use Rattle.heap_theory.specs.GranuleKinds.{IsBookkeeping, IsChunkGranule, IsPayloadGranule, kind_at}
 use Rattle.heap_theory.specs.{GranuleKinds.{place_kind}, HeapTags.{ChunksAreTagged, ParitiesDiffer}}
 use Rattle.heap_theory.specs.Sound.{IsTagOf, IsTaggedSlot, IsSoundHeap}
-use Rattle.heap_theory.specs.State.{State, Heap, slot_in, state_at, chunk_granules_of, payload_start}
+use Rattle.heap_theory.specs.State.{Heap, slot_in, state_at}
 
 -- ---- bookkeeping granules have tag 0
-
-not_among : (first count g : ℕ) → is_among first count g ≡ false → (g < first) ⊎ (first + count ≤ g)
-not_among first count g out = grind (arith, and_cases, leb-false, ltb-false)
-
--- a granule of a chunk is no bookkeeping
-no_chunk : (slot : Slot) (state : State) (g : ℕ) → is_among (payload_start slot) (chunk_granules_of state) g ≡ true →
-    IsBookkeeping (kind_of_chunk state) → ⊥
-no_chunk slot x1 g among book = grind arith
-
-in_slot_tag : (h : Heap) (s g : ℕ) → Covers (slot_in h s) g → IsTaggedSlot h.memory s (slot_in h s) (state_at h s) →
-    IsBookkeeping (kind_in_slot (slot_in h s) (state_at h s) g) → tag_at h.memory g ≡ 0
-in_slot_tag h s g c t book = grind (arith, eqb-false, eqb-true, no_chunk, not_among)
 
 pub bookkeeping_tag : (h : Heap) (g : ℕ) → IsSoundHeap h → IsBookkeeping (place_kind h g) → tag_at h.memory g ≡ 0
 unfolding place_kind
@@ -30,7 +18,7 @@ bookkeeping_tag h g sound book = by_slot (slot_over h.layout g) refl book
     by_slot None was book =
         sound.slack g (λ s within c. let some = sym was ∙ (one_slot_covers 1 h.layout g s sound.partition.table).1 (within, c) in absurd cc)
     by_slot (Some s) was book =
-        let at = (one_slot_covers 1 h.layout g s sound.partition.table).0 was in in_slot_tag h s g at.1 (sound.tagged s at.0) book
+        let at = (one_slot_covers 1 h.layout g s sound.partition.table).0 was in grind (arith, eqb-false)
 
 -- ---- the tags of payloads
 

@@ -46,8 +46,7 @@ front_link [] = 0
 front_link (s ∷ rest) = suc s
 
 front_is : (next : ℕ → ℕ) (front : ℕ) (list : List ℕ) → IsLinked next front list → front ≡ front_link list
-front_is next front [] l = l
-front_is next front (s ∷ rest) l = l.0
+front_is next front list l = grind arith
 
 links_agree : (next new : ℕ → ℕ) (front other : ℕ) (list : List ℕ) (s : ℕ) → IsLinked next front list → IsLinked new other list →
     Contains list s → new s ≡ next s
@@ -121,9 +120,6 @@ second_of : (memory : List Granule) (g : ℕ) → second_word (header_at memory 
 unfolding header_at
 second_of memory g = (words-header_of (word_at memory (16 * g)) (word_at memory (16 * g + 8))).1
 
-as_one : (h other : Heap) → HaveSameSlots h other → other ≡ with_seen h other.memory other.seed other.tag
-as_one h other same = grind arith
-
 pub header_words_stay : (h other : Heap) → HaveSameSlots h other → HeaderWordsStay h other
 header_words_stay h other same m new a b = record {
   first = λ s within. let g = (slot_of h.layout s).start in sym (first_of new g) ∙ ap first_word (header s within) ∙ first_of m g;
@@ -134,5 +130,5 @@ header_words_stay h other same m new a b = record {
     header s within =
         sym (header_in-region_of h.layout new s within)
         ∙ header_agrees h other.memory other.seed other.tag (region_of h.layout m) (region_of h.layout new) a
-        (subst (λ h. IsKeptIn h (region_of h.layout new)) (as_one h other same) b) s within
+        (subst (λ h. IsKeptIn h (region_of h.layout new)) (grind arith) b) s within
         ∙ header_in-region_of h.layout m s within

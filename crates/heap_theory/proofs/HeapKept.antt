@@ -2,7 +2,7 @@
 use Rattle.std.proofs.Common.{◌≡◌, ◌≢◌, ◌⊎◌, ℕ, ◌+◌, ◌<◌, ◌≤◌, List, length, get_or, refl, sym, ◌∙◌, subst, inl, inr, ⊎_elim, arith}
 use Rattle.std.proofs.{Common.{slice_set}, lemmas.Bool.{cases_lt, cases_eq}, lemmas.List.{get_or-set_same, get_or-set_other, length-set}}
 use Rattle.machine_theory.specs.{Memory.{Granule, tag_at, tagged, written}, Seed.{next_seed}}
-use Rattle.class_table.specs.{Layout.{Slot, end_of, slot_count, Covers, block_bytes}, Sizes.{chunk_granules}}
+use Rattle.class_table.specs.{Layout.{Slot, end_of, slot_count, block_bytes}, Sizes.{chunk_granules}}
 use Rattle.heap_theory.{proofs.Tags.{IsTagOf-next_tag, next_tag-differs}, specs.Sound.{IsTagOf, IsTaggedSlot, IfDead, IsSoundHeap}}
 use Rattle.heap_theory.specs.{Calls.{next_tag, chunk_tagged, given_out, freed, resized, with_payload}, State.State.{Fresh, Live, Dead}}
 use Rattle.heap_theory.specs.State.{State, Heap, slot_in, state_at, last_tag, chunk_granules_of, payload_start}
@@ -14,14 +14,6 @@ in_region h s sound within = subst (λ n. end_of (slot_in h s) ≤ n) (sym sound
 
 pub in_states : (h : Heap) (s : ℕ) → IsSoundHeap h → s < slot_count h.layout → s < length h.states
 in_states h s sound within = subst (λ n. s < n) (sym sound.states) within
-
--- what follows of the mark of a dead slot, and of the marks of two
-IfDead-so : (x : State) (P Q : ℕ → Type 0) → ((mark : ℕ) → P mark → Q mark) → IfDead x P → IfDead x Q
-IfDead-so x0 x1 x2 so p = grind arith
-
-IfDead-both : (x y : State) (P Q : ℕ → Type 0) (R : ℕ → ℕ → Type 0) → ((mark other : ℕ) → P mark → Q other → R mark other) →
-    IfDead x P → IfDead y Q → IfDead x (λ mark. IfDead y (R mark))
-IfDead-both x y P Q R so p q = grind (arith, IfDead-so)
 
 -- a slot whose granules keep their tags stays tagged
 IsTaggedSlot-same : (memory other : List Granule) (s : ℕ) (slot : Slot) (state : State) →
@@ -43,10 +35,6 @@ module _ (h : Heap) (s : ℕ) (state : State) (memory : List Granule) (total see
       (g ≤ (slot_in h s).start) ⊎ (end_of (slot_in h s) ≤ g)
   apart r g within not from to = grind (arith, cases_lt)
 
-  outside : (g : ℕ) → ((r : ℕ) → r < slot_count h.layout → Covers (slot_in h r) g → ⊥) →
-      (g ≤ (slot_in h s).start) ⊎ (end_of (slot_in h s) ≤ g)
-  outside g none = grind (arith, cases_lt)
-
   pub IsSoundHeap-retagged : length memory ≡ length h.memory →
       ((g : ℕ) → (g ≤ (slot_in h s).start) ⊎ (end_of (slot_in h s) ≤ g) → tag_at memory g ≡ tag_at h.memory g) →
       IsTaggedSlot memory s (slot_in h s) state → h.total ≤ total → IfDead state (λ mark. (h.total ≤ mark) × (mark < total)) → tag < 16 →
@@ -59,12 +47,10 @@ module _ (h : Heap) (s : ℕ) (state : State) (memory : List Granule) (total see
         states = length-set h.states s state ∙ sound.states;
         tag_below = tag_below;
         tagged = λ r within. ⊎_elim (λ is. tagged_here r is) (λ not. tagged_there r within not) (cases_eq r s);
-        slack = λ g none. others g (outside g none) ∙ sound.slack g none;
+        slack = grind arith;
         marks = λ r. ⊎_elim
-            (λ is. subst (λ x. IfDead x (λ mark. mark < total)) (sym (here r is))
-            (IfDead-so state IsNew IsBelow (λ mark new. new.1) marked))
-            (λ not. subst (λ x. IfDead x (λ mark. mark < total)) (sym (there r not))
-            (IfDead-so (state_at h r) IsOld IsBelow (λ mark old. omega arith) (sound.marks r)))
+            (grind (arith, here))
+            (grind (arith, there))
             (cases_eq r s);
         marks_differ = λ r q apart. differ r q apart (cases_eq r s) (cases_eq q s);
       }
@@ -101,12 +87,9 @@ module _ (h : Heap) (s : ℕ) (state : State) (memory : List Granule) (total see
       differ : (r q : ℕ) → r ≢ q → (r ≡ s) ⊎ (r ≡ s → ⊥) → (q ≡ s) ⊎ (q ≡ s → ⊥) →
           Differ (get_or (slice_set h.states s state) r Fresh) (get_or (slice_set h.states s state) q Fresh)
       differ r q apart (inl a) (inl b) = absurd (apart (a ∙ sym b))
-      differ r q apart (inl a) (inr b) = now_differ r q state (state_at h q) (here r a) (there q b)
-          (IfDead-both state (state_at h q) IsNew IsOld ◌≢◌ (λ mark other new old is. omega (arith, new.0)) marked (sound.marks q))
-      differ r q apart (inr a) (inl b) = now_differ r q (state_at h r) state (there r a) (here q b)
-          (IfDead-both (state_at h r) state IsOld IsNew ◌≢◌ (λ mark other old new is. omega (arith, new.0)) (sound.marks r) marked)
-      differ r q apart (inr a) (inr b) =
-          now_differ r q (state_at h r) (state_at h q) (there r a) (there q b) (sound.marks_differ r q apart)
+      differ r q apart (inl a) (inr b) = grind (arith, here, there)
+      differ r q apart (inr a) (inl b) = grind (arith, there, here)
+      differ r q apart (inr a) (inr b) = grind (arith, there)
 
 -- the tag of a live slot is one that it may take
 IsTagOf-live : (h : Heap) (s n t : ℕ) → IsSoundHeap h → s < slot_count h.layout → state_at h s ≡ Live n t →

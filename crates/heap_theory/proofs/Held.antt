@@ -1,9 +1,9 @@
 -- What the queue and the lists hold.
-use Rattle.std.proofs.Common.{◌≡◌, ℕ, ◌+◌, ◌-◌, ◌<◌, ◌≤◌, true, List, [], ◌∷◌, sym, ◌∙◌, subst, inl, inr, arith, AllPairs, Contains}
-use Rattle.std.proofs.{Common.{slice_get, Some, length}, lemmas.Bool.{and_from, and_parts, cases_lt, leb-true, le-leb}}
+use Rattle.std.proofs.Common.{◌≡◌, ℕ, ◌+◌, ◌<◌, true, List, [], ◌∷◌, sym, ◌∙◌, subst, arith, AllPairs, Contains}
+use Rattle.std.proofs.{Common.{slice_get, Some, length}, lemmas.Bool.{and_parts}}
 use Rattle.class_table.specs.Layout.{slot_count, block_bytes}
 use Rattle.heap_theory.{proofs.Front.{freed_list, listed}, proofs.ListSearch.{AllPairs-cons, AllPairs-nil}, specs.Links.{list_of}}
-use Rattle.heap_theory.proofs.Marks.{list_dead, one_number, HasMark-own, mark_of-is, dead_with_mark, released_from_mark, chain_bytes}
+use Rattle.heap_theory.proofs.Marks.{list_dead, one_number, HasMark-own, mark_of-is, chain_bytes}
 use Rattle.heap_theory.{proofs.Marks.{chain_dead}, specs.Sound.{IsSoundHeap}}
 use Rattle.heap_theory.specs.QueueAndLists.{IsChain, IsFreedList, AgreeWithMarks, HoldsQuarantined, HoldsReleased}
 use Rattle.heap_theory.specs.State.{Heap, slot_in, state_at, is_dead, is_released, is_quarantined, mark_of}
@@ -30,21 +30,13 @@ holds_quarantined h queue lists sound b = record {
     in_queue : (s : ℕ) → Contains queue s → (s < slot_count h.layout) × (is_quarantined h (state_at h s) ≡ true)
     in_queue s there =
         let q = chain_dead h b.from queue s b.agree.chain there in
-        let mark = mark_of-is (state_at h s) q.mark q.marked in (
-          q.in_range,
-          and_from _ _ (dead_with_mark (state_at h s) q.mark q.marked)
-              (le-leb _ _ (omega (arith, chain_bytes h b.from queue b.agree.chain, b.held, q.above))),
-        )
+        grind (arith, chain_bytes)
 
     queued : (s : ℕ) → (s < slot_count h.layout) × (is_quarantined h (state_at h s) ≡ true) → Contains queue s
     queued s is =
         let both = and_parts (is_dead (state_at h s)) _ is.1 in
         let marked = HasMark-own (state_at h s) both.0 in
-        let still : h.total - mark_of (state_at h s) ≤ h.quarantine = leb-true _ _ both.1 in
-        elim (cases_lt (mark_of (state_at h s)) b.from) [
-          | inl before ↦ absurd (omega (arith, b.agree.released s (mark_of (state_at h s)) is.0 marked before))
-          | inr after ↦ b.agree.queued s (mark_of (state_at h s)) is.0 marked after
-        ]
+        grind arith
 
 -- ---- a class's list
 
@@ -73,11 +65,7 @@ holds_released h queue lists number class sound b numbered = record {
     in_list : (s : ℕ) → Contains (list_of lists number) s →
         (s < slot_count h.layout) × ((slot_in h s).class ≡ class) × (is_released h (state_at h s) ≡ true)
     in_list s there =
-        let l = list_dead h class b.from (list_of lists number) s (freed_list h queue lists number class sound b numbered) there in (
-          l.in_range,
-          l.of_class,
-          released_from_mark h (state_at h s) l.mark l.marked (b.agree.released s l.mark l.in_range l.marked l.below),
-        )
+        let l = list_dead h class b.from (list_of lists number) s (freed_list h queue lists number class sound b numbered) there in grind arith
 
 -- ---- no slot is in two of them
 

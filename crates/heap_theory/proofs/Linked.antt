@@ -1,7 +1,7 @@
 -- Lists that are linked through headers.
-use Rattle.std.proofs.Common.{◌≡◌, ◌≢◌, ℕ, ◌<◌, List, [], ◌∷◌, ◌++◌, length, suc, refl, sym, ap, subst, inl, inr, arith, drop, Contains}
+use Rattle.std.proofs.Common.{◌≡◌, ◌≢◌, ℕ, ◌<◌, List, [], ◌∷◌, ◌++◌, length, suc, refl, sym, ap, subst, arith, drop, Contains}
 use Rattle.std.proofs.Common.{AllPairs}
-use Rattle.heap_theory.proofs.ListSearch.{Contains-head, Contains-tail, Contains-cases, Contains-none, AllPairs-cons, AllPairs-nil}
+use Rattle.heap_theory.proofs.ListSearch.{Contains-head, Contains-tail, Contains-none, AllPairs-cons, AllPairs-nil}
 use Rattle.heap_theory.specs.Links.{IsLinked, last_link}
 
 -- links that change outside the list leave it linked
@@ -19,10 +19,7 @@ pub IsLinked-one : (next : ℕ → ℕ) (front : ℕ) (a b : List ℕ) → IsLin
 IsLinked-one next front [] [] l k = refl
 IsLinked-one next front [] (s ∷ rest) l k = absurd (omega (arith, k.0))
 IsLinked-one next front (s ∷ rest) [] l k = absurd (omega (arith, l.0))
-IsLinked-one next front (s ∷ rest) (r ∷ more) l k =
-    let same : s ≡ r = omega (arith, l.0, k.0) in
-    let tails : rest ≡ more = IsLinked-one next (next s) rest more l.1 (subst (λ q. IsLinked next (next q) more) (sym same) k.1) in
-    λ i. same i ∷ tails i
+IsLinked-one next front (s ∷ rest) (r ∷ more) l k = grind (arith, IsLinked-one next (next s) rest more l.1)
 
 -- with no front there is no slot,
 pub IsLinked-none : (next : ℕ → ℕ) (front : ℕ) (list : List ℕ) → IsLinked next front list → front ≡ 0 → list ≡ []
@@ -32,17 +29,13 @@ IsLinked-none next front (s ∷ rest) l is = absurd (omega (arith, is, l.0))
 -- and any other front is the link to the first slot, whose link shows the rest
 pub IsLinked-first : (next : ℕ → ℕ) (front s : ℕ) (list : List ℕ) → IsLinked next front list → front ≡ suc s →
     (list ≡ s ∷ drop 1 list) × IsLinked next (next s) (drop 1 list)
-IsLinked-first next front s [] l is = absurd (omega (arith, is, l))
-IsLinked-first next front s (r ∷ rest) l is = grind arith
+IsLinked-first next front s list l is = grind arith
 
 -- the list from each of its slots on
 from_there : (next : ℕ → ℕ) (front : ℕ) (list : List ℕ) (s : ℕ) → IsLinked next front list → Contains list s →
     (rest : List ℕ) × (length rest < length list) × IsLinked next (next s) rest
 from_there next front [] s l there = absurd (Contains-none s there)
-from_there next front (r ∷ rest) s l there = elim (Contains-cases r rest s there) [
-  | inl is ↦ (rest, omega arith, subst (λ q. IsLinked next (next q) rest) is l.1)
-  | inr after ↦ let more = from_there next (next r) rest s l.1 after in (more.0, omega (arith, more.1), more.2)
-]
+from_there next front (r ∷ rest) s l there = grind (arith, from_there next (next r) rest s l.1)
 
 -- each slot is met once, since links do not go round
 pub IsLinked-once : (next : ℕ → ℕ) (front : ℕ) (list : List ℕ) → IsLinked next front list → AllPairs (λ s r. s ≢ r) list

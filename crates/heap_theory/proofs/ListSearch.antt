@@ -1,8 +1,8 @@
 -- What `find`, `filter` and `position` give.
 use Rattle.std.proofs.Common.{◌≡◌, ◌≢◌, ◌⊎◌, ℕ, zero, suc, ◌<◌, ◌≤◌, Bool, true, false, cond, List, [], ◌∷◌, length, get_or, refl, sym, ap}
 use Rattle.std.proofs.Common.{◌∙◌, subst, inl, inr, arith, Some, None, Option, slice_get, All, AllPairs, Contains}
-use Rattle.std.proofs.lemmas.{Bool.{both_ways, cases_Bool, cases_lt, cond_both, cond-true, eqb-true, lt-ltb}, Bool.Decides.{Decides-eqb}}
-use Rattle.std.proofs.lemmas.List.{Elements.{All-nil, All-cons, Contains-get_or}, FromFn.{get_or-range_with_len, length-range_with_len}}
+use Rattle.std.proofs.lemmas.{Bool.{both_ways, cases_Bool, cases_lt, cond_both, eqb-true, lt-ltb}, Bool.Decides.{Decides-eqb}}
+use Rattle.std.proofs.lemmas.List.{Elements.{All-nil, Contains-get_or}, FromFn.{get_or-range_with_len, length-range_with_len}}
 use Rattle.std.proofs.lemmas.{List.Sums.{fails_before_first}, Map.Made.{IsDistinct-from_AllPairs}, Map.Views.{Contains-from_any}}
 use Rattle.std.{proofs.lemmas.Map.Steps.{length-le_from_distinct_below}, specs.List.{find, filter, position, range_with_len}}
 
@@ -20,18 +20,11 @@ All-find P p (y ∷ ys) x all is = elim (cases_Bool (p y)) [
 
 pub find_passes : {X : Type 0} (p : X → Bool) (xs : List X) (x : X) → find p xs ≡ Some x → p x ≡ true
 find_passes p [] x is = cc
-find_passes p (y ∷ ys) x is = elim (cases_Bool (p y)) [
-  | inl passed ↦
-      grind arith
-  | inr failed ↦ find_passes p ys x (subst (λ b. cond b (Some y) (find p ys) ≡ Some x) failed is)
-]
+find_passes p (y ∷ ys) x is = grind (arith, find_passes p ys x)
 
 pub none_found : {X : Type 0} (p : X → Bool) (xs : List X) → find p xs ≡ None → All (λ x. p x ≡ false) xs
 none_found p [] is = All-nil (λ x. p x ≡ false)
-none_found p (x ∷ xs) is = elim (cases_Bool (p x)) [
-  | inl passed ↦ let some : Some x ≡ None = subst (λ b. cond b (Some x) (find p xs) ≡ None) passed is in absurd cc
-  | inr failed ↦ All-cons (λ x. p x ≡ false) x xs failed (none_found p xs (subst (λ b. cond b (Some x) (find p xs) ≡ None) failed is))
-]
+none_found p (x ∷ xs) is = grind (arith, none_found p xs)
 
 -- the only element that passes is found
 pub find_only : {X : Type 0} (p : X → Bool) (xs : List X) (x : X) → Contains xs x → p x ≡ true → All (λ y. p y ≡ true → y ≡ x) xs →
@@ -52,8 +45,7 @@ in_filter {X} p xs x there passes = at xs there.0 there.1 there.2
 
     at : (xs : List X) (k : ℕ) → k < length xs → get_or xs k x ≡ x → Contains (filter p xs) x
     at [] k within is = absurd (omega arith)
-    at (y ∷ ys) zero within is =
-        grind (arith, cond-true)
+    at (y ∷ ys) zero within is = grind arith
     at (y ∷ ys) (suc k) within is =
         let rest : Contains (filter p ys) x = at ys k (omega arith) is in
         cond_both (p y) (y ∷ filter p ys) (filter p ys) (λ zs. Contains zs x) (λ _. after (filter p ys) y rest) (λ _. rest)

@@ -1,10 +1,10 @@
 -- The marks of slots in a queue and in lists.
-use Rattle.std.proofs.Common.{◌≡◌, ◌≢◌, ℕ, ◌+◌, ◌-◌, ◌<◌, ◌≤◌, true, false, List, [], ◌∷◌, length, get_or, sym, ◌∙◌, subst, inl, inr, arith}
+use Rattle.std.proofs.Common.{◌≡◌, ◌≢◌, ℕ, ◌+◌, ◌<◌, ◌≤◌, true, false, List, [], ◌∷◌, length, get_or, sym, ◌∙◌, subst, inl, inr, arith}
 use Rattle.std.proofs.{Common.{Contains, slice_get, Some}, lemmas.Bool.{cases_order}, lemmas.List.Kept.{AllPairs-from_increasing}}
 use Rattle.std.proofs.lemmas.{List.Sums.{sum_by-cons}, Option.{get_or_from_slice_get, slice_get_within}}
 use Rattle.class_table.specs.{Layout.{Partition, slot_count, slot_of, block_bytes}, Tables.{IsLegalTable}}
 use Rattle.heap_theory.{proofs.ListSearch.{Contains-cases, Contains-none}, specs.QueueAndLists.{HasMark, IsChain, IsFreedList, bytes_of}}
-use Rattle.heap_theory.specs.{Sound.{IfDead}, State.{State, Heap, slot_in, state_at, mark_of, is_dead, is_released}}
+use Rattle.heap_theory.specs.{Sound.{IfDead}, State.{State, Heap, slot_in, state_at, mark_of, is_dead}}
 
 -- ---- one mark
 
@@ -25,9 +25,6 @@ not_marked x mark alive d = let dead = sym alive ∙ dead_with_mark x mark d in 
 
 pub same_mark : (x y : State) (m k : ℕ) → HasMark x m → HasMark y k → m ≡ k → IfDead x (λ mark. IfDead y (λ other. mark ≢ other)) → ⊥
 same_mark x0 x1 m k d e same differ = grind arith
-
-pub released_from_mark : (h : Heap) (x : State) (mark : ℕ) → HasMark x mark → h.quarantine < h.total - mark → is_released h x ≡ true
-released_from_mark h x1 mark d over = grind arith
 
 -- ---- the queue
 
@@ -56,24 +53,14 @@ pub record IsQueued (h : Heap) (from s : ℕ) : Type 0 where
 
 pub chain_dead : (h : Heap) (from : ℕ) (queue : List ℕ) (s : ℕ) → IsChain h from queue → Contains queue s → IsQueued h from s
 chain_dead h from [] s c there = absurd (Contains-none s there)
-chain_dead h from (r ∷ rest) s c there = elim (Contains-cases r rest s there) [
-  | inl is ↦ subst (IsQueued h from) is (record { in_range = c.0; mark = from; marked = c.1; above = omega arith })
-  | inr after ↦
-      let q = chain_dead h (from + block_bytes (slot_in h r)) rest s c.2 after in
-      record { in_range = q.in_range; mark = q.mark; marked = q.marked; above = omega (arith, q.above) }
-]
+chain_dead h from (r ∷ rest) s c there = grind (arith, chain_dead h (from + block_bytes (slot_in h r)) rest s c.2)
 
 -- ---- lists
 
 pub list_mark : (h : Heap) (class bound : ℕ) (list : List ℕ) (s mark : ℕ) → IsFreedList h class bound list → Contains list s →
     HasMark (state_at h s) mark → mark < bound
 list_mark h class bound [] s mark f there d = absurd (Contains-none s there)
-list_mark h class bound (r ∷ rest) s mark f there d =
-    let below : f.0 < bound = f.4 in
-    elim (Contains-cases r rest s there) [
-      | inl is ↦ omega (arith, one_mark (state_at h s) f.0 mark (subst (λ r. HasMark (state_at h r) f.0) is f.3) d)
-      | inr after ↦ omega (arith, list_mark h class f.0 rest s mark f.5 after d)
-    ]
+list_mark h class bound (r ∷ rest) s mark f there d = grind (arith, list_mark h class f.0 rest s mark f.5)
 
 pub list_weaker : (h : Heap) (class a b : ℕ) (list : List ℕ) → a ≤ b → IsFreedList h class a list → IsFreedList h class b list
 list_weaker h class a b [] le f = tt

@@ -1,16 +1,16 @@
 -- The pointer that was given out for a live chunk is accepted by `free` and by `realloc`, and of the others only null is.
-use Rattle.std.proofs.Common.{◌≡◌, ◌≢◌, ℕ, ◌*◌, ◌^◌, ◌<◌, List, refl, sym, ap, ◌∙◌, subst, inl, inr, arith, Option, None}
-use Rattle.std.proofs.{Common.{Result, Ok, Err, ◌==◌, min, replicate, ◌↔◌}, lemmas.List.{get_or-set_same, get_or-set_other}}
+use Rattle.std.proofs.Common.{◌≡◌, ◌≢◌, ℕ, ◌*◌, ◌<◌, List, refl, sym, ap, ◌∙◌, subst, inl, inr, arith, Option, None}
+use Rattle.std.proofs.{Common.{Result, Ok, Err, ◌==◌, replicate, ◌↔◌}, lemmas.List.{get_or-set_same, get_or-set_other}}
 use Rattle.std.proofs.lemmas.Bool.{cases_eq, cond-true, cond-false, cond_both, eq-eqb, eqb-true, false_from_ne_true}
-use Rattle.machine_theory.specs.{Address.{logical_tag, place_of, with_tag}}
+use Rattle.machine_theory.specs.{Address.{logical_tag, with_tag}}
 use Rattle.class_table.specs.{Layout.{Partition, slot_count, slot_of}, Sizes.{chunk_granules}}
 use Rattle.heap_theory.proofs.CallsKept.{KeepsGiven, KeepsGiven-refl, KeepsGiven-with_payload, KeepsGiven-resized, KeepsGiven-moved}
 use Rattle.heap_theory.proofs.CallsKept.{HeapChange, IsKept-malloc, IsKept-calloc, IsKept-free, IsKept-realloc, IsKept-store}
 use Rattle.heap_theory.proofs.CallsKept.{state_at-with_payload, state_at-given_out, state_at-given_out_other, live_moved, layout-given_out}
 use Rattle.heap_theory.proofs.{CallsKept.{not_reusable}, HeapKept.{in_states}, Lookups.{slot_for_request-cases, chunk_at-is}}
 use Rattle.heap_theory.{proofs.Pointers.{own_chunk}, specs.Lookups.{Chunk, MayBeGiven, IsLiveChunk, slot_for_request, chunk_at}}
-use Rattle.heap_theory.specs.Calls.{move_with, realloc_with, as_realloc, realloc_step, store_step, Step, given_out, freed}
-use Rattle.heap_theory.specs.Calls.{resized, with_payload, payload_bytes, moved, malloc_with, malloc_step, calloc_with, calloc_step}
+use Rattle.heap_theory.specs.Calls.{move_with, realloc_with, realloc_step, store_step, Step, given_out, freed}
+use Rattle.heap_theory.specs.Calls.{resized, with_payload, moved, malloc_with, malloc_step, calloc_with, calloc_step}
 use Rattle.heap_theory.specs.{Calls.{free_with, free_step, stays_in_class}, Sound.{IsSoundHeap}, State.State.{Fresh, Live, Dead}}
 use Rattle.heap_theory.specs.OwnPointers.{GivesOwnPointers, StaysOwnPointer, IsOwnPointer, IsNullOrOwn, FreeAccepts, IsNotRefused}
 use Rattle.heap_theory.specs.{OwnPointers.{ReallocAccepts}, declared.refusal.FreeError.{FreeError}}
@@ -28,14 +28,11 @@ names h s p sound own =
     let l = live_is (state_at h s) own.live in
     (record { slot = s; size = l.0 }, ap (chunk_at h) own.address ∙ own_chunk h s l.0 l.1 sound own.in_range l.2)
 
-parts : (p : ℕ) → p < 2 ^ 60 → p ≡ with_tag (place_of p) (logical_tag p)
-parts p plain = omega arith
-
 -- what names a chunk is its own pointer
 own_of : (h : Heap) (p : ℕ) (chunk : Chunk) → chunk_at h p ≡ Ok chunk → IsOwnPointer h chunk.slot p
 own_of h p chunk named =
     let c = chunk_at-is h p chunk named in
-    grind (arith, parts)
+    grind arith
 
 -- ---- free
 
@@ -67,18 +64,11 @@ free_accepts h p sound = (
   where
     by_chunk : p ≢ 0 → FreeAccepts h p → (r : Result Chunk FreeError) → chunk_at h p ≡ r → IsNullOrOwn h p
     by_chunk some accepts (Ok chunk) was = inr (chunk.slot, own_of h p chunk was)
-    by_chunk some accepts (Err error) was =
-        let refused : ◌≡◌ {A = Result (Unit {0}) FreeError} (Ok tt) (Err error) =
-        sym accepts ∙ ap answer_of_free (free_some h p (Err error) some was) in
-        absurd cc
-
--- an own pointer is not null
-not_null : (h : Heap) (s : ℕ) → IsSoundHeap h → s < slot_count h.layout → pointer_to h s ≢ 0
-not_null h s sound within null = grind arith
+    by_chunk some accepts (Err error) was = grind (arith, free_some)
 
 pub frees_chunk : (heap : Heap) (s n tag : ℕ) → IsSoundHeap heap → IsSlot heap s → state_at heap s ≡ Live n tag →
     free_step heap (pointer_to heap s) ≡ record { heap = freed heap s n; answer = Ok tt }
-frees_chunk h s n t sound within live = grind (arith, free_some, not_null, own_chunk)
+frees_chunk h s n t sound within live = grind (arith, free_some, own_chunk)
 
 -- ---- realloc
 
@@ -93,9 +83,6 @@ realloc_some : (h : Heap) (p n : ℕ) (r : Result Chunk FreeError) → p ≢ 0 �
 unfolding realloc_step
 realloc_some h p n r some named = grind (arith, cond-false, false_from_ne_true, eqb-true)
 
-not_refused : (h : Heap) (p n : ℕ) (chunk : Chunk) → Accepted (realloc_with h p n (Ok chunk))
-not_refused h p n chunk = grind (arith, cond_both)
-
 pub realloc_accepts : (heap : Heap) (p n : ℕ) → IsSoundHeap heap → ReallocAccepts heap p n ↔ IsNullOrOwn heap p
 realloc_accepts h p n sound = (
   λ accepts. elim (cases_eq p 0) [
@@ -108,7 +95,7 @@ realloc_accepts h p n sound = (
       | inl null ↦ absurd (some null)
       | inr is ↦
           let named = names h is.0 p sound is.1 in
-          subst Accepted (sym (realloc_some h p n (Ok named.0) some named.1)) (not_refused h p n named.0)
+          subst Accepted (sym (realloc_some h p n (Ok named.0) some named.1)) (grind arith)
     ]
   ],
 )
@@ -186,8 +173,7 @@ module _ (h : Heap) (s p : ℕ) (sound : IsSoundHeap h) (own : IsOwnPointer h s 
           let other = not_named h s p q chunk own another was in
           cond_both (stays_in_class h chunk n) _ _ Keeps (λ _. state_at-resized_other h chunk.slot n s other)
           (λ _. slot_for_request-cases h n sound (λ r. Keeps (move_with h chunk n r)) (λ cause. refl)
-          (λ r given. state_at-freed_other _ chunk.slot chunk.size s other
-          ∙ state_at-with_payload (given_out h r n) r s (payload_bytes h chunk.slot (min chunk.size n)) ∙ spared n r given))
+          (grind (arith, state_at-freed_other, state_at-with_payload, spared)))
 
   state_after_store : (address : ℕ) (bytes : List ℕ) → state_at (store_step h address bytes) s ≡ state_at h s
   unfolding store_step
@@ -260,13 +246,10 @@ chunk_gives h q n p sound (Ok chunk) was is =
     (λ _. resize_gives h q n p chunk sound was)
     (λ _. move_gives h q n p chunk sound (chunk_at-is h q chunk was)) is
 
-null_gives : (h : Heap) (n p : ℕ) → IsSoundHeap h → GivesOwn (as_realloc (malloc_step h n)) p
-null_gives h n p sound is = grind (arith, malloc_own)
-
 realloc_own : (h : Heap) (q n p : ℕ) → IsSoundHeap h → GivesOwn (realloc_step h q n) p
 unfolding realloc_step
 realloc_own h q n p sound =
-    cond_both (q == 0) _ _ (λ (step : Step (Result ℕ ReallocError)). GivesOwn step p) (λ _. null_gives h n p sound)
+    cond_both (q == 0) _ _ (λ (step : Step (Result ℕ ReallocError)). GivesOwn step p) (grind (arith, malloc_own))
     (λ _. chunk_gives h q n p sound (chunk_at h q) refl)
 
 pub gives_own : (heap : Heap) → IsSoundHeap heap → GivesOwnPointers heap

@@ -12,14 +12,9 @@ use Rattle.heap_theory.specs.State.{Heap, slot_in, state_at, is_fresh, payload_p
 
 -- ---- the slot of a pointer
 
--- payloads of two slots begin at different places
-one_payload : (h : Heap) (r s : ℕ) → IsSoundHeap h → r < s → s < slot_count h.layout →
-    payload_place (slot_in h r) ≡ payload_place (slot_in h s) → ⊥
-one_payload h r s sound before within same = omega (arith, sound.slots.apart r s before within, sound.slots.wide r (omega arith))
-
 pub slot_of_pointer-iff : (heap : Heap) (p s : ℕ) → IsSoundHeap heap → (slot_of_pointer heap p ≡ Some s) ↔ (IsSlot heap s × (p < 2 ^ 60)
     × (place_of p ≡ payload_place (slot_in heap s)))
-slot_of_pointer-iff h p s sound = grind (arith, slot_of_pointer-is, position_or_len_is, false_from_ne_true, one_payload, eqb-true, eq-eqb, cond-true, lt-ltb)
+slot_of_pointer-iff h p s sound = grind (arith, slot_of_pointer-is, position_or_len_is, eqb-true, eq-eqb, lt-ltb)
 
 pub own_chunk : (heap : Heap) (s n tag : ℕ) → IsSoundHeap heap → IsSlot heap s → state_at heap s ≡ Live n tag →
     chunk_at heap (pointer_to heap s) ≡ Ok (record { slot = s; size = n })

@@ -82,12 +82,8 @@ module _ (h : Heap) (s : ℕ) (state : State) (memory : List Granule) (total see
           (kept number _ b.from inside (b.agree.freed number (subst (λ n. number < n) long inside)));
       queued = λ r mark in_range d le. let before = dead_before r mark d in b.agree.queued r mark in_range before.1 le;
       listed =
-          λ r mark number in_range d lt found. let before = dead_before r mark d in
-          others number r before.0 (b.agree.listed r mark number in_range before.1 lt found);
-      released = λ r mark in_range d lt.
-          let before = dead_before r mark d in
-          let over : h.quarantine < h.total - mark = b.agree.released r mark in_range before.1 lt in
-          subst (λ t. h.quarantine < t - mark) (sym same) over;
+          grind (arith, dead_before);
+      released = grind (arith, dead_before);
     };
     held = b.held;
   }
@@ -197,9 +193,7 @@ module _ (h : Heap) (queue : List ℕ) (lists : List (List ℕ)) (number class s
   inside = subst (λ k. number < k) (sym b.agree.long) is_number.within
 
   front : IsFreedList h class b.from (s ∷ rest)
-  front =
-      subst (λ list. IsFreedList h class b.from list) is
-      (subst (λ c. IsFreedList h c b.from (list_of lists number)) is_number.is (b.agree.freed number inside))
+  front = grind (arith, is_number)
 
   in_no_queue : Contains queue s → ⊥
   in_no_queue there = grind (arith, chain_mark, front)
@@ -209,11 +203,7 @@ module _ (h : Heap) (queue : List ℕ) (lists : List (List ℕ)) (number class s
       let f = front in
       elim (cases_eq other number) [
         | inl same ↦
-            let after : Contains rest s =
-            subst (λ list. Contains list s) (list_of-here lists number rest inside)
-            (subst (λ k. Contains (list_of (slice_set lists number rest) k) s) same there) in
-            let below : f.0 < f.0 = list_mark h class f.0 rest s f.0 f.5 after f.3 in
-            omega arith
+            grind (arith, list_of-here, inside, list_mark)
         | inr not ↦
             let in_lists : other < length lists = subst (λ k. other < k) (length-set lists number rest) within in
             let l = list_dead h (get_or h.layout.classes other 0) b.from (list_of lists other) s (b.agree.freed other in_lists)

@@ -1,6 +1,6 @@
 -- How a change of a memory changes its region.
-use Rattle.std.proofs.Common.{◌≡◌, ◌≢◌, ◌⊎◌, ℕ, ◌+◌, ◌*◌, ◌<◌, ◌≤◌, true, List, ◌++◌, length, sym, ap, ◌∙◌, inl, inr, arith, slice_index_or}
-use Rattle.std.proofs.{Common.{slice_set}, lemmas.Bool.{cases_eq, cases_order, eq-eqb}, lemmas.Grind.{common_steps}}
+use Rattle.std.proofs.Common.{◌≡◌, ◌≢◌, ◌⊎◌, ℕ, ◌+◌, ◌*◌, ◌<◌, ◌≤◌, true, List, ◌++◌, length, sym, ap, ◌∙◌, arith, slice_index_or}
+use Rattle.std.proofs.{Common.{slice_set}, lemmas.Bool.{cases_order, eq-eqb}, lemmas.Grind.{common_steps}}
 use Rattle.std.proofs.lemmas.{List.{get_or-set_same, get_or-set_other, get_or_default, length-set}, List.Folds.{list_any-from_Any}}
 use Rattle.std.{proofs.lemmas.List.FromFn.{fill_by_all, get_or-map-range_with_len, length-map-range_with_len}, specs.Int.{w64, to_le_bytes}}
 use Rattle.machine_theory.specs.Memory.{Granule, IsMemory, tagged, written}
@@ -65,15 +65,7 @@ module _ (layout : Partition) where
       headers =
           headers_of-is new (slice_set (headers_of layout memory) s header)
           (length-set (headers_of layout memory) s header ∙ length-headers_of memory)
-          (λ r there. elim (cases_eq r s) [
-            | inl same ↦
-                (λ i. slice_index_or (slice_set (headers_of layout memory) s header) (same i) no_header)
-                ∙ get_or-set_same (headers_of layout memory) s header no_header (omega (arith, within, length-headers_of memory))
-                ∙ sym own ∙ (λ i. header_at new (slot_of layout (sym same i)).start)
-            | inr other ↦
-                get_or-set_other (headers_of layout memory) s r header no_header other
-                ∙ header_in-region_of memory r there ∙ sym (others r there other)
-          ])
+          (grind (arith, get_or-set_same, length-headers_of, get_or-set_other, header_in-region_of))
 
 module _ (layout : Partition) (is : IsPartition layout) where
   start_inside : (s : ℕ) → s < slot_count layout → (slot_of layout s).start < layout.granules

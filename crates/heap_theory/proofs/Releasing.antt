@@ -1,11 +1,11 @@
 -- The front of the queue is released to its class's list.
-use Rattle.std.proofs.Common.{◌≡◌, ℕ, ◌+◌, ◌<◌, ◌≤◌, List, [], ◌∷◌, length, get_or, sym, ◌∙◌, subst, inl, inr, arith, Contains, slice_get}
+use Rattle.std.proofs.Common.{◌≡◌, ℕ, ◌+◌, ◌<◌, ◌≤◌, List, [], ◌∷◌, length, sym, ◌∙◌, subst, inl, inr, arith, Contains, slice_get}
 use Rattle.std.proofs.{Common.{slice_set, Some}, lemmas.Bool.{cases_eq, cases_lt}}
 use Rattle.std.proofs.lemmas.List.{get_or-set_same, get_or-set_other, length-set}
 use Rattle.class_table.specs.Layout.{block_bytes}
 use Rattle.heap_theory.{proofs.ListSearch.{Contains-tail, Contains-cases}, specs.Links.{list_of}, specs.Sound.{IsSoundHeap}}
-use Rattle.heap_theory.proofs.Marks.{one_mark, bytes_of-cons, chain_bytes, chain_mark, list_weaker, one_number, IsNumberOf, number_is}
-use Rattle.heap_theory.specs.{QueueAndLists.{HasMark, IsFreedList, AgreeWithMarksFrom, bytes_of}, State.{Heap, slot_in, state_at}}
+use Rattle.heap_theory.proofs.Marks.{bytes_of-cons, chain_bytes, chain_mark, list_weaker, one_number, IsNumberOf, number_is}
+use Rattle.heap_theory.specs.{QueueAndLists.{HasMark, AgreeWithMarksFrom, bytes_of}, State.{Heap, slot_in, state_at}}
 
 -- a list for one class is another one
 pub list_of-here : (lists : List (List ℕ)) (number : ℕ) (list : List ℕ) → number < length lists →
@@ -25,15 +25,8 @@ module _ (h : Heap) (from s number : ℕ) (queue : List ℕ) (lists : List (List
   within : number < length lists
   within = subst (λ n. number < n) (sym b.long) is_number.within
 
-  after : ℕ
-  after = from + block_bytes (slot_in h s)
-
   wide : 0 < block_bytes (slot_in h s)
   wide = let two : 2 ≤ (slot_in h s).class = sound.slots.wide s b.chain.0 in omega arith
-
-  still_queued : (r mark : ℕ) → HasMark (state_at h r) mark → from + block_bytes (slot_in h s) ≤ mark → Contains (s ∷ queue) r →
-      Contains queue r
-  still_queued r mark d le there = grind (arith, Contains-cases, one_mark, wide)
 
   is_front : (r mark : ℕ) → HasMark (state_at h r) mark → mark < from + block_bytes (slot_in h s) → Contains (s ∷ queue) r → s ≡ r
   is_front r mark d lt there = grind (arith, Contains-cases, chain_mark)
@@ -56,25 +49,6 @@ module _ (h : Heap) (from s number : ℕ) (queue : List ℕ) (lists : List (List
       one_number 1 h.layout.classes other number sound.partition.table there.within is_number.within (there.is ∙ sym is_number.is) in
       grind (arith, list_of-here)
 
-  freed_list : (other : ℕ) → other < length lists →
-      IsFreedList h (get_or h.layout.classes other 0) (from + block_bytes (slot_in h s))
-      (list_of (slice_set lists number (s ∷ list_of lists number)) other)
-  freed_list other in_lists =
-      let some = wide in
-      elim (cases_eq other number) [
-        | inl is ↦
-            subst (λ n. IsFreedList h (get_or h.layout.classes n 0) (from + block_bytes (slot_in h s))
-            (list_of (slice_set lists number (s ∷ list_of lists number)) n)) (sym is)
-            (subst (IsFreedList h (get_or h.layout.classes number 0) (from + block_bytes (slot_in h s)))
-            (sym (list_of-here lists number (s ∷ list_of lists number) within))
-            (from, b.chain.0, sym is_number.is, b.chain.1, omega arith, b.freed number within))
-        | inr not ↦
-            subst (IsFreedList h (get_or h.layout.classes other 0) (from + block_bytes (slot_in h s)))
-            (sym (list_of-there lists number other (s ∷ list_of lists number) not))
-            (list_weaker h (get_or h.layout.classes other 0) from (from + block_bytes (slot_in h s)) (list_of lists other) (omega arith)
-            (b.freed other in_lists))
-      ]
-
   pub release : h.quarantine < bytes_of h.layout (s ∷ queue) →
       AgreeWithMarksFrom h (from + block_bytes (slot_in h s)) queue (slice_set lists number (s ∷ list_of lists number))
   release over =
@@ -85,20 +59,13 @@ module _ (h : Heap) (from s number : ℕ) (queue : List ℕ) (lists : List (List
       record {
         chain = b.chain.2;
         long = length-set lists number (s ∷ list_of lists number) ∙ b.long;
-        freed = λ other in_lists. freed_list other (subst (λ n. other < n) (length-set lists number (s ∷ list_of lists number)) in_lists);
-        queued = λ r mark in_range d le. still_queued r mark d le (b.queued r mark in_range d (omega arith));
+        freed = grind (arith, list_of-here, is_number, list_of-there, list_weaker, length-set);
+        queued = grind arith;
         listed = λ r mark other in_range d lt found. elim (cases_lt mark from) [
           | inl before ↦ stays_listed r other (b.listed r mark other in_range d before found)
           | inr le ↦
               let is = is_front r mark d lt (b.queued r mark in_range d le) in
-              subst (λ q. Contains (list_of (slice_set lists number (s ∷ list_of lists number)) other) q) is
-              (front_listed other (subst (λ q. slice_get h.layout.classes other ≡ Some (slot_in h q).class) (sym is) found))
+              grind (arith, front_listed)
         ];
-        released = λ r mark in_range d lt. elim (cases_lt mark from) [
-          | inl before ↦ b.released r mark in_range d before
-          | inr le ↦
-              let is = is_front r mark d lt (b.queued r mark in_range d le) in
-              let same : mark ≡ from = one_mark (state_at h r) mark from d (subst (λ q. HasMark (state_at h q) from) is b.chain.1) in
-              omega arith
-        ];
+        released = grind (arith, is_front);
       }

@@ -1,5 +1,5 @@
 -- What is seen of a memory without the bytes of its headers.
-use Rattle.std.proofs.Common.{◌≡◌, ◌⊎◌, ℕ, ◌+◌, ◌-◌, ◌*◌, ◌/◌, ◌<◌, ◌≤◌, Bool, true, false, cond, List, [], length, replicate, refl}
+use Rattle.std.proofs.Common.{◌≡◌, ◌⊎◌, ℕ, ◌+◌, ◌*◌, ◌/◌, ◌<◌, ◌≤◌, Bool, true, false, cond, List, [], length, replicate, refl}
 use Rattle.std.proofs.Common.{sym, ap, ◌∙◌, subst, inl, inr, arith, slice_index, IsTrue, ◌≢◌, None, IsFalse}
 use Rattle.std.proofs.lemmas.Bool.{cases_lt, cases_Bool, cases_order, cond-false, cond_both, eqb-true, both_ways, and_left, and_right}
 use Rattle.std.proofs.lemmas.{Bool.{lt-leb, le-ltb, false_from_ne_true}, List.Folds.{Any-from_list_any}, List.FromFn.{fill_by_all}}
@@ -98,9 +98,7 @@ granule_at-written i g new memory is apart = elim (cases_lt g (length memory)) [
       let same : bytes_after i new g (granule_at memory g).bytes ≡ (granule_at memory g).bytes = sym
       (fill_by_all (λ k. byte_after i new (16 * g + k) (slice_index (granule_at memory g).bytes k)) (granule_at memory g).bytes
       (length (granule_at memory g).bytes) 0 refl
-      (λ k inside. sym (cond-false (is_among i (length new) (16 * g + k)) (slice_index new (16 * g + k - i))
-      (slice_index (granule_at memory g).bytes k)
-      (outside k (omega (arith, granule.sixteen)))))) in
+      (grind arith)) in
       laws.each_at (λ g granule. record granule { bytes = bytes_after i new g granule.bytes }) memory g within
       ∙ (λ j. record { tag = (granule_at memory g).tag; bytes = same j })
   | inr past ↦
@@ -126,13 +124,9 @@ pub header_starts : (layout : Partition) (g : ℕ) → is_header_granule layout 
     (s : ℕ) × (s < slot_count layout) × ((slot_of layout s).start ≡ g)
 header_starts layout g is = grind (arith, Any-from_list_any, eqb-true, get_or_default)
 
--- and has tag 0
-header_tag : (h : Heap) (g : ℕ) → IsSoundHeap h → is_header_granule h.layout g ≡ true → tag_at h.memory g ≡ 0
-header_tag h g sound is = grind (arith, header_starts)
-
 -- an access that succeeds under another tag than 0 touches no header
 pub headers_spared : (heap : Heap) (address len g : ℕ) → IsSoundHeap heap → logical_tag address ≢ 0 → access_fault heap.memory address len
     ≡ None → Touches address len g → IsFalse (is_header_granule heap.layout g)
 headers_spared h address len g sound tagged succeeds touches = false_from_ne_true (is_header_granule h.layout g) (λ is.
-    let fault = laws.other_tag_faults h.memory address len g touches (λ same. tagged (sym same ∙ header_tag h g sound is)) in
+    let fault = laws.other_tag_faults h.memory address len g touches (grind (arith, header_starts)) in
     grind (arith, both_ways))

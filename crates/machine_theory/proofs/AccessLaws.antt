@@ -1,8 +1,8 @@
 -- Which accesses are faults, and which granule a tag fault names.
-use Rattle.std.proofs.Common.{◌≡◌, ◌≢◌, ◌⊎◌, ℕ, zero, suc, ◌+◌, ◌-◌, ◌*◌, ◌<◌, ◌≤◌, Bool, true, false, not, cond, List, length, refl, ap}
-use Rattle.std.proofs.Common.{◌∙◌, subst, inl, inr, arith, Some, None, Option, ◌==◌, ◌↔◌, IsSome, IsTrue, option_map}
-use Rattle.std.proofs.lemmas.Bool.{cases_Bool, false_from_ne_true, iff_false, cond-true, cond-false, eqb-true, eqb-false, cases_lt}
-use Rattle.std.proofs.lemmas.Bool.{not-true, not-false, and_parts, and_from, ltb-true, leb-true, lt-ltb, le-leb}
+use Rattle.std.proofs.Common.{◌≡◌, ◌≢◌, ◌⊎◌, ℕ, zero, suc, ◌+◌, ◌-◌, ◌*◌, ◌<◌, ◌≤◌, Bool, true, false, not, List, length, refl, ap}
+use Rattle.std.proofs.Common.{◌∙◌, inl, inr, arith, Some, None, Option, ◌==◌, ◌↔◌, IsSome, IsTrue, option_map}
+use Rattle.std.proofs.lemmas.Bool.{cases_Bool, false_from_ne_true, iff_false, cond-true, cond-false, eqb-true}
+use Rattle.std.proofs.lemmas.Bool.{not-false, and_parts, ltb-true, leb-true}
 use Rattle.std.specs.List.{find, range_with_len}
 use Rattle.machine_theory.specs.{Access.{IsMapped, IsTagFault, is_mapped, touched, tag_fault, access_fault}, Memory.{Granule, tag_at}}
 use Rattle.machine_theory.specs.{Address.{logical_tag, place_of, region_start, granule_of, Holds, Touches}, declared.fault.Fault.{Fault}}
@@ -13,32 +13,17 @@ module _ (p : ℕ → Bool) where
   found : (n a g : ℕ) → find p (range_with_len a n) ≡ Some g →
       (a ≤ g) × (g < a + n) × (p g ≡ true) × ((k : ℕ) → a ≤ k → k < g → p k ≡ false)
   found zero a g e = cc
-  found (suc n) a g e = elim (cases_Bool (p a)) [
-    | inl t ↦ grind arith
-    | inr f ↦
-        let r = found n (a + 1) g (subst (λ b. cond b (Some a) (find p (range_with_len (a + 1) n)) ≡ Some g) f e) in
-        grind (arith, cases_lt)
-  ]
+  found (suc n) a g e = grind (arith, found n (a + 1) g)
 
   none_found : (n a : ℕ) → find p (range_with_len a n) ≡ None → (k : ℕ) → a ≤ k → k < a + n → p k ≡ false
   none_found zero a e k from h = absurd (omega arith)
-  none_found (suc n) a e k from h = elim (cases_Bool (p a)) [
-    | inl t ↦ let first : Some a ≡ None = subst (λ b. cond b (Some a) (find p (range_with_len (a + 1) n)) ≡ None) t e in cc
-    | inr f ↦ elim (cases_lt a k) [
-      | inl later ↦ none_found n (a + 1) (subst (λ b. cond b (Some a) (find p (range_with_len (a + 1) n)) ≡ None) f e) k (omega arith)
-          (omega arith)
-      | inr here ↦ subst (λ x. p x ≡ false) (omega arith) f
-    ]
-  ]
+  none_found (suc n) a e k from h = grind (arith, none_found n (a + 1))
 
 pub IsMapped-from : (granules address len : ℕ) → is_mapped granules address len ≡ true → IsMapped granules address len
 IsMapped-from granules address len e = grind (arith, and_parts, ltb-true, leb-true)
 
-is_mapped-from : (granules address len : ℕ) → IsMapped granules address len → is_mapped granules address len ≡ true
-is_mapped-from granules address len m = grind (arith, and_from, lt-ltb, le-leb)
-
 pub mapped_test : (granules address len : ℕ) → IsTrue (is_mapped granules address len) ↔ IsMapped granules address len
-mapped_test granules address len = (IsMapped-from granules address len, is_mapped-from granules address len)
+mapped_test granules address len = grind arith
 
 -- the granules that a mapped access touches
 module _ (place len : ℕ) (from : region_start ≤ place) where
@@ -80,21 +65,7 @@ told memory address len some = elim (cases_Bool (is_mapped (length memory) addre
     ))
     by_found mapped is (Some g) e =
         let f = found (λ g. not (tag_at memory g == logical_tag address)) _ _ g e in
-        inr (inl (
-          g,
-          record {
-            mapped = mapped;
-            touches = from_span (place_of address) len mapped.from g some f.0 f.1;
-            memory_tag_is = refl;
-            pointer_tag_is = refl;
-            differs = eqb-false _ _ (not-true _ f.2);
-            least = λ k t other. elim (cases_lt k g) [
-              | inr ge ↦ ge
-              | inl lt ↦ absurd (other (eqb-true _ _ (not-false _ (f.3 k (in_span (place_of address) len mapped.from k t).0 lt))))
-            ];
-          },
-          is ∙ ap (option_map (λ g. TagCheck g (tag_at memory g) (logical_tag address))) e,
-        ))
+        grind (arith, from_span)
 
 -- an access that touches a granule whose tag is not the pointer's is a fault
 pub touch_faults : (memory : List Granule) (address len g : ℕ) → Touches address len g → tag_at memory g ≢ logical_tag address →

@@ -37,14 +37,11 @@ byte_at_past memory j h = ap (λ (x : Granule). slice_index x.bytes (j % 16)) (g
 pub byte_below : (bytes : List ℕ) (k : ℕ) → All (λ b. b < 256) bytes → slice_index bytes k < 256
 byte_below bytes k below = grind (arith, cases_lt, get_or_past)
 
-byte_at-below : (memory : List Granule) (j : ℕ) → IsMemory memory → byte_at memory j < 256
-byte_at-below memory j is = grind (arith, cases_lt, byte_below, byte_at_past)
-
 pub bytes_at-below : (memory : List Granule) (i len : ℕ) → IsMemory memory → All (λ b. b < 256) (bytes_at memory i len)
 unfolding bytes_at
 bytes_at-below memory i len is =
     All-map (λ b. b < 256) (byte_at memory) (range_with_len i len)
-    (λ k d within. byte_at-below memory (get_or (range_with_len i len) k d) is)
+    (grind (arith, byte_at_past))
 
 -- a byte that a change leaves in its granule stays
 byte_at_same : (change : ℕ → Granule → Granule) (memory : List Granule) (j : ℕ) →

@@ -88,10 +88,7 @@ Begins-same : (seed : ℕ) (x y : ℕ → ℕ) → ((n : ℕ) → x n ≡ y n) �
 Begins-same seed x y same b = subst (Begins seed) (λ i n. same n i) b
 
 next_bit-Begins : (seed : ℕ) (x : ℕ → ℕ) (n : ℕ) → n < 11 → Begins seed x → next_bit seed n ≡ x (n + 16)
-next_bit-Begins seed x n h b =
-    (λ i. (sym (b.own n (omega arith)) i + sym (b.own (n + 2) (omega arith)) i + sym (b.own (n + 3) (omega arith)) i + sym
-    (b.own (n + 5) (omega arith)) i) % 2)
-    ∙ sym (b.further n)
+next_bit-Begins seed x n h b = omega arith
 
 pub next_offset-Begins : (seed : ℕ) (x : ℕ → ℕ) → Begins seed x → next_offset seed ≡ x 16 + 2 * x 17 + 4 * x 18 + 8 * x 19
 unfolding next_offset

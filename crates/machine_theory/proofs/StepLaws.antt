@@ -61,13 +61,7 @@ stands_at p (x ∷ xs) i h = by_head (p x) refl i h (stands_at p xs)
 
     by_head : (b : Bool) → p x ≡ b → (i : ℕ) → i < length (filter p (x ∷ xs)) → ((i : ℕ) → i < length (filter p xs) → StandsAt p xs i) →
         StandsAt p (x ∷ xs) i
-    by_head true e zero h rest = record {
-      place = 0;
-      within = omega arith;
-      is = ap (λ ys. get_or ys 0 0) (sym (with_head xs e));
-      before = one e ∙ ap (take 1) (sym (with_head xs e));
-      after = ap (drop 1) (sym (with_head xs e));
-    }
+    by_head true e zero h rest = grind arith
     by_head true e (suc i) h rest =
         let r = rest i (omega (arith, ap length (with_head xs e))) in
         record {

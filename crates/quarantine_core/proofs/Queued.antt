@@ -1,9 +1,9 @@
 -- What putting a slot after a queue, and taking one off its front, make of it.
 use Rattle.std.proofs.Common.{◌≡◌, ◌≢◌, ℕ, suc, ◌+◌, ◌-◌, ◌<◌, ◌≤◌, List, [], ◌∷◌, ◌++◌, length, drop, refl, sym, ap, ◌∙◌, subst, ⊎_elim}
-use Rattle.std.proofs.{Common.{arith, Contains}, lemmas.Bool.{cases_lt}, lemmas.List.Elements.{Contains-push_cases}}
+use Rattle.std.proofs.{Common.{arith, Contains}, lemmas.List.Elements.{Contains-push_cases}}
 use Rattle.std.proofs.lemmas.List.Sums.{sum_by-cons, sum_by_push}
 use Rattle.class_table.specs.Layout.{Partition, block_bytes, slot_count, slot_of}
-use Rattle.heap_theory.proofs.{ListSearch.{Contains-cases, Contains-tail, AllPairs-first}, Regions.{other_link, own_link}}
+use Rattle.heap_theory.proofs.{ListSearch.{Contains-tail, AllPairs-first}, Regions.{other_link, own_link}}
 use Rattle.heap_theory.specs.{Links.{IsLinked, last_link}, QueueAndLists.{bytes_of}, Region.{Region, next_in, with_slot_link}}
 use Rattle.quarantine_core.{proofs.TheoryLemmas.{each_once, last_ends, links_stay, put_after, put_is_last}, specs.Queue.{Queue, AreQueued}}
 
@@ -30,26 +30,13 @@ last_within value layout region queue old some =
 -- the slot that is put in last starts where it was said
 starts_there : (layout : Partition) (slot : ℕ) (new : Queue) → new.back_start ≡ (slot_of layout slot).start → new.back ≡ suc slot →
     (last : ℕ) → new.back ≡ last + 1 → new.back_start ≡ (slot_of layout last).start
-starts_there layout slot new start back last is =
-    let same : slot ≡ last = omega (arith, back, is) in start ∙ ap (λ s. (slot_of layout s).start) same
+starts_there layout slot new start back last is = grind arith
 
 pub put_first : (value new : Queue) (layout : Partition) (region : Region) (queue : List ℕ) (slot bytes : ℕ) →
     new.back_start ≡ (slot_of layout slot).start → AreQueued value layout region queue → value.back ≡ 0 → slot < slot_count layout → next_in region slot ≡ 0 →
     bytes ≡ block_bytes (slot_of layout slot) →
     new.front ≡ suc slot → new.back ≡ suc slot → new.held ≡ value.held + bytes → AreQueued new layout region (queue ++ slot ∷ [])
-put_first value new layout region queue slot bytes start old none within ends is front back held =
-    let empty : queue ≡ [] = no_last queue (sym old.back ∙ none) in
-    let alone : bytes_of layout queue ≡ 0 = ap (bytes_of layout) empty in
-    subst (λ q. AreQueued new layout region (q ++ slot ∷ [])) (sym empty)
-    (record {
-      slots =
-          λ s there. ⊎_elim (λ same. subst (λ n. n < slot_count layout) same within) (λ none. absurd (omega (arith, none.1)))
-          (Contains-cases slot [] s there);
-      linked = (front, ends);
-      back = back;
-      back_start = starts_there layout slot new start back;
-      held = held ∙ omega (arith, old.held, alone, is);
-    })
+put_first value new layout region queue slot bytes start old none within ends is front back held = grind (arith, no_last)
 
 pub put_at_end : (value new : Queue) (layout : Partition) (region after : Region) (queue : List ℕ) (last slot next bytes : ℕ) →
     new.back_start ≡ (slot_of layout slot).start → AreQueued value layout region queue → length region.headers ≡ slot_count layout → value.back ≡ suc last →
@@ -81,9 +68,7 @@ put_at_end value new layout region after queue last slot next bytes start old lo
 pub some_held : (value : Queue) (layout : Partition) (region : Region) (queue : List ℕ) → AreQueued value layout region queue →
     0 < value.held →
     queue ≡ (value.front - 1) ∷ drop 1 queue
-some_held value layout region [] old some = absurd (omega (arith, old.held))
-some_held value layout region (s ∷ rest) old some =
-    let front : s ≡ value.front - 1 = omega (arith, old.linked.0) in ap (λ r. r ∷ rest) front
+some_held value layout region queue old some = grind arith
 
 -- which is of the layout
 pub first_within : (value : Queue) (layout : Partition) (region : Region) (queue : List ℕ) → AreQueued value layout region queue →
@@ -101,13 +86,9 @@ pub take_oldest : (value new : Queue) (layout : Partition) (region after : Regio
 take_oldest value new layout region after slot next queue old link is front none some start held = record {
   slots = λ s there. old.slots s (Contains-tail slot queue s there);
   linked =
-      subst (λ f. IsLinked (next_in after) f queue) (sym (front ∙ is))
-      (links_stay (next_in region) (next_in after) (next_in region slot) queue same old.linked.1);
+      grind (arith, links_stay, same);
   back = back queue old.linked.1 old.back;
-  back_start = λ last there. ⊎_elim
-      (λ low. let zero : next ≡ 0 = omega arith in absurd (omega (arith, none zero, there)))
-      (λ high. start ∙ old.back_start last (sym (some (λ zero. omega arith)) ∙ there))
-      (cases_lt next 1);
+  back_start = grind arith;
   held = omega (arith, old.held, held, sum_by-cons (λ s. block_bytes (slot_of layout s)) slot queue);
 }
   where

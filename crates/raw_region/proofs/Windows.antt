@@ -16,10 +16,7 @@ window_read bytes to i count long within few =
 
 -- a window that is written
 pub window_put : (bytes window : List ℕ) (i : ℕ) → i + length window ≤ length bytes → put_chunk i bytes window ≡ with_bytes bytes i window
-window_put bytes window i fits =
-    put_chunk_is i bytes window fits
-    ∙ ap (λ (t : List ℕ). take i bytes ++ (window ++ t)) (drop-drop (length window) i bytes)
-    ∙ sym (append_assoc (take i bytes) window (drop (i + length window) bytes))
+window_put bytes window i fits = grind (arith, put_chunk_is, drop-drop, append_assoc)
 
 -- the first bytes of a window of one byte
 pub window_taken : (w : ℕ) (xs : List ℕ) (from to v : ℕ) → from ≤ to → to ≤ from + w → from + w ≤ length xs →
@@ -30,10 +27,7 @@ window_taken w xs from to v less few fits =
     let long : length (front ++ replicate w v) ≡ from + w =
     omega (arith, length-append front (replicate w v), length-replicate {A = ℕ} w v) in
     let at : to ≡ length front + n = omega arith in
-    let ends : from + length (replicate w v) ≡ from + w = omega (arith, length-replicate {A = ℕ} w v) in
-    take-append-le to (front ++ replicate w v) (drop (from + length (replicate w v)) xs) (omega arith)
-    ∙ ap (λ (k : ℕ). take k (front ++ replicate w v)) at ∙ take-append-add front (replicate w v) n
-    ∙ ap (λ (t : List ℕ). front ++ t) (take-replicate n w v (omega arith))
+    grind (arith, take-append-le, take-append-add, take-replicate)
 
 -- A window of one byte is written to a list that from some place on is as an old one, and then the old bytes after a shorter run.
 pub overlaid : (w : ℕ) (old xs ys zs rest : List ℕ) (from to v : ℕ) → from ≤ to → to ≤ from + w → to + w ≤ length xs → to + w ≤ length old →
@@ -49,13 +43,8 @@ overlaid w old xs ys zs rest from to v less few fits fits-old same window saved 
     let head : take to ys ≡ take from xs ++ replicate (to - from) v =
     ap (take to) window ∙ window_taken w xs from to v less few (omega arith) in
     let tail : drop (to + length rest) ys ≡ drop w after =
-    ap (λ (k : ℕ). drop k ys) ends ∙ ap (drop (to + w)) window ∙ drop-with_bytes xs run from (omega arith) (to + w) (omega arith) ∙ same
-    ∙ sym (drop-drop w to old) in
-    put ∙ ap (λ (t : List ℕ). take to ys ++ rest ++ t) tail
-    ∙ ap (λ (t : List ℕ). t ++ rest ++ drop w after) head
-    ∙ append_assoc (take from xs ++ replicate (to - from) v) rest (drop w after)
-    ∙ ap (λ (t : List ℕ). take from xs ++ replicate (to - from) v ++ (t ++ drop w after)) rest-is
-    ∙ ap (λ (t : List ℕ). take from xs ++ replicate (to - from) v ++ t) (take-append-drop w after)
+    grind (arith, drop-with_bytes, drop-drop) in
+    grind (arith, append_assoc, take-append-drop)
 
 -- and two such windows, one after the other
 pub overlaid_twice : (w : ℕ) (old once twice zs rest : List ℕ) (from middle to v : ℕ) → from ≤ middle → middle ≤ from + w → middle ≤ to →

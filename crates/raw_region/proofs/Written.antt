@@ -2,7 +2,7 @@
 use Rattle.std.proofs.Common.{◌≡◌, ℕ, ◌+◌, ◌-◌, ◌<◌, ◌≤◌, ◌++◌, List, length, take, drop, replicate, sym, ap, subst, ◌∙◌, arith, inl, inr}
 use Rattle.std.proofs.{Common.{slice_range, slice_index, ◌⊎◌, get_or}, Math.Seq.{drop-append-add, take-append_seam}}
 use Rattle.std.proofs.lemmas.List.{take-append-drop, length-append, length-drop, length-take-le, drop-drop, append_assoc, take-append-le}
-use Rattle.std.{proofs.lemmas.List.{get_or-take, get_or-drop, drop-take, length-replicate}, specs.Int.{w64, from_le_bytes}}
+use Rattle.std.{proofs.lemmas.List.{get_or-take, get_or-drop, drop-take, length-replicate}}
 use native.Mathlib.Nat.{add-zero}
 use Rattle.raw_region.specs.Bytes.{word_at, with_bytes, ChangesOnly}
 
@@ -24,9 +24,7 @@ module _ (xs new : List ℕ) (i : ℕ) (fits : i + length new ≤ length xs) whe
   drop-with_bytes j past =
       let front = take i xs ++ new in let rest = drop (i + length new) xs in let n : ℕ = j - (i + length new) in
       let at : j ≡ length front + n = omega (arith, length-append (take i xs) new, length-take-le i xs (omega arith)) in
-      let back : i + length new + n ≡ j = omega arith in
-      ap (λ (k : ℕ). drop k (front ++ rest)) at ∙ drop-append-add front rest n ∙ drop-drop n (i + length new) xs
-      ∙ ap (λ (k : ℕ). drop k xs) back
+      grind (arith, drop-append-add, drop-drop)
 
   byte-with_bytes : (k : ℕ) → (k < i) ⊎ (i + length new ≤ k) → slice_index ys k ≡ slice_index xs k
   byte-with_bytes k (inl low) =
@@ -40,30 +38,14 @@ module _ (xs new : List ℕ) (i : ℕ) (fits : i + length new ≤ length xs) whe
   range-with_bytes j n (inl low) =
       slice_range-add ys j n ∙ sym (drop-take j n ys) ∙ ap (drop j) (take-with_bytes (j + n) low) ∙ drop-take j n xs
       ∙ sym (slice_range-add xs j n)
-  range-with_bytes j n (inr past) =
-      slice_range-add ys j n ∙ ap (take n) (drop-with_bytes j past) ∙ sym (slice_range-add xs j n)
+  range-with_bytes j n (inr past) = grind (arith, drop-with_bytes)
 
   pub length-with_bytes : length ys ≡ length xs
-  length-with_bytes =
-      let front = take i xs ++ new in
-      omega (
-        arith,
-        fits,
-        length-append front (drop (i + length new) xs),
-        length-append (take i xs) new,
-        length-take-le i xs (omega (arith, fits)),
-        length-drop (i + length new) xs,
-      )
+  length-with_bytes = grind (arith, length-append, length-take-le, length-drop)
 
   changes : ChangesOnly xs ys i (i + length new)
   unfolding word_at
-  changes = record {
-    len = length-with_bytes;
-    before = take-with_bytes;
-    after = drop-with_bytes;
-    byte = byte-with_bytes;
-    word = λ k apart. ap (from_le_bytes w64) (range-with_bytes k 8 apart);
-  }
+  changes = grind (arith, length-with_bytes, take-with_bytes, drop-with_bytes, byte-with_bytes, range-with_bytes)
 
 -- the same of a list that is known to be so written
 pub changes_only : (xs new ys : List ℕ) (i to : ℕ) → ys ≡ with_bytes xs i new → i + length new ≡ to → to ≤ length xs →
@@ -83,31 +65,15 @@ filled_twice xs ys from middle to a b first second fits written =
     let front : List ℕ = take from xs ++ replicate (middle - from) a in
     let rest : List ℕ = drop middle xs in
     let long : length front ≡ middle =
-    omega (
-      arith,
-      length-append (take from xs) (replicate (middle - from) a),
-      length-take-le from xs (omega arith),
-      length-replicate {A = ℕ} (middle - from) a,
-    ) in
-    let n : ℕ = to - middle in let at : to ≡ length front + n = omega arith in let back : middle + n ≡ to = omega arith in
-    let head : take middle ys ≡ front =
-    ap (take middle) written ∙ ap (λ (k : ℕ). take k (front ++ rest)) (sym long) ∙ take-append_seam front rest in
-    let tail : drop to ys ≡ drop to xs =
-    ap (drop to) written ∙ ap (λ (k : ℕ). drop k (front ++ rest)) at ∙ drop-append-add front rest n ∙ drop-drop n middle xs
-    ∙ ap (λ (k : ℕ). drop k xs) back in
-    ap (λ (zs : List ℕ). zs ++ replicate (to - middle) b ++ drop to ys) head
-    ∙ ap (λ (zs : List ℕ). front ++ replicate (to - middle) b ++ zs) tail
+    grind (arith, length-append, length-take-le, length-replicate) in
+    let n : ℕ = to - middle in let at : to ≡ length front + n = omega arith in grind (arith, take-append_seam, drop-append-add, drop-drop)
 
 -- a run of one byte that is written
 filled_once : (xs : List ℕ) (from to a : ℕ) → from ≤ to →
     with_bytes xs from (replicate (to - from) a) ≡ take from xs ++ replicate (to - from) a ++ drop to xs
-filled_once xs from to a less =
-    let ends : from + length (replicate (to - from) a) ≡ to = omega (arith, length-replicate {A = ℕ} (to - from) a) in
-    ap (λ (k : ℕ). take from xs ++ replicate (to - from) a ++ drop k xs) ends
+filled_once xs from to a less = grind (arith, length-replicate)
 
 pub written_twice : (xs : List ℕ) (from middle to a b : ℕ) → from ≤ middle → middle ≤ to → to ≤ length xs →
     with_bytes (with_bytes xs from (replicate (middle - from) a)) middle (replicate (to - middle) b)
     ≡ take from xs ++ replicate (middle - from) a ++ replicate (to - middle) b ++ drop to xs
-written_twice xs from middle to a b first second fits =
-    let ys : List ℕ = with_bytes xs from (replicate (middle - from) a) in
-    filled_once ys middle to b second ∙ filled_twice xs ys from middle to a b first second fits (filled_once xs from middle a first)
+written_twice xs from middle to a b first second fits = grind (arith, filled_once, filled_twice)

@@ -1,10 +1,9 @@
 -- Accesses through a variable.
-use Rattle.std.proofs.Common.{◌≡◌, ◌≢◌, ℕ, ◌≤◌, Bool, true, false, refl, sym, ap, ◌∙◌, subst, inl, inr, arith, ℤ, nat_abs, length}
-use Rattle.std.proofs.{Common.{replicate, Option, Some, None, Ok}, lemmas.Int.{to_z-of_z, fits_signed_from_abs}}
+use Rattle.std.proofs.Common.{◌≡◌, ◌≢◌, ℕ, ◌≤◌, Bool, true, false, refl, sym, ◌∙◌, subst, inl, inr, arith, ℤ, nat_abs, length}
+use Rattle.std.proofs.{Common.{replicate, Ok}, lemmas.Int.{to_z-of_z, fits_signed_from_abs}}
 use Rattle.std.{proofs.lemmas.List.{length-replicate}, specs.Int.{w32, cast_signed, cast_unsigned}}
 use Rattle.machine_theory.specs.{Access.{IsMapped, access_fault, is_mapped, ok_unless, stored}, Address.{logical_tag, moved_by}}
-use Rattle.machine_theory.specs.declared.fault.Fault.{Fault}
-use Rattle.heap_theory.specs.{Calls.{store_with, store_step}, HeapTags.{IsTaggedOrUnmapped, IsNullOrTagged}, Sound.{IsSoundHeap}}
+use Rattle.heap_theory.specs.{Calls.{store_step}, HeapTags.{IsTaggedOrUnmapped, IsNullOrTagged}, Sound.{IsSoundHeap}}
 use Rattle.heap_theory.specs.State.{Heap}
 use Rattle.replay_core.proofs.TheoryLemmas as laws
 
@@ -33,10 +32,4 @@ module _ (heap : Heap) (sound : IsSoundHeap heap) (a : ℕ) (off : ℤ) (len : �
 pub store_is : (heap new : Heap) (address len byte : ℕ) → ok_unless (access_fault heap.memory address len) ≡ Ok tt →
     new ≡ record heap { memory = stored heap.memory address (replicate len byte) } → new ≡ store_step heap address (replicate len byte)
 unfolding store_step
-store_is heap new address len byte done is =
-    by_fault (access_fault heap.memory address (length (replicate len byte)))
-    (ap (λ n. ok_unless (access_fault heap.memory address n)) (length-replicate {A = ℕ} len byte) ∙ done)
-  where
-    by_fault : (o : Option Fault) → ok_unless o ≡ Ok tt → new ≡ store_with heap address (replicate len byte) o
-    by_fault None done = is
-    by_fault (Some fault) done = absurd (cc)
+store_is heap new address len byte done is = grind (arith, length-replicate)

@@ -1,9 +1,9 @@
 -- The digits of sixteen bytes, looked up lane by lane.
-use Rattle.std.proofs.Common.{◌≡◌, ℕ, suc, ◌+◌, ◌*◌, ◌/◌, ◌%◌, ◌^◌, ◌<◌, ◌≤◌, List, [], ◌∷◌, ◌++◌, map, length, get_or, replicate, bit_and}
+use Rattle.std.proofs.Common.{◌≡◌, ℕ, suc, ◌+◌, ◌/◌, ◌%◌, ◌^◌, ◌<◌, ◌≤◌, List, [], ◌∷◌, ◌++◌, map, length, get_or, replicate, bit_and}
 use Rattle.std.proofs.{Common.{refl, ap, ◌∙◌, subst, zero-add, arith, w8, Fits}, lemmas.List.FromFn.{get_or-map-range_with_len}}
 use Rattle.std.{proofs.lemmas.Nat.{and_le_r, and_mask}, specs.Char.{digit_char}, specs.List.{flat_map, range_with_len}}
 use Rattle.std.proofs.lemmas.Simd.{pick_l_whole, Each1-all, Each1-weaker, Each1-zip2, Each2-splat, below_from_Fits, length-zip2, zip2_splat}
-use Rattle.std.proofs.lemmas.Simd.{swz_l, SwzOk, SwzOk-from_below, get_or-swz_l_below}
+use Rattle.std.proofs.lemmas.Simd.{swz_l, SwzOk, SwzOk-from_below}
 use lib.Lanes.{zip2, pick_l, Each1}
 use Rattle.line_text.specs.Hexadecimal.{hex}
 use Rattle.replay_core.specs.declared.put.TheConstants.{DIGITS}
@@ -46,10 +46,7 @@ digit_at j small = ap (λ all. get_or all j 0) digits_are ∙ get_or-map-range_w
 
 looked_up : (js : List ℕ) (i : ℕ) → i + length js ≤ 16 → Each1 (λ j. j < 16) js → swz_l w8 16 DIGITS i js ≡ map digit_char js
 looked_up [] i within small = refl
-looked_up (j ∷ js) i within small =
-    let place : 16 * ((i + 0) / 16) + j ≡ j = omega arith in
-    let one = get_or-swz_l_below w8 16 DIGITS i (j ∷ js) 0 (omega arith) small.0 ∙ ap (λ n. get_or DIGITS n 0) place ∙ digit_at j small.0 in
-    λ k. one k ∷ looked_up js (suc i) (omega (arith, within)) small.1 k
+looked_up (j ∷ js) i within small = grind (arith, looked_up js (suc i) (omega (arith, within)) small.1, digit_at)
 
 pub first_digits : (v : List ℕ) → AreSixteen v → swz_l w8 16 DIGITS 0 (firsts v) ≡ map digit_char (map (λ x. x / 16) v)
 first_digits v fits =

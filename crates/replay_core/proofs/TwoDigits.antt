@@ -1,5 +1,5 @@
 -- The table of two digits, and numbers that are written two digits at a time.
-use Rattle.std.proofs.Common.{◌≡◌, ℕ, ◌+◌, ◌/◌, ◌%◌, ◌<◌, ◌≤◌, ◌^◌, [], ◌∷◌, ◌++◌, map, get_or, refl, ap, ◌∙◌, zero-add, append_assoc}
+use Rattle.std.proofs.Common.{◌≡◌, ℕ, ◌/◌, ◌%◌, ◌<◌, ◌≤◌, ◌^◌, [], ◌++◌, map, get_or, refl, ap, ◌∙◌, zero-add, append_assoc}
 use Rattle.std.proofs.{Common.{arith}, lemmas.Fmt.{decimal_digit, decimal_step}, lemmas.List.FromFn.{get_or-map-range_with_len}}
 use Rattle.std.specs.{Fmt.{decimal}, List.{range_with_len}}
 use Rattle.replay_core.specs.{TwoDigits.{two_digits}, declared.put.TheConstants.{TENS}}
@@ -12,26 +12,13 @@ two_at n small = ap (λ all. get_or all n []) tens_are ∙ get_or-map-range_with
 
 -- a number of two digits
 pub decimal_two : (n : ℕ) → 10 ≤ n → n < 100 → decimal n ≡ two_digits n
-decimal_two n some small =
-    decimal_step n some (omega arith) ∙ ap (λ ds. ds ++ (48 + n % 10) ∷ []) (decimal_digit (n / 10) (omega arith))
+decimal_two n some small = grind (arith, decimal_step, decimal_digit)
 
 -- a number of more than two
 pub decimal_more : (n : ℕ) → 100 ≤ n → n < 2 ^ 64 → decimal n ≡ decimal (n / 100) ++ two_digits (n % 100)
-decimal_more n some small =
-    let front : n / 10 / 10 ≡ n / 100 = omega arith in
-    let tens : n / 10 % 10 ≡ n % 100 / 10 = omega arith in
-    let ones : n % 10 ≡ n % 100 % 10 = omega arith in
-    decimal_step n (omega arith) small
-    ∙ ap (λ ds. ds ++ (48 + n % 10) ∷ []) (decimal_step (n / 10) (omega arith) (omega arith))
-    ∙ rw (front, tens, ones) (append_assoc (decimal (n / 100)) ((48 + n % 100 / 10) ∷ []) ((48 + n % 100 % 10) ∷ []))
+decimal_more n some small = grind (arith, decimal_step, append_assoc)
 
 -- a number of more than four
 pub decimal_four_more : (n : ℕ) → 10000 ≤ n → n < 2 ^ 64 →
     decimal n ≡ decimal (n / 10000) ++ two_digits (n % 10000 / 100) ++ two_digits (n % 10000 % 100)
-decimal_four_more n some small =
-    let front : n / 100 / 100 ≡ n / 10000 = omega arith in
-    let hundreds : n / 100 % 100 ≡ n % 10000 / 100 = omega arith in
-    let rest : n % 100 ≡ n % 10000 % 100 = omega arith in
-    decimal_more n (omega arith) small
-    ∙ ap (λ ds. ds ++ two_digits (n % 100)) (decimal_more (n / 100) (omega arith) (omega arith))
-    ∙ rw (front, hundreds, rest) refl
+decimal_four_more n some small = grind (arith, decimal_more)

@@ -1,33 +1,18 @@
 -- When each answer of an access is given.
 use Rattle.std.proofs.Common.{◌≡◌, ◌≢◌, ℕ, ◌<◌, ◌∷◌, ◌++◌, [], true, not, List, length, refl, sym, ap, ◌∙◌, subst, inl, inr, arith, Some}
-use Rattle.std.{proofs.Common.{None, Option, Result, Ok, Err, ◌↔◌, ◌==◌, replicate, slice_get, option_map, IsSome, ℤ}, specs.List.{find}}
-use Rattle.std.proofs.lemmas.{Bool.{both_ways, cases_Bool, cases_eq, cond-true, cond-false, false≢true}, List.{length-replicate}}
+use Rattle.std.{proofs.Common.{None, Option, ◌↔◌, ◌==◌, replicate, slice_get, option_map, IsSome, ℤ}, specs.List.{find}}
+use Rattle.std.proofs.lemmas.{Bool.{cases_Bool, cases_eq, cond-true, false≢true}, List.{length-replicate}}
 use Rattle.machine_theory.specs.{Access.{IsMapped, IsTagFault, access_fault, is_mapped, stored, tag_fault, touched}, Memory.{tag_at}}
 use Rattle.machine_theory.specs.{Address.{logical_tag, moved_by, Touches}, declared.fault.Fault.{Fault}}
 use Rattle.machine_theory.specs.declared.fault.Fault.TheVariants.{Unmapped, TagCheck}
-use Rattle.trace_event.specs.declared.event.{Event.{Event}, Event.TheVariants.{Malloc, Calloc, Realloc, Free, Load, Store, Addg, Subg}}
-use Rattle.heap_theory.specs.{Calls.{malloc_step, calloc_step, free_step, realloc_step, store_step}, GranuleKinds.{place_kind}}
-use Rattle.heap_theory.specs.{State.{Heap}, declared.refusal.FreeError.{FreeError}}
-use Rattle.heap_theory.specs.declared.refusal.{NullCause.{NullCause}, ReallocError.{ReallocError}, ReallocError.TheVariants.{Null, Refused}}
+use Rattle.trace_event.specs.declared.event.{Event.{Event}, Event.TheVariants.{Store}}
+use Rattle.heap_theory.specs.{Calls.{store_step}, GranuleKinds.{place_kind}}
+use Rattle.heap_theory.specs.{State.{Heap}}
 use Rattle.replay_theory.specs.AccessLaws.{IsAnswerTo, IsAnswered, AccessesAreAnswered}
-use Rattle.replay_theory.specs.Replay.{Replay, Answer, IsFaultAnswer, is_tag_fault, variable, heap_after, replay_after, access_answer}
-use Rattle.replay_theory.specs.Replay.{malloc_answer, free_answer, realloc_answer, answer_of, answers, replay_of}
-use Rattle.replay_theory.specs.Replay.Answer.{Silent, Loaded, NotMapped, TagFault, NoPointer, NotFreed}
+use Rattle.replay_theory.specs.Replay.{Replay, Answer, IsFaultAnswer, variable, heap_after, replay_after, access_answer}
+use Rattle.replay_theory.specs.Replay.{answer_of, answers, replay_of}
+use Rattle.replay_theory.specs.Replay.Answer.{Silent, NotMapped, TagFault}
 use Rattle.replay_theory.proofs.TheoryLemmas as laws
-
--- ---- which answers are faults
-
-tag_fault_faults : (a : Answer) → is_tag_fault a ≡ true → IsFaultAnswer a
-tag_fault_faults x0 is = grind arith
-
--- what a tag fault says of the access; any other answer says nothing of one
-abbrev Names : Heap → ℕ → ℕ → Answer → Type 0
-Names h address len Silent = ⊥
-Names h address len (Loaded bytes) = ⊥
-Names h address len NotMapped = ⊥
-Names h address len (TagFault g m p kind) = IsTagFault h.memory address len g m p × (kind ≡ place_kind h g)
-Names h address len (NoPointer cause) = ⊥
-Names h address len (NotFreed error) = ⊥
 
 -- ---- the three answers of an access
 
@@ -40,15 +25,14 @@ module _ (h : Heap) (address len : ℕ) (done : Answer) (no_fault : IsFaultAnswe
 
   done_answer : IsMapped (length h.memory) address len → ((g : ℕ) → Touches address len g → tag_at h.memory g ≡ logical_tag address) →
       IsAnswerTo h address len done done
-  done_answer mapped each = grind (arith, tag_fault_faults)
+  done_answer mapped each = grind arith
 
   pub access_is_answered : 0 < len → IsAnswerTo h address len done (access_answer h done (access_fault h.memory address len))
   unfolding access_fault
   access_is_answered some = elim (cases_Bool (is_mapped (length h.memory) address len)) [
     | inl t ↦ by_tags (mapped_test.0 t) (find (λ g. not (tag_at h.memory g == logical_tag address)) (touched address len))
         (cond-true (is_mapped (length h.memory) address len) tags (Some Unmapped) t)
-    | inr f ↦ subst Answers (sym (cond-false (is_mapped (length h.memory) address len) tags (Some Unmapped) f))
-        (unmapped_answer (λ mapped. both_ways _ f (mapped_test.1 mapped)))
+    | inr f ↦ grind (arith, unmapped_answer)
   ]
     where
       Answers : Option Fault → Type 0
@@ -77,40 +61,15 @@ module _ (h : Heap) (address len : ℕ) (done : Answer) (no_fault : IsFaultAnswe
 
 -- ---- events
 
--- what no call of the heap answers
-malloc_faults : (given : Result ℕ NullCause) → IsFaultAnswer (malloc_answer given) → ⊥
-malloc_faults (Ok p) = false≢true
-malloc_faults (Err cause) = false≢true
-
-free_faults : (given : Result (Unit {0}) FreeError) → IsFaultAnswer (free_answer given) → ⊥
-free_faults (Ok done) = false≢true
-free_faults (Err error) = false≢true
-
-realloc_faults : (given : Result ℕ ReallocError) → IsFaultAnswer (realloc_answer given) → ⊥
-realloc_faults (Ok p) = false≢true
-realloc_faults (Err (Null cause)) = false≢true
-realloc_faults (Err (Refused error)) = false≢true
-
 pub event_is_answered : (replay : Replay) (event : Event) → IsAnswered replay event (answer_of replay event)
 unfolding answer_of
-event_is_answered r (Malloc v n) = malloc_faults (malloc_step r.heap n).answer
-event_is_answered r (Calloc v n) = malloc_faults (calloc_step r.heap n).answer
-event_is_answered r (Realloc v n) = realloc_faults (realloc_step r.heap (variable r v) n).answer
-event_is_answered r (Free v) = free_faults (free_step r.heap (variable r v)).answer
-event_is_answered r (Load v off len) = access_is_answered r.heap (moved_by (variable r v) off) len _ false≢true
-event_is_answered r (Store v off len byte) = access_is_answered r.heap (moved_by (variable r v) off) len Silent false≢true
-event_is_answered r (Addg v w u6 u4) = false≢true
-event_is_answered r (Subg v w u6 u4) = false≢true
-
--- a fault is not silent
-not_silent : (h : Heap) (fault : Fault) → access_answer h Silent (Some fault) ≡ Silent → ⊥
-not_silent h x1 is = grind arith
+event_is_answered r event = grind (arith, access_is_answered)
 
 pub store_is_done : (replay : Replay) (v : ℕ) (off : ℤ) (len byte : ℕ) → let address = moved_by (variable replay v) off in
     let answer = answer_of replay (Store v off len byte) in let after = heap_after replay (Store v off len byte) in (answer ≡ Silent → after
     ≡ record replay.heap { memory = stored replay.heap.memory address (replicate len byte) }) × (answer ≢ Silent → after ≡ replay.heap)
 unfolding answer_of heap_after store_step
-store_is_done r v off len byte = grind (arith, length-replicate, not_silent)
+store_is_done r v off len byte = grind (arith, length-replicate)
 
 -- ---- whole traces
 

@@ -1,5 +1,5 @@
 -- What accesses and events answer, in a trace of one event more.
-use Rattle.std.proofs.Common.{◌≡◌, ℕ, ◌+◌, ◌∷◌, ◌++◌, [], List, length, refl, sym, ap, ◌∙◌, arith, append_assoc, append-nil, fold}
+use Rattle.std.proofs.Common.{◌≡◌, ℕ, ◌+◌, ◌∷◌, ◌++◌, [], List, length, refl, ap, ◌∙◌, arith, append_assoc, append-nil, fold}
 use Rattle.std.proofs.lemmas.{List.{length-append}, List.Sums.{fold_push, sum_by_push}}
 use Rattle.trace_event.specs.declared.event.Event.{Event}
 use Rattle.replay_theory.specs.Replay.{Replay, Answer, replay_after, answer_of, answers, replay_of, first_replay}
@@ -29,10 +29,7 @@ pub report_lines-push : (number : ℕ) (given : List Answer) (answer : Answer) �
     ≡ report_lines number given ++ report_line (number + length given) answer
 unfolding report_lines
 report_lines-push number [] answer = append-nil (report_line number answer) ∙ ap (λ n. report_line n answer) (omega arith)
-report_lines-push number (first ∷ rest) answer =
-    ap (λ lines. report_line number first ++ lines) (report_lines-push (number + 1) rest answer)
-    ∙ sym (append_assoc (report_line number first) (report_lines (number + 1) rest) (report_line (number + 1 + length rest) answer))
-    ∙ ap (λ n. report_line number first ++ report_lines (number + 1) rest ++ report_line n answer) (omega arith)
+report_lines-push number (first ∷ rest) answer = grind (arith, report_lines-push (number + 1) rest answer, append_assoc)
 
 -- ---- the stored part of a run
 

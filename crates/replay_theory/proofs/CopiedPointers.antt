@@ -1,10 +1,10 @@
 -- ADDG and SUBG by 0 and 0 leave an address as it is, if its tag is not 0.
-use Rattle.std.proofs.Common.{◌≡◌, ◌≢◌, ℕ, zero, suc, ◌^◌, ◌<◌, List, false, length, get_or, set, sym, subst, inr, arith, Some, None}
+use Rattle.std.proofs.Common.{◌≡◌, ◌≢◌, ℕ, zero, suc, ◌^◌, ◌<◌, List, false, length, sym, subst, inr, arith, Some, None}
 use Rattle.std.proofs.{Common.{Option}, lemmas.Bool.{cond-false, eqb-true, false_from_ne_true}, lemmas.List.{get_or-set_same}}
 use Rattle.machine_theory.specs.{Address.{logical_tag, with_tag}, Instructions.{addg, subg}, Tags.{allowed_after, choose_tag, is_excluded}}
 use Rattle.heap_theory.specs.{Sound.{IsSoundHeap}, State.{Heap}}
 use Rattle.replay_theory.specs.{Hardening.{HasGeneration, PointersAreCopied}, Replay.{variable, heap_after, variables_after, replay_after}}
-use Rattle.replay_theory.specs.Run.{Run, Generation, generation_of, generations_after, moved_generation, run_after}
+use Rattle.replay_theory.specs.Run.{Run, Generation, generations_after, moved_generation, run_after}
 use Rattle.replay_theory.specs.SoundRun.{IsAddressOf, IsSoundRun, IsSoundVariable}
 use Rattle.trace_event.specs.declared.event.Event.TheVariants.{Addg, Subg}
 use Rattle.replay_theory.proofs.TheoryLemmas as laws
@@ -60,10 +60,6 @@ module _ (h : Heap) (times : List ℕ) (sound : IsSoundHeap h) (move : ℕ → �
 module _ (w : Run) (sound : IsSoundRun w) where
   address_of : (v s time : ℕ) → HasGeneration w v s time → IsAddressOf w.replay.heap w.times (variable w.replay v) s time
   address_of v s time has = grind arith
-
-  generation_set : (v x s time : ℕ) → v < length w.replay.variables → HasGeneration w x s time →
-      get_or (set w.generations v (generation_of w x)) v None ≡ Some (record { slot = s; time = time })
-  generation_set v x s time within has = grind (arith, get_or-set_same)
 
   pub addg_copies : PointersAreCopied (λ v w. Addg v w 0 0) w
   unfolding run_after replay_after heap_after variables_after generations_after

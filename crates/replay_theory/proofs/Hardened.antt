@@ -1,20 +1,15 @@
 -- What hardens the heap, in a sound run.
-use Rattle.std.proofs.Common.{◌≡◌, ◌≢◌, ℕ, ◌+◌, ◌-◌, ◌*◌, ◌%◌, ◌^◌, ◌<◌, ◌≤◌, true, length, refl, sym, ap, ◌∙◌, subst, inl, inr, arith, ℤ}
-use Rattle.std.proofs.lemmas.Bool.{false≢true}
-use Rattle.machine_theory.specs.{Address.{logical_tag, place_of, with_tag, region_start, Touches}, Memory.{tag_at}}
+use Rattle.std.proofs.Common.{◌≡◌, ◌≢◌, ℕ, ◌+◌, ◌-◌, ◌*◌, ◌%◌, ◌^◌, ◌<◌, ◌≤◌, length, refl, sym, ◌∙◌, subst, inl, inr, arith, ℤ}
+use Rattle.machine_theory.specs.{Address.{logical_tag, place_of, region_start, Touches}, Memory.{tag_at}}
 use Rattle.class_table.specs.Layout.{end_of}
 use Rattle.replay_theory.specs.Hardening.{IsAccess, Faults, HasGeneration, WasFreed, NullOrTagged, BookkeepingOutOfReach, InsideSucceeds}
 use Rattle.replay_theory.specs.Hardening.{NeighboursFault, FreedFaults, ChunkTagsNotZero, ChunkTagsDiffer, LiveVariablesAreAccepted}
 use Rattle.replay_theory.specs.{Replay.{variable}, Run.{Run}, SoundRun.{IsAddressOf, IsSoundRun}}
 use Rattle.heap_theory.proofs.GranuleTags.{bookkeeping_tag, payload_tag, covered_tag, chunks_tagged, parities_differ}
 use Rattle.heap_theory.proofs.{HeapKept.{in_region}, OwnPointers.{free_accepts, realloc_accepts}}
-use Rattle.heap_theory.specs.{GranuleKinds.{IsChunkGranule}, Sound.{IsTagOf, IsChunkTag, IsTaggedSlot}, State.State.{Fresh, Live, Dead}}
-use Rattle.heap_theory.specs.State.{State, IsLive, is_dead, slot_in, state_at, last_tag, chunk_granules_of, payload_place}
+use Rattle.heap_theory.specs.{GranuleKinds.{IsChunkGranule}, Sound.{IsTagOf, IsTaggedSlot}, State.State.{Fresh, Live, Dead}}
+use Rattle.heap_theory.specs.State.{State, IsLive, slot_in, state_at, chunk_granules_of, payload_place}
 use Rattle.replay_theory.proofs.TheoryLemmas as laws
-
--- a place with a tag is an address below 2 ^ 60
-with_tag-below : (place tag : ℕ) → place < 2 ^ 56 → tag < 16 → with_tag place tag < 2 ^ 60
-with_tag-below place tag low fits = omega arith
 
 pub null_or_tagged : (w : Run) → IsSoundRun w → NullOrTagged w
 null_or_tagged w sound v = (sound.variables v).null_or_tagged
@@ -91,23 +86,8 @@ module _ (w : Run) (sound : IsSoundRun w) where
       differs : IsAddressOf w.replay.heap w.times (variable w.replay v) s time →
           (tagged : IsTaggedSlot w.replay.heap.memory s (slot_in w.replay.heap s) (state_at w.replay.heap s)) →
           WasFreed w s time → tagged.chunk_tag ≡ logical_tag (variable w.replay v) → ⊥
-      differs i tagged (inl dead) same = dead_differs (state_at w.replay.heap s) refl dead.0
-        where
-          dead_differs : (x : State) → state_at w.replay.heap s ≡ x → is_dead x ≡ true → ⊥
-          dead_differs Fresh was d = false≢true d
-          dead_differs (Live n u) was d = false≢true d
-          dead_differs (Dead n u m) was d =
-              let all : IsTagOf s u × IsTagOf s tagged.chunk_tag × (tagged.chunk_tag ≢ u) =
-              subst (λ x. IsChunkTag s x tagged.chunk_tag) was tagged.is_chunk_tag in
-              all.2 (same ∙ (i.last (sym dead.1)).0 ∙ ap last_tag was)
-      differs i tagged (inr live) same = live_differs (state_at w.replay.heap s) refl live.0
-        where
-          live_differs : (x : State) → state_at w.replay.heap s ≡ x → IsLive x → ⊥
-          live_differs Fresh was d = d
-          live_differs (Dead n u m) was d = d
-          live_differs (Live n u) was d =
-              let both : IsTagOf s u × (tagged.chunk_tag ≡ u) = subst (λ x. IsChunkTag s x tagged.chunk_tag) was tagged.is_chunk_tag in
-              i.last_but_one (sym live.1) (sym same ∙ both.1 ∙ sym (ap last_tag was))
+      differs i tagged (inl dead) same = grind arith
+      differs i tagged (inr live) same = grind arith
 
   -- ---- inside
 
@@ -132,8 +112,7 @@ module _ (w : Run) (sound : IsSoundRun w) where
       let near : place_of address < 2 ^ 37 = omega arith in
       let place_low : payload_place (slot_in w.replay.heap s) < 2 ^ 56 = omega arith in
       let low : variable w.replay v < 2 ^ 60 =
-      subst (λ x. x < 2 ^ 60) (sym i.address_is)
-      (with_tag-below (payload_place (slot_in w.replay.heap s)) (logical_tag (variable w.replay v)) place_low i.tag.below) in
+      omega arith in
       laws.same_tags_succeed w.replay.heap.memory address len some
       (record {
         plain = subst (λ x. x < 2 ^ 60) (sym a.address_is) (laws.moved_plain (variable w.replay v) off a.near low
@@ -154,9 +133,7 @@ module _ (w : Run) (sound : IsSoundRun w) where
           tagged.chunk_tag ≡ logical_tag (variable w.replay v)
       live_tag i tagged Fresh was l = absurd (subst IsLive was l)
       live_tag i tagged (Dead n u m) was l = absurd (subst IsLive was l)
-      live_tag i tagged (Live n u) was l =
-          let both : IsTagOf s u × (tagged.chunk_tag ≡ u) = subst (λ x. IsChunkTag s x tagged.chunk_tag) was tagged.is_chunk_tag in
-          both.1 ∙ sym (ap last_tag was) ∙ sym (i.last (sym live.times)).0
+      live_tag i tagged (Live n u) was l = grind arith
 
 -- ---- own pointers
 

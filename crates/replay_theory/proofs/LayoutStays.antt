@@ -1,5 +1,5 @@
 -- The layout of a heap stays, whatever happens.
-use Rattle.std.proofs.Common.{◌≡◌, ℕ, Bool, true, false, cond, List, [], ◌∷◌, refl, ◌∙◌, Result, Ok, Err, Option, Some, None, arith, fold}
+use Rattle.std.proofs.Common.{◌≡◌, ℕ, Bool, cond, List, [], ◌∷◌, refl, ◌∙◌, Result, Option, arith, fold}
 use Rattle.machine_theory.specs.declared.fault.Fault.{Fault}
 use Rattle.class_table.specs.Layout.{Partition}
 use Rattle.trace_event.specs.declared.event.Event.{Event}
@@ -11,36 +11,30 @@ use Rattle.replay_theory.specs.Replay.{Replay, heap_after, replay_after, first_r
 
 malloc_layout : (h : Heap) (n : ℕ) (o : Result ℕ NullCause) → (malloc_with h n o).heap.layout ≡ h.layout
 unfolding given_out
-malloc_layout h n (Ok s) = refl
-malloc_layout h n (Err cause) = refl
+malloc_layout h n o = grind arith
 
 calloc_layout : (h : Heap) (n : ℕ) (o : Result ℕ NullCause) → (calloc_with h n o).heap.layout ≡ h.layout
 unfolding given_out with_payload
-calloc_layout h n (Ok s) = refl
-calloc_layout h n (Err cause) = refl
+calloc_layout h n o = grind arith
 
 free_layout : (h : Heap) (o : Result Chunk FreeError) → (free_with h o).heap.layout ≡ h.layout
 unfolding freed
-free_layout h (Ok chunk) = refl
-free_layout h (Err error) = refl
+free_layout h o = grind arith
 
 move_layout : (h : Heap) (chunk : Chunk) (n : ℕ) (o : Result ℕ NullCause) → (move_with h chunk n o).heap.layout ≡ h.layout
 unfolding given_out with_payload freed moved
-move_layout h chunk n (Ok s) = refl
-move_layout h chunk n (Err cause) = refl
+move_layout h chunk n o = grind arith
 
 either_layout : {A : Type 0} (layout : Partition) (b : Bool) (x y : Step A) → x.heap.layout ≡ layout → y.heap.layout ≡ layout →
     (cond b x y).heap.layout ≡ layout
-either_layout layout true x y left right = left
-either_layout layout false x y left right = right
+either_layout layout b x y left right = grind arith
 
 chunk_layout : (h : Heap) (p n : ℕ) (o : Result Chunk FreeError) → (realloc_with h p n o).heap.layout ≡ h.layout
 unfolding resized
 chunk_layout h p n o = grind (arith, either_layout, move_layout)
 
 store_layout : (h : Heap) (address : ℕ) (bytes : List ℕ) (o : Option Fault) → (store_with h address bytes o).layout ≡ h.layout
-store_layout h address bytes None = refl
-store_layout h address bytes (Some fault) = refl
+store_layout h address bytes o = grind arith
 
 pub layout_after : (r : Replay) (e : Event) → (heap_after r e).layout ≡ r.heap.layout
 unfolding heap_after malloc_step calloc_step free_step realloc_step store_step

@@ -1,9 +1,9 @@
 -- What an event does to a slot.
-use Rattle.std.proofs.{Common.{◌≡◌, ℕ, ◌-◌, ◌<◌, true, arith, Option}, lemmas.Bool.{cases_eq, ltb-true, false≢true}}
+use Rattle.std.proofs.{Common.{◌≡◌, ℕ, ◌-◌, ◌<◌, arith, Option}, lemmas.Bool.{cases_eq, ltb-true}}
 use Rattle.std.proofs.lemmas.List.{get_or-set_same, get_or-set_other}
 use Rattle.trace_event.specs.declared.event.Event.{Event}
 use Rattle.heap_theory.{proofs.CallsKept.{KeepsGiven, HeapChange, state_at-given_out_other}, specs.Lookups.{IsReusable}}
-use Rattle.heap_theory.specs.{State.{State, Heap, IsLive, state_at, is_fresh}, State.State.{Fresh, Dead}}
+use Rattle.heap_theory.specs.{State.{State, Heap, IsLive, state_at}, State.State.{Dead}}
 use Rattle.replay_theory.{proofs.RunKept.{IsKept-event}, specs.Hardening.{ReuseIsDelayed, LifeStep, LivesOn}, specs.SoundRun.{IsSoundRun}}
 use Rattle.replay_theory.specs.{Replay.{heap_after, replay_after}, Run.{Run, slot_given, run_after}}
 
@@ -19,11 +19,8 @@ revived h new o s n t m kept was live = grind (arith, cases_eq, state_at-given_o
 
 -- ---- the life of a slot
 
-fresh_is : (x : State) → is_fresh x ≡ true → x ≡ Fresh
-fresh_is x is = grind arith
-
 kept_life : (h new : Heap) (s times next : ℕ) → KeepsGiven h new → next ≡ times → LifeStep (state_at h s) times (state_at new s) next
-kept_life h new s times next kept same = grind (arith, fresh_is, false≢true)
+kept_life h new s times next kept same = grind arith
 
 not_live : (h : Heap) (s : ℕ) → IsReusable h s → (x : State) → state_at h s ≡ x → IsLive x → ⊥
 not_live h s reusable x3 was l = grind arith

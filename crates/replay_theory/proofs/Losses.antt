@@ -1,20 +1,19 @@
 -- What each event of a served run loses, and so what the run does.
 use Rattle.std.proofs.Common.{◌≡◌, ℕ, ◌+◌, ◌<◌, ◌≤◌, Bool, true, false, cond, List, [], ◌∷◌, refl, ap, ◌∙◌, subst, arith, Result, Ok, Err}
-use Rattle.std.{proofs.Common.{Option, Some, None, ◌==◌, ◌&&◌, nat_le, nat_lt, is_some, zip, count_by, IsSome}, specs.Option.{ok_or}}
-use Rattle.std.proofs.lemmas.{Bool.{true≢false, cond_both, le-leb, leb-false, lt-leb}, List.Elements.{recursion_from_All}}
+use Rattle.std.{proofs.Common.{Option, Some, None, ◌&&◌, nat_le, is_some, zip, count_by, IsSome}}
+use Rattle.std.proofs.lemmas.{Bool.{true≢false, leb-false}, List.Elements.{recursion_from_All}}
 use Rattle.std.{proofs.lemmas.List.Sums.{sum_by-cons}, specs.List.{AllByRecursion as ByRecursion, cons_option}}
-use Rattle.machine_theory.specs.declared.fault.Fault.{Fault}
 use Rattle.class_table.specs.{Layout.{Partition}, Sizes.{counted_of, largest_counted}, Tables.{class_for, loss_of_size, rounding_loss}}
 use Rattle.trace_event.specs.declared.event.{Event.{Event}, Event.TheVariants.{Malloc, Calloc, Realloc, Free}}
-use Rattle.heap_theory.specs.Calls.{Step, malloc_with, malloc_step, calloc_with, calloc_step, as_realloc, free_with, free_step, is_class_of}
-use Rattle.heap_theory.specs.{Calls.{resized, move_with, realloc_with, realloc_step}, State.{Heap, slot_in, first_heap}}
-use Rattle.heap_theory.specs.Lookups.{Chunk, class_for_request, slot_for_request, slot_in_class, slot_for, chunk_at}
-use Rattle.heap_theory.specs.declared.refusal.{FreeError.{FreeError}, NullCause.{NullCause}, ReallocError.{ReallocError}}
+use Rattle.heap_theory.specs.Calls.{malloc_step, calloc_step, free_step}
+use Rattle.heap_theory.specs.{Calls.{realloc_step}, State.{Heap, first_heap}}
+use Rattle.heap_theory.specs.Lookups.{class_for_request, slot_for_request}
+use Rattle.heap_theory.specs.declared.refusal.{FreeError.{FreeError}, NullCause.{NullCause}}
 use Rattle.heap_theory.specs.declared.refusal.NullCause.TheVariants.{Large, NoClass, Exhausted}
 use Rattle.replay_theory.{proofs.LayoutStays.{layout_after}, specs.Losses.{requested_sizes, counted_sizes, LosesAtMostItsWaste, ServesEach}}
-use Rattle.replay_theory.specs.Replay.{Replay, Answer, is_no_class, is_exhausted, is_refused, is_silent, variable, answer_of, answers}
-use Rattle.replay_theory.specs.Replay.{replay_after, first_replay, malloc_answer, free_answer, realloc_answer, access_answer}
-use Rattle.replay_theory.specs.Replay.Answer.{Silent, NoPointer, NotFreed}
+use Rattle.replay_theory.specs.Replay.{Replay, Answer, is_no_class, is_exhausted, is_refused, is_silent, answer_of, answers}
+use Rattle.replay_theory.specs.Replay.{replay_after, first_replay}
+use Rattle.replay_theory.specs.Replay.Answer.{NotFreed}
 use Rattle.replay_theory.specs.Totals.{one_if, request_size, loss_of_request, loss_of_event, totals_of}
 
 -- ---- one event
@@ -31,31 +30,13 @@ record LosesAtMost (classes : List ℕ) (request : Option ℕ) (answer : Answer)
   all_loss : is_exhausted answer ≡ false → (is_some request && is_refused answer) ≡ false →
       cond (is_silent answer) (loss_of_request classes request) 0 ≡ counted_loss classes request
 
--- an event that requests nothing loses nothing
-nothing_lost : (classes : List ℕ) (answer : Answer) → is_no_class answer ≡ false → LosesAtMost classes None answer
-nothing_lost classes answer is = grind (arith, cond_both)
-
 -- a request of n bytes, which the heap answered so
 abbrev RequestLoses : Heap → ℕ → Answer → Type 0
 RequestLoses h n answer = LosesAtMost h.layout.classes (Some n) answer
 
 module _ (h : Heap) (n : ℕ) where
-  loss_here : Bool → ℕ
-  loss_here counted = cond counted (loss_of_size h.layout.classes n) 0
-
-  given : n ≤ largest_counted → RequestLoses h n Silent
-  unfolding loss_here
-  given small = grind (arith, le-leb)
-
-  exhausted : RequestLoses h n (NoPointer Exhausted)
-  exhausted = record { no_class = refl; loss = omega arith; all_loss = λ full refused. absurd (true≢false full) }
-
   refused : (error : FreeError) → RequestLoses h n (NotFreed error)
   refused error = record { no_class = refl; loss = omega arith; all_loss = λ full refused. absurd (true≢false refused) }
-
-  too_large : largest_counted < n → RequestLoses h n (NoPointer Large)
-  unfolding loss_here
-  too_large large = grind (arith, lt-leb)
 
 -- ---- requests
 
@@ -66,55 +47,6 @@ MayMeet n (Err Large) = largest_counted < n
 MayMeet n (Err NoClass) = ⊥
 MayMeet n (Err Exhausted) = Unit {0}
 
-class_met : (n : ℕ) (large : Bool) (class : Option ℕ) → nat_lt largest_counted n ≡ large → (n ≤ largest_counted → IsSome class) →
-    MayMeet n (cond large (Err Large) (ok_or class NoClass))
-class_met n x1 x2 is has = grind arith
-
-slot_met : (h : Heap) (n : ℕ) (class : Result ℕ NullCause) → MayMeet n class → MayMeet n (slot_in_class h class)
-slot_met h n (Ok class) is = elim (slot_for h class) as (λ slot. MayMeet n (ok_or slot Exhausted)) [ None ↦ tt | Some s ↦ is ]
-slot_met h n (Err cause) is = is
-
-module _ (h : Heap) (n : ℕ) where
-  null_loses : (cause : NullCause) → MayMeet n (Err cause) → RequestLoses h n (NoPointer cause)
-  null_loses x0 is = grind arith
-
-  malloc_loses : (slot : Result ℕ NullCause) → MayMeet n slot → RequestLoses h n (malloc_answer (malloc_with h n slot).answer)
-  malloc_loses (Ok s) is = given h n is
-  malloc_loses (Err cause) is = null_loses cause is
-
-  calloc_loses : (slot : Result ℕ NullCause) → MayMeet n slot → RequestLoses h n (malloc_answer (calloc_with h n slot).answer)
-  calloc_loses (Ok s) is = given h n is
-  calloc_loses (Err cause) is = null_loses cause is
-
-  at_null_loses : (slot : Result ℕ NullCause) → MayMeet n slot →
-      RequestLoses h n (realloc_answer (as_realloc (malloc_with h n slot)).answer)
-  at_null_loses (Ok s) is = given h n is
-  at_null_loses (Err cause) is = null_loses cause is
-
-  move_loses : (chunk : Chunk) (slot : Result ℕ NullCause) → MayMeet n slot →
-      RequestLoses h n (realloc_answer (move_with h chunk n slot).answer)
-  move_loses chunk (Ok s) is = given h n is
-  move_loses chunk (Err cause) is = null_loses cause is
-
-  either_loses : (b : Bool) (x y : Step (Result ℕ ReallocError)) → RequestLoses h n (realloc_answer x.answer) →
-      RequestLoses h n (realloc_answer y.answer) → RequestLoses h n (realloc_answer (cond b x y).answer)
-  either_loses true x y left right = left
-  either_loses false x y left right = right
-
-  -- a chunk stays only in a class, so its request is counted
-  stay_loses : (chunk : Chunk) (p : ℕ) (class slot : Result ℕ NullCause) → MayMeet n class → MayMeet n slot →
-      RequestLoses h n
-      (realloc_answer (cond (is_class_of (slot_in h chunk.slot) class)
-      (record { heap = resized h chunk.slot n; answer = Ok p })
-      (move_with h chunk n slot)).answer)
-  stay_loses chunk p (Ok class) slot is met = grind (arith, either_loses, given, move_loses)
-  stay_loses chunk p (Err cause) slot is met = move_loses chunk slot met
-
-  chunk_loses : (p : ℕ) (chunk : Result Chunk FreeError) → MayMeet n (class_for_request h n) → MayMeet n (slot_for_request h n) →
-      RequestLoses h n (realloc_answer (realloc_with h p n chunk).answer)
-  chunk_loses p (Err error) is met = refused h n error
-  chunk_loses p (Ok chunk) is met = stay_loses chunk p (class_for_request h n) (slot_for_request h n) is met
-
 -- ---- every event
 
 -- a request has a class where it is counted
@@ -122,30 +54,21 @@ abbrev IsServed : List ℕ → Option ℕ → Type 0
 IsServed classes None = Unit {0}
 IsServed classes (Some n) = n ≤ largest_counted → IsSome (class_for classes n)
 
--- an event that requests nothing is not refused because it has no class
-free_wants_no_class : (h : Heap) (null : Bool) (chunk : Result Chunk FreeError) →
-    is_no_class (free_answer (cond null (record { heap = h; answer = Ok tt }) (free_with h chunk)).answer) ≡ false
-free_wants_no_class h x1 x2 = grind arith
-
-access_wants_no_class : (h : Heap) (done : Answer) (o : Option Fault) → is_no_class done ≡ false →
-    is_no_class (access_answer h done o) ≡ false
-access_wants_no_class h done x2 is = grind arith
-
 class_of_request : (h : Heap) (n : ℕ) → IsServed h.layout.classes (Some n) → MayMeet n (class_for_request h n)
-class_of_request h n has = class_met n (nat_lt largest_counted n) (class_for h.layout.classes n) refl has
+class_of_request h n has = grind arith
 
 slot_of_request : (h : Heap) (n : ℕ) → IsServed h.layout.classes (Some n) → MayMeet n (slot_for_request h n)
 unfolding slot_for_request
-slot_of_request h n has = slot_met h n (class_for_request h n) (class_of_request h n has)
+slot_of_request h n has = grind arith
 
 event_loses : (r : Replay) (e : Event) → IsServed r.heap.layout.classes (request_size e) →
     LosesAtMost r.heap.layout.classes (request_size e) (answer_of r e)
 unfolding answer_of malloc_step calloc_step realloc_step free_step
-event_loses r (Malloc v n) has = malloc_loses r.heap n (slot_for_request r.heap n) (slot_of_request r.heap n has)
-event_loses r (Calloc v n) has = calloc_loses r.heap n (slot_for_request r.heap n) (slot_of_request r.heap n has)
+event_loses r (Malloc v n) has = grind (arith, slot_of_request)
+event_loses r (Calloc v n) has = grind (arith, slot_of_request)
 event_loses r (Realloc v n) has = grind (arith, slot_of_request, class_of_request)
-event_loses r (Free v) has = nothing_lost _ _ (free_wants_no_class r.heap (variable r v == 0) (chunk_at r.heap (variable r v)))
-event_loses r other has = grind (arith, nothing_lost, access_wants_no_class)
+event_loses r (Free v) has = grind arith
+event_loses r other has = grind arith
 
 -- ---- every run
 
@@ -169,14 +92,6 @@ module _ (classes : List ℕ) where
       IsServed classes request × EachServed classes (counted_of sizes)
   one_more_served request sizes each = grind (arith, leb-false)
 
--- a count after one more, which counts or not
-not_counted : (b : Bool) (before after : ℕ) → after ≡ one_if b + before → b ≡ false → before ≡ 0 → after ≡ 0
-not_counted b before after is not none = omega (arith, ap one_if not)
-
-none_counted : (b : Bool) (before after : ℕ) → after ≡ one_if b + before → after ≡ 0 → (b ≡ false) × (before ≡ 0)
-none_counted true before after is none = absurd (omega arith)
-none_counted false before after is none = (refl, omega arith)
-
 one_event_more : (classes : List ℕ) (e : Event) (a : Answer) (events : List Event) (happened : List (Event × Answer)) →
     LosesAtMost classes (request_size e) a → LosesAtMostItsWaste classes events happened →
     LosesAtMostItsWaste classes (e ∷ events) ((e, a) ∷ happened)
@@ -189,7 +104,7 @@ one_event_more classes e a events happened first rest =
     sum_by-cons (loss_of_event classes) (e, a) happened in
     let count : (p : Event × Answer → Bool) → count_by p ((e, a) ∷ happened) ≡ one_if (p (e, a)) + count_by p happened =
     λ p. sum_by-cons (λ x. one_if (p x)) (e, a) happened in
-    grind (arith, not_counted, none_counted)
+    grind arith
 
 LosesAtMostItsWaste-from : (r : Replay) (classes : List ℕ) (events : List Event) → r.heap.layout.classes ≡ classes →
     EachServed classes (counted_sizes events) → LosesAtMostItsWaste classes events (zip events (answers r events))

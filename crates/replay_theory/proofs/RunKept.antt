@@ -31,9 +31,6 @@ lengths_kept w x1 long = grind (arith, length-set)
 layout_kept : (h new : Heap) (o : Option ℕ) → HeapChange h new o → new.layout ≡ h.layout
 layout_kept h new o change = grind (arith, layout-given_out)
 
-limit_kept : (h new : Heap) (o : Option ℕ) → HeapChange h new o → new.quarantine ≡ h.quarantine
-limit_kept h new o change = grind (arith, quarantine-given_out)
-
 -- ---- all runs
 
 -- the limit of the quarantine is that of the first heap
@@ -67,9 +64,7 @@ module _ where
 
     others : (u : ℕ) → IsSoundVariable (heap_after w.replay e) (times_with w (slot_given w.replay e)) (variable w.replay u)
         (generation_of w u)
-    others u =
-        IsSoundVariable-other w sound (heap_after w.replay e) (slot_given w.replay e) (variable w.replay u) (generation_of w u) kept.change
-        (sound.variables u)
+    others u = grind (arith, IsSoundVariable-other, kept)
 
   variables_kept : (w : Run) (e : Event) → IsSoundRun w → (u : ℕ) →
       IsSoundVariable (heap_after w.replay e) (times_with w (slot_given w.replay e)) (get_or (variables_after w.replay e) u 0)
@@ -100,12 +95,7 @@ module _ where
   unfolding run_after replay_after
   IsSoundRun-run_after w e sound =
       let kept = kept w e sound in
-      record {
-        heap = kept.sound;
-        times = grind (arith, length-times_with, layout_kept);
-        generations = lengths_kept w e sound.generations;
-        variables = variables_kept w e sound;
-      }
+      grind (arith, length-times_with, layout_kept, lengths_kept, variables_kept)
 
   IsSoundRun-first : (layout : Partition) (seed quarantine : ℕ) → IsPartition layout → IsSoundRun (first_run layout seed quarantine)
   unfolding first_run first_replay first_heap
@@ -122,10 +112,7 @@ module _ where
   unfolding run_after replay_after
   IsRunWith-run_after quarantine w e over =
       let change = (kept w e over.sound).change in
-      record {
-        sound = IsSoundRun-run_after w e over.sound;
-        limit_is = limit_kept w.replay.heap (heap_after w.replay e) (slot_given w.replay e) change ∙ over.limit_is;
-      }
+      grind (arith, IsSoundRun-run_after, quarantine-given_out)
 
   IsRunWith-first : (layout : Partition) (seed quarantine : ℕ) → IsPartition layout →
       IsRunWith quarantine (first_run layout seed quarantine)

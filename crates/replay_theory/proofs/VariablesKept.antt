@@ -2,11 +2,11 @@
 use Rattle.std.proofs.Common.{◌≡◌, ℕ, suc, ◌*◌, ◌<◌, Bool, true, false, cond, List, length, get_or, set, refl, sym, subst, inl}
 use Rattle.std.proofs.{Common.{arith, Some, None, Option, Result, Ok, Err, ◌==◌, slice_set, replicate}, lemmas.Bool.{cases_eq}}
 use Rattle.std.{proofs.lemmas.List.{get_or-set_same, get_or-set_other}, specs.Result.{result_ok, result_unwrap_or}}
-use Rattle.class_table.specs.{Layout.{slot_count}, Sizes.{chunk_granules}}
+use Rattle.class_table.specs.{Sizes.{chunk_granules}}
 use Rattle.heap_theory.proofs.CallsKept.{KeepsGiven, KeepsGiven-refl, KeepsGiven-with_payload, KeepsGiven-resized, KeepsGiven-moved}
 use Rattle.heap_theory.proofs.{CallsKept.{HeapChange, state_at-given_out, state_at-given_out_other, layout-given_out}, HeapKept.{in_states}}
 use Rattle.heap_theory.proofs.{Lookups.{slot_for_request-cases, chunk_at-is}, Tags.{IsTagOf-next_tag, next_tag-differs}}
-use Rattle.heap_theory.specs.Calls.{Step, given_out, resized, with_payload, moved, malloc_with, malloc_step, calloc_with}
+use Rattle.heap_theory.specs.Calls.{Step, given_out, with_payload, moved, malloc_with, malloc_step, calloc_with}
 use Rattle.heap_theory.specs.Calls.{calloc_step, stays_in_class, slot_if_moved, move_with, as_realloc, realloc_with, realloc_step}
 use Rattle.heap_theory.specs.{Lookups.{Chunk, IsReusable, MayBeGiven, slot_for_request, chunk_at}}
 use Rattle.heap_theory.specs.State.{Heap, pointer_to}
@@ -38,11 +38,6 @@ module _ (h : Heap) (times : List ℕ) (r n : ℕ) (tag_below : h.tag < 16) (wit
         next_tag-differs,
         layout-given_out,
       )
-
-  -- the address that is given
-  IsAddressOf-new : r < slot_count h.layout →
-      IsAddressOf (given_out h r n) (slice_set times r (suc (get_or times r 0))) (pointer_to (given_out h r n) r) r (suc (get_or times r 0))
-  IsAddressOf-new in_range = grind (arith, IsTagOf-next_tag, state_at-given_out, layout-given_out, times_now)
 
 -- ---- variables
 
@@ -78,11 +73,7 @@ module _ (w : Run) (sound : IsSoundRun w) where
   IsSoundVariable-new : (new : Heap) (s n : ℕ) → MayBeGiven w.replay.heap n s → KeepsGiven (given_out w.replay.heap s n) new →
       IsSoundVariable new (times_with w (Some s)) (pointer_to (given_out w.replay.heap s n) s)
       (Some (record { slot = s; time = suc (times_of w s) }))
-  IsSoundVariable-new new s n given kept =
-      let i =
-      IsAddressOf-new w.replay.heap w.times s n sound.heap.tag_below (in_states_of s given.reusable) (in_times_of s given.reusable)
-      given.reusable.in_range in
-      grind (arith, IsAddressOf-kept)
+  IsSoundVariable-new new s n given kept = grind (arith, IsTagOf-next_tag, state_at-given_out, layout-given_out, times_now)
 
   -- ---- what a call gives
 
@@ -137,7 +128,6 @@ module _ (w : Run) (sound : IsSoundRun w) where
       by_chunk (Ok chunk) was =
           let c = chunk_at-is h p chunk was in
           either (stays_in_class h chunk n) _ _ None _
-          (λ _. IsSoundVariable-kept h (resized h chunk.slot n) w.times p (generation_of w v)
-          (KeepsGiven-resized h chunk.slot n chunk.size _ (in_states h chunk.slot sound.heap c.in_range) c.live) (sound.variables v))
+          (grind (arith, IsSoundVariable-kept, KeepsGiven-resized))
           (λ _. slot_for_request-cases h n sound.heap (λ r. After (move_with h chunk n r) (result_ok r)) (λ cause. sound.variables v)
           (λ s given. IsSoundVariable-new (moved h chunk s n) s n given (KeepsGiven-moved h p chunk s n sound.heap c given)))

@@ -1,9 +1,9 @@
 -- The allowed tags after a tag, as the set bits of a mask that is turned.
-use Rattle.std.proofs.Common.{◌≡◌, ◌≢◌, ℕ, zero, suc, ◌+◌, ◌-◌, ◌*◌, ◌/◌, ◌%◌, ◌^◌, ◌<◌, ◌≤◌, max, Bool, true, false, not, cond, List, []}
+use Rattle.std.proofs.Common.{◌≡◌, ◌≢◌, ℕ, zero, suc, ◌+◌, ◌-◌, ◌*◌, ◌/◌, ◌%◌, ◌^◌, ◌<◌, ◌≤◌, max, Bool, true, false, not, List, []}
 use Rattle.std.proofs.{Common.{◌∷◌, map, length, refl, sym, ap, ◌∙◌, inl, inr, arith, ◌⊎◌, ◌==◌, bit_or, slice_index}, Math.Pow.{pow_pos}}
-use Rattle.std.proofs.{Math.Nat.{mod-eq_of_lt}, lemmas.Bool.{cases_Bool, cases_eq, cases_lt, cond-true, cond-false, eq-eqb, ne_eqb}}
-use Rattle.std.{proofs.lemmas.List.{get_or-map, length-map}, proofs.lemmas.Nat.{mod_below, zero_from_ones}, specs.Int.Count.{ones, ones_in}}
-use Rattle.std.proofs.lemmas.Nat.Bits.{bit_at_or, bit_at_not, bit_at-zero, bit_at-lt, bit_at_above, bit_at_cat_low, bit_at_cat_high}
+use Rattle.std.proofs.{lemmas.Bool.{cases_eq, cond-true, eq-eqb}}
+use Rattle.std.{proofs.lemmas.List.{get_or-map, length-map}, proofs.lemmas.Nat.{zero_from_ones}, specs.Int.Count.{ones, ones_in}}
+use Rattle.std.proofs.lemmas.Nat.Bits.{bit_at_or, bit_at_not, bit_at-lt, bit_at_above, bit_at_cat_low, bit_at_cat_high}
 use Rattle.std.specs.{Int.{bit_at, bit_not, rotate_right, w16}, List.{filter, range_with_len}}
 use Rattle.machine_theory.specs.Tags.{is_excluded, allowed_after, choose_tag}
 use Rattle.tag_machine.proofs.{DrawnTags.{bit_at_shr}, MaskBits.{filter_places, set_bits-places, length-set_bits}}
@@ -19,8 +19,7 @@ bit_at_shl n s j h =
 bit_at_turned : (n r j : ℕ) → n < 2 ^ 16 → r < 16 → j < 16 →
     bit_at (bit_or (n / 2 ^ r) ((n * 2 ^ ((16 - r) % 16)) % 2 ^ 16)) j ≡ bit_at n ((r + j) % 16)
 bit_at_turned n r j n_below r_below j_below =
-    bit_at_or (n / 2 ^ r) ((n * 2 ^ ((16 - r) % 16)) % 2 ^ 16) j
-    ∙ (λ i. max (bit_at_shr n r j i) (bit_at_shl n ((16 - r) % 16) j j_below i)) ∙ at (cases_eq r 0) (cases_lt (r + j) 16)
+    grind (arith, bit_at_or, bit_at_shr, bit_at_shl, at)
   where
     both : (x y z : ℕ) → x ≡ z → y ≡ z → max x y ≡ z
     both x y z e f = omega arith
@@ -33,15 +32,8 @@ bit_at_turned n r j n_below r_below j_below =
 
     at : (r ≡ 0) ⊎ (r ≡ 0 → ⊥) → (r + j < 16) ⊎ (16 ≤ r + j) →
         max (bit_at n (j + r)) (bit_at (n * 2 ^ ((16 - r) % 16) + 0) j) ≡ bit_at n ((r + j) % 16)
-    at (inl still) within =
-        let shift : (16 - r) % 16 ≡ 0 = omega arith in
-        let same : n * 1 + 0 ≡ n = omega arith in
-        let here : j ≡ (r + j) % 16 = omega arith in
-        let sum : j + r ≡ (r + j) % 16 = omega arith in
-        both _ _ _ (ap (bit_at n) sum) (ap (λ s. bit_at (n * 2 ^ s + 0) j) shift ∙ ap (λ m. bit_at m j) same ∙ ap (bit_at n) here)
-    at (inr turned) (inl within) =
-        let sum : j + r ≡ (r + j) % 16 = omega arith in
-        left _ _ _ (ap (bit_at n) sum) (bit_at_cat_low n ((16 - r) % 16) 0 j (omega arith) ∙ bit_at-zero j)
+    at (inl still) within = grind arith
+    at (inr turned) (inl within) = grind (arith, bit_at_cat_low)
     at (inr turned) (inr round) =
         let sum : j - (16 - r) % 16 ≡ (r + j) % 16 = omega arith in
         right _ _ _ (bit_at_above n 16 (j + r) n_below (omega arith))
@@ -49,12 +41,7 @@ bit_at_turned n r j n_below r_below j_below =
 
 filter-map : {X Y : Type 0} (p : Y → Bool) (f : X → Y) (xs : List X) → filter p (map f xs) ≡ map f (filter (λ x. p (f x)) xs)
 filter-map p f [] = refl
-filter-map p f (x ∷ xs) = let rest = filter-map p f xs in elim (cases_Bool (p (f x))) [
-  | inl pass ↦ cond-true (p (f x)) (f x ∷ filter p (map f xs)) (filter p (map f xs)) pass ∙ ap (λ ys. f x ∷ ys) rest
-      ∙ ap (map f) (sym (cond-true (p (f x)) (x ∷ filter (λ x. p (f x)) xs) (filter (λ x. p (f x)) xs) pass))
-  | inr fail ↦ cond-false (p (f x)) (f x ∷ filter p (map f xs)) (filter p (map f xs)) fail ∙ rest
-      ∙ ap (map f) (sym (cond-false (p (f x)) (x ∷ filter (λ x. p (f x)) xs) (filter (λ x. p (f x)) xs) fail))
-]
+filter-map p f (x ∷ xs) = grind (arith, filter-map p f xs)
 
 abbrev pub allowed_mask : ℕ → ℕ → ℕ
 allowed_mask tag exclude = rotate_right w16 (bit_not w16 exclude) (tag + 1)
@@ -81,8 +68,7 @@ allowed_places tag exclude mask tag_below exclude_below is =
     filter-map (λ t. not (is_excluded exclude t)) (λ k. (tag + (1 + k)) % 16) (range_with_len 0 16)
     ∙ ap (map (λ k. (tag + (1 + k)) % 16))
     (filter_places 16 0 (allowed_mask tag exclude) (λ k. not (is_excluded exclude ((tag + (1 + k)) % 16)))
-    (λ j h. let same : 0 + j ≡ j = omega arith in
-    ap (λ k. not (is_excluded exclude ((tag + (1 + k)) % 16))) same ∙ allowed_bit tag exclude j tag_below exclude_below h)
+    (grind (arith, allowed_bit))
     ∙ sym (ap set_bits is ∙ set_bits-places (allowed_mask tag exclude)))
 
 -- ---- the choice, by a mask whose set bits are the allowed tags
@@ -104,25 +90,9 @@ module _ (tag exclude mask : ℕ) (mask_below : mask < 2 ^ 16)
 
   pub chosen_here : mask ≢ 0 → is_excluded exclude tag ≡ false → choose_tag tag 0 exclude ≡ tag
   unfolding choose_tag
-  chosen_here other free =
-      cond-false (length (allowed_after tag exclude) == 0) _ _ (ne_eqb _ _ (λ e. omega (arith, mask_some other, as_many)))
-      ∙ cond-false (is_excluded exclude tag) (slice_index (allowed_after tag exclude) 0) tag free
+  chosen_here other free = grind (arith, mask_some, as_many)
 
   pub chosen_on : (offset : ℕ) → mask ≢ 0 → (offset ≡ 0 → is_excluded exclude tag ≡ true) →
       choose_tag tag offset exclude ≡ (tag + (1 + slice_index (set_bits mask) ((offset - 1) % ones mask))) % 16
   unfolding choose_tag
-  chosen_on offset other out =
-      let some : 0 < ones mask = mask_some other in
-      cond-false (length (allowed_after tag exclude) == 0) _ _ (ne_eqb _ _ (λ e. omega (arith, as_many)))
-      ∙ at (cases_eq offset 0) some
-      ∙ entry ((offset - 1) % ones mask) (mod_below (offset - 1) (ones mask) some)
-    where
-      at : (offset ≡ 0) ⊎ (offset ≡ 0 → ⊥) → 0 < ones mask →
-          cond (offset == 0) (cond (is_excluded exclude tag) (slice_index (allowed_after tag exclude) 0) tag)
-          (slice_index (allowed_after tag exclude) ((offset - 1) % length (allowed_after tag exclude)))
-          ≡ slice_index (allowed_after tag exclude) ((offset - 1) % ones mask)
-      at (inl none) some = cond-true (offset == 0) _ _ (eq-eqb _ _ none) ∙ cond-true (is_excluded exclude tag) _ _ (out none)
-          ∙ ap (slice_index (allowed_after tag exclude))
-          (sym (ap (λ o. (o - 1) % ones mask) none ∙ mod-eq_of_lt {n = 0} {m = ones mask} some))
-      at (inr more) some =
-          cond-false (offset == 0) _ _ (ne_eqb _ _ more) ∙ ap (λ n. slice_index (allowed_after tag exclude) ((offset - 1) % n)) as_many
+  chosen_on offset other out = grind (arith, mask_some, as_many, entry)

@@ -22,10 +22,7 @@ unfolding mixed
 mixed_bit seed n =
     let both : bit_at (mixed seed) n ≡ (bit_at (twice seed) n + bit_at (twice seed) (n + 2)) % 2 =
     bit_at_xor (twice seed) (twice seed / 4) n ∙ ap (λ b. (bit_at (twice seed) n + b) % 2) (bit_at_shr (twice seed) 2 n) in
-    let last : n + 2 + 3 ≡ n + 5 = omega arith in
-    let up : bit_at (twice seed) (n + 2) ≡ (bit_at seed (n + 2) + bit_at seed (n + 5)) % 2 =
-    twice_bit seed (n + 2) ∙ ap (λ k. (bit_at seed (n + 2) + bit_at seed k) % 2) last in
-    summed (bit_at seed n) (bit_at seed (n + 2)) (bit_at seed (n + 3)) (bit_at seed (n + 5)) _ _ _ (twice_bit seed n) up both
+    grind (arith, twice_bit)
   where
     summed : (a b c d low high out : ℕ) → low ≡ (a + c) % 2 → high ≡ (b + d) % 2 → out ≡ (low + high) % 2 → out ≡ (a + b + c + d) % 2
     summed a b c d low high out e f g = omega arith

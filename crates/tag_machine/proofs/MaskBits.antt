@@ -1,5 +1,5 @@
 -- How the set bits of a number are counted and found.
-use Rattle.std.proofs.Common.{◌≡◌, ℕ, zero, suc, ◌+◌, ◌*◌, ◌/◌, ◌%◌, ◌^◌, ◌<◌, Bool, true, false, cond, List, [], ◌∷◌, ◌++◌, map, length}
+use Rattle.std.proofs.Common.{◌≡◌, ℕ, zero, suc, ◌+◌, ◌*◌, ◌/◌, ◌%◌, ◌^◌, ◌<◌, Bool, cond, List, [], ◌∷◌, ◌++◌, map, length}
 use Rattle.std.proofs.{Common.{get_or, refl, sym, ap, ◌∙◌, subst, inl, inr, arith, pow-suc, append-nil, ◌==◌}, lemmas.Bool.{cases_eq}}
 use Rattle.std.{proofs.lemmas.Nat.{mod-pow-add, ones_cat}, proofs.lemmas.Nat.Bits.{bit_at-suc, bit_at_lowest}, specs.Int.{bit_at}}
 use Rattle.std.specs.{Int.Count.{ones, ones_in}, List.{filter, range_with_len}}
@@ -36,42 +36,23 @@ places_odd : (w k half : ℕ) → places (suc w) k (half * 2 + 1) ≡ k ∷ plac
 unfolding places
 places_odd w k half = grind (arith, places)
 
-places_even : (w k half : ℕ) → places (suc w) k (half * 2 + 0) ≡ places w (k + 1) half
-unfolding places
-places_even w k half = grind (arith, places)
-
 -- there are as many as `count_ones` says
 length-places : (w k n : ℕ) → n < 2 ^ w → length (places w k n) ≡ ones n
 unfolding places ones ones_in
 length-places zero k n h = let none : n ≡ 0 = omega arith in ap ones (sym none)
 length-places (suc w) k n h =
     by_lowest_bit (λ m. m < 2 * 2 ^ w → length (places (suc w) k m) ≡ ones m)
-    (λ half below. ap length (places_even w k half) ∙ length-places w (k + 1) half (omega arith)
+    (λ half below. ap length (grind arith) ∙ length-places w (k + 1) half (omega arith)
     ∙ sym (ones_cat 1 half 0 (omega arith) ∙ omega arith))
     (λ half below. ap length (places_odd w k half) ∙ ap suc (length-places w (k + 1) half (omega arith))
     ∙ sym (ones_cat 1 half 1 (omega arith) ∙ omega arith))
     n (omega (arith, pow-suc))
 
--- the places of the lowest w bits, and those of the others
-with_rest : (b : Bool) (k : ℕ) (xs ys : List ℕ) → cond b (k ∷ (xs ++ ys)) (xs ++ ys) ≡ cond b (k ∷ xs) xs ++ ys
-with_rest true k xs ys = refl
-with_rest false k xs ys = refl
-
 places_parts : (w v t k n : ℕ) → t ≡ w + v → places t k n ≡ places w k n ++ places v (k + w) (n / 2 ^ w)
 unfolding places
-places_parts zero v t k n sum =
-    let width : t ≡ v = omega arith in
-    let at : k ≡ k + 0 = omega arith in
-    let whole : n ≡ n / 2 ^ 0 = omega arith in
-    λ i. places (width i) (at i) (whole i)
+places_parts zero v t k n sum = grind arith
 places_parts (suc w) v zero k n sum = absurd (omega arith)
-places_parts (suc w) v (suc t) k n sum =
-    let rest = places_parts w v t (k + 1) (n / 2) (omega arith) in
-    let at : k + 1 + w ≡ k + suc w = omega arith in
-    let high : n / 2 / 2 ^ w ≡ n / 2 ^ suc w = div-div-eq-div-mul n 2 (2 ^ w) ∙ ap (λ p. n / p) (omega (arith, pow-suc)) in
-    (λ i. cond (n % 2 == 1) (k ∷ rest i) (rest i))
-    ∙ with_rest (n % 2 == 1) k (places w (k + 1) (n / 2)) (places v (k + 1 + w) (n / 2 / 2 ^ w))
-    ∙ (λ i. places (suc w) k n ++ places v (at i) (high i))
+places_parts (suc w) v (suc t) k n sum = grind (arith, places_parts w v t (k + 1) (n / 2) (omega arith), div-div-eq-div-mul)
 
 -- the lowest w bits alone matter
 places_low : (w k n m : ℕ) → n % 2 ^ w ≡ m % 2 ^ w → places w k n ≡ places w k m
@@ -85,32 +66,16 @@ places_low (suc w) k n m same =
     let rest = places_low w (k + 1) (n / 2) (m / 2) high in
     λ i. cond (low i == 1) (k ∷ rest i) (rest i)
 
--- places that are counted from d further on
-moved : (b : Bool) (k d : ℕ) (xs : List ℕ) →
-    cond b ((k + d) ∷ map (λ p. p + d) xs) (map (λ p. p + d) xs) ≡ map (λ p. p + d) (cond b (k ∷ xs) xs)
-moved true k d xs = refl
-moved false k d xs = refl
-
 places_moved : (w k d n : ℕ) → places w (k + d) n ≡ map (λ p. p + d) (places w k n)
 unfolding places
 places_moved zero k d n = refl
-places_moved (suc w) k d n =
-    let at : k + d + 1 ≡ k + 1 + d = omega arith in
-    let rest = ap (λ j. places w j (n / 2)) at ∙ places_moved w (k + 1) d (n / 2) in
-    (λ i. cond (n % 2 == 1) ((k + d) ∷ rest i) (rest i)) ∙ moved (n % 2 == 1) k d (places w (k + 1) (n / 2))
+places_moved (suc w) k d n = grind (arith, places_moved w (k + 1) d (n / 2))
 
 -- each place is one of the w
 places_below : (w k n i : ℕ) → i < length (places w k n) → get_or (places w k n) i 0 < k + w
 unfolding places
 places_below zero k n i less = absurd (omega arith)
-places_below (suc w) k n i less =
-    one (n % 2 == 1) (places w (k + 1) (n / 2)) (λ j h. let rest = places_below w (k + 1) (n / 2) j h in omega arith) i less
-  where
-    one : (b : Bool) (xs : List ℕ) → ((j : ℕ) → j < length xs → get_or xs j 0 < k + suc w) → (j : ℕ) → j < length (cond b (k ∷ xs) xs) →
-        get_or (cond b (k ∷ xs) xs) j 0 < k + suc w
-    one true xs each zero h = omega arith
-    one true xs each (suc j) h = each j (omega arith)
-    one false xs each j h = each j h
+places_below (suc w) k n i less = grind (arith, places_below w (k + 1) (n / 2))
 
 -- ---- of a number of sixteen bits
 

@@ -1,5 +1,5 @@
 -- What a call makes of a heap, by what is chosen for it.
-use Rattle.std.proofs.Common.{◌≡◌, ℕ, ◌<◌, List, refl, ap, ◌∙◌, Ok, Err, ◌≢◌, ◌+◌, sym, subst, arith, Result}
+use Rattle.std.proofs.Common.{◌≡◌, ℕ, ◌<◌, List, refl, ◌∙◌, Ok, Err, ◌≢◌, ◌+◌, sym, subst, arith, Result}
 use Rattle.std.proofs.{Common.{MatchResult, IfOk, IfErr, OnErr, if◌then◌else◌, is_some, ◌↔◌}, lemmas.List.{get_or-set_other}}
 use Rattle.std.specs.Result.{result_map_both, result_ok, IsErrAnd}
 use Rattle.heap_theory.{proofs.OwnPointers.{free_accepts, realloc_accepts}, specs.Lookups.{slot_for_request, Chunk, IsReusable}}
@@ -29,16 +29,11 @@ pub ok_named : {T E D : Type 0} (Q : E → D → Type 0) (r : Result T E) (out :
 ok_named {T} {E} {D} Q (Ok y) out x cases is = grind arith
 ok_named {T} {E} {D} Q (Err e) out x cases is = absurd (subst (λ o. IsErrAnd o (Q e)) is cases)
 
-err_under : {T E D : Type 0} (f : E → D) (e : E) (o : Result T D) → IsErrAnd o (λ d. d ≡ f e) → o ≡ Err (f e)
-err_under f e (Ok x) never = absurd never
-err_under f e (Err d) is = ap Err is
-
 -- the address of a chunk that comes with what it loses, where only an error gets a name
 pub addresses_named : {E D : Type 0} (f : E → D) (r : Result (ℕ × ℕ) E) (out : Result (ℕ × ℕ) D) →
     MatchResult r (λ x. out ≡ Ok x) (λ e. IsErrAnd out (λ d. d ≡ f e)) →
     result_map_both (λ given. given.0) (λ e. e) out ≡ result_map_both (λ p. p) f (result_map_both (λ given. given.0) (λ e. e) r)
-addresses_named f (Ok x) out cases = ap (λ o. result_map_both (λ given. given.0) (λ e. e) o) cases
-addresses_named f (Err e) out cases = ap (λ o. result_map_both (λ given. given.0) (λ e. e) o) (err_under f e out cases)
+addresses_named f r out cases = grind arith
 
 -- ---- a chunk that moves
 

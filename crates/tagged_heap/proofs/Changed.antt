@@ -71,13 +71,7 @@ module _ (h : Heap) (s : ℕ) (state : State) (memory : List Granule) (total see
   -- no slot becomes fresh, or stops to be
   pub counters_changed : {counters : List ℕ} → is_fresh state ≡ is_fresh (state_at h s) → AreFirstFresh h counters →
       AreFirstFresh (changed h s state memory total seed tag) counters
-  counters_changed same f = record {
-    long = f.long;
-    from = f.from;
-    to = f.to;
-    given = λ number r inside in_range class below. fresh_same r ∙ f.given number r inside in_range class below;
-    fresh = λ number r inside in_range class above. fresh_same r ∙ f.fresh number r inside in_range class above;
-  }
+  counters_changed same f = grind (arith, fresh_same)
     where
       fresh_same : (r : ℕ) → is_fresh (state_at (changed h s state memory total seed tag) r) ≡ is_fresh (state_at h r)
       fresh_same r = elim (cases_eq r s) [

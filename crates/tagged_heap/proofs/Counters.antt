@@ -1,6 +1,6 @@
 -- The counters of fresh slots.
-use Rattle.std.proofs.Common.{◌≡◌, ◌≢◌, ℕ, ◌+◌, ◌<◌, ◌≤◌, true, false, List, length, sym, ap, ◌∙◌, subst, inl, inr, arith, Some, None}
-use Rattle.std.proofs.{Common.{slice_index, slice_set}, lemmas.Bool.{cases_eq}, lemmas.List.{get_or-set_same, get_or-set_other, length-set}}
+use Rattle.std.proofs.Common.{◌≡◌, ◌≢◌, ℕ, ◌+◌, ◌<◌, ◌≤◌, true, false, List, length, sym, ap, ◌∙◌, subst, arith, Some, None}
+use Rattle.std.proofs.{Common.{slice_index, slice_set}, lemmas.List.{get_or-set_same, get_or-set_other, length-set}}
 use Rattle.machine_theory.specs.Memory.{Granule}
 use Rattle.class_table.specs.Layout.{first_slot}
 use Rattle.heap_theory.{proofs.ChangedSlot.{changed, state_here, state_there}, proofs.Marks.{one_number}, specs.Lookups.{lowest_fresh}}
@@ -40,10 +40,7 @@ module _ (h : Heap) (sound : IsSoundHeap h) (counters : List ℕ) (f : AreFirstF
     given =
         λ n r inside in_range. by (λ n first. (slot_in h r).class ≡ slice_index h.layout.classes n → r < first →
         is_fresh (state_at new r) ≡ false)
-        (λ class less. elim (cases_eq r s) [
-          | inl is ↦ ap (λ q. is_fresh (state_at new q)) is ∙ ap is_fresh here ∙ used
-          | inr other ↦ ap is_fresh (there r other) ∙ f.given number r in_counters in_range class (omega (arith, counter))
-        ])
+        (grind (arith, here, there))
         (λ n other k class less. ap is_fresh (there r (another n r other k class)) ∙ f.given n r k in_range class less) n inside;
     fresh =
         λ n r inside in_range. by (λ n first. (slot_in h r).class ≡ slice_index h.layout.classes n → first ≤ r →

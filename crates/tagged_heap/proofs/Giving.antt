@@ -1,5 +1,5 @@
 -- A slot is taken for a request and given out.
-use Rattle.std.proofs.Common.{◌≡◌, ℕ, suc, ◌+◌, ◌^◌, ◌<◌, ◌≤◌, true, false, List, length, drop, refl, sym, ap, ◌∙◌, subst, inl, inr, arith}
+use Rattle.std.proofs.Common.{◌≡◌, ℕ, suc, ◌+◌, ◌^◌, ◌<◌, ◌≤◌, true, List, length, drop, refl, sym, ap, ◌∙◌, subst, inl, inr, arith}
 use Rattle.std.proofs.Common.{Some, None, Option, Ok, Err, Contains, slice_get, slice_index, slice_set, bit_or, nat_lt}
 use Rattle.std.proofs.lemmas.{Bool.{cond-true, cond-false, lt-ltb, le-ltb}, Option.{slice_get-get_or}}
 use Rattle.std.specs.Option.{ok_or}
@@ -10,9 +10,9 @@ use Rattle.heap_theory.proofs.{ChangedSlot.{state_here}, Linked.{IsLinked-first,
 use Rattle.heap_theory.{proofs.QueueAndLists.{fresh_not_dead}, proofs.SeenMemory.{length-without_headers}, specs.Links.{IsLinked, list_of}}
 use Rattle.heap_theory.specs.{Calls.{given_out, next_tag, parity_exclude, chunk_tagged}, Header.{Header, with_header}}
 use Rattle.heap_theory.specs.Lookups.{MayBeGiven, slot_for, slot_for_request, slot_in_class, lowest_fresh}
-use Rattle.heap_theory.specs.{QueueAndLists.{HasMark, AgreeWithMarks}, Region.{region_of, header_in, next_in}}
-use Rattle.heap_theory.specs.State.{State, Heap, slot_in, state_at, last_tag, is_fresh, payload_place, pointer_to, IsSlot}
-use Rattle.heap_theory.specs.{State.State.{Fresh, Live, Dead}, declared.refusal.NullCause.{NullCause}}
+use Rattle.heap_theory.specs.{QueueAndLists.{AgreeWithMarks}, Region.{region_of, header_in, next_in}}
+use Rattle.heap_theory.specs.State.{Heap, slot_in, state_at, last_tag, is_fresh, payload_place, pointer_to, IsSlot}
+use Rattle.heap_theory.specs.{State.State.{Live}, declared.refusal.NullCause.{NullCause}}
 use Rattle.heap_theory.specs.declared.refusal.NullCause.TheVariants.{Large, NoClass, Exhausted}
 use Rattle.chunk_header.specs.Links.{SetsLink}
 use Rattle.tagged_heap.proofs.{Changed.{with_link, other_list, counters_changed, kept_alive, alive_memory}, RewrittenHeaders.{link_set}}
@@ -37,11 +37,6 @@ unfolding slot_for_request
 request_served h n number class found few numbered listed given = grind (arith, cond-false, le-ltb, listed, laws.class_by_number)
 
 -- ---- which slot
-
-freed_not_fresh : (x : State) (mark : ℕ) → HasMark x mark → false ≡ is_fresh x
-freed_not_fresh Fresh mark marked = absurd marked
-freed_not_fresh (Live n t) mark marked = absurd marked
-freed_not_fresh (Dead n t m) mark marked = refl
 
 -- A slot that was taken for a request of n bytes, and is to be given out.
 pub record IsTaken (h : Heap) (p : Parts) (k : IsKept h p) (m1 : List Granule) (fronts counters : List ℕ) (s n : ℕ) : Type 0 where
@@ -99,7 +94,7 @@ module _ {h : Heap} {frees : ℕ} {p : Parts} {counters : List ℕ} (held : IsAt
         agree = laws.front_taken h k.queue k.lists number _ s n rest k.sound agree listed first.0;
         fresh = subst (AreFirstFresh (given_out h s n)) (sym t.counters_are)
             (counters_changed h s (Live n (next_tag h s)) _ _ _ _ (within_states k s freed.in_range)
-            (freed_not_fresh (state_at h s) freed.mark freed.marked) held.fresh);
+            (grind arith) held.fresh);
       }
   taken s (inr t) is =
       let k = held.kept in

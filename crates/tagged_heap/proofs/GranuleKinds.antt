@@ -1,15 +1,15 @@
 -- What a granule is, by the header of the slot over it.
-use Rattle.std.proofs.Common.{◌≡◌, ◌≢◌, ℕ, ◌+◌, ◌<◌, ◌≤◌, Bool, true, false, cond, refl, sym, ap, arith, Some, None}
-use Rattle.std.proofs.lemmas.Bool.{and_right, and_from, cond-true, cond-false, eq-eqb, ne_eqb, lt-ltb, le-ltb, le-leb}
+use Rattle.std.proofs.Common.{◌≡◌, ◌≢◌, ℕ, ◌+◌, ◌<◌, ◌≤◌, cond, sym, ap, arith, Some, None}
+use Rattle.std.proofs.lemmas.Bool.{cond-true, cond-false, eq-eqb, ne_eqb, le-leb}
 use Rattle.machine_theory.specs.Memory.{is_among}
 use Rattle.class_table.specs.{Layout.{slot_over}, Sizes.{chunk_granules, largest_counted}}
 use Rattle.heap_theory.{proofs.HeaderWords.{size_of-most}, specs.GranuleKinds.{place_kind, kind_at, kind_of_chunk}}
 use Rattle.heap_theory.specs.{Header.{Header as TheHeader, Standing, size_of}, Region.{region_of, header_in}}
 use Rattle.heap_theory.specs.Header.Standing.{Fresh as IsFresh, Live as IsLive, Quarantined as IsQuarantined, Freed as IsFreed}
-use Rattle.heap_theory.specs.State.{State, Heap, slot_in, state_at, chunk_granules_of, payload_start, IsSlot}
-use Rattle.heap_theory.specs.{State.State.{Fresh, Live, Dead}, declared.place_kind.PlaceKind.{PlaceKind}}
+use Rattle.heap_theory.specs.State.{Heap, slot_in, state_at, chunk_granules_of, payload_start, IsSlot}
+use Rattle.heap_theory.specs.{declared.place_kind.PlaceKind.{PlaceKind}}
 use Rattle.heap_theory.specs.declared.place_kind.PlaceKind.TheVariants.{Slack, Header, Tail, Dead as DeadChunk, Other}
-use Rattle.tagged_heap.{proofs.Kept.{class_most}, specs.Representation.{standing_from, Parts, IsKept}}
+use Rattle.tagged_heap.{proofs.Kept.{class_most}, specs.Representation.{Parts, IsKept}}
 use Rattle.tagged_heap.proofs.TheoryLemmas as laws
 
 pub kind_outside : (h : Heap) (g : ℕ) → slot_over h.layout g ≡ None → Slack ≡ place_kind h g
@@ -22,24 +22,6 @@ kind_by IsFresh = Tail
 kind_by IsLive = Other
 kind_by IsQuarantined = DeadChunk
 kind_by IsFreed = DeadChunk
-
-dead_kind : (released : Bool) → DeadChunk ≡ kind_by (cond released IsFreed IsQuarantined)
-dead_kind true = refl
-dead_kind false = refl
-
-same_tail : (b : Bool) → cond b Tail Tail ≡ Tail
-same_tail true = refl
-same_tail false = refl
-
-chunk_most : (x : State) → chunk_granules_of x ≤ chunk_granules (size_of x)
-chunk_most Fresh = omega arith
-chunk_most (Live size tag) = omega arith
-chunk_most (Dead size tag mark) = omega arith
-
--- a granule of the chunk, or of a fresh slot as far as the chunk of size 0 goes
-chunk_kind : (from first g : ℕ) (x : State) → first ≤ g → g < first + chunk_granules (size_of x) →
-    kind_by (standing_from from x) ≡ cond (is_among first (chunk_granules_of x) g) (kind_of_chunk x) Tail
-chunk_kind from first g x above below = grind (arith, same_tail, cond-true, and_from, le-leb, lt-ltb, dead_kind)
 
 -- a granule of slot s, so many granules from its first one
 module _ {h : Heap} {p : Parts} (k : IsKept h p) {g s : ℕ} (before : ℕ) (there : slot_over h.layout g ≡ Some s)
@@ -64,8 +46,8 @@ module _ {h : Heap} {p : Parts} (k : IsKept h p) {g s : ℕ} (before : ℕ) (the
     payload_kind = grind (arith, cond-false, ne_eqb)
 
     pub tail_kind : chunk_granules (header_in (region_of h.layout p.memory) s).size < before → Tail ≡ place_kind h g
-    tail_kind after = grind (arith, chunk_most, size_is, cond-false, and_right, le-ltb, payload_kind)
+    tail_kind after = grind (arith, size_is, payload_kind)
 
     pub chunk_granule_kind : before ≤ chunk_granules (header_in (region_of h.layout p.memory) s).size →
         kind_by (header_in (region_of h.layout p.memory) s).standing ≡ place_kind h g
-    chunk_granule_kind within = grind (arith, chunk_kind, in_range, payload_kind, size_is)
+    chunk_granule_kind within = grind (arith, le-leb, in_range, payload_kind)

@@ -1,12 +1,12 @@
 -- What is known of a heap that is kept in its parts.
-use Rattle.std.proofs.Common.{◌≡◌, ℕ, ◌+◌, ◌-◌, ◌^◌, ◌<◌, ◌≤◌, List, length, refl, sym, ap, ◌∙◌, subst, inl, inr, arith, Contains, map}
-use Rattle.std.proofs.{Common.{slice_index}, lemmas.Bool.{cases_lt, lt-ltb, le-ltb, cond-true, cond-false}}
+use Rattle.std.proofs.Common.{◌≡◌, ℕ, ◌+◌, ◌^◌, ◌<◌, ◌≤◌, List, length, refl, sym, ap, ◌∙◌, subst, inl, inr, arith, Contains, map}
+use Rattle.std.proofs.{Common.{slice_index}, lemmas.Bool.{cases_lt, lt-ltb, cond-true}}
 use Rattle.std.proofs.lemmas.List.{ext_get_or, get_or-map, length-map}
 use Rattle.heap_theory.proofs.{Marks.{IsQueued, IsListed, chain_bytes, chain_dead, list_dead}, Regions.{length-headers_of}}
 use Rattle.heap_theory.{proofs.SeenMemory.{length-without_headers}, specs.Header.Standing.{Freed, Quarantined}, specs.Links.{list_of}}
 use Rattle.heap_theory.specs.{Header.{Header, FitsWords, header_for, shown_state, standing_in, class_number}, HeapInMemory.{IsKeptIn}}
 use Rattle.heap_theory.specs.{QueueAndLists.{HasMark, AgreeWithMarks, AgreeWithMarksFrom, bytes_of}, Sound.{IsSoundHeap}}
-use Rattle.heap_theory.specs.{Region.{region_of, headers_of, next_in, no_header}, State.{State, Heap, slot_in, state_at, IsSlot}}
+use Rattle.heap_theory.specs.{Region.{region_of, headers_of, next_in}, State.{State, Heap, slot_in, state_at, IsSlot}}
 use Rattle.heap_theory.specs.State.State.{Fresh, Live, Dead}
 use Rattle.class_table.specs.Sizes.{chunk_granules, largest_counted}
 use Rattle.tagged_heap.specs.{Chunks.{HasRoom}, HeapAtRest.{shown_heap, shown_states}}
@@ -28,11 +28,7 @@ size_most n class room most = omega arith
 
 -- ---- headers
 
--- a header shows its slot's state, from whatever mark on slots are in the quarantine,
-shows_state : (h : Heap) (from s next : ℕ) (x : State) → shown_state (header_from h.layout from s x next) ≡ x
-shows_state h from s next x = grind (arith, cases_lt, cond-true, lt-ltb, cond-false, le-ltb)
-
--- and has room in its words
+-- a header has room in its words, from whatever mark on slots are in the quarantine
 pub header_fits : (h : Heap) (from s next : ℕ) → IsSoundHeap h → IsSlot h s → next < 2 ^ 32 → h.total < 2 ^ 64 →
     FitsWords (header_from h.layout from s (state_at h s) next)
 unfolding header_for
@@ -75,15 +71,7 @@ module _ {h : Heap} {p : Parts} (k : IsKept h p) where
   pub shown_is : (total seed tag : ℕ) → total ≡ h.total → seed ≡ h.seed → tag ≡ h.tag →
       shown_heap h.layout p.quarantine.limit p.memory total seed tag ≡ h
   unfolding shown_states
-  shown_is total seed tag total_is seed_is tag_is = λ i. record {
-    layout = h.layout;
-    quarantine = k.limit i;
-    states = sym states i;
-    memory = k.seen i;
-    total = total_is i;
-    seed = seed_is i;
-    tag = tag_is i;
-  }
+  shown_is total seed tag total_is seed_is tag_is = grind (arith, states)
     where
       headers : List Header
       headers = headers_of h.layout p.memory
@@ -92,11 +80,7 @@ module _ {h : Heap} {p : Parts} (k : IsKept h p) where
       states =
           ext_get_or Fresh h.states (map shown_state headers)
           (k.sound.states ∙ sym (length-map headers shown_state ∙ length-headers_of h.layout p.memory))
-          (λ s within.
-          let inside : s < length headers = omega (arith, within, k.sound.states, length-headers_of h.layout p.memory) in
-          let in_range : IsSlot h s = omega (arith, within, k.sound.states) in
-          sym (get_or-map shown_state headers s no_header Fresh inside ∙ ap shown_state (k.headers.headers s in_range)
-          ∙ shows_state h k.from s (next_in (region_of h.layout p.memory) s) (state_at h s)))
+          (grind (arith, length-headers_of, get_or-map))
 
   -- ---- at rest
 
@@ -116,9 +100,7 @@ module _ {h : Heap} {p : Parts} (k : IsKept h p) where
           let over = k.agree.released s mark in_range (subst (λ x. HasMark x mark) (sym is) refl) before in
           cond-true _ Freed Quarantined (lt-ltb _ _ before) ∙ sym (cond-true _ Freed Quarantined (lt-ltb _ _ over))
       | inr after ↦
-          let total = bytes_from in
-          let held : h.total - mark ≤ h.quarantine = omega (arith, queue_few, total) in
-          cond-false _ Freed Quarantined (le-ltb _ _ after) ∙ sym (cond-false _ Freed Quarantined (le-ltb _ _ held))
+          grind (arith, bytes_from)
     ]
 
     -- what is kept of a heap, said out

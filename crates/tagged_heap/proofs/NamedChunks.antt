@@ -1,12 +1,12 @@
 -- The chunk that a pointer names.
-use Rattle.std.proofs.Common.{◌≡◌, ◌≢◌, ℕ, ◌^◌, ◌<◌, refl, ap, ◌∙◌, Ok, Err, arith}
+use Rattle.std.proofs.Common.{◌≡◌, ◌≢◌, ℕ, ◌^◌, ◌<◌, ap, Ok, Err, arith}
 use Rattle.std.proofs.{lemmas.Bool.{cond-true, cond-false, eq-eqb, ne_eqb}}
 use Rattle.machine_theory.specs.Address.{logical_tag, place_of}
-use Rattle.heap_theory.specs.{Header.{Header, size_of}, Header.Standing.{Live as IsLive}, Sound.{IsSoundHeap}}
-use Rattle.heap_theory.specs.{Lookups.{chunk_at, chunk_in, chunk_in_slot}, State.State.{Fresh, Live, Dead}}
-use Rattle.heap_theory.specs.State.{State, Heap, slot_in, state_at, last_tag, payload_place, IsSlot}
+use Rattle.heap_theory.specs.{Header.{Header}, Header.Standing.{Live as IsLive}, Sound.{IsSoundHeap}}
+use Rattle.heap_theory.specs.{Lookups.{chunk_at, chunk_in, chunk_in_slot}, State.State.{Live}}
+use Rattle.heap_theory.specs.State.{Heap, slot_in, state_at, payload_place, IsSlot}
 use Rattle.heap_theory.specs.declared.refusal.FreeError.TheVariants.{Misplaced, NotLive, WrongTag}
-use Rattle.tagged_heap.specs.Representation.{standing_from, header_from}
+use Rattle.tagged_heap.specs.Representation.{header_from}
 use Rattle.tagged_heap.proofs.TheoryLemmas as laws
 
 -- a slot has its payload where the pointer points
@@ -18,17 +18,6 @@ pub misplaced : (h : Heap) (p : ℕ) → IsSoundHeap h →
 unfolding chunk_at
 misplaced h p sound none = grind (arith, laws.pointer)
 
--- the state of a slot whose header says that it is live
-live_state : (from : ℕ) (x : State) → standing_from from x ≡ IsLive → x ≡ Live (size_of x) (last_tag x)
-live_state from Fresh is = cc
-live_state from (Live n t) is = refl
-live_state from (Dead n t m) is = grind arith
-
-not_live : (from p s : ℕ) (x : State) → (standing_from from x ≡ IsLive → ⊥) → chunk_in p s x ≡ Err NotLive
-not_live from p s Fresh not = refl
-not_live from p s (Live n t) not = absurd (not refl)
-not_live from p s (Dead n t m) not = refl
-
 module _ (h : Heap) (p s from next : ℕ) {header : Header} (sound : IsSoundHeap h) (names : Names h p s)
     (shows : header ≡ header_from h.layout from s (state_at h s) next) where
   chunk_is : chunk_at h p ≡ chunk_in p s (state_at h s)
@@ -36,10 +25,10 @@ module _ (h : Heap) (p s from next : ℕ) {header : Header} (sound : IsSoundHeap
   chunk_is = ap (chunk_in_slot h p) ((laws.pointer h p s sound).1 names)
 
   pub chunk_not_live : header.standing ≢ IsLive → chunk_at h p ≡ Err NotLive
-  chunk_not_live not = chunk_is ∙ not_live from p s (state_at h s) (λ live. not (ap (λ (x : Header). x.standing) shows ∙ live))
+  chunk_not_live not = grind (arith, chunk_is)
 
   pub live : header.standing ≡ IsLive → state_at h s ≡ Live header.size header.tag
-  live standing = grind (arith, live_state)
+  live standing = grind arith
 
   pub chunk_wrong_tag : header.standing ≡ IsLive → logical_tag p ≢ header.tag → chunk_at h p ≡ Err WrongTag
   chunk_wrong_tag standing differs = grind (arith, chunk_is, live, cond-false, ne_eqb)

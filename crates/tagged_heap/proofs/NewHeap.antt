@@ -1,15 +1,15 @@
 -- A new heap is kept by fresh headers, with no slot in a list.
-use Rattle.std.proofs.Common.{◌≡◌, ℕ, ◌<◌, List, [], length, map, replicate, refl, sym, ap, ◌∙◌, arith, Some, slice_get}
-use Rattle.std.{proofs.Common.{slice_index}, proofs.lemmas.List.{length-replicate}, specs.List.{range_with_len}}
+use Rattle.std.proofs.Common.{◌≡◌, ℕ, ◌<◌, List, [], length, map, replicate, refl, sym, ◌∙◌, arith, Some, slice_get}
+use Rattle.std.{proofs.lemmas.List.{length-replicate}, specs.List.{range_with_len}}
 use Rattle.std.proofs.lemmas.List.FromFn.{length-map-range_with_len, get_or-map-range_with_len}
 use Rattle.machine_theory.specs.Memory.{Granule, IsMemory, new_granule}
 use Rattle.class_table.{proofs.LawLemmas.{first_slots_ascend}, specs.Layout.{Partition, IsPartition, slot_of, slot_count, first_slot}}
 use Rattle.class_table.specs.Tables.{IsLegalTable}
 use Rattle.heap_theory.proofs.{FirstHeap.{get_or-replicate_any}, ListSearch.{Contains-none}, Marks.{one_number, number_is}}
-use Rattle.heap_theory.specs.{Header.{Header, class_number}, Region.{region_of, header_in, next_in}}
+use Rattle.heap_theory.specs.{Header.{class_number}, Region.{region_of, header_in}}
 use Rattle.heap_theory.specs.{State.{state_at, first_heap, without_headers}, State.State.{Fresh}}
 use Rattle.tagged_heap.{proofs.Kept.{shown_is}, proofs.Shares.{share_of_slot}, specs.HeapAtRest.{shown_heap, IsAtRest}}
-use Rattle.tagged_heap.specs.Representation.{header_from, AreFirstFresh, Parts}
+use Rattle.tagged_heap.specs.Representation.{header_from, Parts}
 use Rattle.tagged_heap.proofs.TheoryLemmas as laws
 
 -- the number of a slot's class is one
@@ -29,23 +29,13 @@ module _ (layout : Partition) (seed quarantine : ℕ) (is : IsPartition layout) 
   counters_long : length counters ≡ length layout.classes
   counters_long = length-map-range_with_len (first_slot layout) 0 (length layout.classes)
 
-  first_at : (number : ℕ) → number < length counters → slice_index counters number ≡ first_slot layout number
-  first_at number within = grind (arith, get_or-map-range_with_len, counters_long)
-
   state_fresh : (s : ℕ) → state_at (first_heap layout seed quarantine) s ≡ Fresh
   unfolding first_heap
   state_fresh s = get_or-replicate_any (slot_count layout) s Fresh
 
-  first_fresh : AreFirstFresh (first_heap layout seed quarantine) counters
-  unfolding first_heap
-  first_fresh = grind (arith, counters_long, first_at, first_slots_ascend, share_of_slot, state_fresh)
-
   module _ (m : List Granule)
       (headers : (s : ℕ) → s < slot_count layout → header_in (region_of layout m) s ≡ header_from layout 0 s Fresh 0)
       (seen : without_headers layout m ≡ without_headers layout (replicate layout.granules new_granule)) (memory : IsMemory m) where
-    no_link : (s : ℕ) → s < slot_count layout → next_in (region_of layout m) s ≡ 0
-    no_link s within = ap (λ (x : Header). x.next) (headers s within)
-
     -- what a new heap is made of
     abbrev pub first_parts : Parts
     first_parts =
@@ -68,14 +58,14 @@ module _ (layout : Partition) (seed quarantine : ℕ) (is : IsPartition layout) 
             sound = laws.first_sound layout seed quarantine is;
             memory_is = memory;
             seen = seen ∙ laws.new_seen layout;
-            headers = grind (arith, no_link, state_fresh);
+            headers = grind (arith, state_fresh);
             queued = grind (arith, Contains-none);
             listed = grind (arith, length-replicate, replicate, get_or-replicate_any);
             agree = agree.agree;
             limit = refl;
           };
           rests = omega arith;
-          fresh = first_fresh;
+          fresh = grind (arith, counters_long, get_or-map-range_with_len, first_slots_ascend, share_of_slot, state_fresh);
           total = omega arith;
           fits = omega arith;
         }

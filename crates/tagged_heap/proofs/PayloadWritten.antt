@@ -1,6 +1,6 @@
 -- Bytes that are written outside all headers keep a heap, and are seen as they are written.
 use Rattle.std.proofs.Common.{◌≡◌, ◌≢◌, ◌⊎◌, ℕ, ◌+◌, ◌-◌, ◌*◌, ◌/◌, ◌<◌, ◌≤◌, true, false, List, length, max, refl, sym, ap, ◌∙◌, subst}
-use Rattle.std.proofs.{Common.{inl, inr, arith, Some, None, Option, All}, lemmas.Bool.{cases_lt, cases_order, cond-false, false≢true}}
+use Rattle.std.proofs.{Common.{inl, inr, arith, Some, None, Option, All}, lemmas.Bool.{cases_lt, cond-false, false≢true}}
 use Rattle.machine_theory.{proofs.AccessLaws.{IsMapped-from}, proofs.ByteLaws.{bytes_at_agree}, specs.Memory.{Granule, bytes_at, written}}
 use Rattle.machine_theory.specs.{Access.{access_fault, is_mapped, loaded}, Address.{logical_tag, place_of, region_start, byte_of}}
 use Rattle.machine_theory.specs.declared.fault.Fault.{Fault}
@@ -61,10 +61,6 @@ pub payload_within : {h : Heap} {p : Parts} → IsKept h p → (s bytes : ℕ) �
     bytes + 16 ≤ 16 * (slot_of h.layout s).class → 16 * payload_start (slot_of h.layout s) + bytes ≤ 16 * length p.memory
 payload_within k s bytes within room = omega (arith, k.sound.slots.inside s within, region_is k)
 
-payload_outside : (layout : Partition) (s : ℕ) (bytes : List ℕ) → AreInOrder layout → s < slot_count layout →
-    length bytes + 16 ≤ 16 * (slot_of layout s).class → AreOutsideHeaders layout (16 * payload_start (slot_of layout s)) bytes
-payload_outside layout s bytes order in_s room r in_r = grind (arith, cases_order, same)
-
 -- A memory in which the payload of a slot begins with these bytes, and which is else as another: they fit in.
 pub record HasPayload (layout : Partition) (memory new : List Granule) (s : ℕ) (bytes : List ℕ) : Type 0 where
   pub in_range : s < slot_count layout
@@ -77,7 +73,7 @@ module _ {h : Heap} {frees : ℕ} {p : Parts} {counters : List ℕ} (held : IsAt
   payload_held : IsAtRest (with_payload h s bytes) frees (record p { memory = new }) counters
   unfolding with_payload
   payload_held =
-      written_held held _ bytes has.written_is (payload_outside h.layout s bytes held.kept.sound.slots has.in_range has.room) has.fit
+      written_held held _ bytes has.written_is (grind arith) has.fit
 
   pub payload_shown : shown_heap h.layout p.quarantine.limit new h.total h.seed h.tag ≡ with_payload h s bytes
   unfolding with_payload

@@ -68,8 +68,7 @@ module _ {h : Heap} {p : Parts} (k : IsKept h p) {q1 : Queue} {m1 : List Granule
     headers = record {
       headers = λ r inside. elim (cases_eq r s) [
         | inl is ↦
-            let region = region_of h.layout m2 in
-            subst (λ q. header_in region q ≡ header_from h.layout to q (state_at h q) (next_in region q)) (sym is) here
+            grind (arith, here)
         | inr other ↦
             there r inside other ∙ k.headers.headers r inside
             ∙ ap (with_standing (header_from h.layout to r (state_at h r) (next_in (region_of h.layout p.memory) r)))
@@ -126,8 +125,7 @@ module _ {h : Heap} {p : Parts} (k : IsKept h p) {q1 : Queue} {m1 : List Granule
       rest_differs : (r : ℕ) → Contains rest r → r ≢ s
       rest_differs r there =
           let d = chain_dead h to rest r chain.2 there in
-          let two : 2 ≤ (slot_in h s).class = k.sound.slots.wide s out.slot in
-          differs r d.mark d.marked (λ is. omega (arith, d.above))
+          grind (arith, differs)
 
       -- no slot has a mark between the two
       apart : (r mark : ℕ) → IsSlot h r → r ≢ s → HasMark (state_at h r) mark →
@@ -158,13 +156,7 @@ module _ {h : Heap} {p : Parts} (k : IsKept h p) {q1 : Queue} {m1 : List Granule
       here : header_in (region_of h.layout m2) s ≡ header_from h.layout to s (state_at h s) (next_in (region_of h.layout m2) s)
       here =
           let two : 2 ≤ (slot_in h s).class = k.sound.slots.wide s out.slot in
-          let front = slice_index p.fronts (header_in (region_of h.layout m1) s).class in
-          written.own
-          ∙ ap (λ (x : Header). record x { standing = Freed; next = front })
-          (unlinked.own ∙ ap (λ x. with_link x 0) (k.headers.headers s out.slot))
-          ∙ ap (with_standing (header_from h.layout to s (state_at h s) front))
-          (sym (standing_freed to k.from (state_at h s) chain.1 (omega arith)))
-          ∙ ap (header_from h.layout to s (state_at h s)) (sym next_here)
+          grind (arith, unlinked, standing_freed, chain)
 
       old_lists : AreListed (next_in (region_of h.layout m2)) p.fronts k.lists
       old_lists =

@@ -1,7 +1,7 @@
 -- The class of a request by its number.
-use Rattle.std.proofs.Common.{◌≡◌, ℕ, ◌*◌, ◌-◌, ◌<◌, ◌≤◌, Bool, true, List, length, eqb, ltb, nat_eq, sym, ap, ◌∙◌, inl, inr, arith, Some}
+use Rattle.std.proofs.Common.{◌≡◌, ℕ, ◌<◌, ◌≤◌, Bool, true, List, length, eqb, ltb, nat_eq, sym, ap, ◌∙◌, inl, inr, arith, Some}
 use Rattle.std.{proofs.Common.{Result, Ok, Err, slice_get, slice_index, option_and_then, IfOk, IfErr}}
-use Rattle.std.proofs.lemmas.Bool.{cases_eq, cond-true, cond-false, eq-eqb, eqb-true, ne_eqb, lt-ltb, le-ltb, leb-true}
+use Rattle.std.proofs.lemmas.Bool.{cases_eq, cond-true, cond-false, eq-eqb, eqb-true, ne_eqb, lt-ltb, le-ltb}
 use Rattle.std.proofs.lemmas.{List.Quantifiers.{position-Some}, Option.{slice_get-get_or, slice_get_within, get_or_from_slice_get}}
 use Rattle.std.specs.Result.{result_eq, result_map_both}
 use Rattle.class_table.specs.{Layout.{Slot}, Sizes.{serves, chunk_granules, largest_counted}}
@@ -42,10 +42,7 @@ module _ (h : Heap) (n : ℕ) where
       result_eq nat_eq cause_eq r (Ok number) ≡ true → chunk_granules n < slot.class
   room_in_class slot number cause_eq (Ok k) wide at ok same =
       let there = position-Some (serves n) h.layout.classes k 0 ok.1 in
-      let is : slice_index h.layout.classes k ≡ slot.class =
-      ap (slice_index h.layout.classes) (eqb-true k number same) ∙ get_or_from_slice_get h.layout.classes number slot.class 0 at in
-      let fits : n ≤ 16 * slice_index h.layout.classes k - 16 = leb-true _ _ there.1 in
-      omega arith
+      grind (arith, get_or_from_slice_get)
   room_in_class slot number cause_eq (Err e) wide at ok same = cc
 
   pub class_in : (slot : Slot) (number : ℕ) (cause_eq : NullCause → NullCause → Bool) (r : Result ℕ NullCause) →

@@ -1,11 +1,11 @@
 -- The chunk of a live slot is taken back, and the slot goes into the quarantine.
 use Rattle.std.proofs.Common.{lit<, ◌≡◌, ◌≢◌, ℕ, zero, suc, ◌+◌, ◌^◌, ◌<◌, ◌≤◌, List, [], ◌∷◌, ◌++◌, length, refl, sym, ap, ◌∙◌, subst}
-use Rattle.std.proofs.{Common.{arith, Contains, bit_or}, lemmas.Bool.{cases_eq, le-ltb, cond-false}}
-use Rattle.machine_theory.specs.{Instructions.{drawn_tag}, Machine.{Machine}, Memory.{Granule, IsMemory, tagged}, Seed.{next_seed}}
+use Rattle.std.proofs.{Common.{arith, Contains}, lemmas.Bool.{cases_eq}}
+use Rattle.machine_theory.specs.{Machine.{Machine}, Memory.{Granule, IsMemory, tagged}, Seed.{next_seed}}
 use Rattle.class_table.specs.{Layout.{block_bytes}, Sizes.{chunk_granules}}
 use Rattle.heap_theory.proofs.{ChangedSlot.{state_here}, Marks.{not_marked}, SeenMemory.{length-without_headers}}
-use Rattle.heap_theory.specs.{Calls.{freed, next_tag, parity_exclude}, Header.{Header, FitsWords, with_header, size_of}}
-use Rattle.heap_theory.specs.{Header.Standing.{Quarantined, Freed}, QueueAndLists.{HasMark}, Region.{region_of, header_in, next_in}}
+use Rattle.heap_theory.specs.{Calls.{freed, next_tag}, Header.{Header, FitsWords, with_header}}
+use Rattle.heap_theory.specs.{QueueAndLists.{HasMark}, Region.{region_of, header_in, next_in}}
 use Rattle.heap_theory.specs.{Sound.{IsSoundHeap}, State.State.{Live, Dead}}
 use Rattle.heap_theory.specs.State.{State, Heap, slot_in, state_at, is_fresh, last_tag, chunk_granules_of, payload_start, without_headers}
 use Rattle.heap_theory.specs.State.{IsSlot, is_dead}
@@ -15,20 +15,17 @@ use Rattle.tagged_heap.{proofs.Changed.{with_link, listed_same, headers_changed,
 use Rattle.tagged_heap.proofs.Kept.{class_most, size_most, header_fits, region_is, within_states, bytes_from, queue_slot, list_slot}
 use Rattle.tagged_heap.proofs.{Kept.{has_room, agree_at_rest, shown_is}, RewrittenHeaders.{link_set, then_tagged, written_header}}
 use Rattle.tagged_heap.specs.Chunks.{HasRoom, retired_header, tag_for}
-use Rattle.tagged_heap.specs.Representation.{standing_from, header_from, IsRewritten, Parts, IsKept}
+use Rattle.tagged_heap.specs.Representation.{header_from, IsRewritten, Parts, IsKept}
 use Rattle.tagged_heap.proofs.TheoryLemmas as laws
 
 module _ {h : Heap} {frees : ℕ} {p : Parts} {counters : List ℕ} (held : IsAtRest h frees p counters) (s n tag : ℕ) (in_range : IsSlot h s)
     (live : state_at h s ≡ Live n tag) where
   -- ---- the slot
 
-  header_size : (header_in (region_of h.layout p.memory) s).size ≡ n
-  header_size = ap (λ (x : Header). x.size) (held.kept.headers.headers s in_range) ∙ ap size_of live
-
   pub retire_room : HasRoom h.layout p.memory s (header_in (region_of h.layout p.memory) s).size
   retire_room =
       let room = subst (λ x. chunk_granules_of x < (slot_in h s).class) live (held.kept.sound.tagged s in_range).room in
-      subst (HasRoom h.layout p.memory s) (sym header_size)
+      subst (HasRoom h.layout p.memory s) (grind arith)
       (has_room held.kept s n in_range (size_most n _ room (class_most h s held.kept.sound in_range)) room)
 
   -- the header says what is known of the chunk,
@@ -52,11 +49,7 @@ module _ {h : Heap} {frees : ℕ} {p : Parts} {counters : List ℕ} (held : IsAt
   retired_is : retired_header (header_in (region_of h.layout p.memory) s) h.total ≡ header_from h.layout held.kept.from s dead 0
   retired_is =
       let sum = bytes_from held.kept in
-      let standing : standing_from held.kept.from dead ≡ Quarantined =
-      cond-false _ Freed Quarantined (le-ltb h.total held.kept.from (omega arith)) in grind arith
-
-  drawn_is : tag_for h.layout (record { memory = p.memory; seed = h.seed; tag = h.tag }) s ≡ next_tag h s
-  drawn_is = ap (λ (x : Header). drawn_tag h.tag h.seed (bit_or (parity_exclude s) (2 ^ x.tag))) (held.kept.headers.headers s in_range)
+      grind arith
 
   sound_after : IsSoundHeap (freed h s n)
   sound_after = laws.freed_sound h s n tag held.kept.sound in_range live
@@ -90,9 +83,7 @@ module _ {h : Heap} {frees : ℕ} {p : Parts} {counters : List ℕ} (held : IsAt
           let seen = subst (IsRewritten h.layout p.memory (with_header p.memory (slot_in h s).start own) s own) k.seen written in
           subst (λ x. IsRewritten h.layout p.memory x s own
           (tagged (payload_start (slot_in h s)) (chunk_granules n) (next_tag h s) h.memory))
-          (sym (ap (λ (x : Machine). x.memory) retired
-          ∙ (λ i. tagged (payload_start (slot_in h s)) (chunk_granules (header_size i)) (drawn_is i)
-          (with_header p.memory (slot_in h s).start (retired_is i)))))
+          (grind (arith, retired_is))
           (then_tagged (payload_start (slot_in h s)) (chunk_granules n) (next_tag h s) seen)
 
       next_retired : (r mark : ℕ) → IsSlot h r → HasMark (state_at h r) mark →
@@ -178,8 +169,7 @@ module _ {h : Heap} {frees : ℕ} {p : Parts} {counters : List ℕ} (held : IsAt
             headers =
                 headers_changed h s dead _ _ _ _ (within_states k s in_range) k.headers
                 (left.headers s in_range ∙ ap (λ x. with_link x (next_in (region_of h.layout m2) s)) rewritten.own)
-                (λ r inside other. left.headers r inside
-                ∙ ap (λ x. with_link x (next_in (region_of h.layout m2) r)) (rewritten.others r inside other))
+                (grind (arith, rewritten))
                 (λ never. cc)
                 (λ r inside other alive.
                 left.links r inside (λ there. let d = queue_slot k r there in not_marked (state_at h r) d.mark alive d.marked)
@@ -213,4 +203,4 @@ module _ {h : Heap} {frees : ℕ} {p : Parts} {counters : List ℕ} (held : IsAt
   unfolding freed
   freed_shown kept machine retired total is =
       shown_is kept total machine.seed machine.tag is (ap (λ (x : Machine). x.seed) retired)
-      (ap (λ (x : Machine). x.tag) retired ∙ drawn_is)
+      (grind arith)

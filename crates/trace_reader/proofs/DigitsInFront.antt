@@ -1,13 +1,12 @@
 -- The digits in front of a text are the spelling of their number.
-use Rattle.std.proofs.Common.{◌≡◌, ℕ, ◌+◌, ◌*◌, ◌^◌, ◌<◌, ◌≤◌, List, [], ◌∷◌, ◌++◌, length, get_or, take, drop, refl, sym, ap}
+use Rattle.std.proofs.Common.{◌≡◌, ℕ, ◌+◌, ◌*◌, ◌^◌, ◌<◌, ◌≤◌, List, [], ◌∷◌, ◌++◌, length, get_or, take, drop, refl, ap}
 use Rattle.std.proofs.{Common.{subst, ◌∙◌, arith, add-one}, Math.Nat.{pow-le-pow_right}, Math.Seq.{split_at, take-append_seam}}
 use Rattle.std.proofs.lemmas.{Fmt.{decimal_digit, decimal_step}, Grind.{pow_more}, List.{take_more}}
 use Rattle.std.specs.Fmt.{decimal}
 
 -- one digit is the spelling of its value
 pub first_digit : (text : List ℕ) (d : ℕ) → 0 < length text → get_or text 0 0 ≡ 48 + d → d ≤ 9 → take 1 text ≡ decimal d
-first_digit [] d some is small = absurd (omega arith)
-first_digit (b ∷ text) d some is small = sym (decimal_digit d (omega (arith, small)) ∙ ap (λ (x : ℕ). x ∷ []) (sym is))
+first_digit text d some is small = grind (arith, decimal_digit)
 
 -- and a digit more is that of ten times the number and the digit
 pub longer : (value d : ℕ) → 0 < value → d < 10 → value * 10 + d < 2 ^ 64 → decimal (value * 10 + d) ≡ decimal value ++ (48 + d) ∷ []

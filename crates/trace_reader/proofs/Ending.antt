@@ -1,15 +1,15 @@
 -- Lines that end, and the end of the text.
 use Rattle.std.proofs.Common.{◌≡◌, ℕ, suc, Bool, true, false, cond, eqb, eq-eqb, ltb, List, [], ◌∷◌, ◌++◌, length, Result, Ok, Err}
-use Rattle.std.proofs.{Common.{refl, sym, ap, ◌∙◌, arith, append_assoc, append-nil, add-one, Option, Some, None}, lemmas.Bool.{ltb-true}}
+use Rattle.std.proofs.{Common.{refl, sym, ap, ◌∙◌, arith, append_assoc, append-nil, add-one}}
 use Rattle.line_text.{proofs.LawLemmas.{equal_is_prefix, prefix_of_prefix}, specs.Lines.{IsLine}, specs.Prefixes.{IsPrefix}}
 use Rattle.trace_event.specs.declared.event.Event.{Event}
 use Rattle.trace_reader.proofs.{Cutting.{cut-ended}, Feeding.{pieces_are_joined}, Traces.{event_of_line-long, trace_from-one}}
 use Rattle.trace_reader.proofs.Reaching.{IsPrefix-fed, IsPrefix-finished, came, fed_at-line, fields, is_open_at, open_at}
 use Rattle.trace_reader.specs.{Reached.{HasReached, IsOnTheWay, answer_of}, Reading.State.{Open, Failed, Finished}}
-use Rattle.trace_reader.specs.Reading.{State, Reading, added, cut, fed, fed_in, finished, finished_in, is_open, judged_in}
-use Rattle.trace_reader.specs.Reading.{judgement_in, line_ended, state_after, whole_reading, with_judged, is_finished}
+use Rattle.trace_reader.specs.Reading.{State, Reading, cut, fed, fed_in, finished, finished_in, is_open, judged_in}
+use Rattle.trace_reader.specs.Reading.{judgement_in, line_ended, whole_reading, with_judged, is_finished}
 use Rattle.trace_reader.specs.{TraceLine.{event_of_line}, TraceText.{no_lines, with_line}}
-use Rattle.trace_reader.specs.declared.fault.{TraceError.{TraceError}, TraceError.TheVariants.{Line}, TraceFault.{TraceFault}}
+use Rattle.trace_reader.specs.declared.fault.{TraceError.{TraceError}, TraceError.TheVariants.{Line}}
 use Rattle.trace_reader.specs.declared.{fault.TraceFault.TheVariants.{LineTooLong}, status.Status.{Status}}
 use Rattle.trace_reader.specs.declared.status.Status.TheVariants.{Failed as HasFailed}
 
@@ -43,14 +43,8 @@ is_open-kept old bytes open_now line answer =
   where
     short : (events : List Event) (lines : ℕ) (rest : List ℕ) → Ok tt ≡ answer_of (fed (open_at events lines rest) bytes).state → (v : Bool) →
         ltb 80 (length (rest ++ bytes)) ≡ v → is_open (fed (open_at events lines rest) bytes) ≡ true
-    short events lines rest answer true is =
-        let f = answer ∙ ap (λ (r : Reading). answer_of r.state) (kept_so events lines rest bytes line true is) in absurd cc
+    short events lines rest answer true is = grind (arith, kept_so)
     short events lines rest answer false is = ap is_open (kept_so events lines rest bytes line false is)
-
-judged_either : (lines : ℕ) (rest other : List ℕ) (judged : Result Event TraceFault) →
-    judged_in (Open lines rest) judged ≡ judged_in (Open lines other) judged
-judged_either lines rest other (Ok event) = refl
-judged_either lines rest other (Err fault) = refl
 
 pub line_ended-kept : (old : Reading) (bytes : List ℕ) → is_open old ≡ true → IsLine bytes → Ok tt ≡ answer_of (fed old bytes).state →
     line_ended (fed old bytes) [] ≡ line_ended old bytes
@@ -62,13 +56,8 @@ line_ended-kept old bytes open_now line answer =
     short : (events : List Event) (lines : ℕ) (rest : List ℕ) → Ok tt ≡ answer_of (fed (open_at events lines rest) bytes).state → (v : Bool) →
         ltb 80 (length (rest ++ bytes)) ≡ v
         → line_ended (fed (open_at events lines rest) bytes) [] ≡ line_ended (open_at events lines rest) bytes
-    short events lines rest answer true is =
-        let f = answer ∙ ap (λ (r : Reading). answer_of r.state) (kept_so events lines rest bytes line true is) in absurd cc
-    short events lines rest answer false is =
-        ap (λ (r : Reading). line_ended r []) (kept_so events lines rest bytes line false is)
-        ∙ ap (λ (all : List ℕ). added events (judged_in (Open lines (rest ++ bytes)) (event_of_line (suc lines) all)))
-        (append-nil (rest ++ bytes))
-        ∙ ap (added events) (judged_either lines (rest ++ bytes) rest (event_of_line (suc lines) (rest ++ bytes)))
+    short events lines rest answer true is = grind (arith, kept_so)
+    short events lines rest answer false is = grind (arith, kept_so, append-nil)
 
 pub line_ended-long : (old : Reading) (bytes : List ℕ) (error : TraceError) → is_open old ≡ true → IsLine bytes →
     Err error ≡ answer_of (fed old bytes).state → fed old bytes ≡ line_ended old bytes
@@ -80,11 +69,8 @@ line_ended-long old bytes error open_now line answer =
     long : (events : List Event) (lines : ℕ) (rest : List ℕ) → Err error ≡ answer_of (fed (open_at events lines rest) bytes).state → (v : Bool) →
         ltb 80 (length (rest ++ bytes)) ≡ v
         → fed (open_at events lines rest) bytes ≡ line_ended (open_at events lines rest) bytes
-    long events lines rest answer true is =
-        kept_so events lines rest bytes line true is
-        ∙ rw (event_of_line-long (suc lines) (rest ++ bytes) (ltb-true 80 (length (rest ++ bytes)) is), append-nil events) refl
-    long events lines rest answer false is =
-        let f = answer ∙ ap (λ (r : Reading). answer_of r.state) (kept_so events lines rest bytes line false is) in absurd cc
+    long events lines rest answer true is = grind (arith, kept_so, event_of_line-long, append-nil)
+    long events lines rest answer false is = grind (arith, kept_so)
 
 -- ---- a line with its newline, and what comes after it
 
@@ -121,14 +107,9 @@ pub finished-failed : (r : Reading) (error : TraceError) → r.state ≡ Failed 
 unfolding finished
 finished-failed r error failed = rw failed (ap (λ (es : List Event). at es (Failed error)) (append-nil r.events))
 
--- a call that reads a piece does not finish
-is_unfinished : (lines : ℕ) (rest : List ℕ) (fault : Option (ℕ × TraceFault)) → is_finished (at [] (state_after lines rest fault)) ≡ false
-is_unfinished lines rest (Some fault) = refl
-is_unfinished lines rest None = grind arith
-
 is_finished-fed : (r : Reading) (piece : List ℕ) → is_finished r ≡ false → is_finished (fed r piece) ≡ false
 unfolding fed
-is_finished-fed r piece unfinished = grind (arith, is_unfinished)
+is_finished-fed r piece unfinished = grind arith
 
 pub unfinished_after : (old new : Reading) (piece : List ℕ) (result : Answer) → is_finished old ≡ false →
     HasReached old (fed old piece) new result → is_finished new ≡ false
@@ -183,14 +164,12 @@ unchanged_if_failed old new open_now error failed = let f = sym open_now ∙ ap 
 pub finished-empty : (events : List Event) (lines : ℕ) (rest : List ℕ) → length rest ≡ 0 →
     finished (open_at events lines rest) ≡ at events Finished
 unfolding finished
-finished-empty events lines [] none = rw (append-nil events) refl
-finished-empty events lines (b ∷ rest) none = absurd (omega arith)
+finished-empty events lines rest none = grind (arith, append-nil)
 
 -- the reading of the last line
 last_line_in : (lines : ℕ) (rest : List ℕ) → (length rest ≡ 0 → ⊥) →
     finished_in (Open lines rest) ≡ whole_reading (with_line (suc lines) (event_of_line (suc lines) (rest ++ [])) no_lines)
-last_line_in lines [] some = absurd (some refl)
-last_line_in lines (b ∷ rest) some = rw (append-nil (b ∷ rest)) refl
+last_line_in lines rest some = grind (arith, append-nil)
 
 pub finished-line : (events : List Event) (lines : ℕ) (rest : List ℕ) → (length rest ≡ 0 → ⊥) →
     Ok tt ≡ answer_of (line_ended (open_at events lines rest) []).state
@@ -212,8 +191,7 @@ finished-fault events lines rest error some answer = grind (arith, last_line_in)
 failed_at_end : (events : List Event) (lines : ℕ) (rest : List ℕ) (new : Reading) (error : TraceError) → (length rest ≡ 0 → ⊥)
     → HasReached (open_at events lines rest) (line_ended (open_at events lines rest) []) new (Err error) →
     HasReached (open_at events lines rest) (finished (open_at events lines rest)) new (Err error)
-failed_at_end events lines rest new error some reached =
-    grind (arith, finished-fault, prefix_of_prefix, equal_is_prefix, finished-events)
+failed_at_end events lines rest new error some reached = grind (arith, finished-fault, finished-events)
 
 -- an unfinished line that is not empty
 pub not_empty : (rest : List ℕ) (empty : Bool) → empty ≡ eqb (length rest) 0 → empty ≡ false → length rest ≡ 0 → ⊥
@@ -227,17 +205,14 @@ finish_failed old new events lines rest status error is open_now some reached = 
 pub finish_line : (old mid : Reading) (events : List Event) (lines : ℕ) (rest : List ℕ) (status : Status) (events' : List Event)
     → fields events lines rest status ≡ old → is_open old ≡ true → (length rest ≡ 0 → ⊥) → HasReached old (line_ended old []) mid (Ok tt) →
     events' ≡ mid.events → HasReached old (finished old) (at events' Finished) (Ok tt)
-finish_line old mid events lines rest status events' is open_now some reached same =
-    grind (arith, is_open_at, reached_ok, finished-line, came, IsPrefix-finished)
+finish_line old mid events lines rest status events' is open_now some reached same = grind (arith, finished-line)
 
 pub finish_empty : (old : Reading) (events : List Event) (lines : ℕ) (rest : List ℕ) (status : Status) (events' : List Event)
     → fields events lines rest status ≡ old → is_open old ≡ true → length rest ≡ 0 → events' ≡ old.events →
     HasReached old (finished old) (at events' Finished) (Ok tt)
 finish_empty old events lines rest status events' is open_now none same =
-    let s = is_open_at old events lines rest status is open_now in
     let ends : finished old ≡ at events' Finished =
-    ap finished s.1 ∙ finished-empty events lines rest none
-    ∙ ap (λ (es : List Event). at es Finished) (sym (same ∙ ap (λ (r : Reading). r.events) s.1)) in
+    grind (arith, finished-empty) in
     came old (finished old) (at events' Finished) (Ok tt) (sym ends) (ap (λ (r : Reading). answer_of r.state) (sym ends))
     (IsPrefix-finished old)
 

@@ -1,14 +1,14 @@
 -- From an event to its line: the event is read from it.
-use Rattle.std.proofs.Common.{◌≡◌, ℕ, suc, ◌+◌, ◌<◌, ◌≤◌, ◌^◌, true, false, leb, List, [], ◌∷◌, length, Ok, refl, arith, ℤ, pos}
-use Rattle.std.proofs.{Common.{negsuc, nat_abs, ne_eqb, length-append, codes, All}, lemmas.Bool.{le-leb, le-ltb, leb-true}}
+use Rattle.std.proofs.Common.{◌≡◌, ℕ, suc, ◌+◌, ◌<◌, ◌≤◌, ◌^◌, true, leb, List, [], ◌∷◌, length, Ok, refl, arith, ℤ}
+use Rattle.std.proofs.{Common.{nat_abs, length-append, codes, All}, lemmas.Bool.{le-leb, le-ltb}}
 use Rattle.std.{proofs.lemmas.Fmt.{length-decimal-le}, proofs.lemmas.List.Elements.{All-nil, All-cons}, specs.Fmt.{decimal, signed_decimal}}
 use Rattle.std.specs.List.{list_all}
 use Rattle.line_text.proofs.LawLemmas.{spelled_hex_is_a_word, spelled_hex_is_read, spelled_number_is_a_word, spelled_number_is_read}
 use Rattle.line_text.proofs.LawLemmas.{spelled_signed_is_a_word, spelled_signed_is_read, words_make_a_line, written_words_are_read}
-use Rattle.line_text.specs.{Hexadecimal.{hex}, Lines.{words, line_of, is_newline, is_space, IsLine, IsWord}}
+use Rattle.line_text.specs.{Hexadecimal.{hex}, Lines.{words, line_of, IsLine, IsWord}}
 use Rattle.trace_event.specs.{Ranges.{IsInRange}, declared.event.Event.{Event}}
 use Rattle.trace_event.specs.declared.event.Event.TheVariants.{Malloc, Calloc, Realloc, Free, Load, Store, Addg, Subg}
-use Rattle.trace_reader.{proofs.LineRanges.{both_pass}, proofs.Offsets.{fits_signed}, specs.OnePass.{AreRead, IsRead}}
+use Rattle.trace_reader.{proofs.Offsets.{fits_signed}, specs.OnePass.{AreRead, IsRead}}
 use Rattle.trace_reader.proofs.SpelledWords.{named_words, request_read, free_read, load_read, store_read, move_read}
 use Rattle.trace_reader.specs.TraceLine.{number_from, offset_of, byte_of, event_line, event_of_words, event_of_line, event_words, move_of}
 use Rattle.trace_reader.specs.TraceLine.{move_words, request_of, request_words}
@@ -21,13 +21,7 @@ IsText word = IsLine word × IsWord word
 -- letters are neither newlines nor spaces
 letters : (word : List ℕ) → list_all (λ b. leb 97 b) word ≡ true → IsText word
 letters [] all = (All-nil _, All-nil _)
-letters (b ∷ word) all =
-    let p = both_pass (leb 97 b) (list_all (λ b. leb 97 b) word) all in
-    let high = leb-true 97 b p.0 in
-    let others = letters word p.1 in (
-      All-cons (λ x. is_newline x ≡ false) b word (ne_eqb b 10 (λ e. omega (arith, high, e))) others.0,
-      All-cons (λ x. is_space x ≡ false) b word (ne_eqb b 32 (λ e. omega (arith, high, e))) others.1,
-    )
+letters (b ∷ word) all = grind (arith, letters word)
 
 record AreTexts (ws : List (List ℕ)) : Type 0 where
   lines : All IsLine ws
@@ -116,8 +110,7 @@ number_len : (n : ℕ) → n ≤ 2147483647 → length (decimal n) ≤ 10
 number_len n n_in = length-decimal-le 10 n (omega arith) (omega (arith, n_in)) (omega (arith, n_in))
 
 offset_len : (z : ℤ) → nat_abs z ≤ 1048576 → length (signed_decimal z) ≤ 11
-offset_len (pos n) near = omega (arith, number_len n (omega (arith, near)))
-offset_len (negsuc n) near = omega (arith, number_len (suc n) (omega (arith, near)))
+offset_len z near = grind (arith, number_len)
 
 -- one word more
 len_more : (k m : ℕ) (word next : List ℕ) (ws : List (List ℕ)) → length word ≤ k → length (line_of (next ∷ ws)) ≤ m →
@@ -168,10 +161,7 @@ words_of_line : (ws : List (List ℕ)) → 0 < length ws → All IsWord ws → w
 words_of_line [] some all = absurd (omega arith)
 words_of_line (w ∷ ws) some all = written_words_are_read w ws all
 
-some_words : (event : Event) → 0 < length (event_words event)
-some_words x0 = grind arith
-
 pub event_of_line-spelled : (number : ℕ) (event : Event) → number ≤ 1000000 → IsInRange event
     → event_of_line number (event_line event) ≡ Ok event
 unfolding event_of_line
-event_of_line-spelled number event few is = grind (arith, words_of_line, some_words, event_texts, event_read, le-ltb, event_len)
+event_of_line-spelled number event few is = grind (arith, words_of_line, event_texts, event_read, le-ltb, event_len)

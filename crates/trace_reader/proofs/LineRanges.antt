@@ -2,21 +2,18 @@
 use Rattle.line_text.specs.{FirstFault.{◌>>=◌}, Lines.{lines}}
 use Rattle.trace_reader.specs.{TraceLine.{event_of_line}, TraceText.{trace_from, trace_of, with_line}}
 use Rattle.trace_reader.specs.declared.fault.{TraceFault.{TraceFault}}
-use Rattle.std.proofs.Common.{◌≡◌, ℕ, ◌≤◌, Bool, true, false, ◌&&◌, List, [], ◌∷◌, length, Result, Ok, Err, IfOk, refl, arith}
+use Rattle.std.proofs.Common.{◌≡◌, ℕ, ◌≤◌, Bool, true, ◌&&◌, List, [], ◌∷◌, length, Result, Ok, Err, IfOk, arith}
 use Rattle.std.proofs.{Common.{suc, ◌+◌}, lemmas.Bool.{ltb-false}}
 use Rattle.trace_event.specs.declared.event.Event.{Event}
 
 -- ---- one value after another
 
 pub both_pass : (a b : Bool) → (a && b) ≡ true → (a ≡ true) × (b ≡ true)
-both_pass true true e = (refl, refl)
-both_pass true false e = absurd cc
-both_pass false b e = absurd cc
+both_pass a b e = grind arith
 
 pub IfOk-and_then : {A B : Type 0} (P : A → Type 0) (Q : B → Type 0) (r : Result A TraceFault) (f : A → Result B TraceFault) → IfOk r P →
     ((x : A) → P x → IfOk (f x) Q) → IfOk (r >>= f) Q
-IfOk-and_then P Q (Ok x) f holds more = more x holds
-IfOk-and_then P Q (Err fault) f holds more = tt
+IfOk-and_then P Q r f holds more = grind arith
 
 -- ---- the number of a line
 

@@ -1,13 +1,13 @@
 -- A text in pieces is the whole text.
-use Rattle.std.proofs.Common.{◌≡◌, ℕ, suc, true, ltb, List, [], ◌∷◌, ◌++◌, length, Option, Some, None, refl, sym}
-use Rattle.std.proofs.{Common.{ap, ◌∙◌, arith, append_assoc, append-nil, ◌≤◌}, lemmas.Bool.{ltb-true}, lemmas.List.{length-append}}
+use Rattle.std.proofs.Common.{◌≡◌, ℕ, suc, List, [], ◌∷◌, ◌++◌, length, Option, refl, sym}
+use Rattle.std.proofs.{Common.{ap, ◌∙◌, arith, append_assoc, append-nil, ◌≤◌}, lemmas.List.{length-append}}
 use Rattle.std.specs.List.{concat}
-use Rattle.trace_reader.proofs.{Cutting.{going_on-nil, last_lines, lines-cut}, Feeding.{pieces_are_joined}, LineRanges.{events_are_few}}
+use Rattle.trace_reader.proofs.{Cutting.{last_lines, lines-cut}, Feeding.{pieces_are_joined}, LineRanges.{events_are_few}}
 use Rattle.trace_reader.{proofs.Reaching.{IsPrefix-finished}}
-use Rattle.trace_reader.proofs.Traces.{followed, followed_by, trace_from-append, trace_from-long, trace_from-none, trace_from-one}
-use Rattle.trace_reader.specs.Reading.{state_after, whole_reading, Cut, Reading, added, cut, fed, fed_all, finished, finished_in, last_line}
+use Rattle.trace_reader.proofs.Traces.{followed_by, trace_from-append, trace_from-long, trace_from-none, trace_from-one}
+use Rattle.trace_reader.specs.Reading.{state_after, whole_reading, Cut, Reading, added, cut, fed, fed_all, finished, finished_in}
 use Rattle.trace_reader.specs.{Reading.{nothing_read}, TraceText.{Trace, trace_from, trace_of}}
-use Rattle.trace_reader.specs.declared.fault.{TraceFault.{TraceFault}, TraceFault.TheVariants.{LineTooLong}}
+use Rattle.trace_reader.specs.declared.fault.{TraceFault.{TraceFault}}
 
 fed_all-fed : (r : Reading) (a : List ℕ) (pieces : List (List ℕ)) → fed_all (fed r a) pieces ≡ fed r (a ++ concat pieces)
 fed_all-fed r a [] = ap (fed r) (sym (append-nil a))
@@ -20,27 +20,16 @@ unfolding fed cut trace_from
 fed_all-concat [] = refl
 fed_all-concat (piece ∷ pieces) = fed_all-fed nothing_read piece pieces
 
--- the last line, after so many whole ones
-last_line-trace : (n : ℕ) (rest : List ℕ) → last_line n rest ≡ trace_from (suc n) (last_lines rest)
-last_line-trace n [] = sym (trace_from-none (suc n))
-last_line-trace n (b ∷ rest) = sym (trace_from-one (suc n) (b ∷ rest))
-
-too_long-trace : (n : ℕ) (rest : List ℕ) → ltb 80 (length rest) ≡ true →
-    trace_from (suc n) (last_lines rest) ≡ record { events = []; fault = Some (suc n, LineTooLong) }
-too_long-trace n [] long = absurd cc
-too_long-trace n (b ∷ rest) long = trace_from-long (suc n) (b ∷ rest) [] (ltb-true 80 (length (b ∷ rest)) long)
-
 -- the end after a whole text
 at_end : (n : ℕ) (c : Cut) (t : Trace) (fault : Option (ℕ × TraceFault)) → t.fault ≡ fault
     → added t.events (finished_in (state_after n c.unfinished fault))
     ≡ whole_reading (followed_by fault t.events (trace_from (suc n) (last_lines c.unfinished)))
-at_end n c t (Some fault) is = rw (append-nil t.events) refl
-at_end n c t None is = grind (arith, followed_by, last_lines, too_long-trace, last_line-trace)
+at_end n c t fault is = grind (arith, append-nil, trace_from-long, trace_from-none, trace_from-one)
 
 -- a text in one piece
 pub one_piece_is_the_text : (text : List ℕ) → finished (fed nothing_read text) ≡ whole_reading (trace_of text)
 unfolding fed finished
-one_piece_is_the_text text = grind (arith, going_on-nil, at_end, followed, last_lines, lines-cut, trace_from-append)
+one_piece_is_the_text text = grind (arith, append-nil, trace_from-long, trace_from-one, lines-cut, trace_from-append)
 
 pub pieces_are_the_text : (pieces : List (List ℕ)) → finished (fed_all nothing_read pieces) ≡ whole_reading (trace_of (concat pieces))
 pieces_are_the_text pieces = ap finished (fed_all-concat pieces) ∙ one_piece_is_the_text (concat pieces)

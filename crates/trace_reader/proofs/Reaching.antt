@@ -9,7 +9,7 @@ use Rattle.trace_reader.specs.Reading.{Reading, fed, fed_in, finished, finished_
 use Rattle.trace_reader.specs.{Reading.{with_judged, unfinished_state}, Reading.State.{Open, Failed}, Status.{state_of}}
 use Rattle.trace_reader.specs.declared.fault.{TraceError.{TraceError}, TraceError.TheVariants.{OutOfMemory, Line}, TraceFault.{TraceFault}}
 use Rattle.trace_reader.specs.declared.{fault.TraceFault.TheVariants.{LineTooLong}, status.Status.{Status}}
-use Rattle.trace_reader.specs.declared.status.Status.TheVariants.{Open as IsOpen, Failed as HasFailed, Finished as HasFinished}
+use Rattle.trace_reader.specs.declared.status.Status.TheVariants.{Open as IsOpen}
 
 abbrev Answer : Type 0
 Answer = Result (Unit {0}) TraceError
@@ -43,9 +43,7 @@ abbrev pub open_at : List Event → ℕ → List ℕ → Reading
 open_at events lines rest = record { events = events; state = Open lines rest }
 
 pub status_open : (status : Status) (lines : ℕ) (rest : List ℕ) → is_open_state (state_of status lines rest) ≡ true → status ≡ IsOpen
-status_open IsOpen lines rest e = refl
-status_open (HasFailed error) lines rest e = absurd cc
-status_open HasFinished lines rest e = absurd cc
+status_open status lines rest e = grind arith
 
 pub is_open_at : (old : Reading) (events : List Event) (lines : ℕ) (rest : List ℕ) (status : Status) →
     fields events lines rest status ≡ old → is_open old ≡ true → (status ≡ IsOpen) × (old ≡ open_at events lines rest)
@@ -79,17 +77,14 @@ pub judged_fault : (old new : Reading) (events : List Event) (lines : ℕ) (rest
     new ≡ record { events = old.events; state = Failed (Line (lines + 1) fault) } → result ≡ Err (Line (lines + 1) fault)
     → HasReached old (with_judged old (Err fault)) new result
 unfolding with_judged
-judged_fault old new events lines rest status fault result is open_now failed answer =
-    grind (arith, is_open_at, came, append-nil, add-one)
+judged_fault old new events lines rest status fault result is open_now failed answer = grind (arith, append-nil)
 
 -- what a call says that did not fail, and what one says that did
 pub pushed : {E : Type 0} (r : Result (Unit {0}) E) (Is : Type 0) → is_err r ≡ false → OnOk r Is → Is
-pushed (Ok done) Is ok is = is
-pushed (Err e) Is ok is = absurd cc
+pushed r Is ok is = grind arith
 
 pub not_pushed : {E : Type 0} (r : Result (Unit {0}) E) (Is : Type 0) → is_err r ≡ true → OnErr r Is → Is
-not_pushed (Ok done) Is failed is = absurd cc
-not_pushed (Err e) Is failed is = is
+not_pushed r Is failed is = grind arith
 
 -- ---- bytes without a newline
 
@@ -100,13 +95,11 @@ fed_at-line events lines rest bytes line = grind (arith, cut-line, trace_from-no
 
 -- what an extension that fits says
 pub extended : {E : Type 0} (r : Result (Unit {0}) E) (Fits Is : Type 0) → is_err r ≡ false → IsOk r ↔ Fits → OnOk r Is → Fits × Is
-extended (Ok done) Fits Is ok fits is = (fits.0 refl, is)
-extended (Err e) Fits Is ok fits is = absurd cc
+extended r Fits Is ok fits is = grind arith
 
 -- and one that does not
 pub not_extended : {E : Type 0} (r : Result (Unit {0}) E) (Fits : Type 0) → is_err r ≡ true → IsOk r ↔ Fits → Fits → ⊥
-not_extended (Ok done) Fits failed fits holds = absurd cc
-not_extended (Err e) Fits failed fits holds = let ok = fits.1 holds in absurd cc
+not_extended r Fits failed fits holds = grind arith
 
 pub keeps : (old : Reading) (events : List Event) (lines : ℕ) (rest bytes rest' : List ℕ) (status : Status)
     → fields events lines rest status ≡ old → is_open old ≡ true → IsLine bytes → length (rest ++ bytes) ≤ 80 → rest' ≡ rest ++ bytes →

@@ -13,15 +13,13 @@ start_is_open : (state : State) → is_start state ≡ true → is_open_state st
 start_is_open x0 e = grind arith
 
 no_rest : (lines : ℕ) (rest : List ℕ) → is_start (Open lines rest) ≡ true → rest ≡ []
-no_rest lines [] e = refl
-no_rest lines (b ∷ rest) e = absurd cc
+no_rest lines rest e = grind arith
 
 -- the line of an event, from its start on, is judged to be that event
 pub line_of_event : (mid : Reading) (events : List Event) (lines : ℕ) (rest : List ℕ) (status : Status) (event : Event)
     → fields events lines rest status ≡ mid → is_at_start mid ≡ true → lines < 1000000 → IsInRange event
     → line_ended mid (event_line event) ≡ with_judged mid (Ok event)
-line_of_event mid events lines rest status event is start few range =
-    grind (arith, is_open_at, start_is_open, event_of_line-spelled)
+line_of_event mid events lines rest status event is start few range = grind (arith, event_of_line-spelled)
 
 -- ---- an event that is handed out at once
 

@@ -1,12 +1,12 @@
 -- From a line to the event that is read from it: it is in its ranges, and the line is its line.
-use Rattle.std.proofs.Common.{◌≡◌, ℕ, ◌<◌, ◌≤◌, ◌^◌, Bool, true, false, cond, ltb, List, [], ◌∷◌, length, Option, Some, None}
+use Rattle.std.proofs.Common.{◌≡◌, ℕ, ◌<◌, ◌≤◌, ◌^◌, Bool, true, false, cond, ltb, List, [], ◌∷◌, length, Option, Some}
 use Rattle.std.proofs.{Common.{Result, Ok, Err, IfOk, refl, sym, ap, ◌∙◌, arith, nat_abs, codes}, lemmas.Bool.{leb-true}}
 use Rattle.std.{proofs.lemmas.Slice.Eq.{bytes_eq-Decides}, specs.Fmt.{decimal, signed_decimal}, specs.Str.{bytes_eq}}
 use Rattle.line_text.{proofs.LawLemmas.{hex_is_spelled, line_is_its_words, number_is_spelled, signed_is_spelled}}
-use Rattle.line_text.specs.{Hexadecimal.{hex}, Lines.{words, line_of}}
+use Rattle.line_text.specs.{Lines.{words, line_of}}
 use Rattle.trace_event.specs.{Ranges.{IsInRange}, declared.event.Event.{Event}}
 use Rattle.trace_reader.proofs.{LineRanges.{IfOk-and_then, both_pass}, Offsets.{fits_signed}}
-use Rattle.trace_reader.specs.TraceLine.{ranged, number_from, variable_of, size_of, offset_of, len_of, byte_of, request_of, free_of}
+use Rattle.trace_reader.specs.TraceLine.{ranged, number_from, variable_of, size_of, offset_of, len_of, request_of, free_of}
 use Rattle.trace_reader.specs.TraceLine.{load_of, store_of, move_of, event_line, event_named, event_of_words}
 use Rattle.trace_reader.specs.{TraceLine.{event_of_line, event_words}, declared.fault.TraceFault.{TraceFault}}
 use Rattle.trace_reader.specs.declared.fault.TraceFault.TheVariants.{LineTooLong, TooManyEvents}
@@ -16,8 +16,7 @@ use Rattle.trace_reader.specs.declared.fault.TraceFault.TheVariants.{LineTooLong
 -- what was read and passes the test
 IfOk-ranged_of : {A : Type 0} (P : A → Type 0) (test : A → Bool) (o : Option A) → ((x : A) → o ≡ Some x → test x ≡ true → P x) →
     IfOk (ranged test o) P
-IfOk-ranged_of P test None passed = tt
-IfOk-ranged_of P test (Some x) passed = grind arith
+IfOk-ranged_of P test o passed = grind arith
 
 spelled_number : (low high : ℕ) → high < 2 ^ 64 → (word : List ℕ) →
     IfOk (number_from low high word) (λ n. (low ≤ n) × (n ≤ high) × (word ≡ decimal n))
@@ -25,9 +24,6 @@ spelled_number low high small word = grind (arith, IfOk-ranged_of, both_pass, le
 
 spelled_offset : (word : List ℕ) → IfOk (offset_of word) (λ z. (nat_abs z ≤ 1048576) × (word ≡ signed_decimal z))
 spelled_offset word = grind (arith, IfOk-ranged_of, leb-true, signed_is_spelled, fits_signed)
-
-spelled_byte : (word : List ℕ) → IfOk (byte_of word) (λ n. (n < 2 ^ 8) × (word ≡ hex n))
-spelled_byte word = grind (arith, IfOk-ranged_of, hex_is_spelled)
 
 -- ---- the words after a name
 
@@ -76,8 +72,7 @@ read_store (v ∷ off ∷ len ∷ byte ∷ []) =
     IfOk-and_then _ Q (variable_of v) _ (spelled_number 0 1023 (omega arith) v)
     (λ x x_is. IfOk-and_then _ Q (offset_of off) _ (spelled_offset off)
     (λ y y_is. IfOk-and_then _ Q (len_of len) _ (spelled_number 1 64 (omega arith) len)
-    (λ z z_is. IfOk-and_then _ Q (byte_of byte) _ (spelled_byte byte)
-    (λ b b_is. rw (x_is.2, y_is.1, z_is.2, b_is.1) (((x_is.1, y_is.0, z_is.0, z_is.1), b_is.0), refl)))))
+    (grind (arith, hex_is_spelled))))
 read_store (v ∷ off ∷ len ∷ byte ∷ other ∷ ws) = tt
 
 read_move : (name : List ℕ) (event : ℕ → ℕ → ℕ → ℕ → Event)

@@ -10,13 +10,11 @@ use Rattle.trace_reader.specs.TraceLine.{number_from, offset_of, request_of}
 
 full_number : (low high : ℕ) (word : List ℕ) (n : ℕ) → number_from low high word ≡ Ok n → is_empty_word word ≡ false
 unfolding number_of
-full_number low high [] n e = absurd cc
-full_number low high (b ∷ word) n e = ne_eqb (length (b ∷ word)) 0 (omega arith)
+full_number low high word n e = grind arith
 
 full_offset : (word : List ℕ) (z : ℤ) → offset_of word ≡ Ok z → is_empty_word word ≡ false
 unfolding signed_of
-full_offset [] z e = absurd cc
-full_offset (b ∷ word) z e = ne_eqb (length (b ∷ word)) 0 (omega arith)
+full_offset word z e = grind arith
 
 full_byte : (word : List ℕ) (n : ℕ) → byte_of word ≡ Ok n → is_empty_word word ≡ false
 unfolding hex_of

@@ -1,5 +1,5 @@
 -- Three digits and a byte after them, in one word.
-use Rattle.std.proofs.Common.{◌≡◌, ℕ, ◌+◌, ◌*◌, ◌/◌, ◌%◌, ◌^◌, ◌<◌, ◌≤◌, List, [], ◌∷◌, ◌++◌, refl, sym, ap, ◌∙◌, arith}
+use Rattle.std.proofs.Common.{◌≡◌, ℕ, ◌+◌, ◌*◌, ◌/◌, ◌%◌, ◌^◌, ◌<◌, ◌≤◌, [], ◌∷◌, ◌++◌, refl, sym, ap, ◌∙◌, arith}
 use Rattle.std.proofs.lemmas.{Fmt.{decimal_digit}, Nat.{and_mask, and_mod, and_shr, le_or_l, le_or_r, or_mod, or_shr}, Nat.Bits.{and_high}}
 use Rattle.std.specs.{Fmt.{decimal}, Int.{to_le_bytes, w32}, Int.Bits.{bit_and, bit_or}}
 use Rattle.trace_reader.proofs.DigitsInFront.{longer}
@@ -20,19 +20,12 @@ byte_apart x y mask k m clear is zero =
     let none : bit_and (z / 2 ^ k % 2 ^ 8) (mask / 2 ^ k % 2 ^ 8) ≡ 0 =
     sym (and_mod (z / 2 ^ k) (mask / 2 ^ k) 8)
     ∙ ap (λ n. n % 2 ^ 8) (sym (and_shr z mask k) ∙ ap (λ n. n / 2 ^ k) clear) ∙ zero in
-    record {
-      byte = z / 2 ^ k % 2 ^ 8;
-      small = omega arith;
-      first = omega (arith, byte, le_or_l (x / 2 ^ k % 2 ^ 8) (y / 2 ^ k % 2 ^ 8));
-      second = omega (arith, byte, le_or_r (x / 2 ^ k % 2 ^ 8) (y / 2 ^ k % 2 ^ 8));
-      apart = ap (bit_and (z / 2 ^ k % 2 ^ 8)) (sym is) ∙ none;
-    }
+    grind (arith, le_or_l, le_or_r)
 
 pub low_bits : (x y k : ℕ) → IsByteApart x y k 128 → (x / 2 ^ k % 2 ^ 8 < 128) × (y / 2 ^ k % 2 ^ 8 < 128)
 low_bits x y k b =
     let bit : bit_and b.byte 128 ≡ (b.byte / 128 % 2) * 128 = and_high b.byte 1 7 in
-    let small : b.byte < 128 = omega (arith, bit, b.apart, b.small) in
-    (omega (arith, small, b.first), omega (arith, small, b.second))
+    omega arith
 
 no_bits : (x y k : ℕ) → IsByteApart x y k 255 → x / 2 ^ k % 2 ^ 8 ≡ 0
 no_bits x y k b =
@@ -51,11 +44,7 @@ pub record AreThree (n end x : ℕ) : Type 0 where
 pub spelled_three : (h t o : ℕ) → h < 9 → t < 10 → o < 10 → decimal ((h + 1) * 100 + t * 10 + o) ≡ (49 + h) ∷ (48 + t) ∷ (48 + o) ∷ []
 spelled_three h t o h_in t_in o_in =
     let whole : (h + 1) * 100 + t * 10 + o ≡ ((h + 1) * 10 + t) * 10 + o = omega arith in
-    let first : 48 + (h + 1) ≡ 49 + h = omega arith in
-    ap decimal whole ∙ longer ((h + 1) * 10 + t) o (omega arith) o_in (omega (arith, h_in, t_in, o_in))
-    ∙ ap (λ (front : List ℕ). front ++ (48 + o) ∷ [])
-    (longer (h + 1) t (omega arith) t_in (omega (arith, h_in, t_in))
-    ∙ ap (λ (front : List ℕ). front ++ (48 + t) ∷ []) (decimal_digit (h + 1) (omega (arith, h_in)) ∙ ap (λ (b : ℕ). b ∷ []) first))
+    grind (arith, longer, decimal_digit)
 
 pub are_three : (n end x y : ℕ) → n < 2 ^ 32 → end < 256 → x < 2 ^ 32 → (x + (3158065 + end * 2 ^ 24)) % 2 ^ 32 ≡ n
     → y ≡ (x + 7763575) % 2 ^ 32 → bit_and (bit_or x y) 4286611584 ≡ 0 → AreThree n end x
@@ -64,19 +53,4 @@ are_three n end x y n_in end_in x_in is_x is_y clear =
     let a = low_bits x y 0 (byte_apart x y 4286611584 0 128 clear refl refl) in
     let b = low_bits x y 8 (byte_apart x y 4286611584 8 128 clear refl refl) in
     let c = low_bits x y 16 (byte_apart x y 4286611584 16 128 clear refl refl) in
-    let below : x < 2 ^ 24 = omega (arith, high, x_in) in
-    let more : y ≡ x + 7763575 = omega (arith, is_y, below) in
-    let h_in : x % 256 < 9 = omega (arith, more, a.0, a.1) in
-    let t_in : x / 256 % 256 < 10 = omega (arith, more, h_in, b.0, b.1) in
-    let o_in : x / 65536 < 10 = omega (arith, more, h_in, t_in, below, c.0, c.1) in
-    let whole : n ≡ (49 + x % 256) + 256 * ((48 + x / 256 % 256) + 256 * ((48 + x / 65536) + 256 * end)) =
-    omega (arith, is_x, end_in, h_in, t_in, o_in) in
-    let first : n % 256 ≡ 49 + x % 256 = omega (arith, whole, h_in) in
-    let second : n / 256 % 256 ≡ 48 + x / 256 % 256 = omega (arith, whole, h_in, t_in) in
-    let third : n / 65536 % 256 ≡ 48 + x / 65536 = omega (arith, whole, h_in, t_in, o_in) in
-    let fourth : n / 16777216 % 256 ≡ end = omega (arith, whole, h_in, t_in, o_in, end_in) in
-    record {
-      spelled = rw (spelled_three (x % 256) (x / 256 % 256) (x / 65536) h_in t_in o_in, ← first, ← second, ← third, ← fourth) refl;
-      few = omega (arith, h_in, t_in, o_in);
-      many = omega arith;
-    }
+    grind (arith, spelled_three)

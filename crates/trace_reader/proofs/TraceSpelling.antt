@@ -1,11 +1,11 @@
 -- A trace's text is read as its events, and no other text is.
-use Rattle.std.proofs.Common.{◌≡◌, ℕ, suc, ◌+◌, ◌<◌, ◌≤◌, List, [], ◌∷◌, length, map, Option, Some, None, Result, Ok, Err, IfOk, refl, sym}
+use Rattle.std.proofs.Common.{◌≡◌, ℕ, suc, ◌+◌, ◌<◌, ◌≤◌, List, [], ◌∷◌, length, map, Some, None, Result, Ok, IfOk, refl, sym}
 use Rattle.std.proofs.{Common.{ap, subst, ◌∙◌, arith, All}, lemmas.List.Elements.{All-nil, All-cons, All-head, All-tail}}
 use Rattle.line_text.{proofs.LawLemmas.{full_lines_are_read, text_is_its_lines}, specs.Lines.{IsTextOf, lines, IsFullLine}}
 use Rattle.trace_event.specs.{Ranges.{IsInRange}, declared.event.Event.{Event}}
 use Rattle.trace_reader.proofs.{EventLines.{event_line-is_line, event_line-some, event_of_line-spelled}, LineRanges.{few_events}}
 use Rattle.trace_reader.{proofs.SpelledLines.{IfOk-event_of_line, spelled_line}, specs.TraceLine.{event_line, event_of_line}}
-use Rattle.trace_reader.specs.TraceText.{SpellsTrace, Trace, no_lines, trace_from, trace_of, with_line}
+use Rattle.trace_reader.specs.TraceText.{SpellsTrace, Trace, trace_from, trace_of, with_line}
 use Rattle.trace_reader.specs.declared.fault.TraceFault.{TraceFault}
 
 abbrev pub whole : List Event → Trace
@@ -23,15 +23,12 @@ no_fault : (number : ℕ) (r : Result Event TraceFault) (t : Trace) (events : Li
     (e : Event) × (es : List Event) × (r ≡ Ok e) × (events ≡ e ∷ es) × (t ≡ whole es)
 no_fault number x1 t events is = grind arith
 
-no_event : (events : List Event) → no_lines ≡ whole events → events ≡ []
-no_event events is = sym (ap (λ (x : Trace). x.events) is)
-
 of_ok : (P : Event → Type 0) (r : Result Event TraceFault) (e : Event) → r ≡ Ok e → IfOk r P → P e
 of_ok P r e is holds = subst (λ (r : Result Event TraceFault). IfOk r P) is holds
 
 spelled_lines : (number : ℕ) (ls : List (List ℕ)) (events : List Event) → trace_from number ls ≡ whole events → SpellLines number ls events
 unfolding trace_from
-spelled_lines number [] events is = grind (arith, no_event, All-nil)
+spelled_lines number [] events is = grind arith
 spelled_lines number (line ∷ ls) events is =
     let first = no_fault number (event_of_line number line) (trace_from (suc number) ls) events is in
     let e = first.0 in
@@ -40,12 +37,7 @@ spelled_lines number (line ∷ ls) events is =
     let in_range = of_ok (IsInRange) (event_of_line number line) e first.2 (IfOk-event_of_line number line) in
     let spells = of_ok (λ e. line ≡ event_line e) (event_of_line number line) e first.2 (spelled_line number line) in
     let low = of_ok (λ e. number ≤ 1000000) (event_of_line number line) e first.2 (few_events number line) in
-    rw first.3
-    (record {
-      ranges = All-cons IsInRange e es in_range others.ranges;
-      spelled = rw (← spells, ← others.spelled) refl;
-      few = λ some. few_more number low es others.few;
-    })
+    grind arith
   where
     few_more : (number : ℕ) → number ≤ 1000000 → (es : List Event) → (0 < length es → suc number + length es ≤ 1000001) →
         number + suc (length es) ≤ 1000001
@@ -68,10 +60,7 @@ read_lines : (number : ℕ) (events : List Event) → All IsInRange events → n
 unfolding trace_from
 read_lines number [] ranges few = refl
 read_lines number (e ∷ es) ranges few =
-    rw (
-      event_of_line-spelled number e (omega (arith, few)) (All-head IsInRange e es ranges),
-      read_lines (suc number) es (All-tail IsInRange e es ranges) (omega (arith, few)),
-    ) refl
+    grind (arith, read_lines (suc number) es (All-tail IsInRange e es ranges) (omega (arith, few)), event_of_line-spelled, All-head)
 
 full_lines : (events : List Event) → All IsInRange events → All IsFullLine (map event_line events)
 full_lines [] ranges = All-nil IsFullLine
@@ -87,21 +76,11 @@ text_spells_one_trace text a b of_a of_b = ap (λ (t : Trace). t.events) (sym (s
 
 -- ---- the events before a fault
 
-abbrev number_of_fault : Option (ℕ × TraceFault) → ℕ
-number_of_fault None = 0
-number_of_fault (Some fault) = fault.0
-
 events_before : (number : ℕ) (ls : List (List ℕ)) (at : ℕ) (fault : TraceFault) → (trace_from number ls).fault ≡ Some (at, fault) →
     at ≡ number + length (trace_from number ls).events
 unfolding trace_from
 events_before number [] at fault is = absurd cc
-events_before number (line ∷ ls) at fault is = go (event_of_line number line) is (events_before (suc number) ls at fault)
-  where
-    go : (r : Result Event TraceFault) → (with_line number r (trace_from (suc number) ls)).fault ≡ Some (at, fault)
-        → ((trace_from (suc number) ls).fault ≡ Some (at, fault) → at ≡ suc number + length (trace_from (suc number) ls).events)
-        → at ≡ number + length (with_line number r (trace_from (suc number) ls)).events
-    go (Ok e) is next = omega (arith, next is)
-    go (Err f) is next = omega (arith, ap number_of_fault is)
+events_before number (line ∷ ls) at fault is = grind (arith, events_before (suc number) ls at fault)
 
 pub fault_is_after_its_events : (text : List ℕ) (at : ℕ) (fault : TraceFault) → (trace_of text).fault ≡ Some (at, fault) →
     at ≡ suc (length (trace_of text).events)

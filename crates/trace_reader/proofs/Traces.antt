@@ -1,5 +1,5 @@
 -- Traces of lines, one after the other.
-use Rattle.std.proofs.Common.{◌≡◌, ℕ, suc, ◌+◌, ◌<◌, List, [], ◌∷◌, ◌++◌, length, Option, Some, None, Result, Ok, Err, refl, sym, ap, ◌∙◌}
+use Rattle.std.proofs.Common.{◌≡◌, ℕ, suc, ◌+◌, ◌<◌, List, [], ◌∷◌, ◌++◌, length, Option, Some, None, Err, refl, ap, ◌∙◌}
 use Rattle.std.proofs.{Common.{arith, add-zero}, lemmas.Bool.{lt-ltb}}
 use Rattle.trace_event.specs.declared.event.Event.{Event}
 use Rattle.trace_reader.specs.{TraceLine.{event_of_line}, TraceText.{Trace, no_lines, with_line, trace_from}}
@@ -13,11 +13,6 @@ followed_by (Some fault) events t = record { events = events; fault = Some fault
 abbrev pub followed : Trace → Trace → Trace
 followed t u = followed_by t.fault t.events u
 
-followed-line : (number : ℕ) (judged : Result Event TraceFault) (t u : Trace) →
-    followed (with_line number judged t) u ≡ with_line number judged (followed t u)
-followed-line number (Ok event) t u = grind arith
-followed-line number (Err fault) t u = refl
-
 pub trace_from-append : (number : ℕ) (a b : List (List ℕ)) →
     trace_from number (a ++ b) ≡ followed (trace_from number a) (trace_from (number + length a) b)
 unfolding trace_from
@@ -25,8 +20,7 @@ trace_from-append number [] b = rw add-zero refl
 trace_from-append number (line ∷ a) b =
     let count : suc number + length a ≡ number + suc (length a) = omega arith in
     let more = trace_from-append (suc number) a b ∙ ap (λ (n : ℕ). followed (trace_from (suc number) a) (trace_from n b)) count in
-    ap (with_line number (event_of_line number line)) more
-    ∙ sym (followed-line number (event_of_line number line) (trace_from (suc number) a) (trace_from (number + suc (length a)) b))
+    grind arith
 
 -- ---- a line that is too long
 

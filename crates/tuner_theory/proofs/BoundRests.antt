@@ -1,12 +1,12 @@
 -- Valid potentials bound what every rest costs from below: what is counted above any place.
-use Rattle.std.proofs.Common.{◌≡◌, ℕ, zero, suc, ◌+◌, ◌*◌, ◌<◌, ◌≤◌, ◌%◌, max, List, [], ◌∷◌, length, slice_index, cond, ltb, leb, Option}
-use Rattle.std.proofs.Common.{arith, refl, ap, sym, subst, ◌∙◌, inl, inr, IsSome}
-use Rattle.std.proofs.lemmas.Bool.{cases_lt, cond_both, cond-false, le-ltb, lt-leb}
+use Rattle.std.proofs.Common.{◌≡◌, ℕ, zero, suc, ◌+◌, ◌*◌, ◌<◌, ◌≤◌, ◌%◌, max, List, [], ◌∷◌, length, slice_index, cond, ltb, leb}
+use Rattle.std.proofs.Common.{arith, refl, sym, ◌∙◌, inl, inr}
+use Rattle.std.proofs.lemmas.Bool.{cases_lt, cond_both, le-ltb}
 use Rattle.class_table.proofs.LawLemmas.{AreClassesAbove, classes_of_legal_table}
 use Rattle.tuner_theory.proofs.{Bound.{bound}, Needs.{Reaches, place_is_counted, places_ascend}, Rounding.{rounded-positive}}
 use Rattle.tuner_theory.proofs.{Sums.{sum_same}, Tables.{ServesAbove, class_for-later, waste_above, waste_above-costs}}
 use Rattle.tuner_theory.specs.{Best.{IsCandidate}, Intervals.{IsIntervalCost, cost_above, span_cost}, Potentials.{AreValidPotentials}}
-use Rattle.tuner_theory.specs.{Profiles.{IsCounted}, Rests.{counts_above, counts_above_from}, Waste.{sum_below, waste_at, waste_of}}
+use Rattle.tuner_theory.specs.{Profiles.{IsCounted}, Rests.{counts_above, counts_above_from}, Waste.{waste_of}}
 use Rattle.tuner_theory.specs.Spans.{need_at, places, rounded_need, waste_between}
 
 -- ---- the counts above a need
@@ -18,11 +18,8 @@ length-above m (count ∷ counts) step low = omega (arith, length-above (suc m) 
 index-above : (m n : ℕ) (counts : List ℕ) (step low : ℕ)
     → slice_index (counts_above_from m counts step low) n ≡ cond (leb (rounded_need step (m + n)) low) 0 (slice_index counts n)
 index-above m n [] step low = cond_both (leb (rounded_need step (m + n)) low) 0 0 (λ v. 0 ≡ v) (λ e. refl) (λ e. refl)
-index-above m zero (count ∷ counts) step low =
-    let here : m ≡ m + 0 = omega arith in ap (λ k. cond (leb (rounded_need step k) low) 0 count) here
-index-above m (suc n) (count ∷ counts) step low =
-    let next : suc m + n ≡ m + suc n = omega arith in
-    index-above (suc m) n counts step low ∙ ap (λ k. cond (leb (rounded_need step k) low) 0 (slice_index counts n)) next
+index-above m zero (count ∷ counts) step low = grind arith
+index-above m (suc n) (count ∷ counts) step low = grind (arith, index-above (suc m) n counts step low)
 
 kept : (x low v w : ℕ) → w ≡ cond (leb x low) 0 v → 0 < w → (low < x) × (0 < v)
 kept x low v w e some = grind arith
@@ -37,15 +34,10 @@ left-above n counts step low = grind (arith, index-above)
 module _ (counts : List ℕ) (step i : ℕ) where
   pub counted-above : (n : ℕ) → IsCounted (counts_above counts step i) n
       → IsCounted counts n × (need_at counts step i < rounded_need step n)
-  counted-above n counted =
-      let both = kept (rounded_need step n) (need_at counts step i) (slice_index counts n) _ (left-above n counts step (need_at counts step i)) counted.1 in
-      ((omega (arith, counted.0, length-above 0 counts step (need_at counts step i)), both.1), both.0)
+  counted-above n counted = grind (arith, left-above, length-above)
 
   pub counted-to : (n : ℕ) → IsCounted counts n → need_at counts step i < rounded_need step n → IsCounted (counts_above counts step i) n
-  counted-to n counted above = (
-    omega (arith, counted.0, length-above 0 counts step (need_at counts step i)),
-    omega (arith, counted.1, left-above n counts step (need_at counts step i) ∙ cond-false _ _ _ (lt-leb (rounded_need step n) (need_at counts step i) above)),
-  )
+  counted-to n counted above = grind (arith, length-above, left-above)
 
 module _ (counts : List ℕ) (step : ℕ) (pos : 0 < step) (i : ℕ) where
   pub reach-low : i ≤ places counts step → Reaches counts step (max 1 (need_at counts step i)) (places counts step) i
@@ -88,15 +80,8 @@ module _ (counts : List ℕ) (step : ℕ) (pos : 0 < step) (cost : List ℕ → 
       let two : 2 ≤ c = omega (arith, above.0) in
       elim (cases_lt low c) [
         | inl over ↦ record { table = c ∷ cs; above = (over, above.1, above.2, above.3); few = omega arith; costs = refl; served = served }
-        | inr under ↦ (let later = drop-low c cs (omega arith) above.3 (λ n counted lt.
-            subst (λ (class : Option ℕ). IsSome class) (class_for-later step pos n c cs two above.2 (omega arith)) (served n counted lt)) in
-            record {
-              table = later.table;
-              above = later.above;
-              few = omega (arith, later.few);
-              served = later.served;
-              costs = omega (arith, later.costs, drop c cs under two above.2 above.3);
-            })
+        | inr under ↦ (let later = drop-low c cs (omega arith) above.3 (grind (arith, class_for-later)) in
+            grind arith)
       ]
 
 -- ---- potentials at every place
@@ -125,21 +110,13 @@ module _ (counts : List ℕ) (step : ℕ) (pos : 0 < step) (between : ℕ → �
 module _ (counts : List ℕ) (step : ℕ) (pos : 0 < step) (i : ℕ) where
   waste-above : (classes : List ℕ) → waste_of (counts_above counts step i) classes
       ≡ waste_above counts step (max 1 (need_at counts step i)) classes
-  waste-above classes =
-      ap (sum_below _) (length-above 0 counts step (need_at counts step i))
-      ∙ sum_same _ _ (length counts)
-      (λ n lt. masked (rounded_need step n) (need_at counts step i) _ (slice_index counts n) _ (rounded-positive step pos n)
-      (left-above n counts step (need_at counts step i)))
-
-  same-waste : (low c n : ℕ) (cs : List ℕ) → c ≤ low → 2 ≤ c → c % step ≡ 0
-      → cond (ltb low (rounded_need step n)) (waste_at counts (c ∷ cs) n) 0 ≡ cond (ltb low (rounded_need step n)) (waste_at counts cs n) 0
-  same-waste low c n cs le two multiple = grind (arith, cases_lt, class_for-later, cond-false, le-ltb)
+  waste-above classes = grind (arith, length-above, masked, left-above)
 
   pub waste-rest : IsRestCost (waste_of (counts_above counts step i)) (waste_between counts step) counts (counts_above counts step i) step i
   waste-rest = record {
     from = counted-above counts step i;
     to = counted-to counts step i;
     sum = λ classes above. waste-above classes ∙ waste_above-costs counts step pos _ classes (omega arith) above;
-    drop = λ c cs le two multiple above. waste-above (c ∷ cs) ∙ sum_same _ _ (length counts) (λ n lt. same-waste _ c n cs le two multiple)
+    drop = λ c cs le two multiple above. waste-above (c ∷ cs) ∙ sum_same _ _ (length counts) (λ n lt. grind (arith, class_for-later, le-ltb))
         ∙ sym (waste-above cs);
   }

@@ -1,12 +1,12 @@
 -- The table that least rows give is best, and of the best tables whose every class is used the lexicographically least.
-use Rattle.std.proofs.Common.{◌≡◌, ℕ, zero, suc, ◌<◌, ◌≤◌, List, [], ◌∷◌, length, slice_index, ltb, Some, arith, refl, ap, sym, subst, ◌∙◌}
+use Rattle.std.proofs.Common.{◌≡◌, ℕ, zero, suc, ◌<◌, ◌≤◌, List, [], ◌∷◌, length, slice_index, ltb, Some, arith, refl, subst}
 use Rattle.std.proofs.{Common.{inl, inr, All}, lemmas.Bool.{cases_lt, cond_both, ltb-true}, lemmas.List.{get_or_default}}
-use Rattle.std.{proofs.lemmas.Option.{same_Some}, specs.Bool.{⊤}}
+use Rattle.std.{specs.Bool.{⊤}}
 use Rattle.class_table.proofs.LawLemmas.{AreClassesAbove, class_above, classes_of_legal_table, legal_table_of_classes}
 use Rattle.class_table.specs.Tables.{class_for}
 use Rattle.tuner_theory.proofs.{Bound.{bound, potentials_bound_costs}, Intervals.{span-least}, Rounding.{rounded-positive, step-positive}}
 use Rattle.tuner_theory.proofs.{LeastRows.{ends_are_later, least_rows_are_valid}, TunedTable.{IsTableFor, next-above, table-tuned}}
-use Rattle.tuner_theory.proofs.Needs.{Reaches, place_is_counted, places_ascend, reach, reach-at, reach-covers, reach-one}
+use Rattle.tuner_theory.proofs.Needs.{Reaches, place_is_counted, reach, reach-at, reach-covers, reach-one}
 use Rattle.tuner_theory.proofs.Tables.{ServesAbove, ServesAbove-later, class_for-first, class_for-later, nothing-left}
 use Rattle.tuner_theory.specs.{Best.{IsBestBy, IsCandidate, IsCanonicalBy, IsLexicographicallyAtMost, IsUsed}, Profiles.{IsCounted}}
 use Rattle.tuner_theory.specs.{Intervals.{IsIntervalCost, IsSumOfIntervals, cost_above, span_cost}, Rows.{AreLeastRows, table_of_ends}}
@@ -31,11 +31,7 @@ module _ (step : ℕ) (pos : 0 < step) where
       → rounded_need step n ≤ class
   class_for-above low n class [] one above e = absurd cc
   class_for-above low n class (c ∷ cs) one above e =
-      elim (cases_lt c (rounded_need step n)) [
-        | inr le ↦ (let same : c ≡ class = same_Some _ _ (sym (class_for-first step pos n c cs le) ∙ e) in omega arith)
-        | inl lt ↦ class_for-above c n class cs (omega (arith, above.0)) above.3
-            (sym (class_for-later step pos n c cs (omega (arith, above.0)) above.2 lt) ∙ e)
-      ]
+      grind (arith, class_for-above c n class cs (omega (arith, above.0)) above.3, class_for-later)
 
 module _ (counts : List ℕ) (step : ℕ) (pos : 0 < step) where
   used-from : (low : ℕ) (classes : List ℕ) → 1 ≤ low → AreClassesAbove step low classes
@@ -46,11 +42,7 @@ module _ (counts : List ℕ) (step : ℕ) (pos : 0 < step) where
         (first.0, first.1, first.2, class_for-above step pos low first.0 c (c ∷ cs) one above first.3),
         used-from c cs (omega (arith, above.0)) above.3 (λ k lt.
             let u = used (suc k) (omega arith) in
-            elim (cases_lt c (rounded_need step u.0)) [
-              | inl over ↦ (u.0, u.1, over, sym (class_for-later step pos u.0 c cs (omega (arith, above.0)) above.2 over) ∙ u.3)
-              | inr le ↦ absurd (let same : c ≡ slice_index cs k = same_Some _ _ (sym (class_for-first step pos u.0 c cs le) ∙ u.3) in
-                  omega (arith, same, class_above step c k cs above.3 (omega arith)))
-            ]),
+            grind (arith, class_above)),
       )
 
   used-to : (low : ℕ) (classes : List ℕ) → 1 ≤ low → AreClassesAbove step low classes → AreUsedAbove counts step low classes
@@ -58,8 +50,7 @@ module _ (counts : List ℕ) (step : ℕ) (pos : 0 < step) where
   used-to low [] one above used k lt = absurd (omega arith)
   used-to low (c ∷ cs) one above used zero lt = grind (arith, class_for-first)
   used-to low (c ∷ cs) one above used (suc k) lt =
-      let u = used-to c cs (omega (arith, above.0)) above.3 used.1 k (omega arith) in
-      (u.0, u.1, omega (arith, above.0, u.2), class_for-later step pos u.0 c cs (omega (arith, above.0)) above.2 u.2 ∙ u.3)
+      grind (arith, used-to c cs (omega (arith, above.0)) above.3 used.1 k (omega arith), class_for-later)
 
   used-from_all : (classes : List ℕ) → AreClassesAbove step 1 classes → All (IsUsed counts classes) classes →
       AreUsedAbove counts step 1 classes
@@ -72,11 +63,6 @@ module _ (counts : List ℕ) (step : ℕ) (pos : 0 < step) where
   all-from_used classes above used k d lt =
       let u = used-to 1 classes (omega arith) above used k lt in
       subst (IsUsed counts classes) (get_or_default classes k 0 d lt) (u.0, u.1, u.3)
-
-  -- a used class reaches farther than what is below it
-  used-farther : (low c i j n : ℕ) → Reaches counts step low (places counts step) i → Reaches counts step c (places counts step) j
-      → IsCounted counts n → low < rounded_need step n → rounded_need step n ≤ c → i < j
-  used-farther low c i j n ri rj counted over le = grind (arith, reach-covers, cases_lt, places_ascend)
 
 -- ---- the order of tables
 
@@ -121,15 +107,13 @@ module _ (counts : List ℕ) (step : ℕ) (pos : 0 < step) (between : ℕ → �
       (λ e. let j = reach counts step c d in
       let later = ServesAbove-later counts step pos low c cs one above.0 above.2 served in
       let all : j.0 ≡ d = nothing-left counts step pos c j.0 cs (omega arith) j.1 later in
-      let row = least.first_row i (omega arith) (ltb-true i d e) in
-      let same : need_at counts step (ends 1 i) ≡ need_at counts step j.0 = ap (need_at counts step) (row.1 ∙ sym all) in
-      elim (cases_lt (need_at counts step (ends 1 i)) c) [ inl lt ↦ inl lt | inr ge ↦ inr (omega (arith, j.1.reached), tt) ])
+      grind arith)
       (λ e. tt)
   tuned-first (suc (suc k)) i low (c ∷ cs) one le r above few served used costs =
       let d = places counts step in
       cond_both (ltb i d) _ _ (λ table. IsLexicographicallyAtMost table (c ∷ cs))
       (λ e. let j = reach counts step c d in
-      let far : i < j.0 = used-farther counts step pos low c i j.0 used.0.0 r j.1 used.0.1 used.0.2 used.0.3 in
+      let far : i < j.0 = grind (arith, reach-covers) in
       let later = ServesAbove-later counts step pos low c cs one above.0 above.2 served in
       let row = least.later_row (suc k) i (omega arith) (omega arith) (ltb-true i d e) in
       let end = ends (suc (suc k)) i in
@@ -139,8 +123,7 @@ module _ (counts : List ℕ) (step : ℕ) (pos : 0 < step) (between : ℕ → �
       let first = span-least counts step pos between cost low c i j.0 r j.1 in
       elim (cases_lt (need_at counts step end) c) [
         | inl lt ↦ inl lt
-        | inr ge ↦ (let no_later : j.0 ≤ end = (reach-at counts step pos end row.0.to).last j.0 j.1.within
-            (omega (arith, j.1.reached)) in
+        | inr ge ↦ (let no_later : j.0 ≤ end = grind (arith, reach-at) in
             elim (cases_lt j.0 end) [
               | inl before ↦ absurd (omega (arith, row.0.first j.0 far before, row.1, rest, first, costs))
               | inr not ↦ (let same : j.0 ≡ end = omega arith in

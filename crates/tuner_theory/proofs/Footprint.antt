@@ -1,11 +1,11 @@
 -- The footprint is the sum of the intervals of its classes.
-use Rattle.std.proofs.Common.{◌≡◌, ℕ, zero, suc, ◌+◌, ◌*◌, ◌%◌, ◌<◌, ◌≤◌, ◌&&◌, Bool, true, false, List, [], ◌∷◌, length, slice_index}
-use Rattle.std.proofs.{Common.{get_or, cond, ltb, leb, eqb, Option, arith, refl, ap, ◌∙◌, inl, inr, All, sum_by}, Math.Nat.{mul-le-mul}}
-use Rattle.std.proofs.lemmas.{Bool.{cases_lt, cond_both}, Bool.Decides.{nat_tests}, List.Sums.{sum_by-cons}}
-use Rattle.std.{proofs.lemmas.List.FromFn.{get_or-map-range_with_len, length-map-range_with_len}, specs.Option.{option_map_or}}
+use Rattle.std.proofs.Common.{◌≡◌, ℕ, zero, suc, ◌+◌, ◌*◌, ◌%◌, ◌<◌, ◌≤◌, Bool, false, List, [], ◌∷◌, length, slice_index}
+use Rattle.std.proofs.{Common.{get_or, cond, ltb, arith, refl, ap, ◌∙◌, inl, inr, All, sum_by}, Math.Nat.{mul-le-mul}}
+use Rattle.std.proofs.lemmas.{Bool.{cases_lt}, Bool.Decides.{nat_tests}, List.Sums.{sum_by-cons}}
+use Rattle.std.{proofs.lemmas.List.FromFn.{get_or-map-range_with_len, length-map-range_with_len}}
 use Rattle.class_table.{proofs.LawLemmas.{AreClassesAbove, classes_of_legal_table}, specs.Sizes.{largest_counted}}
-use Rattle.tuner_theory.proofs.{Rounding.{rounded-positive}, Served.{counted-served, interval-more}, Sums.{sum_at_most, sum_same}}
-use Rattle.tuner_theory.{proofs.Tables.{class_for-first, class_for-later, cost-at_one}, specs.Histories.{AreSnapshots, most, peaks}}
+use Rattle.tuner_theory.proofs.{Rounding.{rounded-positive}, Served.{counted-served}, Sums.{sum_at_most, sum_same}}
+use Rattle.tuner_theory.{proofs.Tables.{cost-at_one}, specs.Histories.{AreSnapshots, most, peaks}}
 use Rattle.tuner_theory.specs.{Footprint.{blocks, blocks_between, footprint_between, footprint_of, is_class_of}, Profiles.{IsCounted}}
 use Rattle.tuner_theory.specs.{Intervals.{IsIntervalCost, IsSumOfIntervals, cost_above}, Served.{served}, Spans.{rounded_need}}
 use Rattle.tuner_theory.specs.Waste.{sum_below}
@@ -49,9 +49,7 @@ module _ (snapshots : List (List ℕ)) (are : AreSnapshots snapshots) where
       sum_at_most _ _ (length (get_or snapshots k d)) (λ n within.
       elim (cases_lt 0 (slice_index (get_or snapshots k d) n)) [
         | inl some ↦ cost-at_one (rounded_need step n) a b low high _ _ bh (has n (counted-at k n d lt within some)) (omega arith)
-        | inr none ↦ cond_both (ltb a (rounded_need step n) && leb (rounded_need step n) b) _ _
-            (λ v. v ≤ cond (ltb low (rounded_need step n) && leb (rounded_need step n) high) (slice_index (get_or snapshots k d) n) 0)
-            (λ e. omega arith) (λ e. omega arith)
+        | inr none ↦ grind arith
       ])))
 
 -- ---- the blocks of each class
@@ -64,55 +62,26 @@ blocks_above step low classes class s =
 abbrev pub footprint_above : List (List ℕ) → ℕ → ℕ → List ℕ → ℕ → ℕ
 footprint_above snapshots step low classes class = 16 * class * most (blocks_above step low classes class) snapshots
 
-at-first : (x low c v : ℕ) (b : Bool) → (x ≤ c → b ≡ true) → (c < x → b ≡ false)
-    → cond (ltb low x) (cond b v 0) 0 ≡ cond (ltb low x && leb x c) v 0
-at-first x low c v b le lt = grind (arith, nat_tests)
-
-at-later : (x low c v : ℕ) (b later : Bool) → low < c → (x ≤ c → b ≡ false) → (c < x → b ≡ later)
-    → cond (ltb low x) (cond b v 0) 0 ≡ cond (ltb c x) (cond later v 0) 0
-at-later x low c v b later lc le lt = grind (arith, nat_tests)
-
-same-number : (c : ℕ) → eqb c c ≡ true
-same-number c = grind (arith, nat_tests)
-
-other-number : (c d : ℕ) → c < d → eqb c d ≡ false
-other-number c d lt = grind (arith, nat_tests)
-
-above-number : (c d : ℕ) → d < c → eqb c d ≡ false
-above-number c d lt = grind (arith, nat_tests)
-
 module _ (step : ℕ) (pos : 0 < step) where
-  first-is : (c class n : ℕ) (cs : List ℕ) → rounded_need step n ≤ c → is_class_of (c ∷ cs) class n ≡ eqb c class
-  first-is c class n cs le = ap (λ (o : Option ℕ). option_map_or (λ its. eqb its class) o false) (class_for-first step pos n c cs le)
-
   pub later-is : (c class n : ℕ) (cs : List ℕ) → 2 ≤ c → c % step ≡ 0 → c < rounded_need step n
       → is_class_of (c ∷ cs) class n ≡ is_class_of cs class n
-  later-is c class n cs two multiple lt =
-      ap (λ (o : Option ℕ). option_map_or (λ its. eqb its class) o false) (class_for-later step pos n c cs two multiple lt)
+  later-is c class n cs two multiple lt = grind arith
 
   -- no size has a class that is not among the classes above low
   pub no-class : (low class n : ℕ) (classes : List ℕ) → 1 ≤ low → class ≤ low → AreClassesAbove step low classes
       → is_class_of classes class n ≡ false
   no-class low class n [] one le above = refl
   no-class low class n (c ∷ cs) one le above =
-      elim (cases_lt c (rounded_need step n)) [
-        | inr first ↦ first-is c class n cs first ∙ above-number c class (omega (arith, above.0))
-        | inl later ↦ later-is c class n cs (omega (arith, above.0)) above.2 later
-            ∙ no-class c class n cs (omega (arith, above.0)) (omega (arith, above.0)) above.3
-      ]
+      grind (arith, no-class c class n cs (omega (arith, above.0)) (omega (arith, above.0)) above.3)
 
   module _ (low c : ℕ) (cs : List ℕ) (one : 1 ≤ low) (above : AreClassesAbove step low (c ∷ cs)) where
     blocks-first : (s : List ℕ) → blocks_above step low (c ∷ cs) c s ≡ blocks_between step low c s
     blocks-first s =
         sum_same _ _ (length s)
-        (λ n within. at-first (rounded_need step n) low c (slice_index s n) _ (λ le. first-is c c n cs le ∙ same-number c)
-        (λ lt. later-is c c n cs (omega (arith, above.0)) above.2 lt ∙ no-class c c n cs (omega (arith, above.0)) (omega arith) above.3))
+        (grind (arith, nat_tests, later-is, no-class))
 
     blocks-later : (class : ℕ) → c < class → (s : List ℕ) → blocks_above step low (c ∷ cs) class s ≡ blocks_above step c cs class s
-    blocks-later class over s =
-        sum_same _ _ (length s)
-        (λ n within. at-later (rounded_need step n) low c (slice_index s n) _ _ above.0
-        (λ le. first-is c class n cs le ∙ other-number c class over) (λ lt. later-is c class n cs (omega (arith, above.0)) above.2 lt))
+    blocks-later class over s = grind (arith, nat_tests, later-is)
 
   above-each : (low j : ℕ) (classes : List ℕ) → AreClassesAbove step low classes → j < length classes → low < get_or classes j 0
   above-each low j [] above lt = absurd (omega arith)
@@ -124,8 +93,7 @@ module _ (step : ℕ) (pos : 0 < step) where
   blocks-at low j [] s one above lt = absurd (omega arith)
   blocks-at low zero (c ∷ cs) s one above lt = blocks-first low c cs one above s
   blocks-at low (suc j) (c ∷ cs) s one above lt =
-      blocks-later low c cs one above (get_or cs j 0) (above-each c j cs above.3 (omega arith)) s
-      ∙ blocks-at c j cs s (omega (arith, above.0)) above.3 (omega arith)
+      grind (arith, blocks-at c j cs s (omega (arith, above.0)) above.3 (omega arith), blocks-later, above-each)
 
   needed : (x v : ℕ) → 2 ≤ x → v ≡ cond (ltb 1 x) v 0
   needed x v two = grind (arith, nat_tests)
@@ -141,14 +109,7 @@ module _ (step : ℕ) (pos : 0 < step) where
   pub sum-later : (f g : ℕ → ℕ) (c low : ℕ) (classes : List ℕ) → ((class : ℕ) → c < class → f class ≡ g class) → c ≤ low
       → AreClassesAbove step low classes → sum_by f classes ≡ sum_by g classes
   sum-later f g c low [] each le above = refl
-  sum-later f g c low (d ∷ ds) each le above =
-      omega (
-        arith,
-        sum_by-cons f d ds,
-        sum_by-cons g d ds,
-        each d (omega (arith, above.0)),
-        sum-later f g c d ds each (omega (arith, above.0)) above.3,
-      )
+  sum-later f g c low (d ∷ ds) each le above = grind (arith, sum-later f g c d ds each (omega (arith, above.0)) above.3, sum_by-cons)
 
   pub footprint-above : (snapshots : List (List ℕ)) (low : ℕ) (classes : List ℕ) → 1 ≤ low → AreClassesAbove step low classes
       → sum_by (footprint_above snapshots step low classes) classes ≡ cost_above (footprint_between snapshots step) low classes
@@ -173,8 +134,7 @@ module _ (step : ℕ) (pos : 0 < step) where
 -- where more is counted than the peaks,
 pub footprint-cost_on : (snapshots : List (List ℕ)) (counts : List ℕ) (step : ℕ) → AreSnapshots snapshots
     → ((n : ℕ) → IsCounted (peaks snapshots) n → IsCounted counts n) → IsIntervalCost counts step (footprint_between snapshots step)
-footprint-cost_on snapshots counts step are covers =
-    interval-more (peaks snapshots) counts step (footprint_between snapshots step) covers (footprint-cost snapshots are step)
+footprint-cost_on snapshots counts step are covers = grind (arith, footprint-cost)
 
 -- as where the largest class is forced
 pub footprint_is_sum : (forced : Bool) (snapshots : List (List ℕ)) (step : ℕ) → 0 < step → AreSnapshots snapshots

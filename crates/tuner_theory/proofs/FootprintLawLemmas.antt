@@ -1,11 +1,11 @@
 -- What holds of footprints: how large they are, what one snapshot makes of them, and what larger histories do.
-use Rattle.std.proofs.Common.{◌≡◌, ℕ, zero, suc, ◌+◌, ◌*◌, ◌^◌, ◌<◌, ◌≤◌, ◌&&◌, Bool, true, false, List, [], ◌∷◌, length, slice_index}
-use Rattle.std.proofs.{Common.{get_or, cond, ltb, leb, arith, refl, ap, sym, subst, ◌∙◌, inl, inr, All, sum_by}, lemmas.List.{ext_get_or}}
-use Rattle.std.proofs.{Math.Nat.{le-max_right, mul-le-mul, mul-le-mul_left, mul-le-mul_right}, lemmas.Bool.Decides.{nat_tests}}
+use Rattle.std.proofs.Common.{◌≡◌, ℕ, suc, ◌+◌, ◌*◌, ◌^◌, ◌<◌, ◌≤◌, ◌&&◌, Bool, List, [], ◌∷◌, length, slice_index}
+use Rattle.std.proofs.{Common.{get_or, cond, ltb, leb, arith, refl, ap, sym, ◌∙◌, inl, inr, All, sum_by}, lemmas.List.{ext_get_or}}
+use Rattle.std.proofs.{Math.Nat.{le-max_right, mul-le-mul_left, mul-le-mul_right}, lemmas.Bool.Decides.{nat_tests}}
 use Rattle.std.proofs.lemmas.{Bool.{cases_lt, cond-false, cond-true, false≢true, le-leb, le-ltb, lt-ltb}, List.Sums.{sum_by-cons}}
 use Rattle.std.specs.List.{AllZip}
 use Rattle.class_table.{proofs.LawLemmas.{AreClassesAbove, classes_of_legal_table}, specs.Sizes.{granule_bytes, largest_counted, loss_of}}
-use Rattle.class_table.specs.{Steps.{IsStep}, Tables.{IsLegalTable}, declared.sizes.TheConstants.{LARGEST_CLASS}}
+use Rattle.class_table.specs.{Steps.{IsStep}, Tables.{IsLegalTable}}
 use Rattle.tuner_theory.proofs.{Footprint.{footprint-above, footprint-all, footprint_is_sum, peak-at, peaks-length}, Needs.{place_is_class}}
 use Rattle.tuner_theory.proofs.{Rounding.{rounded-fits, rounded-positive, step-positive}, Served.{counted-served, served_waste}}
 use Rattle.tuner_theory.proofs.{Sheets.{optimal-best_by}, Spans.{count-small}, Tables.{ServesAbove, ServesAbove-later, waste-sum}}
@@ -30,8 +30,7 @@ most-bounded f bound (s ∷ ss) each =
     omega (arith, each 0 [] (omega arith), most-bounded f bound ss (λ k d lt. each (suc k) d (omega arith)))
 
 masked-bounded : (b : Bool) (v bound : ℕ) → v ≤ bound → cond b v 0 ≤ bound
-masked-bounded true v bound le = le
-masked-bounded false v bound le = omega arith
+masked-bounded b v bound le = grind arith
 
 pub peaks_are_counts : (snapshots : List (List ℕ)) → AreSnapshots snapshots → AreCounts (peaks snapshots)
 peaks_are_counts snapshots are = grind (arith, peaks-length, peak-at, most-bounded, count-small)
@@ -42,8 +41,7 @@ span_footprints_fit snapshots counts step i j is_step are are_counts lt le =
     let class = place_is_class counts step j is_step (omega (arith, are_counts.sizes)) (omega arith) le in
     let counted = most-bounded (blocks_between step (need_at counts step i) (need_at counts step j))
     ((largest_counted + 1) * greatest_count) snapshots (λ k d within. at (get_or snapshots k d) (are.counts k d within)) in
-    let size : 16 * need_at counts step j ≤ 16 * LARGEST_CLASS = omega (arith, class.0.1) in
-    omega (arith, mul-le-mul size counted)
+    grind arith
   where
     masked : (x low high v : ℕ) → v ≤ greatest_count → cond (ltb low x && leb x high) v 0 ≤ greatest_count
     masked x low high v le = masked-bounded (ltb low x && leb x high) v greatest_count le
@@ -118,12 +116,7 @@ module _ (counts : List ℕ) (step : ℕ) (pos : 0 < step) where
       ≡ cost_above (waste_between counts step) low classes + asked_above low
   held-above low [] one above served = omega (arith, asked-none low served)
   held-above low (c ∷ cs) one above served =
-      omega (
-        arith,
-        held-between low c (omega (arith, above.0)),
-        asked-split low c above.0,
-        held-above c cs (omega (arith, above.0)) above.3 (ServesAbove-later counts step pos low c cs one above.0 above.2 served),
-      )
+      grind (arith, held-above c cs (omega (arith, above.0)) above.3 (ServesAbove-later counts step pos low c cs one above.0 above.2 served), held-between, asked-split)
 
 pub one_snapshot : (counts classes : List ℕ) (step : ℕ) → IsStep step → IsLegalTable step classes → Serves counts classes
     → footprint_of (counts ∷ []) classes
@@ -157,14 +150,8 @@ pub fitted_is_tuned : (forced : Bool) (counts classes : List ℕ) (step limit : 
 fitted_is_tuned forced counts classes step limit is_step are fitted =
     canonical-greater (waste_of (served forced counts)) (footprint_of (counts ∷ [])) (served forced counts) step limit
     (sum_below (λ n. slice_index counts n * (n + 16)) (length counts)) classes
-    (λ table candidate.
-    omega (
-      arith,
-      one_snapshot counts table step is_step candidate.legal (λ n counted. candidate.serving n (counted-served forced counts n counted)),
-      served_waste forced counts table candidate.legal.in_range,
-    ))
-    (subst (λ (its : List ℕ). IsCanonicalBy (footprint_of (counts ∷ [])) (served forced its) step limit classes) (peaks-one counts are)
-    fitted)
+    (grind (arith, one_snapshot, counted-served, served_waste))
+    (grind (arith, peaks-one))
 
 -- ---- larger histories
 
@@ -180,11 +167,7 @@ pub counts-more : (f m : List ℕ) → AllZip (λ a b. a ≤ b) f m → (length 
 counts-more [] [] each = (refl, λ n. omega arith)
 counts-more [] (y ∷ ys) each = absurd each
 counts-more (x ∷ xs) [] each = absurd each
-counts-more (x ∷ xs) (y ∷ ys) each = let later = counts-more xs ys each.1 in (omega (arith, later.0), go later.1)
-  where
-    go : ((n : ℕ) → slice_index xs n ≤ slice_index ys n) → (n : ℕ) → slice_index (x ∷ xs) n ≤ slice_index (y ∷ ys) n
-    go later zero = each.0
-    go later (suc n) = later n
+counts-more (x ∷ xs) (y ∷ ys) each = grind (arith, counts-more xs ys each.1)
 
 pub blocks-more : (classes : List ℕ) (class : ℕ) (f m : List ℕ) → AllZip (λ a b. a ≤ b) f m → blocks classes class f ≤ blocks classes class m
 blocks-more classes class f m each = grind (arith, counts-more, sum_at_most)
@@ -194,8 +177,7 @@ most-more : (classes : List ℕ) (class : ℕ) (fewer more : List (List ℕ)) �
 most-more classes class [] [] each = omega arith
 most-more classes class [] (m ∷ ms) each = absurd each
 most-more classes class (f ∷ fs) [] each = absurd each
-most-more classes class (f ∷ fs) (m ∷ ms) each =
-    omega (arith, blocks-more classes class f m each.0, most-more classes class fs ms each.1)
+most-more classes class (f ∷ fs) (m ∷ ms) each = grind (arith, most-more classes class fs ms each.1, blocks-more)
 
 pub counts_more : (fewer more : List (List ℕ)) (classes : List ℕ) → AllZip (λ f m. AllZip (λ a b. a ≤ b) f m) fewer more
     → footprint_of fewer classes ≤ footprint_of more classes

@@ -1,13 +1,13 @@
 -- The numbers of a fit's rows are the least footprints of what is left above each place.
 use Rattle.std.proofs.Common.{◌≡◌, ℕ, ◌*◌, ◌%◌, ◌<◌, ◌≤◌, max, Bool, false, List, [], ◌∷◌, length, map, slice_index, cond, ltb, leb, arith}
-use Rattle.std.proofs.{Common.{refl, ap, sym, ◌∙◌}, lemmas.Bool.Decides.{nat_tests}, lemmas.List.Sums.{sum_by-cons}}
+use Rattle.std.proofs.{Common.{refl, ap, ◌∙◌}, lemmas.Bool.Decides.{nat_tests}, lemmas.List.Sums.{sum_by-cons}}
 use Rattle.class_table.proofs.LawLemmas.{AreClassesAbove}
 use Rattle.tuner_theory.proofs.{BoundRests.{IsRestCost, counted-above, counted-to, left-above, length-above}, Rests.{rows_are_rests}}
 use Rattle.tuner_theory.proofs.Footprint.{no-class, sum-later, blocks_above, footprint-above, footprint-cost_on, footprint_above, later-is}
-use Rattle.tuner_theory.proofs.{Footprint.{most-same}, Rounding.{rounded-positive, step-positive}, Served.{counted-served}}
-use Rattle.tuner_theory.{proofs.Sums.{sum_none, sum_same}, specs.Footprint.{blocks, footprint_between, footprint_of, is_class_of}}
+use Rattle.tuner_theory.proofs.{Footprint.{most-same}, Rounding.{step-positive}, Served.{counted-served}}
+use Rattle.tuner_theory.{proofs.Sums.{sum_none, sum_same}, specs.Footprint.{blocks, footprint_between, footprint_of}}
 use Rattle.tuner_theory.specs.{Histories.{AreSnapshots, most, peaks}, Intervals.{cost_above}, Served.{served}, Tuned.{AreFittedRows}}
-use Rattle.tuner_theory.specs.{Rests.{IsFootprintRest, counts_above, counts_above_from, snapshots_above}, Waste.{sum_below}}
+use Rattle.tuner_theory.specs.{Rests.{IsFootprintRest, counts_above, snapshots_above}}
 use Rattle.tuner_theory.specs.Spans.{need_at, places, rounded_need}
 
 most-map : (f : List ℕ → ℕ) (g : List ℕ → List ℕ) (snapshots : List (List ℕ)) → most f (map g snapshots) ≡ most (λ s. f (g s)) snapshots
@@ -35,11 +35,7 @@ module _ (snapshots : List (List ℕ)) (step : ℕ) (pos : 0 < step) (counts : L
   -- ---- the blocks of a class
 
   blocks-left : (classes : List ℕ) (class : ℕ) → most (blocks classes class) above ≡ most (blocks_above step low classes class) snapshots
-  blocks-left classes class =
-      most-map (blocks classes class) (λ s. counts_above_from 0 s step need) snapshots
-      ∙ most-same _ _ snapshots (λ s. ap (sum_below _) (length-above 0 s step need)
-      ∙ sum_same _ _ (length s) (λ n lt. left (rounded_need step n) need (slice_index s n) _ (is_class_of classes class n)
-      (rounded-positive step pos n) (left-above n s step need)))
+  blocks-left classes class = grind (arith, most-map, length-above, left, left-above)
 
   sum-above : (classes : List ℕ) → AreClassesAbove step low classes
       → footprint_of above classes ≡ cost_above (footprint_between snapshots step) low classes
@@ -52,8 +48,7 @@ module _ (snapshots : List (List ℕ)) (step : ℕ) (pos : 0 < step) (counts : L
   no-blocks : (c : ℕ) (cs : List ℕ) → c ≤ low → 2 ≤ c → c % step ≡ 0 → AreClassesAbove step c cs → (s : List ℕ)
       → blocks_above step low (c ∷ cs) c s ≡ 0
   no-blocks c cs le two multiple are s =
-      sum_none _ (length s) (λ n lt. none (rounded_need step n) (slice_index s n) (is_class_of (c ∷ cs) c n) (λ over.
-      later-is step pos c c n cs two multiple (omega arith) ∙ no-class step pos c c n cs (omega arith) (omega arith) are))
+      sum_none _ (length s) (grind (arith, none, later-is, no-class))
     where
       none : (x v : ℕ) (b : Bool) → (low < x → b ≡ false) → cond (ltb low x) (cond b v 0) 0 ≡ 0
       none x v b is = grind (arith, nat_tests)
@@ -62,8 +57,7 @@ module _ (snapshots : List (List ℕ)) (step : ℕ) (pos : 0 < step) (counts : L
   same-blocks : (c class : ℕ) (cs : List ℕ) → c ≤ low → 2 ≤ c → c % step ≡ 0 → (s : List ℕ)
       → blocks_above step low (c ∷ cs) class s ≡ blocks_above step low cs class s
   same-blocks c class cs le two multiple s =
-      sum_same _ _ (length s) (λ n lt. same (rounded_need step n) (slice_index s n) _ _ (λ over.
-      later-is step pos c class n cs two multiple (omega arith)))
+      sum_same _ _ (length s) (λ n lt. same (rounded_need step n) (slice_index s n) _ _ (grind (arith, later-is)))
     where
       same : (x v : ℕ) (b later : Bool) → (low < x → b ≡ later) → cond (ltb low x) (cond b v 0) 0 ≡ cond (ltb low x) (cond later v 0) 0
       same x v b later is = grind (arith, nat_tests)
@@ -77,8 +71,7 @@ module _ (snapshots : List (List ℕ)) (step : ℕ) (pos : 0 < step) (counts : L
         ap (λ m. 16 * c * m) (blocks-left (c ∷ cs) c ∙ most-same _ _ snapshots (no-blocks c cs le two multiple are) ∙ most-none snapshots),
         sum-later step pos (λ class. 16 * class * most (blocks (c ∷ cs) class) above)
             (λ class. 16 * class * most (blocks cs class) above) c c cs
-            (λ class over. ap (λ m. 16 * class * m) (blocks-left (c ∷ cs) class
-            ∙ most-same _ _ snapshots (same-blocks c class cs le two multiple) ∙ sym (blocks-left cs class))) (omega arith) are,
+            (grind (arith, blocks-left, most-same, same-blocks)) (omega arith) are,
       )
 
   pub footprint-rest : IsRestCost (footprint_of above) (footprint_between snapshots step) counts (counts_above counts step i) step i

@@ -12,6 +12,4 @@ spans_grow counts step pos between cost a i j b ai ij jb le = grind (arith, need
 pub span_footprints_grow : (snapshots : List (List ℕ)) (counts : List ℕ) (step : ℕ) → IsStep step → AreSnapshots snapshots
     → ((n : ℕ) → IsCounted (peaks snapshots) n → IsCounted counts n)
     → IsGrowing (span_cost (footprint_between snapshots step) counts step) (places counts step)
-span_footprints_grow snapshots counts step is_step are covers =
-    spans_grow counts step (step-positive step is_step) (footprint_between snapshots step)
-    (footprint-cost_on snapshots counts step are covers)
+span_footprints_grow snapshots counts step is_step are covers = search (arith, spans_grow, step-positive, footprint-cost_on)

@@ -55,18 +55,7 @@ module _ (cost : ℕ → ℕ → ℕ) (d limit : ℕ) (rows ends rows' ends' : �
   rows-one : (k i : ℕ) → k < limit → i ≤ d → rows (suc k) i ≡ rows' (suc k) i
   rows-one zero i few within = grind (arith, same-at)
   rows-one (suc k) i few within =
-      same-at (suc (suc k)) i (λ before.
-      let row = least.later_row (suc k) i (omega arith) few before in
-      let row' = least'.later_row (suc k) i (omega arith) few before in
-      omega (
-        arith,
-        row.1,
-        row'.1,
-        row.0.least (ends' (suc (suc k)) i) row'.0.from row'.0.to,
-        row'.0.least (ends (suc (suc k)) i) row.0.from row.0.to,
-        rows-one k (ends (suc (suc k)) i) (omega arith) row.0.to,
-        rows-one k (ends' (suc (suc k)) i) (omega arith) row'.0.to,
-      )) within
+      grind (arith, rows-one k (ends (suc (suc k)) i) (omega arith), rows-one k (ends' (suc (suc k)) i) (omega arith), same-at)
 
 -- ---- rows as lists: those of one shape are the same if their numbers are
 

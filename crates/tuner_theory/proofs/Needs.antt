@@ -1,6 +1,6 @@
 -- The distinct needs: they ascend, each is the need of a counted size, and each counted size has its need among them.
-use Rattle.std.proofs.Common.{◌≡◌, ℕ, zero, suc, ◌+◌, ◌%◌, ◌<◌, ◌≤◌, List, [], ◌∷◌, length, slice_index, eqb, ltb, arith, refl, sym, subst}
-use Rattle.std.proofs.{Common.{ap, ◌∙◌, inl, inr, ◌⊎◌}, lemmas.Bool.{cond_both, eqb-true, eqb-false, ltb-true, cases_lt, lt-ltb}}
+use Rattle.std.proofs.Common.{◌≡◌, ℕ, zero, suc, ◌+◌, ◌%◌, ◌<◌, ◌≤◌, List, [], ◌∷◌, length, slice_index, eqb, ltb, arith, refl, sym}
+use Rattle.std.proofs.{Common.{ap, ◌∙◌, inl, inr, ◌⊎◌}, lemmas.Bool.{cond_both, eqb-true, eqb-false, ltb-true, cases_lt}}
 use Rattle.std.specs.Bool.{⊤}
 use Rattle.tuner_theory.proofs.Rounding.{rounded-mono, rounded-multiple, rounded-positive, rounded-small, step-positive}
 use Rattle.tuner_theory.specs.Profiles.{AreCounts, IsCounted}
@@ -26,8 +26,7 @@ Ascends-with_need low need (x ∷ xs) up below lt =
 
 AtMost-with_need : (high need : ℕ) (xs : List ℕ) → AtMost high xs → need ≤ high → AtMost high (with_need xs need)
 AtMost-with_need high need [] below le = (le, tt)
-AtMost-with_need high need (x ∷ xs) below le =
-    cond_both (eqb x need) _ _ (AtMost high) (λ e. below) (λ e. (below.0, AtMost-with_need high need xs below.1 le))
+AtMost-with_need high need (x ∷ xs) below le = grind (arith, AtMost-with_need high need xs below.1 le)
 
 Ascends-first : (low : ℕ) (xs : List ℕ) (i : ℕ) → Ascends low xs → i < length xs → low < slice_index xs i
 Ascends-first low [] i up lt = absurd (omega arith)
@@ -55,21 +54,15 @@ with_need-has need (x ∷ xs) =
 
 with_need-keeps : (need : ℕ) (xs : List ℕ) (i : ℕ) → i < length xs → HasAt (slice_index xs i) (with_need xs need) i
 with_need-keeps need [] i lt = absurd (omega arith)
-with_need-keeps need (x ∷ xs) zero lt =
-    cond_both (eqb x need) _ _ (λ (ys : List ℕ). HasAt x ys 0) (λ e. (omega arith, refl)) (λ e. (omega arith, refl))
-with_need-keeps need (x ∷ xs) (suc i) lt =
-    let later = with_need-keeps need xs i (omega arith) in
-    grind (arith, cond_both)
+with_need-keeps need (x ∷ xs) zero lt = grind arith
+with_need-keeps need (x ∷ xs) (suc i) lt = grind (arith, with_need-keeps need xs i (omega arith))
 
 with_need-from : (need : ℕ) (xs : List ℕ) (i : ℕ) → i < length (with_need xs need)
     → HasAt (slice_index (with_need xs need) i) xs i ⊎ (slice_index (with_need xs need) i ≡ need)
 with_need-from need [] zero lt = inr refl
 with_need-from need [] (suc i) lt = absurd (omega arith)
-with_need-from need (x ∷ xs) zero lt =
-    inl (omega arith, cond_both (eqb x need) _ _ (λ (ys : List ℕ). x ≡ slice_index ys 0) (λ e. refl) (λ e. refl))
-with_need-from need (x ∷ xs) (suc i) lt =
-    let later = with_need-from need xs i in
-    grind (arith, cond_both)
+with_need-from need (x ∷ xs) zero lt = grind arith
+with_need-from need (x ∷ xs) (suc i) lt = grind (arith, with_need-from need xs i)
 
 -- ---- the needs of the counted sizes below m
 
@@ -102,19 +95,12 @@ needs-has counts step (suc m) n lt some =
           let new = with_need-has (rounded_need step m) (needs_below counts step m) in
           (new.0, (new.1.0, new.1.1 ∙ ap (rounded_need step) same)))
     ])
-    (λ e. elim (cases_lt n m) [
-      | inl below ↦ before below some
-      | inr not ↦ absurd (let same : n ≡ m = omega arith in
-          let counted : 0 < slice_index counts m = subst (λ (k : ℕ). 0 < slice_index counts k) same some in
-          let test = lt-ltb 0 (slice_index counts m) counted in cc)
-    ])
+    (grind arith)
 
 module _ (counts : List ℕ) (step : ℕ) (pos : 0 < step) where
   AtMost-needs : (m high : ℕ) → ((n : ℕ) → n < m → rounded_need step n ≤ high) → AtMost high (needs_below counts step m)
   AtMost-needs zero high each = tt
-  AtMost-needs (suc m) high each =
-      let before = AtMost-needs m high (λ n lt. each n (omega arith)) in
-      grind (arith, cond_both, AtMost-with_need)
+  AtMost-needs (suc m) high each = grind (arith, AtMost-needs m high, AtMost-with_need)
 
   Ascends-needs : (m : ℕ) → Ascends 0 (needs_below counts step m)
   Ascends-needs zero = tt
@@ -127,11 +113,7 @@ module _ (counts : List ℕ) (step : ℕ) (pos : 0 < step) where
   places_ascend i j lt le = Ascends-places 0 (distinct_needs counts step) i j (Ascends-needs (length counts)) lt le
 
   pub need_at-mono : (i j : ℕ) → i ≤ j → j ≤ places counts step → need_at counts step i ≤ need_at counts step j
-  need_at-mono i j ij le =
-      elim (cases_lt i j) [
-        | inl lt ↦ omega (arith, places_ascend i j lt le)
-        | inr not ↦ (let same : i ≡ j = omega arith in omega (arith, ap (need_at counts step) same))
-      ]
+  need_at-mono i j ij le = grind (arith, places_ascend)
 
 -- ---- places
 
@@ -203,19 +185,11 @@ module _ (counts : List ℕ) (step : ℕ) (pos : 0 < step) where
       → rounded_need step n ≤ x → rounded_need step n ≤ need_at counts step j
   reach-covers x j n r counted le =
       let at = counted_has_place counts step n counted in
-      let before : at.0 ≤ j = r.last at.0 at.2 (omega (arith, at.3)) in
-      omega (arith, at.3, need_at-mono counts step pos at.0 j before r.within)
+      grind (arith, need_at-mono)
 
   -- a place's need reaches that place
   pub reach-at : (j : ℕ) → j ≤ places counts step → Reaches counts step (need_at counts step j) (places counts step) j
-  reach-at j le = record {
-    within = le;
-    reached = omega arith;
-    last = λ i within below. elim (cases_lt j i) [
-      | inl above ↦ absurd (omega (arith, places_ascend counts step pos j i above within))
-      | inr not ↦ not
-    ];
-  }
+  reach-at j le = grind (arith, places_ascend)
 
   -- no need is as small as 1
   pub reach-one : Reaches counts step 1 (places counts step) 0

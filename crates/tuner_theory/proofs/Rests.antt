@@ -14,11 +14,7 @@ module _ (between : ℕ → ℕ → ℕ) (counts : List ℕ) (step limit : ℕ) 
   rest-at k le lt = record {
     table = table;
     best = record {
-      candidate = record {
-        legal = legal_table_of_classes step low table (omega arith) (omega (arith, is.few, made.few)) is.above;
-        few = is.few;
-        serving = λ n counted. let c = rest.from n counted in is.served n c.0 (over n c.1);
-      };
+      candidate = grind (arith, legal_table_of_classes, is);
       least = λ other candidate.
           omega (
             arith,

@@ -1,5 +1,5 @@
 -- Needs, rounded up, against the classes that serve.
-use Rattle.std.proofs.{Common.{◌≡◌, ℕ, ◌+◌, ◌-◌, ◌*◌, ◌%◌, ◌<◌, ◌≤◌, arith, refl}, Math.Nat.{lt-mul-div-succ}}
+use Rattle.std.proofs.{Common.{◌≡◌, ℕ, ◌-◌, ◌*◌, ◌%◌, ◌<◌, ◌≤◌, arith}}
 use Rattle.class_table.specs.{Sizes.{largest_counted, need_of}, Steps.{IsLeastMultiple, IsStep, round_up}}
 use Rattle.class_table.specs.declared.sizes.TheConstants.{LARGEST_CLASS, SMALLEST_CLASS}
 use Rattle.tuner_theory.specs.Spans.{rounded_need}
@@ -13,13 +13,7 @@ at_each_step P one two four eight step h = grind arith
 pub step-positive : (step : ℕ) → IsStep step → 0 < step
 step-positive = at_each_step (λ step. 0 < step) (omega arith) (omega arith) (omega arith) (omega arith)
 
-largest-multiple : (step : ℕ) → IsStep step → LARGEST_CLASS % step ≡ 0
-largest-multiple = at_each_step (λ step. LARGEST_CLASS % step ≡ 0) refl refl refl refl
-
 -- ---- rounding
-
-round_up-above : (need step : ℕ) → 0 < step → need ≤ round_up need step
-round_up-above need step pos = omega (arith, lt-mul-div-succ (need + step - 1) pos)
 
 -- none of the multiples that are not below the need is below the rounded one
 round_up-least : (need step other : ℕ) → 0 < step → other % step ≡ 0 → need ≤ other → round_up need step ≤ other
@@ -28,43 +22,25 @@ round_up-least need step other pos multiple le = grind arith
 pub rounding_is_least : (step need : ℕ) → 0 < step → IsLeastMultiple step need (round_up need step)
 rounding_is_least step need pos = grind arith
 
-pub rounding_fits : (step need : ℕ) → IsStep step → need ≤ LARGEST_CLASS → round_up need step ≤ LARGEST_CLASS
-rounding_fits step need is_step le = round_up-least need step LARGEST_CLASS (step-positive step is_step) (largest-multiple step is_step) le
-
 -- ---- rounded needs
 
-need-mono : (m n : ℕ) → m ≤ n → need_of m ≤ need_of n
-need-mono m n le = omega arith
-
-need-positive : (n : ℕ) → SMALLEST_CLASS ≤ need_of n
-need-positive n = omega arith
-
-need-small : (n : ℕ) → n ≤ largest_counted → need_of n ≤ LARGEST_CLASS
-need-small n le = omega arith
-
-need-fits : (n class : ℕ) → need_of n ≤ class → n ≤ 16 * class - 16
-need-fits n class le = omega arith
-
-fits-need : (n class : ℕ) → 2 ≤ class → n ≤ 16 * class - 16 → need_of n ≤ class
-fits-need n class two le = omega arith
-
 pub rounded-small : (step n : ℕ) → IsStep step → n ≤ largest_counted → rounded_need step n ≤ LARGEST_CLASS
-rounded-small step n is_step le = rounding_fits step (need_of n) is_step (need-small n le)
+rounded-small step n is_step le = grind arith
 
 module _ (step : ℕ) (pos : 0 < step) where
   pub rounded-multiple : (n : ℕ) → rounded_need step n % step ≡ 0
   rounded-multiple n = (rounding_is_least step (need_of n) pos).multiple
 
   pub rounded-mono : (m n : ℕ) → m ≤ n → rounded_need step m ≤ rounded_need step n
-  rounded-mono m n le = grind (arith, rounding_is_least, round_up-least, need-mono)
+  rounded-mono m n le = grind (arith, rounding_is_least, round_up-least)
 
   pub rounded-positive : (n : ℕ) → SMALLEST_CLASS ≤ rounded_need step n
-  rounded-positive n = omega (arith, round_up-above (need_of n) step pos, need-positive n)
+  rounded-positive n = omega arith
 
   -- a class that is not below the rounded need serves,
   pub rounded-fits : (n class : ℕ) → rounded_need step n ≤ class → n ≤ 16 * class - 16
-  rounded-fits n class le = need-fits n class (omega (arith, round_up-above (need_of n) step pos))
+  rounded-fits n class le = omega arith
 
   -- and a class that serves, where it is a multiple of the step, is not below it
   pub fits-rounded : (n class : ℕ) → 2 ≤ class → class % step ≡ 0 → n ≤ 16 * class - 16 → rounded_need step n ≤ class
-  fits-rounded n class two multiple le = round_up-least (need_of n) step class pos multiple (fits-need n class two le)
+  fits-rounded n class two multiple le = grind arith

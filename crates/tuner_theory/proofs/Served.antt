@@ -1,51 +1,36 @@
 -- The counts that have to be served: what is counted in them, which tables serve them, and what a table wastes on them.
 use Rattle.std.proofs.Common.{◌≡◌, ◌≢◌, ◌↔◌, ℕ, zero, suc, ◌-◌, ◌*◌, ◌<◌, ◌≤◌, Bool, true, false, List, [], ◌∷◌, length, slice_index}
-use Rattle.std.proofs.Common.{slice_index_or, max, leb, arith, refl, ap, subst, ◌∙◌, inl, inr, ◌⊎◌, unwrap_or, IsSome, All, Contains}
-use Rattle.std.proofs.lemmas.Bool.{cases_eq, cases_lt, cond-false, cond_both, cond-true, false≢true, le-leb, lt-leb}
+use Rattle.std.proofs.Common.{slice_index_or, max, arith, refl, ap, subst, ◌∙◌, inl, inr, ◌⊎◌, unwrap_or, IsSome, All, Contains}
+use Rattle.std.proofs.lemmas.Bool.{cases_eq, cases_lt, cond-false, cond-true, false≢true, le-leb, lt-leb}
 use Rattle.std.proofs.lemmas.{List.{get_or-set_other, get_or-set_same, length-set}, List.Elements.{All-head, All-tail}}
 use Rattle.class_table.specs.{Sizes.{IsBlockSize, largest_counted, loss_of}, Tables.{IsLegalTable, class_for}}
 use Rattle.class_table.specs.declared.sizes.TheConstants.{LARGEST_CLASS}
-use Rattle.tuner_theory.{proofs.Sums.{sum_same}, specs.Best.{IsBestBy}, specs.Forced.{IsBestWithLargest}, specs.Intervals.{IsIntervalCost}}
+use Rattle.tuner_theory.{proofs.Sums.{sum_same}, specs.Best.{IsBestBy}, specs.Forced.{IsBestWithLargest}}
 use Rattle.tuner_theory.specs.{Profiles.{AreCounts, IsCounted}, Served.{served}, Waste.{Serves, sum_below, waste_at, waste_of}}
 
 -- ---- what is counted
 
 pub served-length : (forced : Bool) (counts : List ℕ) → length (served forced counts) ≡ length counts
-served-length false counts = refl
-served-length true counts = length-set counts largest_counted (max 1 (slice_index counts largest_counted))
+served-length forced counts = grind (arith, length-set)
 
 -- the other sizes are counted as often as before
 pub served-other : (forced : Bool) (counts : List ℕ) (n d : ℕ) → n ≢ largest_counted
     → slice_index_or (served forced counts) n d ≡ slice_index_or counts n d
-served-other false counts n d other = refl
-served-other true counts n d other = get_or-set_other counts largest_counted n (max 1 (slice_index counts largest_counted)) d other
+served-other forced counts n d other = grind (arith, get_or-set_other)
 
 served-here : (counts : List ℕ) (n d : ℕ) → n ≡ largest_counted → n < length counts
     → slice_index_or (served true counts) n d ≡ max 1 (slice_index counts largest_counted)
-served-here counts n d here lt =
-    ap (λ m. slice_index_or (served true counts) m d) here
-    ∙ get_or-set_same counts largest_counted (max 1 (slice_index counts largest_counted)) d (omega (arith, here, lt))
+served-here counts n d here lt = grind (arith, get_or-set_same)
 
 pub counted-served : (forced : Bool) (counts : List ℕ) (n : ℕ) → IsCounted counts n → IsCounted (served forced counts) n
-counted-served false counts n counted = counted
-counted-served true counts n counted = (
-  omega (arith, counted.0, served-length true counts),
-  elim (cases_eq n largest_counted) [
-    | inl here ↦ omega (arith, served-here counts n 0 here counted.0)
-    | inr other ↦ omega (arith, counted.1, served-other true counts n 0 other)
-  ],
-)
+counted-served forced counts n counted = grind (arith, served-length, served-here, served-other)
 
 pub largest-served : (counts : List ℕ) → largest_counted < length counts → IsCounted (served true counts) largest_counted
 largest-served counts lt = (omega (arith, lt, served-length true counts), omega (arith, served-here counts largest_counted 0 refl lt))
 
 pub served-cases : (forced : Bool) (counts : List ℕ) (n : ℕ) → IsCounted (served forced counts) n
     → IsCounted counts n ⊎ ((forced ≡ true) × (n ≡ largest_counted))
-served-cases false counts n counted = inl counted
-served-cases true counts n counted = elim (cases_eq n largest_counted) [
-  | inl here ↦ inr (refl, here)
-  | inr other ↦ inl (omega (arith, counted.0, served-length true counts), omega (arith, counted.1, served-other true counts n 0 other))
-]
+served-cases forced counts n counted = grind (arith, served-length, served-other)
 
 -- where more is counted, more has to be served
 pub served-more : (forced : Bool) (few more : List ℕ) (n : ℕ) → largest_counted < length more
@@ -56,23 +41,7 @@ served-more forced few more n lt covers counted = elim (served-cases forced few 
 ]
 
 pub served_are_counts : (forced : Bool) (counts : List ℕ) → AreCounts counts → AreCounts (served forced counts)
-served_are_counts false counts are = are
-served_are_counts true counts are = record {
-  sizes = served-length true counts ∙ are.sizes;
-  in_range = λ n d lt. elim (cases_eq n largest_counted) [
-    | inl here ↦ omega (
-      arith,
-      served-here counts n d here (omega (arith, lt, served-length true counts)),
-      are.in_range largest_counted 0 (omega (arith, are.sizes)),
-    )
-    | inr other ↦ omega (arith, served-other true counts n d other, are.in_range n d (omega (arith, lt, served-length true counts)))
-  ];
-}
-
--- a cost of intervals stays one where more is counted
-pub interval-more : (few more : List ℕ) (step : ℕ) (between : ℕ → ℕ → ℕ) → ((n : ℕ) → IsCounted few n → IsCounted more n)
-    → IsIntervalCost few step between → IsIntervalCost more step between
-interval-more few more step between covers cost a b low high bh has = cost a b low high bh (λ n counted. has n (covers n counted))
+served_are_counts forced counts are = grind (arith, served-length, served-here, served-other)
 
 -- ---- tables with the largest class
 
@@ -91,8 +60,7 @@ some-largest : (classes : List ℕ) (k : ℕ) → k < length classes → slice_i
     → IsSome (class_for classes largest_counted)
 some-largest [] k lt is = absurd (omega arith)
 some-largest (c ∷ cs) zero lt is = rw (cond-true _ _ _ (le-leb largest_counted (16 * c - 16) (omega arith))) refl
-some-largest (c ∷ cs) (suc k) lt is =
-    cond_both (leb largest_counted (16 * c - 16)) _ _ IsSome (λ e. refl) (λ e. some-largest cs k (omega arith) is)
+some-largest (c ∷ cs) (suc k) lt is = grind (arith, some-largest cs k (omega arith) is)
 
 pub serves_largest : (counts classes : List ℕ) → AreCounts counts → All IsBlockSize classes
     → Serves (served true counts) classes ↔ (Serves counts classes × Contains classes LARGEST_CLASS)
@@ -111,13 +79,10 @@ serves_largest counts classes are sizes = (
 
 small-class : (classes : List ℕ) (n : ℕ) → All IsBlockSize classes → unwrap_or (class_for classes n) 0 ≤ LARGEST_CLASS
 small-class [] n all = omega arith
-small-class (c ∷ cs) n all =
-    cond_both (leb n (16 * c - 16)) _ _ (λ o. unwrap_or o 0 ≤ LARGEST_CLASS) (λ e. (All-head IsBlockSize c cs all).1)
-    (λ e. small-class cs n (All-tail IsBlockSize c cs all))
+small-class (c ∷ cs) n all = grind (arith, small-class cs n (All-tail IsBlockSize c cs all), All-head)
 
 no-loss : (count other n class : ℕ) → n ≡ largest_counted → class ≤ LARGEST_CLASS → count * loss_of n class ≡ other * loss_of n class
-no-loss count other n class here le =
-    let none : loss_of n class ≡ 0 = omega (arith, here) in omega (arith, ap (λ l. count * l) none, ap (λ l. other * l) none)
+no-loss count other n class here le = grind arith
 
 pub served_waste : (forced : Bool) (counts classes : List ℕ) → All IsBlockSize classes
     → waste_of (served forced counts) classes ≡ waste_of counts classes

@@ -21,9 +21,7 @@ loss-mono count n c d cd = mul-le-mul_left count (omega arith)
 
 pub needs_cross : (counts : List ℕ) (step a b c d : ℕ) → a ≤ b → b ≤ c → c ≤ d
     → waste_between counts step a c + waste_between counts step b d ≤ waste_between counts step a d + waste_between counts step b c
-needs_cross counts step a b c d ab bc cd =
-    sum_exchange _ _ _ _ (length counts)
-    (λ n lt. cross-at_one (rounded_need step n) a b c d _ _ ab bc cd (loss-mono (slice_index counts n) n c d cd))
+needs_cross counts step a b c d ab bc cd = search (arith, sum_exchange, cross-at_one, loss-mono)
 
 pub places_cross : (counts : List ℕ) (step a b c d : ℕ) → IsStep step → a ≤ b → b ≤ c → c ≤ d → d ≤ places counts step
     → span_waste counts step a c + span_waste counts step b d ≤ span_waste counts step a d + span_waste counts step b c

@@ -1,12 +1,12 @@
 -- A table and its waste, class by class.
 use Rattle.std.proofs.Common.{◌≡◌, ℕ, ◌+◌, ◌-◌, ◌*◌, ◌%◌, ◌<◌, ◌≤◌, ◌&&◌, List, [], ◌∷◌, length, cond, ltb, leb, Option, Some, unwrap_or}
-use Rattle.std.proofs.{Common.{arith, sym, inl, inr, IsSome}, Math.Nat.{mul-le-mul_right}, lemmas.Bool.Decides.{nat_tests}}
-use Rattle.std.proofs.lemmas.Bool.{cases_lt, cond_both, cond-true, le-leb, lt-ltb, false≢true}
+use Rattle.std.proofs.{Common.{arith, inl, inr, IsSome}, Math.Nat.{mul-le-mul_right}, lemmas.Bool.Decides.{nat_tests}}
+use Rattle.std.proofs.lemmas.Bool.{cases_lt, cond_both, cond-true, le-leb}
 use Rattle.class_table.{proofs.LawLemmas.{AreClassesAbove, classes_of_legal_table}, specs.Sizes.{loss_of}, specs.Tables.{class_for}}
-use Rattle.tuner_theory.proofs.{Needs.{Reaches, place_is_counted}, Rounding.{fits-rounded, rounded-fits, rounded-positive}}
-use Rattle.tuner_theory.{proofs.Spans.{loss-mono}, proofs.Sums.{sum_at_most, sum_none, sum_same, sum_split}, specs.Profiles.{IsCounted}}
+use Rattle.tuner_theory.proofs.{Needs.{Reaches, place_is_counted}, Rounding.{fits-rounded, rounded-fits}}
+use Rattle.tuner_theory.{proofs.Spans.{loss-mono}, proofs.Sums.{sum_at_most, sum_none, sum_split}, specs.Profiles.{IsCounted}}
 use Rattle.tuner_theory.specs.{Intervals.{IsIntervalCost, IsSumOfIntervals, cost_above}, Waste.{sum_below, waste_at, waste_of}}
-use Rattle.tuner_theory.specs.Spans.{need_at, places, rounded_need, waste_between}
+use Rattle.tuner_theory.specs.Spans.{places, rounded_need, waste_between}
 
 -- ---- the class of a request, by its rounded need
 
@@ -41,8 +41,7 @@ first-or-later x low c k n rest lt fits back = grind (arith, nat_tests)
 module _ (counts : List ℕ) (step : ℕ) (pos : 0 < step) where
   -- every need is above 1
   pub waste_above-all : (classes : List ℕ) → waste_of counts classes ≡ waste_above counts step 1 classes
-  waste_above-all classes =
-      sum_same _ _ (length counts) (λ n lt. sym (cond-true _ _ _ (lt-ltb 1 (rounded_need step n) (rounded-positive step pos n))))
+  waste_above-all classes = grind arith
 
   -- the first class serves the needs up to it, the later ones the rest
   pub waste_above-cons : (low c : ℕ) (cs : List ℕ) → 1 ≤ low → low < c → c % step ≡ 0
@@ -59,8 +58,7 @@ module _ (counts : List ℕ) (step : ℕ) (pos : 0 < step) where
   pub waste_above-costs : (low : ℕ) (classes : List ℕ) → 1 ≤ low → AreClassesAbove step low classes
       → waste_above counts step low classes ≡ cost_above (waste_between counts step) low classes
   waste_above-costs low [] one above = waste_above-none counts step low
-  waste_above-costs low (c ∷ cs) one above =
-      omega (arith, waste_above-cons low c cs one above.0 above.2, waste_above-costs c cs (omega (arith, above.0)) above.3)
+  waste_above-costs low (c ∷ cs) one above = grind (arith, waste_above-costs c cs (omega (arith, above.0)) above.3, waste_above-cons)
 
   -- where no class is left and all are served, all places are reached
   pub nothing-left : (low i : ℕ) (classes : List ℕ) → length classes ≤ 0
@@ -70,10 +68,7 @@ module _ (counts : List ℕ) (step : ℕ) (pos : 0 < step) where
       elim (cases_lt 0 (places counts step)) [
         | inr no_place ↦ omega (arith, r.within)
         | inl some ↦ (let end = place_is_counted counts step (places counts step) some (omega arith) in
-            elim (cases_lt low (need_at counts step (places counts step))) [
-              | inl above ↦ absurd (false≢true (served end.0 end.1 (omega (arith, end.2))))
-              | inr below ↦ omega (arith, r.within, r.last (places counts step) (omega arith) below)
-            ])
+            grind arith)
       ]
 
 -- ---- the waste as a cost of intervals

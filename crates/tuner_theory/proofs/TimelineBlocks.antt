@@ -1,6 +1,6 @@
 -- What one event changes of the blocks of a class, and of the most that were live.
-use Rattle.std.proofs.Common.{◌≡◌, ℕ, zero, suc, ◌+◌, ◌*◌, ◌<◌, ◌≤◌, Bool, true, false, List, [], ◌∷◌, ◌++◌, length, map, max, slice_index}
-use Rattle.std.proofs.{Common.{get_or, cond, eqb, ltb, arith, refl, ap, sym, ◌∙◌, inl, inr, add-one}, lemmas.Bool.{cases_order}}
+use Rattle.std.proofs.Common.{◌≡◌, ℕ, zero, suc, ◌+◌, ◌<◌, ◌≤◌, Bool, List, [], ◌∷◌, ◌++◌, length, map, max, slice_index}
+use Rattle.std.proofs.{Common.{get_or, cond, eqb, ltb, arith, refl, ap, sym, ◌∙◌, add-one}}
 use Rattle.std.{proofs.lemmas.Bool.Decides.{nat_tests}, specs.List.{range_with_len}}
 use Rattle.std.proofs.lemmas.List.FromFn.{get_or-map-range_with_len, length-map-range_with_len, map-range_with_len_more}
 use Rattle.class_table.specs.Sizes.{largest_counted}
@@ -15,23 +15,10 @@ use Rattle.tuner_theory.specs.declared.size_event.SizeEvent.TheVariants.{Request
 pub sum-one : (p : ℕ → Bool) (size m : ℕ)
     → sum_below (λ n. cond (p n) (cond (eqb size n) 1 0) 0) m ≡ cond (ltb size m) (cond (p size) 1 0) 0
 sum-one p size zero = sum_below-none (λ n. cond (p n) (cond (eqb size n) 1 0) 0) ∙ grind (arith, nat_tests)
-sum-one p size (suc m) =
-    sum_below-more (λ n. cond (p n) (cond (eqb size n) 1 0) 0) m ∙ go (p m) refl (sum-one p size m)
-  where
-    go : (b : Bool) → p m ≡ b
-        → sum_below (λ n. cond (p n) (cond (eqb size n) 1 0) 0) m ≡ cond (ltb size m) (cond (p size) 1 0) 0
-        → sum_below (λ n. cond (p n) (cond (eqb size n) 1 0) 0) m + cond (p m) (cond (eqb size m) 1 0) 0
-        ≡ cond (ltb size (suc m)) (cond (p size) 1 0) 0
-    go b is before =
-        elim (cases_order size m) [
-          | inl same ↦ rw (before, same) (grind (arith, nat_tests))
-          | inr (inl under) ↦ grind (arith, nat_tests)
-          | inr (inr over) ↦ grind (arith, nat_tests)
-        ]
+sum-one p size (suc m) = grind (arith, sum-one p size m, sum_below-more, nat_tests)
 
 none-masked : (b : Bool) → cond {A = ℕ} b 0 0 ≡ 0
-none-masked true = refl
-none-masked false = refl
+none-masked b = grind arith
 
 -- how many blocks of a class an event makes live, and how many it ends
 abbrev pub comes_at : List ℕ → ℕ → SizeEvent → ℕ
@@ -59,20 +46,9 @@ free-goes classes class size le = (
 pub large-does-nothing : (classes : List ℕ) (class size : ℕ) → largest_counted < size
     → ((comes_at classes class (Request size) ≡ 0) × (goes_at classes class (Request size) ≡ 0))
     × ((comes_at classes class (Free size) ≡ 0) × (goes_at classes class (Free size) ≡ 0))
-large-does-nothing classes class size lt =
-    let none : (size : ℕ) → largest_counted < size → cond (ltb size (largest_counted + 1)) (cond (is_class_of classes class size) 1 0) 0 ≡ 0 =
-    λ s over. grind (arith, nat_tests) in
-    let one = sum-one (is_class_of classes class) size (largest_counted + 1) ∙ none size lt in
-    let zero : sum_below (λ n. cond (is_class_of classes class n) 0 0) (largest_counted + 1) ≡ 0 =
-    sum_none _ (largest_counted + 1) (λ n lt. none-masked (is_class_of classes class n)) in
-    ((one, zero), (zero, one))
+large-does-nothing classes class size lt = grind (arith, sum_none)
 
 -- ---- the blocks of a class, event by event
-
-masked-balance : (b : Bool) (more fewer now then : ℕ) → then + fewer ≡ now + more
-    → cond b then 0 + cond b fewer 0 + 1 * 0 ≡ 1 * cond b now 0 + cond b more 0
-masked-balance true more fewer now then is = omega arith
-masked-balance false more fewer now then is = refl
 
 pub blocks-step : (events : List SizeEvent) (classes : List ℕ) (class k : ℕ) (d : SizeEvent) → IsTimeline events → k < length events
     → blocks classes class (snapshot_at events (suc k)) + goes_at classes class (get_or events k d)
@@ -82,7 +58,7 @@ blocks-step events classes class k d timeline lt =
     let p = is_class_of classes class in
     let balance = sum_balance (λ n. cond (p n) (slice_index (snapshot_at events (suc k)) n) 0) (λ n. cond (p n) (frees_at n e) 0) (λ n. 0)
     (λ n. cond (p n) (slice_index (snapshot_at events k) n) 0) (λ n. cond (p n) (requests_at n e) 0) 1 (largest_counted + 1)
-    (λ n within. masked-balance (p n) (requests_at n e) (frees_at n e) _ _ (at n (omega arith))) in
+    (grind (arith, at)) in
     omega (
       arith,
       balance,
@@ -107,11 +83,7 @@ blocks-step events classes class k d timeline lt =
 
 -- before any event
 pub blocks-none : (events : List SizeEvent) (classes : List ℕ) (class : ℕ) → blocks classes class (snapshot_at events 0) ≡ 0
-blocks-none events classes class =
-    sum_none _ (length (snapshot_at events 0)) (λ n lt.
-    ap (λ v. cond (is_class_of classes class n) v 0)
-    (live-at events 0 n 0 (omega (arith, snapshot-length events 0)))
-    ∙ none-masked (is_class_of classes class n))
+blocks-none events classes class = grind (arith, sum_none, live-at, snapshot-length)
 
 -- ---- the most
 

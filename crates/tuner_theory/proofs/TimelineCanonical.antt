@@ -1,9 +1,9 @@
 -- A table that is chosen for some moments, and takes no more over all of them, is the one that is chosen for the timeline.
 use Rattle.std.proofs.Common.{◌≡◌, ℕ, zero, suc, ◌+◌, ◌*◌, ◌<◌, ◌≤◌, Bool, true, false, List, [], ◌∷◌, length, slice_index, get_or, cond}
-use Rattle.std.proofs.{Common.{eqb, arith, refl, ap, ◌∙◌, inl, inr, All, sum_by, Option, Some, None}, lemmas.List.{get_or-map, length-map}}
-use Rattle.std.proofs.{Math.Nat.{mul-le-mul, mul-le-mul_left}, lemmas.Bool.{cases_lt, cond-true, eq-eqb, eqb-true}}
-use Rattle.std.{proofs.lemmas.List.Elements.{All-cons, All-nil}, proofs.lemmas.List.Sums.{sum_by-cons}, specs.Option.{option_map_or}}
-use Rattle.class_table.specs.{Sizes.{largest_counted}, Tables.{class_for}}
+use Rattle.std.proofs.{Common.{eqb, arith, refl, ap, ◌∙◌, inl, inr, All, sum_by, Option}, lemmas.List.{get_or-map, length-map}}
+use Rattle.std.proofs.{Math.Nat.{mul-le-mul, mul-le-mul_left}, lemmas.Bool.{cases_lt, eq-eqb}}
+use Rattle.std.{proofs.lemmas.List.Elements.{All-nil}, proofs.lemmas.List.Sums.{sum_by-cons}, specs.Option.{option_map_or}}
+use Rattle.class_table.specs.{Sizes.{largest_counted}}
 use Rattle.tuner_theory.{proofs.Footprint.{most-above, peak-at, peaks-length}, proofs.FootprintLawLemmas.{sum-more}, specs.Served.{served}}
 use Rattle.tuner_theory.{proofs.Served.{counted-served, largest-served, served-cases}, specs.Histories.{most, peaks}}
 use Rattle.tuner_theory.proofs.Timelines.{moments-length, snapshot-length, some-below, some_moments_take_less, candidate-before}
@@ -34,19 +34,10 @@ positive-most f (s ∷ ss) some =
 term-below : (f : ℕ → ℕ) (n m : ℕ) → n < m → f n ≤ sum_below f m
 unfolding sum_below
 term-below f n zero lt = absurd (omega arith)
-term-below f n (suc m) lt =
-    elim (cases_lt n m) [
-      | inl before ↦ omega (arith, term-below f n m before)
-      | inr last ↦ let same : n ≡ m = omega arith in omega (arith, ap f same)
-    ]
+term-below f n (suc m) lt = grind (arith, term-below f n m)
 
 masked : (b : Bool) (v : ℕ) → 0 < cond b v 0 → (b ≡ true) × (0 < v)
-masked true v some = (refl, some)
-masked false v some = absurd (omega arith)
-
-class-of : (o : Option ℕ) (class : ℕ) → option_map_or (λ its. eqb its class) o false ≡ true → o ≡ Some class
-class-of None class is = cc
-class-of (Some its) class is = ap Some (eqb-true its class is)
+masked b v some = grind arith
 
 -- ---- classes that are used
 
@@ -60,19 +51,7 @@ used-of-blocks events numbers classes class some =
     let parts = masked (is_class_of classes class n.0) (slice_index s n.0) n.2 in
     let len : length s ≡ largest_counted + 1 =
     ap length (get_or-map (snapshot_at events) numbers there.0 0 [] (omega (arith, there.1, length-map numbers (snapshot_at events))))
-    ∙ snapshot-length events (get_or numbers there.0 0) in (
-      n.0,
-      (
-        omega (arith, n.1, len, peaks-length history),
-        omega (
-          arith,
-          parts.1,
-          peak-at history n.0 0 (omega (arith, n.1, len)),
-          most-above (λ t. slice_index t n.0) history there.0 [] there.1,
-        ),
-      ),
-      class-of (class_for classes n.0) class parts.0,
-    )
+    ∙ snapshot-length events (get_or numbers there.0 0) in grind (arith, peaks-length, peak-at, most-above)
 
 blocks-of-used : (events : List SizeEvent) (classes : List ℕ) (class : ℕ) → IsUsed (peaks (moments events)) classes class
     → 0 < most (blocks classes class) (moments events)
@@ -86,17 +65,13 @@ blocks-of-used events classes class used =
     let its : is_class_of classes class n ≡ true =
     ap (λ (o : Option ℕ). option_map_or (λ its. eqb its class) o false) used.2 ∙ eq-eqb class class refl in
     let term = term-below (λ m. cond (is_class_of classes class m) (slice_index s m) 0) n (length s) (omega (arith, len)) in
-    let value : cond (is_class_of classes class n) (slice_index s n) 0 ≡ slice_index s n = cond-true _ _ _ its in
-    omega (arith, there.2, term, value, most-above (blocks classes class) (moments events) there.0 [] there.1)
+    grind (arith, most-above)
 
 -- ---- sums that are equal term by term
 
 terms-equal : (f g : ℕ → ℕ) (cs : List ℕ) → ((c : ℕ) → f c ≤ g c) → sum_by g cs ≤ sum_by f cs → All (λ c. g c ≤ f c) cs
 terms-equal f g [] each le = All-nil (λ c. g c ≤ f c)
-terms-equal f g (c ∷ cs) each le =
-    All-cons (λ c. g c ≤ f c) c cs
-    (omega (arith, sum_by-cons f c cs, sum_by-cons g c cs, sum-more f g cs each))
-    (terms-equal f g cs each (omega (arith, sum_by-cons f c cs, sum_by-cons g c cs, each c)))
+terms-equal f g (c ∷ cs) each le = grind (arith, terms-equal f g cs each, sum_by-cons, sum-more)
 
 pub canonical_over : (forced : Bool) (events : List SizeEvent) (numbers : List ℕ) (step limit : ℕ) (classes : List ℕ)
     → AreMoments events numbers → IsFitted forced (history_at events numbers) step limit classes → Serves (peaks (moments events)) classes
@@ -120,14 +95,7 @@ canonical_over forced events numbers step limit classes are fitted serving same 
       least = λ other best used.
           fitted.least other (record {
             candidate = candidate-before forced events numbers step limit other are best.candidate;
-            least = λ third candidate.
-                omega (
-                  arith,
-                  same,
-                  some_moments_take_less events numbers other are,
-                  best.least classes its,
-                  fitted.best.least third candidate,
-                );
+            least = grind (arith, some_moments_take_less, its);
           }) (λ k d lt. still-used other best k d lt (used k d lt));
     }
   where
@@ -157,11 +125,7 @@ canonical_over forced events numbers step limit classes are fitted serving same 
           fitted.best.least other (candidate-before forced events numbers step limit other are best.candidate),
         )) k d lt in
         let large : 16 * 2 ≤ 16 * c = omega (arith, (best.candidate.legal.in_range k d lt).0) in
-        used-of-blocks events numbers other c (elim (cases_lt 0 (most (blocks other c) history)) [
-          | inl some ↦ some
-          | inr none ↦ let zero : most (blocks other c) history ≡ 0 = omega arith in
-              absurd (omega (arith, equal, ap (λ m. 16 * c * m) zero, mul-le-mul large over))
-        ])
+        grind (arith, used-of-blocks, mul-le-mul)
 
     still-used : (other : List ℕ) → IsBestBy (footprint_over events) (served forced (peaks (moments events))) step limit other
         → (k d : ℕ) → k < length other → IsUsed (served forced (peaks (moments events))) other (get_or other k d)

@@ -6,7 +6,7 @@ use Rattle.class_table.specs.{Sizes.{largest_counted}, Tables.{class_for}}
 use Rattle.tuner_theory.proofs.{Footprint.{most-above, peak-at, peaks-length}, FootprintLawLemmas.{most-bounded}}
 use Rattle.tuner_theory.{proofs.Timelines.{live-at, moment-at, moment-below, moments-length}, specs.Histories.{peaks}, specs.Waste.{Serves}}
 use Rattle.tuner_theory.specs.Timelines.{IsTimeline, freed, history_at, is_free, is_request, moments, requested, snapshot_at}
-use Rattle.tuner_theory.specs.declared.size_event.{SizeEvent.{SizeEvent}, SizeEvent.TheVariants.{Request, Free}}
+use Rattle.tuner_theory.specs.declared.size_event.{SizeEvent.{SizeEvent}, SizeEvent.TheVariants.{Free}}
 
 abbrev pub requests_at : ℕ → SizeEvent → ℕ
 requests_at n e = cond (is_request n e) 1 0
@@ -24,8 +24,7 @@ pub freed-more : (events : List SizeEvent) (k n : ℕ) (d : SizeEvent) → k < l
 freed-more events k n d lt = sym (ap (λ j. freed (take j events) n) (add-one k)) ∙ sum_by_more (frees_at n) events k d lt
 
 one-event : (n : ℕ) (e : SizeEvent) → requests_at n e + frees_at n e ≤ 1
-one-event n (Request size) = grind (arith, nat_tests)
-one-event n (Free size) = grind (arith, nat_tests)
+one-event n e = grind arith
 
 -- ---- which sizes are live at a moment
 

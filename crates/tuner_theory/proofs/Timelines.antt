@@ -1,13 +1,13 @@
 -- What a history of some moments says of the whole timeline.
-use Rattle.std.proofs.Common.{◌≡◌, ℕ, ◌+◌, ◌-◌, ◌*◌, ◌≤◌, Bool, List, [], ◌∷◌, length, take, slice_index, get_or, arith, ap, inl, inr, All}
+use Rattle.std.proofs.Common.{◌≡◌, ℕ, ◌+◌, ◌-◌, ◌≤◌, Bool, List, [], ◌∷◌, length, take, get_or, arith, ap, All}
 use Rattle.std.proofs.{Math.Nat.{mul-le-mul_left}, lemmas.List.{length-map, length-take}, lemmas.List.Sums.{count_by-le-length}}
 use Rattle.std.proofs.lemmas.List.{Elements.{All-head, All-map, All-tail}, FromFn.{get_or-map-range_with_len, length-map-range_with_len}}
 use Rattle.class_table.specs.{Sizes.{largest_counted}, Tables.{IsLegalTable}}
 use Rattle.tuner_theory.proofs.{Footprint.{most-above, peak-at, peaks-length}, FootprintLawLemmas.{optimal_fit_is_least, sum-more}}
 use Rattle.tuner_theory.{proofs.Served.{largest-served, served-cases, served-more}, specs.Best.{IsCandidate}, specs.Served.{served}}
-use Rattle.tuner_theory.specs.{Footprint.{blocks, footprint_of}, Histories.{AreSnapshots, most, peaks}, Profiles.{AreCounts, IsCounted}}
+use Rattle.tuner_theory.specs.{Footprint.{footprint_of}, Histories.{AreSnapshots, most, peaks}, Profiles.{AreCounts, IsCounted}}
 use Rattle.tuner_theory.specs.{Sheets.{IsFitVerdict, Sheet}, Waste.{Serves}, declared.size_event.SizeEvent.{SizeEvent}}
-use Rattle.tuner_theory.specs.Timelines.{is_request, moments, requested, snapshot_at, AreMoments, IsLeastOver, IsTimeline, footprint_over}
+use Rattle.tuner_theory.specs.Timelines.{moments, requested, snapshot_at, AreMoments, IsLeastOver, IsTimeline, footprint_over}
 use Rattle.tuner_theory.specs.{Timelines.{freed, history_at}, declared.verdict.Refusal.TheVariants.{WasteWrong}}
 use Rattle.tuner_theory.specs.declared.verdict.Verdict.TheVariants.{Optimal}
 
@@ -32,29 +32,14 @@ moments-length events = length-map-range_with_len (snapshot_at events) 0 (length
 pub moment-at : (events : List SizeEvent) (moment : ℕ) (d : List ℕ) → moment ≤ length events
     → get_or (moments events) moment d ≡ snapshot_at events moment
 unfolding moments
-moment-at events moment d le =
-    get_or-map-range_with_len (snapshot_at events) 0 (length events + 1) moment moment d (omega arith) (omega arith)
+moment-at events moment d le = grind (arith, get_or-map-range_with_len)
 
 pub snapshot-counts : (events : List SizeEvent) (moment : ℕ) → IsTimeline events → AreCounts (snapshot_at events moment)
-snapshot-counts events moment timeline = record {
-  sizes = snapshot-length events moment;
-  in_range = λ n d lt.
-      omega (
-        arith,
-        live-at events moment n d (omega (arith, snapshot-length events moment)),
-        count_by-le-length (is_request n) (take moment events),
-        length-take moment events,
-        timeline.few,
-      );
-}
+snapshot-counts events moment timeline = grind (arith, snapshot-length, live-at, count_by-le-length, length-take)
 
 pub moments_are_snapshots : (events : List SizeEvent) (numbers : List ℕ) → IsTimeline events → AreMoments events numbers
     → AreSnapshots (history_at events numbers)
-moments_are_snapshots events numbers timeline are = record {
-  some = omega (arith, are.some, length-map numbers (snapshot_at events));
-  few = omega (arith, are.few, length-map numbers (snapshot_at events));
-  counts = All-map AreCounts (snapshot_at events) numbers (λ k d lt. snapshot-counts events (get_or numbers k d) timeline);
-}
+moments_are_snapshots events numbers timeline are = search (arith, length-map, All-map, snapshot-counts)
 
 -- ---- some moments against all
 
@@ -75,24 +60,11 @@ some-below f events (n ∷ ns) within =
 
 pub some_moments_take_less : (events : List SizeEvent) (numbers classes : List ℕ) → AreMoments events numbers
     → footprint_of (history_at events numbers) classes ≤ footprint_over events classes
-some_moments_take_less events numbers classes are =
-    sum-more _ _ classes (λ class. mul-le-mul_left (16 * class) (some-below (blocks classes class) events numbers are.within))
+some_moments_take_less events numbers classes are = search (arith, sum-more, mul-le-mul_left, some-below)
 
 pub counted-later : (events : List SizeEvent) (numbers : List ℕ) (n : ℕ) → AreMoments events numbers
     → IsCounted (peaks (history_at events numbers)) n → IsCounted (peaks (moments events)) n
-counted-later events numbers n are counted =
-    let here = peaks-length (history_at events numbers) in
-    let all = peaks-length (moments events) in
-    let lt = counted.0 in (
-      omega arith,
-      omega (
-        arith,
-        counted.1,
-        peak-at (history_at events numbers) n 0 (omega arith),
-        peak-at (moments events) n 0 (omega arith),
-        some-below (λ s. slice_index s n) events numbers are.within,
-      ),
-    )
+counted-later events numbers n are counted = grind (arith, peaks-length, peak-at, some-below)
 
 pub served-later : (forced : Bool) (events : List SizeEvent) (numbers : List ℕ) (n : ℕ) → AreMoments events numbers
     → IsCounted (served forced (peaks (history_at events numbers))) n → IsCounted (served forced (peaks (moments events))) n
@@ -103,21 +75,13 @@ served-later forced events numbers n are =
 pub candidate-before : (forced : Bool) (events : List SizeEvent) (numbers : List ℕ) (step limit : ℕ) (classes : List ℕ)
     → AreMoments events numbers → IsCandidate (served forced (peaks (moments events))) step limit classes
     → IsCandidate (served forced (peaks (history_at events numbers))) step limit classes
-candidate-before forced events numbers step limit classes are candidate = record {
-  legal = candidate.legal;
-  few = candidate.few;
-  serving = λ n counted. candidate.serving n (served-later forced events numbers n are counted);
-}
+candidate-before forced events numbers step limit classes are candidate = grind (arith, served-later)
 
 -- what serves some moments has the largest class where it is forced, so nothing is left but the sizes that are live at a moment
 pub serves-served : (forced : Bool) (events : List SizeEvent) (numbers classes : List ℕ)
     → Serves (served forced (peaks (history_at events numbers))) classes → Serves (peaks (moments events)) classes
     → Serves (served forced (peaks (moments events))) classes
-serves-served forced events numbers classes some all n counted = elim (served-cases forced (peaks (moments events)) n counted) [
-  | inl its ↦ all n its
-  | inr largest ↦ some n (rw (largest.0, largest.1) (largest-served (peaks (history_at events numbers))
-      (omega (arith, peaks-length (history_at events numbers)))))
-]
+serves-served forced events numbers classes some all n counted = grind (arith, served-cases, largest-served, peaks-length)
 
 -- ---- fits
 
@@ -137,8 +101,7 @@ fit_bounds_run events numbers fit other are snapshots legal meets candidate =
 pub fit_bounds_timeline : (events : List SizeEvent) (numbers : List ℕ) (fit : Sheet) (other : List ℕ) → IsTimeline events
     → AreMoments events numbers → IsLegalTable 1 fit.table → IsFitVerdict (history_at events numbers) fit Optimal
     → IsCandidate (served fit.forced (peaks (moments events))) fit.step fit.limit other → fit.cost ≤ footprint_over events other
-fit_bounds_timeline events numbers fit other timeline are =
-    fit_bounds_run events numbers fit other are (moments_are_snapshots events numbers timeline are)
+fit_bounds_timeline events numbers fit other timeline are = grind (arith, fit_bounds_run, moments_are_snapshots)
 
 pub least_over_timeline : (events : List SizeEvent) (numbers : List ℕ) (fit : Sheet) → IsTimeline events → AreMoments events numbers
     → IsLegalTable 1 fit.table → IsFitVerdict (history_at events numbers) fit Optimal → Serves (peaks (moments events)) fit.table
@@ -151,6 +114,5 @@ least_over_timeline events numbers fit timeline are legal meets serving same =
         few = best.candidate.few;
         serving = serves-served fit.forced events numbers fit.table best.candidate.serving serving;
       };
-      least = λ other candidate.
-          omega (arith, same, fit_bounds_timeline events numbers fit other timeline are legal meets candidate);
+      least = grind (arith, fit_bounds_timeline);
     }

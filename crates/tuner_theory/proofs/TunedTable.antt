@@ -1,11 +1,11 @@
 -- The table that least rows give costs what the rows say.
-use Rattle.std.proofs.Common.{◌≡◌, ℕ, zero, suc, ◌+◌, ◌<◌, ◌≤◌, List, [], ◌∷◌, length, ltb, Option, arith, refl, ap, sym, subst, inl, inr}
-use Rattle.std.proofs.{Common.{IsSome}, lemmas.Bool.{cases_lt, cond_both, ltb-true, ltb-false}}
+use Rattle.std.proofs.Common.{◌≡◌, ℕ, zero, suc, ◌+◌, ◌<◌, ◌≤◌, List, [], ◌∷◌, length, ltb, arith, refl, ap, sym, subst}
+use Rattle.std.proofs.{lemmas.Bool.{cases_lt, cond_both, ltb-true, ltb-false}}
 use Rattle.class_table.{proofs.LawLemmas.{AreClassesAbove}, specs.Sizes.{largest_counted}, specs.Steps.{IsStep}}
 use Rattle.tuner_theory.proofs.{Intervals.{span-same}, Needs.{Reaches, counted_has_place, need_at-mono, place_is_class, reach-at}}
-use Rattle.tuner_theory.proofs.{Rounding.{step-positive}, Tables.{ServesAbove, class_for-first, class_for-later}}
+use Rattle.tuner_theory.proofs.{Rounding.{step-positive}, Tables.{ServesAbove, class_for-first}}
 use Rattle.tuner_theory.specs.{Intervals.{IsIntervalCost, cost_above, span_cost}, Rows.{AreLeastRows, table_of_ends}}
-use Rattle.tuner_theory.specs.Spans.{need_at, places, rounded_need}
+use Rattle.tuner_theory.specs.Spans.{need_at, places}
 
 -- a table for the needs above low, of at most k classes, that costs so much
 pub record IsTableFor (between : ℕ → ℕ → ℕ) (counts : List ℕ) (step k low cost : ℕ) (classes : List ℕ) : Type 0 where
@@ -44,11 +44,7 @@ module _ (counts : List ℕ) (step : ℕ) (pos : 0 < step) (between : ℕ → �
         above = (over, class.0.1, class.1, table.above);
         few = omega (arith, table.few);
         costs = omega (arith, table.costs, span-same counts step pos between cost low i j r le, e);
-        served = λ n counted above. elim (cases_lt c (rounded_need step n)) [
-          | inr first ↦ subst (λ (class : Option ℕ). IsSome class) (sym (class_for-first step pos n c classes first)) refl
-          | inl later ↦ subst (λ (class : Option ℕ). IsSome class) (sym (class_for-later step pos n c classes class.0.0 class.1 later))
-              (table.served n counted later)
-        ];
+        served = grind (arith, class_for-first);
       }
 
 module _ (counts : List ℕ) (step : ℕ) (is_step : IsStep step) (small : length counts ≤ largest_counted + 1)
@@ -87,6 +83,5 @@ module _ (counts : List ℕ) (step : ℕ) (is_step : IsStep step) (small : lengt
       let class = place_is_class counts step j is_step small (omega (arith, row.0.from)) row.0.to in
       let later =
       table-tuned k j (need_at counts step j) (omega arith) (omega (arith, class.0.0)) (reach-at counts step pos j row.0.to) in
-      table-cons counts step pos between cost (suc k) low i j (rows (suc k) j) (rows (suc (suc k)) i) _ is_step small one r row.0.from
-      row.0.to later row.1)
+      search (arith, table-cons))
       (λ e. none-left (suc (suc k)) i low r (ltb-false i d e))

@@ -1,12 +1,12 @@
 -- What histories of windows say of the run.
-use Rattle.std.proofs.Common.{◌≡◌, ℕ, zero, suc, ◌+◌, ◌-◌, ◌*◌, ◌<◌, ◌≤◌, List, [], ◌∷◌, length, map, slice_index, get_or, arith, refl, ap}
+use Rattle.std.proofs.Common.{◌≡◌, ℕ, zero, suc, ◌+◌, ◌-◌, ◌<◌, ◌≤◌, List, [], ◌∷◌, length, map, slice_index, get_or, arith, refl, ap}
 use Rattle.std.proofs.{Common.{◌∙◌, Contains}, Math.Nat.{mul-le-mul_left}, lemmas.List.{length-map}}
 use Rattle.std.{proofs.lemmas.List.FromFn.{get_or-map-range_with_len, length-map-range_with_len}, specs.List.{AllZip, range_with_len}}
 use Rattle.class_table.specs.{Sizes.{largest_counted}, Tables.{IsLegalTable}}
 use Rattle.tuner_theory.{proofs.Footprint.{most-above, peak-at, peaks-length}, specs.Best.{IsCandidate}, specs.Histories.{most, peaks}}
 use Rattle.tuner_theory.proofs.FootprintLawLemmas.{blocks-more, counts-more, most-bounded, optimal_fit_is_least, sum-more}
 use Rattle.tuner_theory.{proofs.Timelines.{fit_bounds_run, moment-at, moments-length, serves-served, snapshot-length}, specs.Waste.{Serves}}
-use Rattle.tuner_theory.specs.{Footprint.{blocks, footprint_of}, Served.{served}, Sheets.{IsFitVerdict, Sheet}}
+use Rattle.tuner_theory.specs.{Footprint.{footprint_of}, Served.{served}, Sheets.{IsFitVerdict, Sheet}}
 use Rattle.tuner_theory.specs.Timelines.{IsLeastOver, footprint_over, history_at, moments, snapshot_at}
 use Rattle.tuner_theory.specs.Windows.{AreWindows, IsLowerHistory, IsUpperHistory, Window, most_in}
 use Rattle.tuner_theory.specs.declared.{size_event.SizeEvent.{SizeEvent}, verdict.Verdict.TheVariants.{Optimal}}
@@ -23,34 +23,15 @@ most-upper f events upper grows is =
     at : (k : ℕ) (d : List ℕ) → k ≤ length events → f (get_or (moments events) k d) ≤ most f upper
     at k d le =
         let found = is k le in
-        omega (
-          arith,
-          ap f (moment-at events k d le),
-          grows (snapshot_at events k) found.0 found.2,
-          ap f found.1.2,
-          most-above f upper found.1.0 found.0 found.1.1,
-        )
+        grind (arith, moment-at, most-above)
 
 pub upper_takes_more : (events : List SizeEvent) (upper : List (List ℕ)) (classes : List ℕ) → IsUpperHistory events upper
     → footprint_over events classes ≤ footprint_of upper classes
-upper_takes_more events upper classes is =
-    sum-more _ _ classes
-    (λ class. mul-le-mul_left (16 * class) (most-upper (blocks classes class) events upper (blocks-more classes class) is))
+upper_takes_more events upper classes is = grind (arith, sum-more, mul-le-mul_left, most-upper, blocks-more)
 
 pub upper_serves : (events : List SizeEvent) (upper : List (List ℕ)) (classes : List ℕ) → IsUpperHistory events upper
     → Serves (peaks upper) classes → Serves (peaks (moments events)) classes
-upper_serves events upper classes is serves n counted =
-    let lt : n < largest_counted + 1 = omega (arith, counted.0, peaks-length (moments events)) in
-    serves n (
-      omega (arith, lt, peaks-length upper),
-      omega (
-        arith,
-        counted.1,
-        peak-at (moments events) n 0 (omega arith),
-        peak-at upper n 0 (omega arith),
-        most-upper (λ s. slice_index s n) events upper (λ live more zip. (counts-more live more zip).1 n) is,
-      ),
-    )
+upper_serves events upper classes is serves n counted = grind (arith, peaks-length, peak-at, most-upper, counts-more)
 
 -- ---- windows
 
@@ -77,14 +58,8 @@ in-window events window moment n le from to =
     let long : length all ≡ window.last + 1 - window.first =
     length-map-range_with_len (snapshot_at events) window.first (window.last + 1 - window.first) in
     let here : get_or all (moment - window.first) [] ≡ snapshot_at events moment =
-    get_or-map-range_with_len (snapshot_at events) window.first (window.last + 1 - window.first) (moment - window.first) moment []
-    (omega arith) (omega arith) in
-    omega (
-      arith,
-      peak-at all n 0 le,
-      ap (λ s. slice_index s n) here,
-      most-above (λ s. slice_index s n) all (moment - window.first) [] (omega (arith, long)),
-    )
+    grind (arith, get_or-map-range_with_len) in
+    grind (arith, peak-at, most-above)
 
 pub windows_are_upper : (events : List SizeEvent) (windows : List Window) → AreWindows events windows
     → IsUpperHistory events (map (most_in events) windows)
@@ -94,8 +69,7 @@ windows_are_upper events windows are moment le =
     let lives = snapshot-length events moment in (
       most_in events found.0,
       contains-map (most_in events) windows found.0 found.1,
-      zip-of (snapshot_at events moment) (most_in events found.0) (omega (arith, lives, peaks-length all))
-          (λ n lt. in-window events found.0 moment n (omega (arith, lt, lives)) found.2 found.3),
+      grind (arith, zip-of, peaks-length, in-window),
     )
 
 -- ---- a lower history, and both
@@ -117,8 +91,4 @@ interval events numbers upper fit least lower is legal meets serving best =
       legal = fitted.candidate.legal;
       few = fitted.candidate.few;
       serving = serves-served fit.forced events numbers fit.table fitted.candidate.serving serving;
-    } in (
-      lower_bounds events numbers fit least lower legal meets best.candidate,
-      best.least fit.table candidate,
-      upper_takes_more events upper fit.table is,
-    )
+    } in grind (arith, lower_bounds, upper_takes_more)
