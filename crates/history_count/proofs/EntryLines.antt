@@ -1,6 +1,6 @@
 -- The line of an entry: the entry is read from it, and from no other line.
 use Rattle.std.proofs.Common.{◌≡◌, ℕ, ◌≤◌, ◌<◌, ◌^◌, Bool, false, List, [], ◌∷◌, length, map, Option, Some, Ok, refl, sym, ◌∙◌, arith}
-use Rattle.std.proofs.{Common.{codes}, lemmas.Bool.{eq-eqb, le-leb, leb-true}, lemmas.Slice.Eq.{bytes_eq-Decides}}
+use Rattle.std.proofs.{Common.{codes}, lemmas.Bool.{le-leb, leb-true}, lemmas.Slice.Eq.{bytes_eq-Decides}}
 use Rattle.std.specs.Fmt.{decimal}
 use Rattle.class_table.proofs.LawLemmas.{AreSmall, IsName, line_of_read_numbers, named_line_is_full, named_numbers_are_read, plain_name}
 use Rattle.class_table.{proofs.LawLemmas.{words_of_named_line}, specs.NamedLines.{named_line, numbers_in, numbers_of}}
@@ -68,16 +68,7 @@ module _ (count next : ℕ) (entry : Entry) (is : IsNext count next entry) where
       let numbers =
       sym (numbers_after first (entry_line entry) (map decimal entry.counts) ws)
       ∙ named_numbers_are_read first entry.counts name small in
-      let few = few-from_all entry.counts is.good.few in
-      rw (
-        ws,
-        subject_of-first_word entry.subject is.subject,
-        numbers,
-        eq-eqb (length entry.counts) count is.good.size,
-        is.good.order,
-        few,
-        is.good.some,
-      ) refl
+      grind (arith, few-from_all, subject_of-first_word)
 
 -- ---- from a line to the entry that is read from it
 

@@ -87,9 +87,7 @@ line_spells r next line ls h is rest = go (next_entry r line) refl
 
     go : (read : Result Entry HistoryFault) → next_entry r line ≡ read → IsReading r (line ∷ ls) h
     go (Err fault) e = let none = rw e at is in absurd cc
-    go (Ok entry) e =
-        let same : with_entry r entry ≡ next = (let both = rw e at is in cc) in
-        by_subject entry.subject entry.counts e (rw (← same) at rest)
+    go (Ok entry) e = grind (arith, by_subject)
 
 -- ---- the first line
 
