@@ -108,9 +108,6 @@ module _ (counts : List ℕ) (step : ℕ) (is_step : IsStep step) where
   rounded-mono : (m n : ℕ) → m ≤ n → rounded_need step m ≤ rounded_need step n
   rounded-mono m n le = grind arith
 
-  rounded-positive : (n : ℕ) → 0 < rounded_need step n
-  rounded-positive n = grind arith
-
   pub built-none : IsBuilt counts step 0 [] [] [] 0 0
   built-none = grind (arith, sum_below-none, slice_index)
 

@@ -1,5 +1,5 @@
 -- The numbers that the words of a line name.
-use Rattle.std.proofs.Common.{◌≡◌, ℕ, ◌+◌, ◌≤◌, ◌<◌, Bool, List, [], ◌∷◌, ◌++◌, length, Option, Some, None, option_map, refl, sym, ap}
+use Rattle.std.proofs.Common.{◌≡◌, ℕ, ◌+◌, ◌≤◌, ◌<◌, Bool, List, [], ◌∷◌, ◌++◌, length, Option, Some, None, option_map}
 use Rattle.std.proofs.{Common.{arith, add-one, append_assoc, append-nil, length-append}, lemmas.Bool.{le-leb, lt-leb}}
 use Rattle.line_text.specs.Numbers.{number_of}
 use Rattle.tuner_theory.specs.declared.most_snapshots.TheConstants.{MOST_SNAPSHOTS}
@@ -11,8 +11,7 @@ pub record ReadSoFar (all rest : List (List ℕ)) (next : ℕ) (numbers : List �
   pub size : length all ≡ length numbers + length rest
 
 same_option : (o : Option (List ℕ)) → o ≡ option_map (λ (ns : List ℕ). [] ++ ns) o
-same_option None = refl
-same_option (Some ns) = refl
+same_option o = grind arith
 
 pub read-none : (all : List (List ℕ)) → ReadSoFar all all 0 []
 read-none all = record { read = same_option (moments_from 0 all); size = omega arith }
@@ -20,8 +19,7 @@ read-none all = record { read = same_option (moments_from 0 all); size = omega a
 one_more : (numbers : List ℕ) (n : ℕ) (o : Option (List ℕ))
     → option_map (λ (ns : List ℕ). numbers ++ ns) (option_map (λ (ns : List ℕ). n ∷ ns) o)
     ≡ option_map (λ (ns : List ℕ). (numbers ++ n ∷ []) ++ ns) o
-one_more numbers n None = refl
-one_more numbers n (Some ns) = ap (λ (l : List ℕ). Some l) (sym (append_assoc numbers (n ∷ []) ns))
+one_more numbers n o = grind (arith, append_assoc)
 
 pub read-more : (all rest new : List (List ℕ)) (next : ℕ) (numbers word : List ℕ) (n : ℕ) → ReadSoFar all rest next numbers
     → rest ≡ word ∷ new → Some n ≡ moment_of next (number_of word) → ReadSoFar all new (n + 1) (numbers ++ n ∷ [])
