@@ -1,7 +1,7 @@
 -- The profile of requests, and one request more.
-use Rattle.std.proofs.Common.{◌≡◌, ◌≢◌, ℕ, ◌+◌, ◌<◌, ◌≤◌, List, [], ◌∷◌, ◌++◌, length, get_or, set, cond, eqb, ltb, refl, sym, ap, ◌∙◌}
+use Rattle.std.proofs.Common.{◌≡◌, ◌≢◌, ℕ, ◌+◌, ◌<◌, ◌≤◌, List, [], ◌∷◌, ◌++◌, length, get_or, set, cond, eqb, refl, sym, ap, ◌∙◌}
 use Rattle.std.proofs.{Common.{arith, inl, inr, ne_eqb, append_assoc, append-nil}, lemmas.List.Sums.{count_by-le-length, sum_by_push}}
-use Rattle.std.proofs.lemmas.Bool.{cases_eq, eq-eqb, leb-true, leb-false, le-ltb, lt-ltb}
+use Rattle.std.proofs.lemmas.Bool.{cases_eq, eq-eqb, leb-true, leb-false}
 use Rattle.std.proofs.lemmas.List.{get_or-set_same, get_or-set_other, length-set}
 use Rattle.std.proofs.lemmas.List.FromFn.{fill_by_all, get_or-map-range_with_len, length-map-range_with_len}
 use Rattle.class_table.specs.Sizes.{largest_counted}
@@ -34,12 +34,10 @@ requests_of-other : (sizes : List ℕ) (n k : ℕ) → n ≢ k → requests_of (
 requests_of-other sizes n k other = sum_by_push (λ size. cond (eqb size k) 1 0) sizes n ∙ rw (ne_eqb n k other) (omega arith)
 
 large_requests-more : (sizes : List ℕ) (n : ℕ) → largest_counted < n → large_requests (sizes ++ n ∷ []) ≡ large_requests sizes + 1
-large_requests-more sizes n large =
-    sum_by_push (λ size. cond (ltb largest_counted size) 1 0) sizes n ∙ rw (lt-ltb largest_counted n large) refl
+large_requests-more sizes n large = grind (arith, sum_by_push)
 
 large_requests-same : (sizes : List ℕ) (n : ℕ) → n ≤ largest_counted → large_requests (sizes ++ n ∷ []) ≡ large_requests sizes
-large_requests-same sizes n small =
-    sum_by_push (λ size. cond (ltb largest_counted size) 1 0) sizes n ∙ rw (le-ltb largest_counted n small) (omega arith)
+large_requests-same sizes n small = grind (arith, sum_by_push)
 
 -- a request of a size below the bound raises the count of its size,
 requests_below-raised : (bound : ℕ) (sizes : List ℕ) (n : ℕ) → n < bound
@@ -49,8 +47,7 @@ requests_below-raised bound sizes n within =
     let raised = set before n (get_or before n 0 + 1) in
     let long : length before ≡ bound = length-requests_below bound sizes in
     requests_below-is raised bound (sizes ++ n ∷ []) (length-set before n (get_or before n 0 + 1) ∙ long) (λ k below. elim (cases_eq k n) [
-      | inl same ↦ rw (same, requests_of-same sizes n, ← get_or-requests_below bound sizes n within)
-          (get_or-set_same before n (get_or before n 0 + 1) 0 (omega (arith, long)))
+      | inl same ↦ grind (arith, requests_of-same, get_or-requests_below, get_or-set_same)
       | inr other ↦ get_or-set_other before n k (get_or before n 0 + 1) 0 other ∙ get_or-requests_below bound sizes k below
           ∙ sym (requests_of-other sizes n k (λ same. other (sym same)))
     ])
@@ -80,10 +77,7 @@ nothing_counted-is =
 
 with_more-profile_of_sizes : (before sizes : List ℕ) → with_more (profile_of_sizes before) sizes ≡ profile_of_sizes (before ++ sizes)
 with_more-profile_of_sizes before [] = ap profile_of_sizes (sym (append-nil before))
-with_more-profile_of_sizes before (n ∷ sizes) =
-    ap (λ p. with_more p sizes) (one_more_is_counted before n)
-    ∙ with_more-profile_of_sizes (before ++ n ∷ []) sizes
-    ∙ ap profile_of_sizes (append_assoc before (n ∷ []) sizes)
+with_more-profile_of_sizes before (n ∷ sizes) = grind (arith, with_more-profile_of_sizes (before ++ n ∷ []) sizes, one_more_is_counted, append_assoc)
 
 -- Requests that are added one by one to the empty profile give their profile.
 pub added_requests_are_counted : (sizes : List ℕ) → with_more nothing_counted sizes ≡ profile_of_sizes sizes

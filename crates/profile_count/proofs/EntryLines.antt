@@ -60,8 +60,7 @@ entry_of-line next entry is = ap (entry_of next 0) (line_of_entry next entry is)
 
 -- and it is not empty.
 pub entry_line-some : (entry : Entry) → 0 < length (entry_line entry)
-entry_line-some (Size size count) = omega (arith, length-append (decimal size) (32 ∷ decimal count))
-entry_line-some (Large count) = omega arith
+entry_line-some entry = grind (arith, length-append)
 
 -- ---- from a line to the entry that is read from it
 

@@ -1,5 +1,5 @@
 -- From a text that is read as a profile to its spelling: line by line, the rest spells what is counted from there on.
-use Rattle.std.proofs.Common.{◌≡◌, ℕ, suc, ◌<◌, List, [], ◌∷◌, ◌++◌, length, get_or, drop, Result, Ok, Err, refl, subst, ◌∙◌, arith, ne_eqb}
+use Rattle.std.proofs.Common.{◌≡◌, ℕ, ◌<◌, List, [], ◌∷◌, ◌++◌, length, get_or, Result, Ok, Err, refl, subst, ◌∙◌, arith, ne_eqb}
 use Rattle.std.proofs.{Math.Seq.{drop-cons}, lemmas.List.{get_or-drop, get_or-set_same}}
 use Rattle.line_text.{proofs.LawLemmas.{read_has, text_laws as laws}, specs.Lines.{lines, words, IsTextOf}}
 use Rattle.tuner_theory.specs.Profiles.{Profile, IsProfile}
@@ -43,12 +43,7 @@ spells_rest-size reading size count ls p is_open next rest =
     let kept =
     λ (k : ℕ) (below : k < size). rest.kept k (omega arith) ∙ other_count reading.profile.counts size count k (λ same. omega arith) in
     let passed = size_lines-passed p.counts reading.next size next.1 (omega arith) (λ k from below. kept k below ∙ is_open.none k from) in
-    let counted = size_lines-counted size count (drop (suc size) p.counts) (λ none. omega (arith, next.3)) in
-    record {
-      profile = rest.profile;
-      kept = λ k below. kept k (omega (arith, next.1));
-      spelled = rw (passed, drop-cons p.counts size 0 within, here, counted, rest.spelled) refl;
-    }
+    grind (arith, size_lines-counted, drop-cons)
 
 -- ---- all lines
 

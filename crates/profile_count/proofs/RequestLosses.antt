@@ -1,7 +1,7 @@
 -- What a class table wastes on the profile of requests is what the requests lose one by one.
 use Rattle.std.proofs.Common.{◌≡◌, ◌↔◌, ℕ, zero, suc, ◌+◌, ◌*◌, ◌<◌, ◌≤◌, Bool, true, false, List, [], ◌∷◌, length, get_or, cond, not, eqb}
-use Rattle.std.{proofs.Common.{leb, ltb, Option, Some, None, refl, sym, ap, ◌∙◌, arith, inl, inr, ne_eqb}, specs.Option.{option_map_or}}
-use Rattle.std.proofs.lemmas.{Bool.{cases_eq, cases_lt, eq-eqb, leb-true, le-leb, ltb-true, ltb-false}, List.Filters.{sum_by-filter_both}}
+use Rattle.std.{proofs.Common.{leb, ltb, Option, refl, sym, ap, ◌∙◌, arith, inl, inr, ne_eqb}, specs.Option.{option_map_or}}
+use Rattle.std.proofs.lemmas.{Bool.{cases_eq, eq-eqb, leb-true, le-leb, ltb-true, ltb-false}, List.Filters.{sum_by-filter_both}}
 use Rattle.std.proofs.lemmas.List.Elements.{All-from_get_or, All-head, All-tail, filter_agree, filter_passes}
 use Rattle.std.{proofs.lemmas.List.Sums.{get_or-le-sum_by, sum_by-cons}, specs.Prelude.{All, IsSome, filter, sum_by, unwrap_or}}
 use Rattle.class_table.specs.{Sizes.{counted_of, largest_counted, loss_of}, Tables.{class_for, loss_of_size, ServesSizes, rounding_loss}}
@@ -26,12 +26,7 @@ of_size-other f size k past = sum_none (of_size f size) k (λ n below. rw (ne_eq
 of_size-same : (f : ℕ → ℕ) (size k : ℕ) → size < k → sum_below (of_size f size) k ≡ f size
 unfolding of_size sum_below
 of_size-same f size zero within = absurd (omega arith)
-of_size-same f size (suc k) within = elim (cases_lt size k) [
-  | inl below ↦ rw (of_size-same f size k below, ne_eqb size k (λ same. omega arith)) (omega arith)
-  | inr last ↦
-      let same : size ≡ k = omega arith in
-      rw (of_size-other f size k last, eq-eqb size k same, same) (omega arith)
-]
+of_size-same f size (suc k) within = grind (arith, of_size-same f size k, of_size-other)
 
 -- one more request adds f at its size
 one_more_of : (f : ℕ → ℕ) (size : ℕ) (sizes : List ℕ) (n : ℕ)
@@ -56,8 +51,7 @@ sum-requests_of f k (size ∷ sizes) =
 -- ---- the waste
 
 loss_in : (n : ℕ) (class : Option ℕ) → loss_of n (unwrap_or class 0) ≡ option_map_or (loss_of n) class 0
-loss_in n None = omega arith
-loss_in n (Some class) = refl
+loss_in n class = grind arith
 
 ltb-suc : (n k : ℕ) → ltb n (k + 1) ≡ leb n k
 ltb-suc n k = grind arith
