@@ -70,9 +70,6 @@ module _ (snapshots : List (List ℕ)) (table : List ℕ) (are : AreSnapshots sn
 
   module _ (number from total class : ℕ) (so_far : TakenSoFar snapshots table number from total) (within : number < length table)
       (is : get_or table number 0 ≡ class) where
-    wide : 2 ≤ class
-    wide = omega (arith, is, (legal.in_range number 0 within).0)
-
     narrow : class ≤ LARGEST_CLASS
     narrow = omega (arith, is, (legal.in_range number 0 within).1)
 
@@ -93,7 +90,7 @@ module _ (snapshots : List (List ℕ)) (table : List ℕ) (are : AreSnapshots sn
         → TakenSoFar snapshots table (number + 1) (16 * class - 15) (total + bytes * blocks)
     taken-more bytes blocks of_class are_most less = record {
       low = class;
-      cut = cut-class class wide;
+      cut = omega arith;
       summed =
           let parts : drop number table ≡ class ∷ drop (number + 1) table = rw (add-one, drop-cons table number 0 within, is) refl in
           grind (arith, most-same, blocks-cut, taken-order);

@@ -51,9 +51,6 @@ counts_of-other [] n k counts other = refl
 counts_of-other (s ∷ ss) n k [] other = refl
 counts_of-other (s ∷ ss) n k (c ∷ cs) other = grind (arith, get_or-set_other, counts_of-other ss n k cs other)
 
-cons_tail : {A : Type 0} (a b : A) (x y : List A) → a ∷ x ≡ b ∷ y → x ≡ y
-cons_tail a b x y e = cc
-
 pub same_snapshots : (one other : List (List ℕ)) → length one ≡ length other → All AreCounts one → All AreCounts other
     → ((n : ℕ) → n ≤ largest_counted → counts_of one n ≡ counts_of other n) → one ≡ other
 same_snapshots [] [] size are also each = refl
@@ -66,5 +63,5 @@ same_snapshots (s ∷ ss) (t ∷ ts) size are also each =
     grind (arith, same_number_lists) in
     let rest : ss ≡ ts =
     same_snapshots ss ts (omega arith) (All-tail AreCounts s ss are) (All-tail AreCounts t ts also)
-    (λ n le. cons_tail _ _ _ _ (each n le)) in
+    (grind arith) in
     rw (same, rest) refl

@@ -1,6 +1,6 @@
 -- The entry of a line by the numbers that were read of it.
 use Rattle.std.proofs.Common.{◌≡◌, ℕ, ◌≤◌, Bool, true, false, ◌&&◌, List, [], ◌∷◌, length, map, Option, Some, Ok, Err, leb, ltb, eqb, refl}
-use Rattle.std.proofs.{Common.{ap, ◌∙◌, arith, All}, lemmas.Bool.{eq-eqb, eqb-true, le-leb}, lemmas.Bool.Decides.{nat_tests}}
+use Rattle.std.proofs.{Common.{arith, All}, lemmas.Bool.{eq-eqb, eqb-true, le-leb}}
 use Rattle.std.proofs.lemmas.{Grind.{common_steps}, List.Elements.{All-head, All-tail}}
 use Rattle.profile_count.specs.declared.fault.ProfileFault.TheVariants.{CountOutOfRange, NotAscending}
 use Rattle.tuner_theory.specs.Profiles.{greatest_count}
@@ -11,22 +11,13 @@ use Rattle.history_count.specs.declared.line.Subject.{Subject}
 
 -- ---- numbers as 32 bits hold them
 
-capped_few : (n : ℕ) → leb (capped n) greatest_count ≡ leb n greatest_count
-capped_few n = grind (arith, nat_tests)
-
-capped_some : (n : ℕ) → ltb 0 (capped n) ≡ ltb 0 n
-capped_some n = grind (arith, nat_tests)
-
 few-capped : (numbers : List ℕ) → are_few (map capped numbers) ≡ are_few numbers
 few-capped [] = refl
-few-capped (n ∷ ns) = rw (capped_few n, few-capped ns) refl
+few-capped (n ∷ ns) = grind (arith, few-capped ns)
 
 some-capped : (numbers : List ℕ) → is_some_counted (map capped numbers) ≡ is_some_counted numbers
 some-capped [] = refl
-some-capped (n ∷ ns) = rw (capped_some n, some-capped ns) refl
-
-in_range-capped : (numbers : List ℕ) → are_in_range (map capped numbers) ≡ are_in_range numbers
-in_range-capped numbers = rw (few-capped numbers, some-capped numbers) refl
+some-capped (n ∷ ns) = grind (arith, some-capped ns)
 
 and_parts : (a b : Bool) → (a && b) ≡ true → (a ≡ true) × (b ≡ true)
 and_parts a b is = grind arith
@@ -63,7 +54,7 @@ filled-ok u o count filled is = grind arith
 
 module _ (o : Option (List ℕ)) (count next : ℕ) (subject : Subject) (filled : List ℕ) (is : IsFilled o count filled) where
   in_range : are_in_range filled ≡ are_in_range is.numbers
-  in_range = ap are_in_range is.is ∙ in_range-capped is.numbers
+  in_range = grind (arith, few-capped, some-capped)
 
   pub entry-not_ascending : is_in_order next subject ≡ false
       → entry_with_numbers count next (Some subject) o ≡ Err (Counted NotAscending)

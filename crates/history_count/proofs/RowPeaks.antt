@@ -6,7 +6,7 @@ use Rattle.profile_count.{proofs.LawLemmas.{each_is_zero, length-zeros}, specs.C
 use Rattle.tuner_theory.{proofs.Footprint.{peak-at, peaks-length}, proofs.Sums.{sum_below-more}, specs.Profiles.{Profile}}
 use Rattle.tuner_theory.specs.Histories.{AreSnapshots, most, peaks}
 use Rattle.history_count.proofs.{CutLines.{most-lines}, SpreadLines.{with_sizes-counts, with_sizes-length}}
-use Rattle.history_count.specs.CountedLines.{AreFew, AreSizes, CountsSizes, HoldsLines, IsCutAt, spread, with_sizes}
+use Rattle.history_count.specs.CountedLines.{AreFew, AreSizes, CountsSizes, HoldsLines, spread, with_sizes}
 use Rattle.history_count.specs.Histories.{blocks_from, peak_profile}
 
 -- Of the lines up to this one the profile has the peaks, and nothing else.
@@ -30,18 +30,12 @@ module _ (sizes : List ℕ) (rows : List (List ℕ)) (are : AreSizes sizes) (few
   most-one n [] = refl
   most-one n (s ∷ ss) = omega (arith, one-size n s, most-one n ss)
 
-  cut-before : (line : ℕ) → line < length sizes → IsCutAt sizes line (slice_index sizes line)
-  cut-before line within = grind arith
-
-  cut-after : (line : ℕ) → line < length sizes → IsCutAt sizes (line + 1) (slice_index sizes line + 1)
-  cut-after line within = grind arith
-
   -- the peak of a line is that of its size
   peak-line : (line : ℕ) → line < length sizes
       → most (blocks_from line (line + 1)) rows ≡ slice_index (peaks (spread sizes rows)) (slice_index sizes line)
   peak-line line within =
-      most-lines sizes rows line (line + 1) (slice_index sizes line) (slice_index sizes line + 1) are few.long (cut-before line within)
-      (cut-after line within)
+      most-lines sizes rows line (line + 1) (slice_index sizes line) (slice_index sizes line + 1) are few.long (grind arith)
+      (grind arith)
       ∙ most-one (slice_index sizes line) (spread sizes rows)
       ∙ sym (peak-at (spread sizes rows) (slice_index sizes line) 0 (are.small line within))
 

@@ -166,22 +166,15 @@ pub column-few : (snapshot sizes column : List ℕ) → AreCounts snapshot → C
 column-few snapshot sizes column are counts k = grind (arith, get_or_past)
 
 module _ (count : ℕ) (sizes : List ℕ) (columns : List (List ℕ)) (kept : Profile) (holds : HoldsLines count sizes columns kept) where
-  spread-at : (t : ℕ) → t < length columns
-      → slice_index_or (spread sizes columns) t [] ≡ with_sizes (zeros (largest_counted + 1)) sizes (slice_index_or columns t [])
-  spread-at t lt = grind (arith, get_or-map)
-
   counts-sizes : (t : ℕ) → t < length columns
       → CountsSizes (slice_index_or (spread sizes columns) t []) sizes (slice_index_or columns t [])
-  counts-sizes t lt = grind (arith, spread-at, with_sizes-counts)
+  counts-sizes t lt = grind (arith, get_or-map, with_sizes-counts)
 
   pub lines-of : AreLinesOf (spread sizes columns) sizes columns
   lines-of = grind (arith, spread-length, counts-sizes)
 
-  count-few : (t k : ℕ) → t < length columns → slice_index (slice_index_or columns t []) k ≤ greatest_count
-  count-few t k lt = grind (arith, column-few, spread-length, counts-sizes)
-
   pub lines-few : AreFew (length sizes) columns
   lines-few = record {
     long = holds.columns_are;
-    few = All-from_get_or (λ (column : List ℕ). (k : ℕ) → slice_index column k ≤ greatest_count) columns [] (λ t lt k. count-few t k lt);
+    few = All-from_get_or (λ (column : List ℕ). (k : ℕ) → slice_index column k ≤ greatest_count) columns [] (grind (arith, column-few, spread-length, counts-sizes));
   }

@@ -4,33 +4,24 @@ use Rattle.std.proofs.{Common.{get_or, arith, ap, sym, ◌∙◌, All, Some, add
 use Rattle.std.proofs.{Math.Seq.{get_or-append_seam}, lemmas.List.{get_or_append_left}}
 use Rattle.std.proofs.lemmas.List.{Elements.{All-map}, Sums.{sum_by_more}}
 use Rattle.std.{proofs.lemmas.Option.{get_or_from_slice_get, slice_get_within}, specs.List.{range_with_len}}
-use Rattle.class_table.{proofs.LawLemmas.{classes_of_legal_table}, specs.Sizes.{largest_counted}, specs.Tables.{IsLegalTable}}
+use Rattle.class_table.{proofs.LawLemmas.{classes_of_legal_table}, specs.Tables.{IsLegalTable}}
 use Rattle.tuner_theory.{proofs.Footprint.{blocks-of_number}, proofs.Timelines.{snapshot-counts}, specs.Footprint.{blocks}}
 use Rattle.tuner_theory.specs.{Histories.{most}, Profiles.{AreCounts, greatest_count}, Timelines.{IsTimeline, moments, snapshot_at}}
 use Rattle.tuner_theory.specs.declared.size_event.SizeEvent.{SizeEvent}
-use Rattle.history_count.proofs.{ClassByClass.{IsCut, blocks-cut, cut-class, most-same}, TimelineLemmas.Peaks.{span-few}}
+use Rattle.history_count.proofs.{ClassByClass.{blocks-cut, cut-class, most-same}, TimelineLemmas.Peaks.{span-few}}
 use Rattle.history_count.specs.{Histories.{blocks_from}, Timelines.LiveBlocks.{IsFirst, class_bytes}, declared.timelines.peaks.Peak.{Peak}}
 use Rattle.history_count.specs.Timelines.Stretches.{AreInOrder, class_start}
 
 -- ---- where the sizes of a class begin and end
 
 module _ (classes : List ℕ) (legal : IsLegalTable 1 classes) where
-  start-cut : (number : ℕ) → number < length classes → IsCut (get_or (1 ∷ classes) number 0) (class_start classes number)
-  start-cut number lt = grind arith
-
-  start-order : (number : ℕ) → number < length classes → class_start classes number ≤ 16 * get_or classes number 0 - 15
-  start-order number lt = grind arith
-
-  end-small : (number : ℕ) → number < length classes → 16 * get_or classes number 0 - 15 ≤ largest_counted + 1
-  end-small number lt = omega (arith, (legal.in_range number 0 lt).1)
-
   measure-at : (number : ℕ) (s : List ℕ) → number < length classes → AreCounts s
       → blocks classes (get_or classes number 0) s ≡ blocks_from (class_start classes number) (16 * get_or classes number 0 - 15) s
   measure-at number s lt counts =
       blocks-of_number 1 (omega arith) number classes s (classes_of_legal_table 1 classes legal) lt
       ∙ blocks-cut (get_or (1 ∷ classes) number 0) (get_or classes number 0) (class_start classes number)
-      (16 * get_or classes number 0 - 15) s (start-cut number lt) (cut-class (get_or classes number 0) (legal.in_range number 0 lt).0)
-      (start-order number lt) (omega (arith, counts.sizes, end-small number lt))
+      (16 * get_or classes number 0 - 15) s (grind arith) (cut-class (get_or classes number 0) (legal.in_range number 0 lt).0)
+      (grind arith) (omega arith)
 
   module _ (number class : ℕ) (found : slice_get classes number ≡ Some class) where
     within : number < length classes

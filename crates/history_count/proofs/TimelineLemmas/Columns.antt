@@ -1,6 +1,6 @@
 -- The live blocks by the lines of the requested sizes, one event more; and the stretches, one more.
-use Rattle.std.proofs.Common.{◌≡◌, ℕ, suc, ◌+◌, ◌-◌, ◌<◌, ◌≤◌, List, [], ◌∷◌, ◌++◌, length, length-append, max, replicate, slice_index}
-use Rattle.std.proofs.Common.{slice_index_or, slice_set, get_or, map, take, All, arith, refl, ap, sym, ◌∙◌, inl, inr}
+use Rattle.std.proofs.Common.{◌≡◌, ℕ, suc, ◌+◌, ◌<◌, ◌≤◌, List, [], ◌∷◌, ◌++◌, length, length-append, max, replicate, slice_index}
+use Rattle.std.proofs.Common.{slice_set, get_or, map, take, All, arith, refl, ap, sym, ◌∙◌, inl, inr}
 use Rattle.std.proofs.{Math.Seq.{get_or-append_seam}, lemmas.Bool.{cases_lt}, lemmas.Bool.Decides.{eqb_tells}}
 use Rattle.std.proofs.lemmas.List.{ext_get_or, get_or-map, get_or-replicate, get_or-set_other, get_or-set_same, get_or_append_left}
 use Rattle.std.proofs.lemmas.List.{get_or_default, get_or_past, length-map, length-replicate, length-set, map-append, take_all, take_more}
@@ -54,23 +54,6 @@ pub record IsCountedAt (sizes : List ℕ) (line : ℕ) (event : SizeEvent) (coun
   pub may : may_come event (slice_index counts line)
   pub after : slice_set counts line (after_event event (slice_index counts line)) ≡ newer
 
-column-request : (events : List SizeEvent) (sizes : List ℕ) (k n line : ℕ) → IsTimeline events → AreSizes sizes → k < length events
-    → get_or events k (Request 0) ≡ Request n → n ≤ largest_counted → line < length sizes → slice_index sizes line ≡ n
-    → slice_set (column_of sizes (snapshot_at events k)) line (slice_index (column_of sizes (snapshot_at events k)) line + 1)
-    ≡ column_of sizes (snapshot_at events (k + 1))
-column-request events sizes k n line timeline are lt event counted within there = grind (arith, column-at, column-set, snapshot-length, request_counts)
-
-column-live : (events : List SizeEvent) (sizes : List ℕ) (k n line : ℕ) → IsTimeline events → k < length events
-    → get_or events k (Request 0) ≡ Free n → n ≤ largest_counted → line < length sizes → slice_index sizes line ≡ n
-    → 0 < slice_index (column_of sizes (snapshot_at events k)) line
-column-live events sizes k n line timeline lt event counted within there = grind (arith, column-at, free_is_live)
-
-column-free : (events : List SizeEvent) (sizes : List ℕ) (k n line : ℕ) → IsTimeline events → AreSizes sizes → k < length events
-    → get_or events k (Request 0) ≡ Free n → n ≤ largest_counted → line < length sizes → slice_index sizes line ≡ n
-    → slice_set (column_of sizes (snapshot_at events k)) line (slice_index (column_of sizes (snapshot_at events k)) line - 1)
-    ≡ column_of sizes (snapshot_at events (k + 1))
-column-free events sizes k n line timeline are lt event counted within there = grind (arith, column-at, column-set, snapshot-length, free_counts, free_is_live)
-
 -- an event's line, and its count after it
 pub column-event : (events : List SizeEvent) (r : Requested) (k : ℕ) (event : SizeEvent) → IsTimeline events → AreRequested events r
     → k < length events → get_or events k (Request 0) ≡ event → size_of event ≤ largest_counted → (line : ℕ)
@@ -78,10 +61,10 @@ pub column-event : (events : List SizeEvent) (r : Requested) (k : ℕ) (event : 
     → IsCountedAt r.sizes.items line event (column_of r.sizes.items (snapshot_at events k)) (column_of r.sizes.items (snapshot_at events (k + 1)))
 column-event events r k (Request n) timeline are lt is counted line read =
     let its = line-read events r n line are counted (request-requests events k n lt is) read in
-    grind (arith, column-request)
+    grind (arith, column-at, column-set, snapshot-length, request_counts)
 column-event events r k (Free n) timeline are lt is counted line read =
     let its = line-read events r n line are counted (free-requests events k n timeline lt counted is) read in
-    grind (arith, column-live, column-free)
+    grind (arith, column-at, free_is_live, column-set, snapshot-length, free_counts)
 
 pub column-large : (events : List SizeEvent) (sizes : List ℕ) (k : ℕ) (event : SizeEvent) → IsTimeline events → k < length events
     → get_or events k (Request 0) ≡ event → largest_counted < size_of event
@@ -178,36 +161,9 @@ stretches-none events sizes = grind arith
 module _ (events : List SizeEvent) (sizes : List ℕ) (from to : ℕ) (starts : List ℕ) (before most : List (List ℕ)) (row : List ℕ)
     (are : AreStretchesTo events sizes from starts before most) (order : from ≤ to) (inside : to ≤ length events)
     (bounds : Bounds events sizes from to row) where
-  starts-longer : length (starts ++ to ∷ []) ≡ length starts + 1
-  starts-longer = omega (arith, length-append starts (to ∷ []))
-
-  most-longer : length (most ++ row ∷ []) ≡ length most + 1
-  most-longer = omega (arith, length-append most (row ∷ []))
-
-  start-at : (b : ℕ) → b < length starts → slice_index (starts ++ to ∷ []) b ≡ slice_index starts b
-  start-at b lt = get_or_append_left starts (to ∷ []) 0 b lt
-
   start-end : slice_index (starts ++ to ∷ []) (length most + 1) ≡ to
   start-end = ap (slice_index (starts ++ to ∷ [])) (sym are.ends) ∙ get_or-append_seam starts to [] 0
 
-  row-before : (b : ℕ) → b < length starts + 1
-      → slice_index_or (before ++ column_of sizes (snapshot_at events to) ∷ []) b []
-      ≡ column_of sizes (snapshot_at events (slice_index (starts ++ to ∷ []) b))
-  row-before b lt = grind (arith, get_or_append_left, get_or-append_seam, start-end)
-
-  row-most : (b : ℕ) → b < length most + 1
-      → Bounds events sizes (slice_index (starts ++ to ∷ []) b) (slice_index (starts ++ to ∷ []) (b + 1)) (slice_index_or (most ++ row ∷ []) b [])
-  row-most b lt = grind (arith, get_or_append_left, get_or-append_seam)
-
   pub stretches-more : AreStretchesTo events sizes to (starts ++ to ∷ []) (before ++ column_of sizes (snapshot_at events to) ∷ [])
       (most ++ row ∷ [])
-  stretches-more = record {
-    ends = omega (arith, starts-longer, most-longer, are.ends);
-    rows = omega (arith, starts-longer, length-append before (column_of sizes (snapshot_at events to) ∷ []), are.rows);
-    first = start-at 0 (omega (arith, are.ends)) ∙ are.first;
-    last = ap (slice_index (starts ++ to ∷ [])) most-longer ∙ start-end;
-    up = grind (arith, start-at, most-longer, start-end);
-    within = grind (arith, start-at, starts-longer, start-end);
-    before_are = λ b lt. row-before b (omega (arith, starts-longer));
-    most_are = λ b lt. row-most b (omega (arith, most-longer));
-  }
+  stretches-more = grind (arith, length-append, start-end, get_or_append_left, get_or-append_seam)

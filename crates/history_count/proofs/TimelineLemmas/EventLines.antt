@@ -65,10 +65,6 @@ pub record IsEventLine (line : List ℕ) (event : SizeEvent) : Type 0 where
   pub small : size_of event ≤ large_size
   pub spelled : line ≡ event_line event
 
-free-read : (word : List ℕ) (o : Option ℕ) (event : SizeEvent) → size_in word ≡ o → option_map (λ n. Free n) o ≡ Some event
-    → IsEventLine (45 ∷ word) event
-free-read word o event is e = grind (arith, size_in-read)
-
 request-read : (line : List ℕ) (o : Option ℕ) (event : SizeEvent) → size_in line ≡ o → option_map (λ n. Request n) o ≡ Some event
     → IsEventLine line event
 request-read line o event is e = grind (arith, size_in-read)
@@ -77,7 +73,7 @@ request-read line o event is e = grind (arith, size_in-read)
 pub event_in-read : (line : List ℕ) (event : SizeEvent) → event_in line ≡ Some event → IsEventLine line event
 event_in-read [] event e = absurd cc
 event_in-read (b ∷ word) event e = elim (eqb_tells b 45) [
-  | inl same ↦ rw same.1 (free-read word (size_in word) event refl (rw same.0 at e))
+  | inl same ↦ grind (arith, size_in-read)
   | inr differs ↦ request-read (b ∷ word) (size_in (b ∷ word)) event refl (rw differs.0 at e)
 ]
 

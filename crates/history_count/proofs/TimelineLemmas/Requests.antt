@@ -281,10 +281,6 @@ least_unserved_all : (events : List SizeEvent) (classes : List ℕ) (k least : �
     → least ≤ largest_counted → IsLeastUnserved events classes least
 least_unserved_all events classes k least all found le = grind (arith, take_all)
 
-none_unserved_all : (events : List SizeEvent) (classes : List ℕ) (k least : ℕ) → k ≡ length events → IsLeastSoFar events classes k least
-    → largest_counted < least → (n : ℕ) → n ≤ largest_counted → 0 < requested events n → IsSome (class_for classes n)
-none_unserved_all events classes k least all found large n le some = grind (arith, take_all)
-
 -- after all events: the least size that has none, if there is one
 module _ (events : List SizeEvent) (classes : List ℕ) (least : ℕ) (found : IsLeastSoFar events classes (length events) least) where
   pub unserved_is_least : (o : Option ℕ) → IfSome o (λ n. (n ≡ least) × (n ≤ largest_counted))
@@ -294,5 +290,5 @@ module _ (events : List SizeEvent) (classes : List ℕ) (least : ℕ) (found : I
   pub none_is_unserved : (o : Option ℕ) → IsTimeline events → IfNone o (largest_counted < least)
       → IfNone o (Serves (peaks (moments events)) classes)
   none_is_unserved None timeline large =
-      (requested_sizes events classes timeline).1 (none_unserved_all events classes (length events) least refl found large)
+      (requested_sizes events classes timeline).1 (grind (arith, take_all))
   none_is_unserved (Some n) timeline large = tt

@@ -1,7 +1,7 @@
 -- One event more.
-use Rattle.std.proofs.Common.{◌≡◌, ◌≢◌, ℕ, suc, ◌+◌, ◌-◌, ◌*◌, ◌^◌, ◌<◌, ◌≤◌, ◌⊎◌, Bool, true, false, List, length, replicate, slice_get}
-use Rattle.std.proofs.Common.{sum_by, take, max, slice_index, slice_set, get_or, cond, eqb, ltb, arith, refl, ap, sym, subst, ◌∙◌, inl, inr}
-use Rattle.std.proofs.{Common.{add-one, All, Some, None, IsSome}, Math.Nat.{max-eq_left}, lemmas.Bool.Decides.{eqb_tells}}
+use Rattle.std.proofs.Common.{◌≡◌, ◌≢◌, ℕ, ◌+◌, ◌-◌, ◌*◌, ◌^◌, ◌<◌, ◌≤◌, ◌⊎◌, Bool, true, false, List, length, replicate, slice_get}
+use Rattle.std.proofs.Common.{sum_by, take, max, slice_index, slice_set, get_or, cond, eqb, arith, refl, ap, sym, subst, ◌∙◌, inl, inr}
+use Rattle.std.proofs.{Common.{All, Some, None, IsSome}, Math.Nat.{max-eq_left}, lemmas.Bool.Decides.{eqb_tells}}
 use Rattle.std.proofs.lemmas.{Bool.{cases_lt, eq-eqb, le-ltb, lt-ltb}, List.Kept.{AllPairs-from_increasing}}
 use Rattle.std.proofs.lemmas.List.{ext_get_or, get_or-map, get_or-replicate, get_or-set_same, get_or-set_other, get_or_default, length-map}
 use Rattle.std.proofs.lemmas.{List.{length-replicate, length-set, set-get_or}, List.Sums.{sum_by_more}}
@@ -11,15 +11,10 @@ use Rattle.class_table.{proofs.LawLemmas.{number_gives_class}, specs.Sizes.{larg
 use Rattle.class_table.specs.Tables.{IsLegalTable, class_for, class_number_for}
 use Rattle.tuner_theory.proofs.TimelineBlocks.{blocks-none, blocks-step, comes_at, free-goes, goes_at, large-does-nothing, most_to-above}
 use Rattle.tuner_theory.{proofs.TimelineBlocks.{most_to-all, most_to-more, request-comes}, specs.Histories.{most}}
-use Rattle.tuner_theory.specs.{Footprint.{blocks, is_class_of}, Timelines.{IsTimeline, moments, most_to, snapshot_at}}
+use Rattle.tuner_theory.specs.{Footprint.{blocks, is_class_of}, Timelines.{IsTimeline, moments}}
 use Rattle.tuner_theory.specs.declared.size_event.{SizeEvent.{SizeEvent}, SizeEvent.TheVariants.{Request, Free}}
-use Rattle.history_count.specs.Timelines.LiveBlocks.{AreFirsts, AreKnown, AreLive, IsFirst, class_bytes, first_moved, most_blocks}
+use Rattle.history_count.specs.Timelines.LiveBlocks.{AreFirsts, AreKnown, AreLive, class_bytes, first_moved, most_blocks}
 use Rattle.history_count.specs.Timelines.Runs.{after_event, may_come, size_of}
-
-first-step : (f : List ℕ → ℕ) (events : List SizeEvent) (k much newer greater first newest : ℕ) → IsFirst f events k much first
-    → much ≡ most_to f events k → newer ≡ f (snapshot_at events (suc k)) → greater ≡ max much newer
-    → (much < newer → newest ≡ k + 1) → (newer ≤ much → newest ≡ first) → IsFirst f events (suc k) greater newest
-first-step f events k much newer greater first newest is so-far now raised moved stays = grind (arith, most_to-above)
 
 -- what an event does to the counts of one class
 record IsStep (k comes goes live most first newer greater newest : ℕ) : Type 0 where
@@ -29,9 +24,6 @@ record IsStep (k comes goes live most first newer greater newest : ℕ) : Type 0
   moved : most < newer → newest ≡ k + 1
   stays : newer ≤ most → newest ≡ first
 
-unchanged : (k moves live most first : ℕ) → live ≤ most → IsStep k moves moves live most first live most first
-unchanged k moves live most first below = omega arith
-
 live-step : (events : List SizeEvent) (classes : List ℕ) (k : ℕ) (d : SizeEvent) (live most firsts newer greater newest : List ℕ)
     → IsTimeline events → k < length events → AreLive events classes k live most firsts → length newer ≡ length classes
     → length greater ≡ length classes → length newest ≡ length classes
@@ -39,24 +31,7 @@ live-step : (events : List SizeEvent) (classes : List ℕ) (k : ℕ) (d : SizeEv
     IsStep k (comes_at classes class event) (goes_at classes class event) (slice_index live j) (slice_index most j) (slice_index firsts j)
     (slice_index newer j) (slice_index greater j) (slice_index newest j))
     → AreLive events classes (k + 1) newer greater newest
-live-step events classes k d live most firsts newer greater newest timeline lt are newer-len greater-len newest-len step =
-    subst (λ (m : ℕ). AreLive events classes m newer greater newest) (sym (add-one k)) (record {
-      live_len = newer-len;
-      most_len = greater-len;
-      firsts_len = newest-len;
-      live_at = at;
-      most_at = grind (arith, at, most_to-more);
-      below = λ j within. omega (arith, (step j within).raised);
-      small = λ j within. let its = step j within in omega (arith, its.raised, are.small j within, are.below j within, its.slow);
-      first_at = λ j within.
-          let its = step j within in
-          first-step (blocks classes (slice_index classes j)) events k (slice_index most j) (slice_index newer j) (slice_index greater j)
-          (slice_index firsts j) (slice_index newest j) (are.first_at j within) (are.most_at j within) (at j within) its.raised its.moved its.stays;
-    })
-  where
-    at : (j : ℕ) → j < length classes → slice_index newer j ≡ blocks classes (slice_index classes j) (snapshot_at events (suc k))
-    at j within =
-        omega (arith, blocks-step events classes (slice_index classes j) k d timeline lt, are.live_at j within, (step j within).balance)
+live-step events classes k d live most firsts newer greater newest timeline lt are newer-len greater-len newest-len step = grind (arith, most_to-more, most_to-above, blocks-step)
 
 -- ---- the class of a size by its number
 
@@ -88,9 +63,6 @@ pub number_serves : (classes : List ℕ) (n number : ℕ) → class_number_for c
 number_serves classes n number is lt =
     rw (number_gives_class n classes ∙ ap (option_and_then (slice_get classes)) is ∙ slice_get-get_or classes number 0 lt) refl
 
-moved-length : (b : Bool) (number moment : ℕ) (firsts : List ℕ) → length (cond b (slice_set firsts number moment) firsts) ≡ length firsts
-moved-length b number moment firsts = grind (arith, length-set)
-
 moved-other : (b : Bool) (number j moment : ℕ) (firsts : List ℕ) → j ≢ number
     → slice_index (cond b (slice_set firsts number moment) firsts) j ≡ slice_index firsts j
 moved-other b number j moment firsts other = grind (arith, get_or-set_other)
@@ -109,7 +81,7 @@ request_step events classes k n number d live most firsts timeline lt legal are 
     (first_moved (slice_index most number) (slice_index live number + 1) number (k + 1) firsts) timeline lt are
     (length-set live number (slice_index live number + 1) ∙ are.live_len)
     (length-set most number (max (slice_index most number) (slice_index live number + 1)) ∙ are.most_len)
-    (moved-length (ltb (slice_index most number) (slice_index live number + 1)) number (k + 1) firsts ∙ are.firsts_len)
+    (grind (arith, length-set))
     (λ j within.
     let moves = request-comes classes (slice_index classes j) n counted in
     rw (event, moves.0, moves.1) (elim (eqb_tells j number) [
@@ -156,7 +128,7 @@ still-step : (events : List SizeEvent) (classes : List ℕ) (k : ℕ) (d : SizeE
     → AreLive events classes (k + 1) live most firsts
 still-step events classes k d live most firsts timeline lt are still =
     live-step events classes k d live most firsts live most firsts timeline lt are are.live_len are.most_len are.firsts_len
-    (λ j within. rw (still (slice_index classes j)) (unchanged k _ _ _ _ (are.below j within)))
+    (omega arith)
 
 -- what has no class, or is large, changes nothing
 unserved_request_step : (events : List SizeEvent) (classes : List ℕ) (k n : ℕ) (d : SizeEvent) (live most firsts : List ℕ)

@@ -18,10 +18,6 @@ one_more : (counts : List ℕ) (number : ℕ) → number < length counts
     → IsOneMore number counts (slice_set counts number (slice_index counts number + 1))
 one_more counts number within = grind (arith, get_or-set_same, get_or-set_other)
 
-one_freed : (live : List ℕ) (number : ℕ) → number < length live → 1 ≤ slice_index live number
-    → IsOneMore number (slice_set live number (slice_index live number - 1)) live
-one_freed live number within some = grind (arith, length-set, get_or-set_same, get_or-set_other)
-
 -- counts are the same where the greater of one and no more is put in its place
 kept_same : (most : List ℕ) (number newer : ℕ) → newer ≤ slice_index most number
     → AreSame most (slice_set most number (max (slice_index most number) newer))
@@ -40,7 +36,7 @@ event_moved (Request n) live most number within inside below may =
           rw (le-ltb _ _ kept) (one_more live number within, kept_same most number (slice_index live number + 1) kept)
     ]
 event_moved (Free n) live most number within inside below may =
-    (one_freed live number within may, kept_same most number (slice_index live number - 1) (omega arith))
+    (grind (arith, length-set, get_or-set_same, get_or-set_other), kept_same most number (slice_index live number - 1) (omega arith))
 
 -- ---- sums over a list
 
@@ -193,12 +189,6 @@ module _ (events : List SizeEvent) (classes : List ℕ) (k : ℕ) (sums : Sums) 
     same : (j : ℕ) → j < length classes → later (class j) ≡ now (class j)
     same j within = sym (next.live_at j within) ∙ is j ∙ are.live_at j within
 
-    live-same : sums.live ≡ live_blocks events classes (k + 1)
-    live-same = omega (arith, so-far.live, sum-same later now classes same)
-
-    bytes-same : sums.bytes ≡ live_bytes classes (snapshot_at events (k + 1))
-    bytes-same = grind (arith, sum-same, same)
-
   abbrev most-now : ℕ → ℕ
   most-now c = most_to (blocks classes c) events k
 
@@ -240,7 +230,7 @@ module _ (events : List SizeEvent) (classes : List ℕ) (k : ℕ) (sums : Sums) 
   pub sums-moved : IsLegalTable 1 classes → (moved : Moved) → IsMoved moved live most newer greater
       → MayMove classes sums moved × AreSums events classes (k + 1) (moved_sums classes sums moved)
   sums-moved legal Nothing is =
-      let its = summed-by _ _ _ (made-same is.1) (live-same is.0) (bytes-same is.0) in
+      let its = summed-by _ _ _ (made-same is.1) (grind (arith, sum-same, same)) (grind (arith, sum-same, same)) in
       (its.below, next-sums _ _ _ its (omega (arith, so-far.few)) (omega (arith, so-far.small)))
   sums-moved legal (New number) is =
       let within = inside number is.0 in
