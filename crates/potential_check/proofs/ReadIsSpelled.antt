@@ -51,12 +51,6 @@ rows_read [] number most rows e = grind (arith, line-row_in, went_on)
 rows_read (line ∷ ls) number zero rows e = absurd cc
 rows_read (line ∷ ls) number (suc most) rows e = grind (arith, line-row_in, went_on, rows_read ls (suc number) most)
 
-abbrev as_read : Sheet → Result Sheet ℕ
-as_read s = Ok s
-
-same_sheet : (s t : Sheet) → as_read s ≡ as_read t → s ≡ t
-same_sheet s t e = cc
-
 -- all that was read
 whole_read : (cost : Cost) (ls after_table after_limit after_step after_forced after_cost : List (List ℕ)) (s : Sheet) →
     line_at 1 table_in ls ≡ Ok (s.table, after_table)
@@ -115,7 +109,7 @@ lines_read cost ls s e =
     let read =
     whole_read cost ls parts.after_table parts.after_limit parts.after_step parts.after_forced head.1 (with_rows head.0 rows) parts.table parts.limit
     parts.step parts.forced parts.stated is_rows in
-    subst (λ (t : Sheet). (ls ≡ lines_by cost t) × IsWithinLimits t) (same_sheet (with_rows head.0 rows) s e) read))
+    grind arith))
 
 -- What is read is spelled by the text, and is within the limits.
 pub read_is_spelled : (cost : Cost) (text : List ℕ) (s : Sheet) → read_by cost (lines text) ≡ Ok s → SpellsBy cost text s

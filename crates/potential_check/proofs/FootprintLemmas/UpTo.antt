@@ -1,6 +1,6 @@
 -- Sums of a snapshot up to a need, by the sizes that a class serves.
 use Rattle.std.proofs.Common.{◌≡◌, ℕ, zero, suc, ◌+◌, ◌-◌, ◌*◌, ◌%◌, ◌<◌, ◌≤◌, ◌⊎◌, ◌++◌, List, [], ◌∷◌, length, length-append, slice_index}
-use Rattle.std.proofs.{Common.{slice_index_or, refl, arith, inl, inr, Vec}, Math.Seq.{get_or-append_seam}}
+use Rattle.std.proofs.{Common.{slice_index_or, refl, arith, Vec}, Math.Seq.{get_or-append_seam}}
 use Rattle.std.proofs.lemmas.{Bool.{cases_lt, cond-true, cond-false, le-leb, lt-leb}, List.{get_or_append_left, map-append}}
 use Rattle.std.specs.declared.alloc.Global.{Global}
 use Rattle.class_table.specs.{Sizes.{largest_counted}, Steps.{IsStep}}
@@ -51,26 +51,8 @@ sums-more column cuts p total sums before is = grind (arith, length-append, get_
 -- ---- cuts
 
 module _ (sizes counts : List ℕ) (step : ℕ) (cuts : List ℕ) (pos : 0 < step) (are : AreCuts sizes counts step cuts) where
-  needs-up : (p q : ℕ) → p < q → q < places counts step → need_at counts step (p + 1) ≤ need_at counts step (q + 1)
-  needs-up p q lt within = omega (arith, places_ascend counts step pos (p + 1) (q + 1) (omega arith) (omega arith))
-
   pub cuts-ascend : (p q : ℕ) → p ≤ q → q < length cuts → slice_index cuts p ≤ slice_index cuts q
-  cuts-ascend p q le within = go (cases_lt p q) (cases_lt (slice_index cuts q) (slice_index cuts p))
-    where
-      go : ((p < q) ⊎ (q ≤ p)) → ((slice_index cuts q < slice_index cuts p) ⊎ (slice_index cuts p ≤ slice_index cuts q))
-          → slice_index cuts p ≤ slice_index cuts q
-      go (inr past) order = let same : p ≡ q = omega arith in rw same (omega arith)
-      go (inl lt) (inr fine) = fine
-      go (inl lt) (inl wrong) =
-          let first = are.each p (omega (arith, are.size, within)) in
-          let second = are.each q (omega (arith, are.size, within)) in
-          let k = slice_index cuts q in
-          absurd (omega (
-            arith,
-            first.below k wrong,
-            second.above k (omega arith) (omega (arith, wrong, first.within)),
-            needs-up p q lt (omega (arith, are.size, within)),
-          ))
+  cuts-ascend p q le within = grind (arith, places_ascend)
 
 -- The sums of a column are those of its snapshot.
 module _ (snapshot sizes column counts cuts sums : List ℕ) (step : ℕ) (is_step : IsStep step) (are_counts : AreCounts counts)
