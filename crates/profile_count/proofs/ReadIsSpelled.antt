@@ -23,10 +23,6 @@ record SpellsRest (reading : Reading) (ls : List (List ℕ)) (p : Profile) : Typ
 no_size_lines : (reading : Reading) → IsOpen reading → size_lines_from reading.profile.counts reading.next ≡ []
 no_size_lines reading is_open = grind (arith, size_lines-none, get_or-drop)
 
--- no line more spells what was read
-spells_rest-nil : (reading : Reading) → IsOpen reading → SpellsRest reading [] reading.profile
-spells_rest-nil reading is_open = grind (arith, no_size_lines)
-
 -- a `large` line alone spells its count
 spells_rest-large : (reading : Reading) (count : ℕ) → IsOpen reading → IsNext reading.next 0 (Large count) →
     SpellsRest reading (entry_line (Large count) ∷ []) (with_large reading.profile count)
@@ -53,7 +49,7 @@ record IsReading (reading : Reading) (ls : List (List ℕ)) (p : Profile) : Type
   none : 0 < reading.profile.large → (ls ≡ []) × (reading.profile ≡ p)
 
 no_line_spells : (reading : Reading) (p : Profile) → profile_steps.finish reading ≡ Ok p → IsReading reading [] p
-no_line_spells reading p is = grind (arith, spells_rest-nil)
+no_line_spells reading p is = grind (arith, no_size_lines)
 
 line_spells : (reading next : Reading) (line : List ℕ) (ls : List (List ℕ)) (p : Profile) → profile_steps.step reading line ≡ Ok next
     → IsReading next ls p → IsReading reading (line ∷ ls) p

@@ -52,11 +52,6 @@ pub record IsFirstUnserved (classes counts : List ℕ) (n size : ℕ) : Type 0 w
   pub none : class_for classes size ≡ None
   pub first : (k : ℕ) → k < at → 0 < get_or counts k 0 → class_for classes (n + k) ≡ None → ⊥
 
-one_later : (classes counts : List ℕ) (count n at : ℕ) → (ltb 0 count && is_none (class_for classes n)) ≡ false
-    → ((k : ℕ) → k < at → 0 < get_or counts k 0 → class_for classes (suc n + k) ≡ None → ⊥)
-    → (k : ℕ) → k < suc at → 0 < get_or (count ∷ counts) k 0 → class_for classes (n + k) ≡ None → ⊥
-one_later classes counts count n at is also k too then more = grind arith
-
 first_from : (classes counts : List ℕ) (n size : ℕ) → unserved_from classes n counts ≡ Some size → IsFirstUnserved classes counts n size
 unfolding unserved_from
 first_from classes [] n size found = absurd cc
@@ -75,11 +70,8 @@ first_from classes (count ∷ counts) n size found =
           within = omega (arith, rest.within);
           some = rest.some;
           none = rest.none;
-          first = one_later classes counts count n rest.at e rest.first;
+          first = grind arith;
         }
-
-is_some-not_None : (o : Option ℕ) → (o ≡ None → ⊥) → IsSome o
-is_some-not_None o other = grind arith
 
 all_served : (classes counts : List ℕ) (n : ℕ) → unserved_from classes n counts ≡ None → (k : ℕ) → k < length counts →
     0 < get_or counts k 0 → class_for classes (n + k) ≡ None → ⊥
@@ -104,7 +96,7 @@ least counts classes (Some size) e = λ m lt counted.
     grind arith
 
 pub serving : (counts classes : List ℕ) (size : Option ℕ) → size ≡ unserved_of counts classes → IfNone size (Serves counts classes)
-serving counts classes size is = grind (arith, is_some-not_None, all_served)
+serving counts classes size is = grind (arith, all_served)
 
 -- the walk begins where the classes end
 pub skips_served : (counts classes : List ℕ) (n : ℕ) → ((m : ℕ) → m < n → IsSome (class_for classes m)) →
