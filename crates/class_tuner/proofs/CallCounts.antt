@@ -1,6 +1,6 @@
 -- Binary digits, and the count of calls row by row.
 use Rattle.std.proofs.{Common.{◌≡◌, ℕ, zero, suc, ◌+◌, ◌-◌, ◌*◌, ◌/◌, ◌^◌, ◌<◌, ◌≤◌, arith, ap, subst, inl, inr}, lemmas.Bool.{cases_lt}}
-use Rattle.std.proofs.{Math.Nat.{mul-le-mul_left, mul-le-mul_right}, lemmas.Int.Digits.{length-digits_of-le, length-digits_of_step}}
+use Rattle.std.proofs.{lemmas.Int.Digits.{length-digits_of-le, length-digits_of_step}}
 use Rattle.class_table.specs.declared.{sizes.TheConstants.{MOST_NEEDS}, table.TheConstants.{MOST_CLASSES}}
 use Rattle.class_tuner.specs.CallCounts.{bits, most_calls}
 
@@ -33,7 +33,4 @@ pub room-left : (start calls k d : ℕ) → start < 2 ^ 62 → k ≤ MOST_CLASSE
     → calls ≤ start + most_calls k d → calls + MOST_NEEDS * d ≤ 2 ^ 63
 room-left start calls k d small few le counted =
     let digits : bits d ≤ 10 = length-digits_of-le 2 10 d (omega arith) (omega arith) in
-    let product : (d - 1) * bits d ≤ (d - 1) * 10 = mul-le-mul_left (d - 1) digits in
-    let row : (d - 1) * bits d + d ≤ 11253 = omega arith in
-    let rows : k * ((d - 1) * bits d + d) ≤ MOST_CLASSES * ((d - 1) * bits d + d) = mul-le-mul_right ((d - 1) * bits d + d) few in
-    omega arith
+    grind arith

@@ -57,10 +57,4 @@ least_end-of_window f place d low high end after within s window =
     let found = least-within f (suc place) (d - suc place) in
     let is_least : IsLeastEnd f place d found.0 = subst (λ (n : ℕ). IsLeastWithin f (suc place) n found.0) whole found.1 in
     let inside = window found.0 is_least in
-    let in_window : IsLeastWithin f low high found.0 = record {
-      from = inside.0;
-      to = inside.1;
-      least = λ j from to. is_least.least j (omega arith) (omega arith);
-      first = λ j from before. is_least.first j (omega arith) before;
-    } in
-    subst (IsLeastEnd f place d) (one-least f low high found.0 end in_window s) is_least
+    grind arith

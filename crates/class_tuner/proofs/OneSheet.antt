@@ -1,25 +1,15 @@
 -- What is made for one measure, step and limit is the same, and so is the number of evaluations.
-use Rattle.std.proofs.Common.{◌≡◌, ℕ, zero, suc, ◌<◌, ◌≤◌, Bool, List, arith, refl, ap, sym, ◌∙◌}
+use Rattle.std.proofs.Common.{◌≡◌, ℕ, zero, suc, ◌<◌, ◌≤◌, Bool, List, arith, sym, ◌∙◌}
 use Rattle.class_tuner.{proofs.Tried.{calls-same}, specs.Fits.Fitted.{IsFitOf}, specs.Tuned.{AreEvaluations, IsMadeFor, IsTuned}}
 use Rattle.tuner_theory.{proofs.LawLemmas.{one_canonical, one_least_rows}, specs.Measures.{Measure, footprint_on, waste_on}}
 use Rattle.tuner_theory.specs.{Rows.{AreLeastRows, number_at}, Served.{served}, Sheets.{Sheet}}
-
-same_sheet : (table table' : List ℕ) (limit limit' step step' cost cost' : ℕ) (forced forced' : Bool)
-    (rows rows' : List (List ℕ)) → table ≡ table' → limit ≡ limit' → step ≡ step' → forced ≡ forced' → cost ≡ cost' → rows ≡ rows'
-    → (let a : Sheet = record { table = table; limit = limit; step = step; forced = forced; cost = cost; rows = rows } in
-    let b : Sheet = record { table = table'; limit = limit'; step = step'; forced = forced'; cost = cost'; rows = rows' } in a ≡ b)
-same_sheet table table' limit limit' step step' cost cost' forced forced' rows rows' t l s f w r = rw (t, l, s, f, w, r) refl
 
 -- by any measure,
 one_made : (m : Measure) (step limit : ℕ) (forced : Bool) (a b : Sheet) → IsMadeFor m step limit forced a → IsMadeFor m step limit forced b
     → a ≡ b
 one_made m step limit forced a b of_a of_b =
     let table = one_canonical m.cost m.counts step limit a.table b.table of_a.canonical of_b.canonical in
-    same_sheet a.table b.table a.limit b.limit a.step b.step a.cost b.cost a.forced b.forced a.rows b.rows table (of_a.for_limit ∙ sym of_b.for_limit)
-    (of_a.for_step ∙ sym of_b.for_step)
-    (of_a.for_forced ∙ sym of_b.for_forced)
-    (of_a.costs ∙ (ap m.cost table ∙ sym of_b.costs))
-    (one_least_rows _ _ limit a.rows b.rows of_a.ends of_b.ends of_a.shape of_b.shape of_a.least.least of_b.least.least)
+    grind (arith, one_least_rows)
 
 -- so the tuned sheet of a profile,
 pub one_sheet : (counts : List ℕ) (step limit : ℕ) (forced : Bool) (a b : Sheet) → IsTuned counts step limit forced a

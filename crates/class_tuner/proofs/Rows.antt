@@ -1,6 +1,6 @@
 -- Rows of least costs, one after another.
-use Rattle.std.proofs.Common.{◌≡◌, ℕ, zero, suc, ◌-◌, ◌<◌, ◌≤◌, List, [], ◌∷◌, ◌++◌, length, slice_index, arith, ap, subst, ◌∙◌, inl, inr}
-use Rattle.std.proofs.{Common.{Vec, slice_index_or}, lemmas.Bool.{cases_lt}, lemmas.Grind.{common_steps}}
+use Rattle.std.proofs.Common.{◌≡◌, ℕ, zero, suc, ◌-◌, ◌<◌, ◌≤◌, List, [], ◌∷◌, ◌++◌, length, slice_index, arith, ap, subst, ◌∙◌}
+use Rattle.std.proofs.{Common.{Vec, slice_index_or}, lemmas.Grind.{common_steps}}
 use Rattle.std.{proofs.lemmas.List.{get_or_append_left, get_or_past}, specs.declared.alloc.Global.{Global}}
 use Rattle.class_tuner.specs.{Filling.{IsFilledWithin, IsFirstRow, IsLeastAt, IsNextRow}, declared.filling.Row.{Row}}
 use Rattle.tuner_theory.{proofs.Lists.{lists-length, row-read_at}, proofs.Sheets.{rows-end}, specs.Lists.{lists_of}}
@@ -20,11 +20,6 @@ pub shape-pushed : (rows : List (List ℕ)) (row : List ℕ) (k d : ℕ) → Has
 shape-pushed rows row k d shape len = grind (arith, common_steps)
 
 -- ---- one row
-
-least-same : (cost : ℕ → ℕ → ℕ) (d : ℕ) (before before' : ℕ → ℕ) (i number number' end end' : ℕ)
-    → ((j : ℕ) → before' j ≡ before j) → number' ≡ number → end' ≡ end → IsLeastAt cost d before i number end →
-    IsLeastAt cost d before' i number' end'
-least-same cost d before before' i number number' end end' same same_number same_end l = grind arith
 
 -- a row and its ends, by their lists
 module _ (cost : ℕ → ℕ → ℕ) (d : ℕ) where
@@ -66,41 +61,18 @@ filled-more cost d k rows ends row end one f row_len end_len within = record {
     later m i some few lt =
         let before : (j : ℕ) → number_at (rows ++ row ∷ []) m j ≡ number_at rows m j =
         (λ j. number_at-old rows row m j some (omega (arith, f.rows_shape.row_count))) in
-        elim (cases_lt m k) [
-          | inl inside ↦ (let old = f.least.later_row m i some inside lt in
-              least-same cost d (number_at rows m) (number_at (rows ++ row ∷ []) m) i _ _ _ _ before
-              (number_at-old rows row (suc m) i (omega arith) (omega (arith, f.rows_shape.row_count)))
-              (number_at-old ends end (suc m) i (omega arith) (omega (arith, f.ends_shape.row_count)))
-              (record { least = old.0; number_is = old.1 }))
-          | inr past ↦ (let last : m ≡ k = omega arith in
-              let new = within i (omega arith) lt in
-              let at_last : (j : ℕ) → number_at (rows ++ row ∷ []) m j ≡ slice_index (slice_index_or rows (k - 1) []) j =
-              (λ j. before j ∙ ap (λ n. number_at rows n j) last) in
-              least-same cost d (slice_index (slice_index_or rows (k - 1) [])) (number_at (rows ++ row ∷ []) m) i _ _ _ _ at_last
-              (number_at-new rows row m i (omega (arith, f.rows_shape.row_count)))
-              (number_at-new ends end m i (omega (arith, f.ends_shape.row_count)))
-              new)
-        ]
+        grind (arith, number_at-old, number_at-new)
 
 -- no number is above the largest cost of a span to the last place
 pub filled-small : (cost : ℕ → ℕ → ℕ) (d limit bound : ℕ) (rows ends : List (List ℕ)) → IsFilled cost d limit rows ends
     → ((i : ℕ) → i < d → cost i d ≤ bound) → (k j : ℕ) → 1 ≤ k → k ≤ limit → number_at rows k j ≤ bound
 filled-small cost d limit bound rows ends f small k j one le =
-    elim (cases_lt j d) [
-      | inl inside ↦ at k one le inside
-      | inr past ↦ omega (
-        arith,
-        get_or_past (slice_index_or rows (k - 1) []) j 0
-            (omega (arith, f.rows_shape.row_lengths (k - 1) [] (omega (arith, f.rows_shape.row_count)))),
-      )
-    ]
+    grind (arith, at, get_or_past)
   where
     at : (k : ℕ) → 1 ≤ k → k ≤ limit → j < d → number_at rows k j ≤ bound
     at zero one le lt = absurd (omega arith)
     at (suc zero) one le lt = omega (arith, (f.least.first_row j (omega arith) lt).0, small j lt)
-    at (suc (suc k)) one le lt =
-        let row = f.least.later_row (suc k) j (omega arith) (omega arith) lt in
-        omega (arith, row.1, row.0.least d lt (omega arith), f.least.at_end (suc k), small j lt)
+    at (suc (suc k)) one le lt = grind arith
 
 -- ---- rows in vectors
 

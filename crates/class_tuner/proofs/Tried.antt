@@ -1,6 +1,6 @@
 -- How many ends are tried for a part of the places, half by half, and for rows, one by one.
-use Rattle.std.proofs.Common.{◌≡◌, ℕ, zero, suc, ◌+◌, ◌-◌, ◌/◌, ◌<◌, ◌≤◌, max, List, [], ◌∷◌, ◌++◌, length, slice_index, arith, refl, ap}
-use Rattle.std.proofs.{Common.{sym, ◌∙◌, inl, inr}, lemmas.Bool.{cases_lt, cond-true, lt-ltb}}
+use Rattle.std.proofs.Common.{◌≡◌, ℕ, zero, suc, ◌+◌, ◌-◌, ◌/◌, ◌<◌, ◌≤◌, max, List, [], ◌∷◌, ◌++◌, length, slice_index, arith, refl}
+use Rattle.std.proofs.{lemmas.Bool.{cond-true, lt-ltb}}
 use Rattle.class_tuner.{proofs.Rows.{number_at-new, number_at-old}, specs.CallCounts.{calls_of, ends_after, tried_in_row, tried_within}}
 use Rattle.tuner_theory.specs.Rows.{number_at}
 
@@ -21,23 +21,7 @@ pub tried-same : (end end' : ℕ → ℕ) (b start stop low high : ℕ) → ((i 
     → tried_within end b start stop low high ≡ tried_within end' b start stop low high
 unfolding tried_within
 tried-same end end' zero start stop low high same = refl
-tried-same end end' (suc b) start stop low high same =
-    elim (cases_lt start stop) [
-      | inr none ↦ tried-none end (suc b) start stop low high none ∙ sym (tried-none end' (suc b) start stop low high none)
-      | inl lt ↦ (let middle : ℕ = start + (stop - start) / 2 in
-          let left = tried-same end end' b start middle low (end middle) (λ i from below. same i from (omega arith)) in
-          let right = tried-same end end' b (suc middle) stop (end middle) high (λ i from below. same i (omega arith) below) in
-          let here : end middle ≡ end' middle = same middle (omega arith) (omega arith) in
-          omega (
-            arith,
-            tried-halved end b start stop low high lt,
-            tried-halved end' b start stop low high lt,
-            left,
-            right,
-            ap (λ e. tried_within end' b start middle low e) here,
-            ap (λ e. tried_within end' b (suc middle) stop e high) here,
-          ))
-    ]
+tried-same end end' (suc b) start stop low high same = grind (arith, tried-same end end' b start, tried-same end end' b)
 
 -- the calls for a part: first those for the middle place, then those for each half, whose ends stay
 pub tried-part : (end_left end : ℕ → ℕ) (b start stop low high first least calls here left right : ℕ) → start < stop

@@ -1,6 +1,6 @@
 -- What a table takes, a class at a time: each class serves the sizes from where the one before it ends.
 use Rattle.std.proofs.Common.{◌≡◌, ℕ, zero, suc, ◌+◌, ◌-◌, ◌*◌, ◌^◌, ◌<◌, ◌≤◌, ◌&&◌, false, List, [], ◌∷◌, length, get_or, drop, cond, leb}
-use Rattle.std.proofs.{Common.{ltb, refl, sym, ap, ◌∙◌, arith, add-one, All, slice_index}, Math.Nat.{mul-le-mul}, Math.Seq.{drop-cons}}
+use Rattle.std.proofs.{Common.{ltb, refl, ◌∙◌, arith, add-one, All, slice_index}, Math.Seq.{drop-cons}}
 use Rattle.std.proofs.lemmas.{Bool.{le-leb, le-ltb, lt-leb, lt-ltb}, List.{drop_all}, List.Elements.{All-head, All-tail}}
 use Rattle.class_table.specs.{Sizes.{largest_counted}, Tables.{IsLegalTable}, declared.sizes.TheConstants.{LARGEST_CLASS}}
 use Rattle.profile_count.proofs.LawLemmas.{sum_up_to_the_rest}
@@ -45,8 +45,7 @@ blocks-cut low high from end s is also le within =
 pub most-same : (f g : List ℕ → ℕ) (snapshots : List (List ℕ)) → All AreCounts snapshots → ((s : List ℕ) → AreCounts s → f s ≡ g s)
     → most f snapshots ≡ most g snapshots
 most-same f g [] are each = refl
-most-same f g (s ∷ ss) are each =
-    omega (arith, each s (All-head AreCounts s ss are), most-same f g ss (All-tail AreCounts s ss are) each)
+most-same f g (s ∷ ss) are each = grind (arith, most-same f g ss (All-tail AreCounts s ss are) each, All-head)
 
 -- ---- class by class
 
@@ -71,9 +70,6 @@ module _ (snapshots : List (List ℕ)) (table : List ℕ) (are : AreSnapshots sn
 
   module _ (number from total class : ℕ) (so_far : TakenSoFar snapshots table number from total) (within : number < length table)
       (is : get_or table number 0 ≡ class) where
-    wide : 2 ≤ class
-    wide = omega (arith, is, (legal.in_range number 0 within).0)
-
     narrow : class ≤ LARGEST_CLASS
     narrow = omega (arith, is, (legal.in_range number 0 within).1)
 
@@ -87,24 +83,17 @@ module _ (snapshots : List (List ℕ)) (table : List ℕ) (are : AreSnapshots sn
         → total + bytes * blocks ≤ 16 * LARGEST_CLASS * greatest_count * (16 * class - 15)
     taken-small bytes blocks few less =
         let wide_bytes : bytes ≤ 16 * LARGEST_CLASS = omega (arith, few, narrow) in
-        let product = mul-le-mul {n₂ = 16 * LARGEST_CLASS} {m₂ = greatest_count * (16 * class - 15 - from)} wide_bytes less in
-        omega (arith, so_far.small, product, taken-order)
+        grind (arith, taken-order)
 
     pub taken-more : (bytes blocks : ℕ) → bytes ≡ 16 * class → blocks ≡ most (blocks_from from (16 * class - 15)) snapshots
         → blocks ≤ greatest_count * (16 * class - 15 - from)
         → TakenSoFar snapshots table (number + 1) (16 * class - 15) (total + bytes * blocks)
     taken-more bytes blocks of_class are_most less = record {
       low = class;
-      cut = cut-class class wide;
+      cut = omega arith;
       summed =
           let parts : drop number table ≡ class ∷ drop (number + 1) table = rw (add-one, drop-cons table number 0 within, is) refl in
-          let same : most (blocks_between 1 so_far.low class) snapshots ≡ blocks =
-          most-same _ _ snapshots are.counts
-          (λ s counts. blocks-cut so_far.low class from (16 * class - 15) s so_far.cut (cut-class class wide)
-          taken-order (omega (arith, counts.sizes, taken-end))) ∙ sym are_most in
-          let first : footprint_between snapshots 1 so_far.low class ≡ bytes * blocks =
-          ap (λ m. 16 * class * m) same ∙ ap (λ b. b * blocks) (sym of_class) in
-          omega (arith, so_far.summed, ap (cost_above (footprint_between snapshots 1) so_far.low) parts, first);
+          grind (arith, most-same, blocks-cut, taken-order);
       small = taken-small bytes blocks (omega (arith, of_class)) less;
       inside = taken-end;
       before = λ more. omega (arith, is, legal.ascending number more);
@@ -125,11 +114,7 @@ pub record TakenByLines (sizes : List ℕ) (columns : List (List ℕ)) (table : 
 module _ (sizes : List ℕ) (columns : List (List ℕ)) (table : List ℕ) (sizes_are : AreSizes sizes)
     (long : All (λ column. length column ≡ length sizes) columns) (are : AreSnapshots (spread sizes columns)) (legal : IsLegalTable 1 table) where
   pub by_lines-none : TakenByLines sizes columns table 0 0 0
-  by_lines-none = record {
-    from = 0;
-    cut = record { within = omega arith; below = λ k lt. absurd (omega arith); above = λ k le lt. omega arith };
-    taken = taken-none (spread sizes columns) table are legal;
-  }
+  by_lines-none = grind (arith, taken-none)
 
   module _ (number line total class : ℕ) (so_far : TakenByLines sizes columns table number line total) (within : number < length table)
       (is : get_or table number 0 ≡ class) where
@@ -144,8 +129,7 @@ module _ (sizes : List ℕ) (columns : List (List ℕ)) (table : List ℕ) (size
       same = most-lines sizes columns line next so_far.from (16 * class - 15) sizes_are long so_far.cut cut
 
       small : (blocks : ℕ) → blocks ≡ most (blocks_from line next) columns → blocks ≤ greatest_count * (16 * class - 15 - so_far.from)
-      small blocks are_most =
-          omega (arith, are_most, same, most-small (spread sizes columns) so_far.from (16 * class - 15) are.counts order)
+      small blocks are_most = grind (arith, same, most-small, order)
 
       pub by_lines-small : (bytes blocks : ℕ) → bytes ≤ 16 * class → blocks ≡ most (blocks_from line next) columns
           → total + bytes * blocks ≤ 16 * LARGEST_CLASS * greatest_count * (16 * class - 15)

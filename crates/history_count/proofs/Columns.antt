@@ -1,5 +1,5 @@
 -- The counts of one size in all snapshots, and what is left where they are set.
-use Rattle.std.proofs.Common.{◌≡◌, ◌≢◌, ℕ, suc, ◌≤◌, List, [], ◌∷◌, length, set, refl, sym, ap, ◌∙◌, arith, All}
+use Rattle.std.proofs.Common.{◌≡◌, ◌≢◌, ℕ, suc, ◌≤◌, List, [], ◌∷◌, length, set, refl, ap, ◌∙◌, arith, All}
 use Rattle.std.proofs.lemmas.{Grind.{same_number_lists, common_steps}, List.{get_or-set_other, get_or-set_same, length-set}}
 use Rattle.std.proofs.lemmas.List.Elements.{All-cons, All-head, All-nil, All-set, All-tail}
 use Rattle.class_table.specs.Sizes.{largest_counted}
@@ -41,9 +41,7 @@ unfolding with_counts
 counts_of-same [] n [] are small size = refl
 counts_of-same [] n (c ∷ cs) are small size = absurd (omega arith)
 counts_of-same (s ∷ ss) n [] are small size = absurd (omega arith)
-counts_of-same (s ∷ ss) n (c ∷ cs) are small size =
-    let first : AreCounts s = All-head AreCounts s ss are in
-    rw (get_or-set_same s n c 0 (omega (arith, first.sizes)), counts_of-same ss n cs (All-tail AreCounts s ss are) small (omega arith)) refl
+counts_of-same (s ∷ ss) n (c ∷ cs) are small size = grind (arith, counts_of-same ss n cs (All-tail AreCounts s ss are) small (omega arith), All-head, get_or-set_same)
 
 -- and no others.
 pub counts_of-other : (snapshots : List (List ℕ)) (n k : ℕ) (counts : List ℕ) → k ≢ n
@@ -52,13 +50,6 @@ unfolding with_counts
 counts_of-other [] n k counts other = refl
 counts_of-other (s ∷ ss) n k [] other = refl
 counts_of-other (s ∷ ss) n k (c ∷ cs) other = grind (arith, get_or-set_other, counts_of-other ss n k cs other)
-
--- Snapshots with the same counts of each size are the same.
-cons_head : {A : Type 0} (a b : A) (x y : List A) → a ∷ x ≡ b ∷ y → a ≡ b
-cons_head a b x y e = cc
-
-cons_tail : {A : Type 0} (a b : A) (x y : List A) → a ∷ x ≡ b ∷ y → x ≡ y
-cons_tail a b x y e = cc
 
 pub same_snapshots : (one other : List (List ℕ)) → length one ≡ length other → All AreCounts one → All AreCounts other
     → ((n : ℕ) → n ≤ largest_counted → counts_of one n ≡ counts_of other n) → one ≡ other
@@ -69,9 +60,8 @@ same_snapshots (s ∷ ss) (t ∷ ts) size are also each =
     let first : AreCounts s = All-head AreCounts s ss are in
     let first_too : AreCounts t = All-head AreCounts t ts also in
     let same : s ≡ t =
-    same_number_lists s t (first.sizes ∙ sym first_too.sizes)
-    (λ n lt. cons_head _ _ _ _ (each n (omega (arith, first.sizes)))) in
+    grind (arith, same_number_lists) in
     let rest : ss ≡ ts =
     same_snapshots ss ts (omega arith) (All-tail AreCounts s ss are) (All-tail AreCounts t ts also)
-    (λ n le. cons_tail _ _ _ _ (each n le)) in
+    (grind arith) in
     rw (same, rest) refl

@@ -15,37 +15,12 @@ module _ (snapshot sizes column : List ℕ) (are : AreSizes sizes) (counts : Cou
   -- the size before the end is none of a line,
   miss : (line end : ℕ) → IsCutAt sizes line (suc end) → ((k : ℕ) → k < line → slice_index sizes k < end)
       → (IsCutAt sizes line end → IsSummed line end) → IsSummed line (suc end)
-  miss line end cut less before =
-      let here : IsCutAt sizes line end =
-      record { within = cut.within; below = less; above = λ k le lt. omega (arith, cut.above k le lt) } in
-      let none : slice_index snapshot end ≡ 0 = counts.others end (λ k lt e. by_order k lt e (cases_lt k line)) in
-      omega (arith, sum_below-more (slice_index snapshot) end, none, before here)
-    where
-      by_order : (k : ℕ) → k < length sizes → slice_index sizes k ≡ end → ((k < line) ⊎ (line ≤ k)) → ⊥
-      by_order k lt e (inl below) = omega (arith, less k below, e)
-      by_order k lt e (inr past) = omega (arith, cut.above k past lt, e)
+  miss line end cut less before = grind (arith, sum_below-more)
 
   -- or that of the last one.
   hit : (line end : ℕ) → IsCutAt sizes (suc line) (suc end) → slice_index sizes line ≡ end
       → (IsCutAt sizes line end → IsSummed line end) → IsSummed (suc line) (suc end)
-  hit line end cut is before =
-      let here : IsCutAt sizes line end = record {
-        within = omega (arith, cut.within);
-        below = λ k lt. omega (arith, is, are.ascending k line lt (omega (arith, cut.within)));
-        above = λ k le lt. by_order k lt (cases_lt line k) le;
-      } in
-      let counted : slice_index snapshot end ≡ slice_index column line = rw is at (counts.counted line (omega (arith, cut.within))) in
-      omega (
-        arith,
-        sum_below-more (slice_index snapshot) end,
-        sum_below-more (slice_index column) line,
-        counted,
-        before here,
-      )
-    where
-      by_order : (k : ℕ) → k < length sizes → ((line < k) ⊎ (k ≤ line)) → line ≤ k → end ≤ slice_index sizes k
-      by_order k lt (inl past) le = omega (arith, are.ascending line k past lt, is)
-      by_order k lt (inr below) le = let same : k ≡ line = omega arith in rw same (omega (arith, is))
+  hit line end cut is before = grind (arith, sum_below-more)
 
   more : (end line : ℕ) → ((line : ℕ) → IsCutAt sizes line end → IsSummed line end) → IsCutAt sizes line (suc end) → IsSummed line (suc end)
   more end zero before cut = miss 0 end cut (λ k lt. absurd (omega arith)) (before 0)
@@ -112,8 +87,4 @@ lines-within sizes are zero lt = omega arith
 lines-within sizes are (suc k) lt = omega (arith, lines-within sizes are k (omega arith), are.ascending k (suc k) (omega arith) lt)
 
 pub few-lines : (sizes : List ℕ) → AreSizes sizes → length sizes ≤ largest_counted + 1
-few-lines sizes are = by_length (length sizes) refl
-  where
-    by_length : (n : ℕ) → length sizes ≡ n → length sizes ≤ largest_counted + 1
-    by_length zero is = omega arith
-    by_length (suc n) is = omega (arith, lines-within sizes are n (omega (arith, is)), are.small n (omega (arith, is)))
+few-lines sizes are = grind (arith, lines-within)

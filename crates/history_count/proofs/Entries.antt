@@ -1,6 +1,6 @@
 -- The entry of a line by the numbers that were read of it.
-use Rattle.std.proofs.Common.{◌≡◌, ℕ, ◌≤◌, Bool, true, false, ◌&&◌, ◌||◌, max, List, [], ◌∷◌, length, map, Option, Some, Ok, Err, leb, ltb, eqb, refl}
-use Rattle.std.proofs.{Common.{sym, ap, ◌∙◌, arith, All}, lemmas.Bool.{eq-eqb, eqb-true, le-leb}, lemmas.Bool.Decides.{nat_tests}}
+use Rattle.std.proofs.Common.{◌≡◌, ℕ, ◌≤◌, Bool, true, false, ◌&&◌, List, [], ◌∷◌, length, map, Option, Some, Ok, Err, leb, ltb, eqb, refl}
+use Rattle.std.proofs.{Common.{arith, All}, lemmas.Bool.{eq-eqb, eqb-true, le-leb}}
 use Rattle.std.proofs.lemmas.{Grind.{common_steps}, List.Elements.{All-head, All-tail}}
 use Rattle.profile_count.specs.declared.fault.ProfileFault.TheVariants.{CountOutOfRange, NotAscending}
 use Rattle.tuner_theory.specs.Profiles.{greatest_count}
@@ -11,50 +11,30 @@ use Rattle.history_count.specs.declared.line.Subject.{Subject}
 
 -- ---- numbers as 32 bits hold them
 
-capped_few : (n : ℕ) → leb (capped n) greatest_count ≡ leb n greatest_count
-capped_few n = grind (arith, nat_tests)
-
-capped_some : (n : ℕ) → ltb 0 (capped n) ≡ ltb 0 n
-capped_some n = grind (arith, nat_tests)
-
-capped_same : (n : ℕ) → leb n greatest_count ≡ true → capped n ≡ n
-capped_same n few = grind (arith, nat_tests)
-
 few-capped : (numbers : List ℕ) → are_few (map capped numbers) ≡ are_few numbers
 few-capped [] = refl
-few-capped (n ∷ ns) = rw (capped_few n, few-capped ns) refl
+few-capped (n ∷ ns) = grind (arith, few-capped ns)
 
 some-capped : (numbers : List ℕ) → is_some_counted (map capped numbers) ≡ is_some_counted numbers
 some-capped [] = refl
-some-capped (n ∷ ns) = rw (capped_some n, some-capped ns) refl
-
-in_range-capped : (numbers : List ℕ) → are_in_range (map capped numbers) ≡ are_in_range numbers
-in_range-capped numbers = rw (few-capped numbers, some-capped numbers) refl
+some-capped (n ∷ ns) = grind (arith, some-capped ns)
 
 and_parts : (a b : Bool) → (a && b) ≡ true → (a ≡ true) × (b ≡ true)
 and_parts a b is = grind arith
 
 few-same : (numbers : List ℕ) → are_few numbers ≡ true → map capped numbers ≡ numbers
 few-same [] few = refl
-few-same (n ∷ ns) few =
-    let parts = and_parts (leb n greatest_count) (are_few ns) few in
-    rw (capped_same n parts.0, few-same ns parts.1) refl
+few-same (n ∷ ns) few = grind (arith, few-same ns)
 
 -- ---- their greatest
 
 few-greatest : (counts : List ℕ) → are_few counts ≡ leb (greatest_of counts) greatest_count
 few-greatest [] = refl
-few-greatest (n ∷ ns) = rw (few-greatest ns) (few_both n (greatest_of ns))
-  where
-    few_both : (a b : ℕ) → (leb a greatest_count && leb b greatest_count) ≡ leb (max a b) greatest_count
-    few_both a b = grind (arith, nat_tests)
+few-greatest (n ∷ ns) = grind (arith, few-greatest ns)
 
 some-greatest : (counts : List ℕ) → is_some_counted counts ≡ ltb 0 (greatest_of counts)
 some-greatest [] = refl
-some-greatest (n ∷ ns) = rw (some-greatest ns) (some_either n (greatest_of ns))
-  where
-    some_either : (a b : ℕ) → (ltb 0 a || ltb 0 b) ≡ ltb 0 (max a b)
-    some_either a b = grind (arith, nat_tests)
+some-greatest (n ∷ ns) = grind (arith, some-greatest ns)
 
 pub range_greatest : (counts : List ℕ) (most : ℕ) → most ≡ greatest_of counts
     → are_in_range counts ≡ (leb most greatest_count && ltb 0 most)
@@ -74,7 +54,7 @@ filled-ok u o count filled is = grind arith
 
 module _ (o : Option (List ℕ)) (count next : ℕ) (subject : Subject) (filled : List ℕ) (is : IsFilled o count filled) where
   in_range : are_in_range filled ≡ are_in_range is.numbers
-  in_range = ap are_in_range is.is ∙ in_range-capped is.numbers
+  in_range = grind (arith, few-capped, some-capped)
 
   pub entry-not_ascending : is_in_order next subject ≡ false
       → entry_with_numbers count next (Some subject) o ≡ Err (Counted NotAscending)
@@ -82,16 +62,11 @@ module _ (o : Option (List ℕ)) (count next : ℕ) (subject : Subject) (filled 
 
   pub entry-out_of_range : is_in_order next subject ≡ true → are_in_range filled ≡ false
       → entry_with_numbers count next (Some subject) o ≡ Err (Counted CountOutOfRange)
-  entry-out_of_range order range =
-      rw (is.read, eq-eqb (length is.numbers) count is.size, order, sym in_range ∙ range) refl
+  entry-out_of_range order range = grind (arith, in_range)
 
   pub entry-filled : is_in_order next subject ≡ true → are_in_range filled ≡ true
       → entry_with_numbers count next (Some subject) o ≡ Ok (record { subject = subject; counts = filled })
-  entry-filled order range =
-      let good : are_in_range is.numbers ≡ true = sym in_range ∙ range in
-      let same : is.numbers ≡ filled = sym (is.is ∙ few-same is.numbers (and_parts _ _ good).0) in
-      rw (is.read, eq-eqb (length is.numbers) count is.size, order, good)
-      (ap (λ (numbers : List ℕ). Ok (record { subject = subject; counts = numbers })) same)
+  entry-filled order range = grind (arith, in_range, few-same)
 
 -- ---- counts in range
 

@@ -1,6 +1,6 @@
 -- The line of an entry: the entry is read from it, and from no other line.
 use Rattle.std.proofs.Common.{◌≡◌, ℕ, ◌≤◌, ◌<◌, ◌^◌, Bool, false, List, [], ◌∷◌, length, map, Option, Some, Ok, refl, sym, ◌∙◌, arith}
-use Rattle.std.proofs.{Common.{codes}, lemmas.Bool.{eq-eqb, le-leb, leb-true}, lemmas.Slice.Eq.{bytes_eq-Decides}}
+use Rattle.std.proofs.{Common.{codes}, lemmas.Bool.{leb-true}, lemmas.Slice.Eq.{bytes_eq-Decides}}
 use Rattle.std.specs.Fmt.{decimal}
 use Rattle.class_table.proofs.LawLemmas.{AreSmall, IsName, line_of_read_numbers, named_line_is_full, named_numbers_are_read, plain_name}
 use Rattle.class_table.{proofs.LawLemmas.{words_of_named_line}, specs.NamedLines.{named_line, numbers_in, numbers_of}}
@@ -39,9 +39,6 @@ first_word-is_name (Size size) is =
     record { line = (laws.word size small).0; word = (laws.word size small).1; some = decimal-some size small }
 first_word-is_name Large is = plain_name (codes "large") refl (omega arith)
 
-subject_of-first_word : (subject : Subject) → IsSubject subject → subject_of (first_word subject) ≡ Some subject
-subject_of-first_word subject is = grind (arith, laws, number_is_not_large, le-leb)
-
 counts-small : (count next : ℕ) (entry : Entry) → IsNext count next entry → AreSmall entry.counts
 counts-small count next entry is = grind arith
 
@@ -68,16 +65,7 @@ module _ (count next : ℕ) (entry : Entry) (is : IsNext count next entry) where
       let numbers =
       sym (numbers_after first (entry_line entry) (map decimal entry.counts) ws)
       ∙ named_numbers_are_read first entry.counts name small in
-      let few = few-from_all entry.counts is.good.few in
-      rw (
-        ws,
-        subject_of-first_word entry.subject is.subject,
-        numbers,
-        eq-eqb (length entry.counts) count is.good.size,
-        is.good.order,
-        few,
-        is.good.some,
-      ) refl
+      grind (arith, few-from_all, laws, number_is_not_large)
 
 -- ---- from a line to the entry that is read from it
 

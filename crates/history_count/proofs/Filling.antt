@@ -65,8 +65,7 @@ fills-more all rest new place filled w n number so_far parts is capped_is room =
   read = so_far.read ∙ rw parts (number_more so_far.front w new n is);
   size = omega (arith, length-append so_far.front (n ∷ []), so_far.size);
   put =
-      take_more_set filled place number room
-      ∙ rw (so_far.put, capped_is) (sym (map-append capped so_far.front (n ∷ [])));
+      grind (arith, take_more_set, map-append);
 }
 
 -- no word more: there are too few

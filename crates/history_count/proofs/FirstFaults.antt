@@ -1,5 +1,5 @@
 -- The line at which a text is refused as a history is its first fault.
-use Rattle.std.proofs.Common.{◌≡◌, ℕ, ◌-◌, ◌≤◌, max, List, [], ◌∷◌, length, take, Option, Some, None, Result, Ok, Err, ◌↔◌, refl, sym, ◌∙◌, arith}
+use Rattle.std.proofs.Common.{◌≡◌, ℕ, ◌-◌, ◌≤◌, max, List, length, take, Option, None, Result, Ok, Err, ◌↔◌, refl, sym, ◌∙◌, arith}
 use Rattle.std.{proofs.Common.{inl}, specs.Option.{ok_or, option_map}}
 use Rattle.line_text.proofs.LawLemmas.{IsFormat, headed, headed_ends, headed_goes_on, lines_before_refusal_spell, read_after_head}
 use Rattle.line_text.proofs.LawLemmas.{refused_at_first_fault, refused_line_within_or_first}
@@ -23,12 +23,7 @@ start = None
 
 all_lines : (ls : List (List ℕ)) → history_of_lines ls ≡ read_lines steps 1 start ls
 unfolding head steps start read_lines
-all_lines [] = refl
-all_lines (line ∷ ls) = go (snapshots_of (words line)) refl
-  where
-    go : (count : Option ℕ) → snapshots_of (words line) ≡ count → history_of_lines (line ∷ ls) ≡ read_lines steps 1 start (line ∷ ls)
-    go None is = rw is refl
-    go (Some count) is = rw is (sym (read_after_head head BadSnapshots history_steps ls 2 (first_reading count)))
+all_lines ls = grind (arith, read_after_head)
 
 -- A history may end after any line.
 ends : (s next : Option Reading) (line : List ℕ) → steps.step s line ≡ Ok next → (h : History) × (steps.finish next ≡ Ok h)
@@ -51,10 +46,7 @@ refused text n is = (is.0, sym (all_lines (lines text)) ∙ is.1)
 
 pub first_fault_is_refused : (text : List ℕ) (n : ℕ) → IsRefusedAt n text ↔ IsFirstFault SpellsHistory text n
 first_fault_is_refused text n =
-    let both = refused_at_first_fault steps start SpellsHistory format text n in (
-      λ is. both.0 (refused text n is),
-      λ first. let is = both.1 first in (is.0, all_lines (lines text) ∙ is.1),
-    )
+    let both = refused_at_first_fault steps start SpellsHistory format text n in grind (arith, all_lines)
 
 -- The line of a fault is there, unless it is the first,
 pub refused_line_is_there : (text : List ℕ) (n : ℕ) → IsRefusedAt n text → n ≤ max 1 (length (lines text))

@@ -2,7 +2,7 @@
 use Rattle.std.proofs.Common.{◌≡◌, ℕ, zero, suc, ◌+◌, ◌≤◌, false, List, [], ◌∷◌, length, get_or, set, refl, ◌∙◌, arith, All, slice_index}
 use Rattle.std.proofs.lemmas.{Bool.{cases_eq}, Grind.{same_number_lists}}
 use Rattle.std.proofs.lemmas.List.{get_or-set_other, get_or-set_same, length-replicate, length-set}
-use Rattle.std.proofs.lemmas.List.Elements.{All-cons, All-from_get_or, All-head, All-nil, All-tail}
+use Rattle.std.proofs.lemmas.List.Elements.{All-from_get_or, All-head, All-nil, All-tail}
 use Rattle.class_table.specs.Sizes.{largest_counted}
 use Rattle.profile_count.{proofs.LawLemmas.{each_is_zero, zeros_are_counts}, specs.Counts.{zeros}}
 use Rattle.tuner_theory.{proofs.Footprint.{peak-at, peaks-length}, proofs.Spans.{count-small}, specs.Histories.{AreSnapshots, most, peaks}}
@@ -62,9 +62,7 @@ peaks-empty count = grind (arith, same_number_lists, peaks-length, zeros_are_cou
 pub counts-small : (snapshots : List (List ℕ)) (n : ℕ) → All AreCounts snapshots
     → All (λ count. count ≤ greatest_count) (counts_of snapshots n)
 counts-small [] n are = All-nil (λ count. count ≤ greatest_count)
-counts-small (s ∷ ss) n are =
-    All-cons (λ count. count ≤ greatest_count) (slice_index s n) (counts_of ss n) (count-small s n (All-head AreCounts s ss are))
-    (counts-small ss n (All-tail AreCounts s ss are))
+counts-small (s ∷ ss) n are = grind (arith, counts-small ss n (All-tail AreCounts s ss are), count-small, All-head)
 
 -- They are snapshots.
 pub empty-are : (count : ℕ) → 1 ≤ count → count ≤ MOST_SNAPSHOTS → AreSnapshots (empty_snapshots count)

@@ -8,7 +8,7 @@ use Rattle.tuner_theory.specs.declared.most_snapshots.TheConstants.{MOST_SNAPSHO
 use Rattle.history_count.proofs.{Columns.{counts_of-other, counts_of-same, with_counts-length}, Peaks.{empty-length, zeros-small}}
 use Rattle.history_count.{proofs.EntryLines.{IsNext, entry_line, entry_line-read}, specs.Histories.{History, IsHistory, counts_of}}
 use Rattle.history_count.{proofs.OpenReadings.{IsOpen, is_open-first, is_open-size, size_entry}, specs.declared.line.Subject.{Subject}}
-use Rattle.history_count.proofs.SizeLines.{counts_lines-none, counts_lines-some, size_lines-counted, size_lines-none, size_lines-passed}
+use Rattle.history_count.proofs.SizeLines.{counts_lines-some, size_lines-counted, size_lines-none, size_lines-passed}
 use Rattle.history_count.{proofs.SizeLines.{size_lines_from, zeros-none}, specs.declared.fault.HistoryFault.{HistoryFault}}
 use Rattle.history_count.specs.HistoryText.{Entry, Reading, SpellsHistory, counts_lines, first_reading, history_after, history_steps}
 use Rattle.history_count.specs.HistoryText.{history_lines, history_of, history_of_lines, is_some_counted, next_entry, snapshots_line}
@@ -27,10 +27,6 @@ record SpellsRest (r : Reading) (ls : List (List ℕ)) (h : History) : Type 0 wh
 
 no_size_lines : (r : Reading) → IsOpen r → size_lines_from r.history.snapshots r.next ≡ []
 no_size_lines r is_open = size_lines-none r.history.snapshots r.next (largest_counted + 1 - r.next) is_open.none
-
--- no line more spells what was read
-spells_rest-nil : (r : Reading) → IsOpen r → SpellsRest r [] r.history
-spells_rest-nil r is_open = grind (arith, length-zeros, zeros-small, no_size_lines, counts_lines-none, zeros-none)
 
 abbrev large_entry : List ℕ → Entry
 large_entry counts = record { subject = Large; counts = counts }
@@ -62,7 +58,7 @@ record IsReading (r : Reading) (ls : List (List ℕ)) (h : History) : Type 0 whe
   none : r.is_ended ≡ true → (ls ≡ []) × (r.history ≡ h)
 
 no_line_spells : (r : Reading) (h : History) → history_steps.finish r ≡ Ok h → IsReading r [] h
-no_line_spells r h is = grind (arith, spells_rest-nil)
+no_line_spells r h is = grind (arith, length-zeros, zeros-small, no_size_lines, zeros-none)
 
 line_spells : (r next : Reading) (line : List ℕ) (ls : List (List ℕ)) (h : History) → history_steps.step r line ≡ Ok next
     → IsReading next ls h → IsReading r (line ∷ ls) h
@@ -87,9 +83,7 @@ line_spells r next line ls h is rest = go (next_entry r line) refl
 
     go : (read : Result Entry HistoryFault) → next_entry r line ≡ read → IsReading r (line ∷ ls) h
     go (Err fault) e = let none = rw e at is in absurd cc
-    go (Ok entry) e =
-        let same : with_entry r entry ≡ next = (let both = rw e at is in cc) in
-        by_subject entry.subject entry.counts e (rw (← same) at rest)
+    go (Ok entry) e = grind (arith, by_subject)
 
 -- ---- the first line
 

@@ -1,12 +1,12 @@
 -- The peaks of a history by the rows of its counts, line by line.
-use Rattle.std.proofs.Common.{◌≡◌, ◌≢◌, ℕ, zero, suc, ◌+◌, ◌<◌, ◌≤◌, ◌⊎◌, List, [], ◌∷◌, length, slice_index, refl, sym, ap, ◌∙◌, arith}
-use Rattle.std.proofs.{Common.{All, inl, inr}, lemmas.Bool.{cases_eq, cases_lt}, lemmas.Grind.{same_number_lists}}
+use Rattle.std.proofs.Common.{◌≡◌, ◌≢◌, ℕ, suc, ◌+◌, ◌<◌, List, [], ◌∷◌, length, slice_index, refl, sym, ◌∙◌, arith}
+use Rattle.std.proofs.{Common.{All}, lemmas.Grind.{same_number_lists}}
 use Rattle.class_table.specs.Sizes.{largest_counted}
 use Rattle.profile_count.{proofs.LawLemmas.{each_is_zero, length-zeros}, specs.Counts.{nothing_counted, zeros}}
 use Rattle.tuner_theory.{proofs.Footprint.{peak-at, peaks-length}, proofs.Sums.{sum_below-more}, specs.Profiles.{Profile}}
 use Rattle.tuner_theory.specs.Histories.{AreSnapshots, most, peaks}
 use Rattle.history_count.proofs.{CutLines.{most-lines}, SpreadLines.{with_sizes-counts, with_sizes-length}}
-use Rattle.history_count.specs.CountedLines.{AreFew, AreSizes, CountsSizes, HoldsLines, IsCutAt, spread, with_sizes}
+use Rattle.history_count.specs.CountedLines.{AreFew, AreSizes, CountsSizes, HoldsLines, spread, with_sizes}
 use Rattle.history_count.specs.Histories.{blocks_from, peak_profile}
 
 -- Of the lines up to this one the profile has the peaks, and nothing else.
@@ -17,28 +17,7 @@ pub record ArePeaksTo (sizes : List ℕ) (rows : List (List ℕ)) (line : ℕ) (
   pub others : (n : ℕ) → ((j : ℕ) → j < line → slice_index sizes j ≢ n) → slice_index kept.counts n ≡ 0
 
 pub peaks_to-none : (sizes : List ℕ) (rows : List (List ℕ)) → ArePeaksTo sizes rows 0 nothing_counted
-peaks_to-none sizes rows = record {
-  len = length-zeros (largest_counted + 1);
-  large = refl;
-  done = λ j lt. absurd (omega arith);
-  others = λ n none. each_is_zero (largest_counted + 1) n;
-}
-
--- a size is one of the first lines, or none of them
-which-line : (sizes : List ℕ) (n lines : ℕ)
-    → ((j : ℕ) × (j < lines) × (slice_index sizes j ≡ n)) ⊎ ((j : ℕ) → j < lines → slice_index sizes j ≢ n)
-which-line sizes n zero = inr (λ j lt. absurd (omega arith))
-which-line sizes n (suc lines) =
-    elim (which-line sizes n lines) [
-      | inl found ↦ inl (found.0, omega (arith, found.1), found.2)
-      | inr none ↦ elim (cases_eq (slice_index sizes lines) n) [
-        | inl same ↦ inl (lines, omega arith, same)
-        | inr other ↦ inr (λ j lt. elim (cases_lt j lines) [
-          | inl before ↦ none j before
-          | inr past ↦ let here : j ≡ lines = omega arith in rw here other
-        ])
-      ]
-    ]
+peaks_to-none sizes rows = grind (arith, length-zeros, each_is_zero)
 
 module _ (sizes : List ℕ) (rows : List (List ℕ)) (are : AreSizes sizes) (few : AreFew (length sizes) rows)
     (snapshots : AreSnapshots (spread sizes rows)) where
@@ -51,32 +30,12 @@ module _ (sizes : List ℕ) (rows : List (List ℕ)) (are : AreSizes sizes) (few
   most-one n [] = refl
   most-one n (s ∷ ss) = omega (arith, one-size n s, most-one n ss)
 
-  cut-before : (line : ℕ) → line < length sizes → IsCutAt sizes line (slice_index sizes line)
-  cut-before line within = record {
-    within = omega arith;
-    below = λ k lt. are.ascending k line lt within;
-    above = λ k le lt. elim (cases_lt line k) [
-      | inl past ↦ omega (arith, are.ascending line k past lt)
-      | inr at ↦ let here : k ≡ line = omega arith in rw here (omega arith)
-    ];
-  }
-
-  cut-after : (line : ℕ) → line < length sizes → IsCutAt sizes (line + 1) (slice_index sizes line + 1)
-  cut-after line within = record {
-    within = omega arith;
-    below = λ k lt. elim (cases_lt k line) [
-      | inl before ↦ omega (arith, are.ascending k line before within)
-      | inr at ↦ let here : k ≡ line = omega arith in rw here (omega arith)
-    ];
-    above = λ k le lt. omega (arith, are.ascending line k (omega arith) lt);
-  }
-
   -- the peak of a line is that of its size
   peak-line : (line : ℕ) → line < length sizes
       → most (blocks_from line (line + 1)) rows ≡ slice_index (peaks (spread sizes rows)) (slice_index sizes line)
   peak-line line within =
-      most-lines sizes rows line (line + 1) (slice_index sizes line) (slice_index sizes line + 1) are few.long (cut-before line within)
-      (cut-after line within)
+      most-lines sizes rows line (line + 1) (slice_index sizes line) (slice_index sizes line + 1) are few.long (grind arith)
+      (grind arith)
       ∙ most-one (slice_index sizes line) (spread sizes rows)
       ∙ sym (peak-at (spread sizes rows) (slice_index sizes line) 0 (are.small line within))
 
@@ -93,30 +52,13 @@ module _ (sizes : List ℕ) (rows : List (List ℕ)) (are : AreSizes sizes) (few
 
   module _ (kept : Profile) (all : ArePeaksTo sizes rows (length sizes) kept) where
     counts-are : kept.counts ≡ peaks (spread sizes rows)
-    counts-are =
-        same_number_lists kept.counts (peaks (spread sizes rows)) (all.len ∙ sym (peaks-length (spread sizes rows)))
-        (λ n lt. each n (omega (arith, lt, all.len)) (which-line sizes n (length sizes)))
-      where
-        each : (n : ℕ) → n ≤ largest_counted
-            → (((j : ℕ) × (j < length sizes) × (slice_index sizes j ≡ n)) ⊎ ((j : ℕ) → j < length sizes → slice_index sizes j ≢ n))
-            → slice_index kept.counts n ≡ slice_index (peaks (spread sizes rows)) n
-        each n le (inl found) = rw (← found.2) (all.done found.0 found.1 ∙ peak-line found.0 found.1)
-        each n le (inr none) =
-            all.others n none ∙ sym (peak-at (spread sizes rows) n 0 le ∙ no-line n none rows few.long)
+    counts-are = grind (arith, same_number_lists, peaks-length, peak-line, peak-at, no-line)
 
     pub peaks-are : kept ≡ peak_profile (spread sizes rows)
-    peaks-are =
-        ap (λ (counts : List ℕ). let p : Profile = record { counts = counts; large = kept.large } in p) counts-are
-        ∙ ap (λ (large : ℕ). let p : Profile = record { counts = peaks (spread sizes rows); large = large } in p) all.large
+    peaks-are = grind (arith, counts-are)
 
     pub rows-held : (count : ℕ) → length rows ≡ count → HoldsLines count sizes rows kept
-    rows-held count width = record {
-      width = width;
-      sizes_are = are;
-      columns_are = few.long;
-      snapshots = snapshots;
-      peaks_are = peaks-are;
-    }
+    rows-held count width = grind (arith, peaks-are)
 
 -- ---- the rows of snapshots
 
@@ -124,8 +66,4 @@ pub spread-column : (snapshot sizes column : List ℕ) → AreSizes sizes → le
     → CountsSizes snapshot sizes column → with_sizes (zeros (largest_counted + 1)) sizes column ≡ snapshot
 spread-column snapshot sizes column are len counts =
     let spelled = with_sizes-counts sizes column are counts.size in
-    same_number_lists _ snapshot (with_sizes-length (zeros (largest_counted + 1)) sizes column ∙ length-zeros (largest_counted + 1) ∙ sym len)
-    (λ n lt. elim (which-line sizes n (length sizes)) [
-      | inl found ↦ rw (← found.2) (spelled.counted found.0 found.1 ∙ sym (counts.counted found.0 found.1))
-      | inr none ↦ spelled.others n none ∙ sym (counts.others n none)
-    ])
+    grind (arith, same_number_lists, with_sizes-length, length-zeros)

@@ -1,14 +1,11 @@
 -- The lines of the sizes, of which only counted ones have one.
-use Rattle.std.proofs.Common.{◌≡◌, ℕ, zero, suc, ◌+◌, ◌-◌, ◌<◌, ◌≤◌, Bool, true, false, ◌||◌, List, [], ◌∷◌, length, refl, sym, ap, ◌∙◌}
-use Rattle.std.{proofs.Common.{arith, ltb, replicate}, proofs.lemmas.Bool.{ltb-false}, specs.Fmt.{decimal}}
+use Rattle.std.proofs.Common.{◌≡◌, ℕ, zero, suc, ◌+◌, ◌-◌, ◌<◌, ◌≤◌, Bool, true, false, List, [], ◌∷◌, length, refl, sym, ap, ◌∙◌}
+use Rattle.std.{proofs.Common.{arith}, specs.Fmt.{decimal}}
 use Rattle.class_table.specs.{NamedLines.{named_line}, Sizes.{largest_counted}}
 use Rattle.profile_count.specs.Counts.{zeros}
 use Rattle.history_count.specs.{Histories.{counts_of}, HistoryText.{counts_lines, is_some_counted, size_lines}}
 
 -- ---- counts that are all 0
-
-or_parts : (a b : Bool) → (a || b) ≡ false → (a ≡ false) × (b ≡ false)
-or_parts a b is = grind arith
 
 pub zeros-none : (n : ℕ) → is_some_counted (zeros n) ≡ false
 unfolding zeros
@@ -18,11 +15,7 @@ zeros-none (suc n) = zeros-none n
 pub none-zeros : (counts : List ℕ) → is_some_counted counts ≡ false → counts ≡ zeros (length counts)
 unfolding zeros
 none-zeros [] none = refl
-none-zeros (c ∷ cs) none =
-    let parts = or_parts (ltb 0 c) (is_some_counted cs) none in
-    let here : c ≡ 0 = omega (arith, ltb-false 0 c parts.0) in
-    let rest : cs ≡ replicate (length cs) 0 = none-zeros cs parts.1 in
-    rw here (ap (λ (l : List ℕ). 0 ∷ l) rest)
+none-zeros (c ∷ cs) none = grind (arith, none-zeros cs)
 
 -- Two such lists of one length are the same.
 pub same_nothing : (one other : List ℕ) → length one ≡ length other → is_some_counted one ≡ false → is_some_counted other ≡ false

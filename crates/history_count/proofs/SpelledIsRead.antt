@@ -49,10 +49,7 @@ history_from-size_lines : (more size number : ℕ) (r : Reading) (h : History) �
     → ((k : ℕ) → k < size → counts_of r.history.snapshots k ≡ counts_of h.snapshots k)
     → history_from number r (size_lines h.snapshots size more ++ counts_lines (codes "large") h.large) ≡ Ok h
 unfolding size_lines
-history_from-size_lines zero size number r h is_open is_history count all next same =
-    history_from-large_lines number r h is_open is_history
-    (same_snapshots r.history.snapshots h.snapshots count is_open.snapshots.counts is_history.snapshots.counts
-    (λ k small. same k (omega arith)))
+history_from-size_lines zero size number r h is_open is_history count all next same = grind (arith, history_from-large_lines, same_snapshots)
 history_from-size_lines (suc more) size number r h is_open is_history count all next same =
     go (history_from-size_lines more) (is_some_counted (counts_of h.snapshots size)) refl
   where
@@ -62,10 +59,7 @@ history_from-size_lines (suc more) size number r h is_open is_history count all 
         → history_from number r (size_lines h.snapshots size more ++ counts_lines (codes "large") h.large) ≡ Ok h)
         → (counted : Bool) → is_some_counted (counts_of h.snapshots size) ≡ counted
         → history_from number r (size_lines h.snapshots size (suc more) ++ counts_lines (codes "large") h.large) ≡ Ok h
-    go others false none =
-        let here : counts_of r.history.snapshots size ≡ counts_of h.snapshots size = grind (arith, same_nothing, counts_of-length, is_open.none size next) in
-        rw (size_lines-zero h.snapshots size more none)
-        (others (suc size) number r h is_open is_history count (omega arith) (omega arith) (λ k below. grind arith))
+    go others false none = grind (arith, same_nothing, counts_of-length)
     go others true some =
         let entry = size_entry size (counts_of h.snapshots size) in
         let may_come : IsNext (length r.history.snapshots) r.next entry = grind (arith, counts_of-length, le-leb, counts-small h.snapshots size is_history.snapshots.counts) in

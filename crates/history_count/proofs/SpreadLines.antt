@@ -6,7 +6,7 @@ use Rattle.std.proofs.lemmas.List.{get_or-map, get_or-set_other, get_or-set_same
 use Rattle.std.proofs.lemmas.List.{length-replicate, length-set}
 use Rattle.class_table.specs.Sizes.{largest_counted}
 use Rattle.profile_count.{proofs.LawLemmas.{each_is_zero, length-zeros}, specs.Counts.{nothing_counted as no_requests, with_count, zeros}}
-use Rattle.tuner_theory.{proofs.Spans.{count-small}, specs.Profiles.{AreCounts, Profile, greatest_count}}
+use Rattle.tuner_theory.{specs.Profiles.{AreCounts, Profile, greatest_count}}
 use Rattle.tuner_theory.specs.declared.most_snapshots.TheConstants.{MOST_SNAPSHOTS}
 use Rattle.history_count.proofs.{Columns.{with_counts-counts, with_counts-length}, Peaks.{empty-are, peaks-empty, peaks-set}}
 use Rattle.history_count.specs.CountedLines.{AreFew, AreLinesOf, AreSizes, CountsSizes, HoldsLines, spread, with_sizes}
@@ -117,9 +117,7 @@ sizes-more sizes n are small above = record {
     up : (i j : ℕ) → i < j → j < length (sizes ++ n ∷ []) → ((j < length sizes) ⊎ (length sizes ≤ j))
         → slice_index (sizes ++ n ∷ []) i < slice_index (sizes ++ n ∷ []) j
     up i j less within (inl lt) = omega (arith, are.ascending i j less lt, at i (omega arith), at j lt)
-    up i j less within (inr past) =
-        let before : i < length sizes = omega (arith, less, within, length-append sizes (n ∷ [])) in
-        omega (arith, above i before, at i before, at_end j within past)
+    up i j less within (inr past) = grind (arith, length-append, at, at_end)
 
     low : (k : ℕ) → k < length (sizes ++ n ∷ []) → ((k < length sizes) ⊎ (length sizes ≤ k))
         → slice_index (sizes ++ n ∷ []) k ≤ largest_counted
@@ -153,60 +151,30 @@ columns-none zero = All-nil (λ (column : List ℕ). length column ≡ 0)
 columns-none (suc n) = All-cons (λ (column : List ℕ). length column ≡ 0) [] (replicate n []) refl (columns-none n)
 
 pub holds-none : (count : ℕ) → 1 ≤ count → count ≤ MOST_SNAPSHOTS → HoldsLines count [] (replicate count []) no_requests
-holds-none count some few = record {
-  width = length-replicate count [];
-  sizes_are = record { ascending = λ i j less within. absurd (omega arith); small = λ k within. absurd (omega arith) };
-  columns_are = columns-none count;
-  snapshots = rw (spread-none count) (empty-are count some few);
-  peaks_are = rw (spread-none count, peaks-empty count) refl;
-}
+holds-none count some few = grind (arith, length-replicate, columns-none, spread-none, empty-are, peaks-empty)
 
 -- ---- what the lines say
 
 -- the snapshot of a column counts these sizes, and no others
 pub with_sizes-counts : (sizes column : List ℕ) → AreSizes sizes → length column ≡ length sizes
     → CountsSizes (with_sizes (zeros (largest_counted + 1)) sizes column) sizes column
-with_sizes-counts sizes column are long = record {
-  size = long;
-  counted = with_sizes-at (zeros (largest_counted + 1)) sizes column are.ascending
-      (λ k within. omega (arith, are.small k within, length-zeros (largest_counted + 1))) long;
-  others = λ n none.
-      with_sizes-other (zeros (largest_counted + 1)) sizes column n none ∙ each_is_zero (largest_counted + 1) n;
-}
+with_sizes-counts sizes column are long = grind (arith, with_sizes-at, length-zeros, with_sizes-other, each_is_zero)
 
 -- no count of a snapshot's column is too great
 pub column-few : (snapshot sizes column : List ℕ) → AreCounts snapshot → CountsSizes snapshot sizes column → (k : ℕ)
     → slice_index column k ≤ greatest_count
-column-few snapshot sizes column are counts k = by_order (cases_lt k (length sizes))
-  where
-    by_order : ((k < length sizes) ⊎ (length sizes ≤ k)) → slice_index column k ≤ greatest_count
-    by_order (inl lt) = omega (arith, counts.counted k lt, count-small snapshot (slice_index sizes k) are)
-    by_order (inr past) = omega (arith, get_or_past column k 0 (omega (arith, past, counts.size)))
+column-few snapshot sizes column are counts k = grind (arith, get_or_past)
 
 module _ (count : ℕ) (sizes : List ℕ) (columns : List (List ℕ)) (kept : Profile) (holds : HoldsLines count sizes columns kept) where
-  spread-at : (t : ℕ) → t < length columns
-      → slice_index_or (spread sizes columns) t [] ≡ with_sizes (zeros (largest_counted + 1)) sizes (slice_index_or columns t [])
-  spread-at t lt = grind (arith, get_or-map)
-
   counts-sizes : (t : ℕ) → t < length columns
       → CountsSizes (slice_index_or (spread sizes columns) t []) sizes (slice_index_or columns t [])
-  counts-sizes t lt =
-      rw (spread-at t lt) (with_sizes-counts sizes (slice_index_or columns t []) holds.sizes_are (holds.columns_are t [] lt))
+  counts-sizes t lt = grind (arith, get_or-map, with_sizes-counts)
 
   pub lines-of : AreLinesOf (spread sizes columns) sizes columns
-  lines-of = record {
-    sizes_are = holds.sizes_are;
-    width = sym (spread-length sizes columns);
-    each = λ t lt. counts-sizes t (omega (arith, lt, spread-length sizes columns));
-  }
-
-  count-few : (t k : ℕ) → t < length columns → slice_index (slice_index_or columns t []) k ≤ greatest_count
-  count-few t k lt =
-      column-few (slice_index_or (spread sizes columns) t []) sizes (slice_index_or columns t [])
-      (holds.snapshots.counts t [] (omega (arith, lt, spread-length sizes columns))) (counts-sizes t lt) k
+  lines-of = grind (arith, spread-length, counts-sizes)
 
   pub lines-few : AreFew (length sizes) columns
   lines-few = record {
     long = holds.columns_are;
-    few = All-from_get_or (λ (column : List ℕ). (k : ℕ) → slice_index column k ≤ greatest_count) columns [] (λ t lt k. count-few t k lt);
+    few = All-from_get_or (λ (column : List ℕ). (k : ℕ) → slice_index column k ≤ greatest_count) columns [] (grind (arith, column-few, spread-length, counts-sizes));
   }

@@ -1,14 +1,14 @@
 -- What a table takes over a history, class by class, while the history's lines come.
-use Rattle.std.proofs.Common.{◌≡◌, ℕ, zero, suc, ◌+◌, ◌-◌, ◌*◌, ◌^◌, ◌<◌, ◌≤◌, ◌++◌, List, [], ◌∷◌, length, get_or, set, take, map, replicate}
-use Rattle.std.proofs.Common.{All, slice_index, refl, sym, ap, ◌∙◌, arith, inl, inr}
-use Rattle.std.proofs.{Math.Seq.{take-suc}, lemmas.Bool.{cases_lt}, lemmas.List.{get_or-set_other, get_or-set_same}}
+use Rattle.std.proofs.Common.{◌≡◌, ℕ, zero, suc, ◌+◌, ◌*◌, ◌^◌, ◌<◌, ◌≤◌, ◌++◌, List, [], ◌∷◌, length, get_or, set, take, map, replicate}
+use Rattle.std.proofs.Common.{All, slice_index, refl, sym, ap, ◌∙◌, arith}
+use Rattle.std.proofs.{Math.Seq.{take-suc}, lemmas.List.{get_or-set_other, get_or-set_same}}
 use Rattle.std.proofs.lemmas.List.Elements.{All-cons, All-head, All-nil, All-tail}
 use Rattle.class_table.specs.{Sizes.{largest_counted}, Tables.{IsLegalTable}}
 use Rattle.profile_count.{proofs.LawLemmas.{each_is_zero, length-zeros, sum_up_to_the_rest}, specs.Counts.{nothing_counted as no_requests, with_count, zeros}}
 use Rattle.tuner_theory.{proofs.Sums.{sum_below-more, sum_same}, specs.Footprint.{footprint_of}, specs.Histories.{AreSnapshots, most}}
 use Rattle.tuner_theory.specs.{Profiles.{AreCounts, Profile, greatest_count}, Waste.{sum_below}}
 use Rattle.tuner_theory.specs.declared.most_snapshots.TheConstants.{MOST_SNAPSHOTS}
-use Rattle.history_count.proofs.{ClassByClass.{TakenSoFar, taken-all, taken-end, taken-more, taken-none, taken-order}, CutLines.{most-small}}
+use Rattle.history_count.proofs.{ClassByClass.{TakenSoFar, taken-all, taken-more, taken-none, taken-order}, CutLines.{most-small}}
 use Rattle.history_count.proofs.{Columns.{with_counts-counts, with_counts-length}, Peaks.{empty-are, empty-length, peaks-empty, peaks-set}}
 use Rattle.history_count.specs.ClassSums.{HoldsSums, IsUncountedFrom, bytes_of, end_of, end_of_class, sum_of_rows}
 use Rattle.history_count.specs.Histories.{blocks_from, empty_snapshots, greatest_of, peak_profile, with_counts}
@@ -35,8 +35,7 @@ module _ (table : List ℕ) (number : ℕ) (within : number < length table) wher
   pub bytes_of-next : (snapshots : List (List ℕ)) → bytes_of 0 (take (suc number) table) snapshots
       ≡ bytes_of 0 (take number table) snapshots
       + 16 * get_or table number 0 * most (blocks_from (end_of 0 (take number table)) (end_of_class (get_or table number 0))) snapshots
-  bytes_of-next snapshots =
-      ap (λ (classes : List ℕ). bytes_of 0 classes snapshots) more ∙ bytes_of-more snapshots 0 (get_or table number 0) (take number table)
+  bytes_of-next snapshots = grind (arith, more, bytes_of-more)
 
 module _ (snapshots : List (List ℕ)) (table : List ℕ) (are : AreSnapshots snapshots) (legal : IsLegalTable 1 table) where
   pub taken-first : (number : ℕ) → number ≤ length table
@@ -67,8 +66,7 @@ module _ (snapshots : List (List ℕ)) (table : List ℕ) (are : AreSnapshots sn
 -- the blocks up to a size are those up to any later one, where none is counted in between
 blocks-later : (s : List ℕ) (from next size : ℕ) → next ≤ size → ((n : ℕ) → next ≤ n → slice_index s n ≡ 0)
     → blocks_from from size s ≡ blocks_from from next s
-blocks-later s from next size le none =
-    ap (λ n. n - sum_below (slice_index s) from) (sum_up_to_the_rest (slice_index s) next size le none)
+blocks-later s from next size le none = grind (arith, sum_up_to_the_rest)
 
 rows-later : (snapshots : List (List ℕ)) (from next size : ℕ) → next ≤ size → IsUncountedFrom next snapshots
     → map (blocks_from from size) snapshots ≡ map (blocks_from from next) snapshots
@@ -100,30 +98,17 @@ at_most (n ∷ ns) (suc k) = omega (arith, at_most ns k)
 
 sum-order : (f : ℕ → ℕ) (from end : ℕ) → from ≤ end → sum_below f from ≤ sum_below f end
 sum-order f from zero le = let none : from ≡ 0 = omega arith in rw none (omega arith)
-sum-order f from (suc end) le =
-    elim (cases_lt end from) [
-      | inl past ↦ (let same : from ≡ suc end = omega arith in rw same (omega arith))
-      | inr within ↦ omega (arith, sum-order f from end within, sum_below-more f end)
-    ]
+sum-order f from (suc end) le = grind (arith, sum-order f from end, sum_below-more)
 
 -- the sum up to a size that is set, or to one before it
 sum-set : (s : List ℕ) (size count end : ℕ) → end ≤ size → sum_below (slice_index (set s size count)) end ≡ sum_below (slice_index s) end
-sum-set s size count end le =
-    sum_same (slice_index (set s size count)) (slice_index s) end
-    (λ n lt. get_or-set_other s size n count 0 (λ e. omega (arith, e, lt, le)))
+sum-set s size count end le = grind (arith, sum_same, get_or-set_other)
 
 blocks-set : (s : List ℕ) (from size count : ℕ) → from ≤ size → size < length s
     → blocks_from from (size + 1) (set s size count) ≡ blocks_from from size s + count
 blocks-set s from size count le within =
     let next : size + 1 ≡ suc size = omega arith in
-    rw next (omega (
-      arith,
-      sum_below-more (slice_index (set s size count)) size,
-      sum-set s size count size (omega arith),
-      sum-set s size count from le,
-      get_or-set_same s size count 0 within,
-      sum-order (slice_index s) from size le,
-    ))
+    grind (arith, sum_below-more, sum-set, get_or-set_same, sum-order)
 
 rows-set : (snapshots : List (List ℕ)) (from size : ℕ) (counts : List ℕ) → from ≤ size → size ≤ largest_counted → All AreCounts snapshots
     → length counts ≡ length snapshots
@@ -132,20 +117,14 @@ unfolding with_counts
 rows-set [] from size [] le small are wide = refl
 rows-set [] from size (c ∷ cs) le small are wide = absurd (omega arith)
 rows-set (s ∷ ss) from size [] le small are wide = absurd (omega arith)
-rows-set (s ∷ ss) from size (c ∷ cs) le small are wide =
-    let first = All-head AreCounts s ss are in
-    rw (
-      blocks-set s from size c le (omega (arith, first.sizes, small)),
-      rows-set ss from size cs le small (All-tail AreCounts s ss are) (omega arith),
-    ) refl
+rows-set (s ∷ ss) from size (c ∷ cs) le small are wide = grind (arith, rows-set ss from size cs le small (All-tail AreCounts s ss are) (omega arith), All-head, blocks-set)
 
 most-set : (snapshots : List (List ℕ)) (from end size : ℕ) (counts : List ℕ) → from ≤ end → end ≤ size
     → most (blocks_from from end) (with_counts snapshots size counts) ≡ most (blocks_from from end) snapshots
 unfolding with_counts
 most-set [] from end size counts le past = refl
 most-set (s ∷ ss) from end size [] le past = refl
-most-set (s ∷ ss) from end size (c ∷ cs) le past =
-    omega (arith, sum-set s size c end past, sum-set s size c from (omega (arith, le, past)), most-set ss from end size cs le past)
+most-set (s ∷ ss) from end size (c ∷ cs) le past = grind (arith, most-set ss from end size cs le past, sum-set)
 
 uncounted-more : (snapshots : List (List ℕ)) (size : ℕ) (counts : List ℕ) → IsUncountedFrom size snapshots
     → IsUncountedFrom (size + 1) (with_counts snapshots size counts)
@@ -154,25 +133,14 @@ uncounted-more [] size counts none = All-nil (λ s. (n : ℕ) → size + 1 ≤ n
 uncounted-more (s ∷ ss) size [] none = uncounted-later (s ∷ ss) size (size + 1) (omega arith) none
 uncounted-more (s ∷ ss) size (c ∷ cs) none =
     All-cons (λ s. (n : ℕ) → size + 1 ≤ n → slice_index s n ≡ 0) (set s size c) (with_counts ss size cs)
-    (λ n past. get_or-set_other s size n c 0 (λ e. omega (arith, e, past))
-    ∙ All-head (λ s. (n : ℕ) → size ≤ n → slice_index s n ≡ 0) s ss none n (omega (arith, past)))
+    (grind (arith, get_or-set_other, All-head))
     (uncounted-more ss size cs (All-tail (λ s. (n : ℕ) → size ≤ n → slice_index s n ≡ 0) s ss none))
 
 bytes-kept : (snapshots : List (List ℕ)) (table : List ℕ) (size : ℕ) (counts : List ℕ) → AreSnapshots snapshots → IsLegalTable 1 table
     → (number : ℕ) → number ≤ length table → end_of 0 (take number table) ≤ size
     → bytes_of 0 (take number table) (with_counts snapshots size counts) ≡ bytes_of 0 (take number table) snapshots
 bytes-kept snapshots table size counts are legal zero within past = refl
-bytes-kept snapshots table size counts are legal (suc number) within past =
-    let class = get_or table number 0 in
-    let from = end_of 0 (take number table) in
-    let order : from ≤ end_of_class class = first-order snapshots table are legal number (omega (arith, within)) in
-    let end : end_of_class class ≤ size = omega (arith, past, end_of-next table number within) in
-    let rest = bytes-kept snapshots table size counts are legal number (omega (arith, within)) (omega (arith, order, end)) in
-    let same = most-set snapshots from (end_of_class class) size counts order end in
-    bytes_of-next table number within (with_counts snapshots size counts)
-    ∙ ap (λ n. n + 16 * class * most (blocks_from from (end_of_class class)) (with_counts snapshots size counts)) rest
-    ∙ ap (λ n. bytes_of 0 (take number table) snapshots + 16 * class * n) same
-    ∙ sym (bytes_of-next table number within snapshots)
+bytes-kept snapshots table size counts are legal (suc number) within past = grind (arith, bytes-kept snapshots table size counts are legal number (omega (arith, within)), first-order, end_of-next, most-set, bytes_of-next)
 
 -- ---- a row more
 
@@ -218,9 +186,7 @@ zeros-are n = refl
 nothing : (n : ℕ) → IsUncountedFrom 0 (empty_snapshots n)
 unfolding empty_snapshots
 nothing zero = All-nil (λ s. (n : ℕ) → 0 ≤ n → slice_index s n ≡ 0)
-nothing (suc n) =
-    All-cons (λ s. (n : ℕ) → 0 ≤ n → slice_index s n ≡ 0) (zeros (largest_counted + 1)) (replicate n (zeros (largest_counted + 1)))
-    (λ k le. each_is_zero (largest_counted + 1) k) (nothing n)
+nothing (suc n) = grind (arith, nothing n, each_is_zero)
 
 -- before the first line
 pub holds-none : (table : List ℕ) (count : ℕ) (blocks : List ℕ) (peaks : Profile) → 1 ≤ count → count ≤ MOST_SNAPSHOTS
@@ -245,18 +211,7 @@ module _ (table : List ℕ) (legal : IsLegalTable 1 table) (number total : ℕ) 
   -- where a later size comes that the class serves or ends at
   pub holds-later : (size : ℕ) → next ≤ size → (number < length table → size ≤ end_of_class (slice_index table number))
       → HoldsSums table number total blocks peaks snapshots size
-  holds-later size le room = record {
-    are = holds.are;
-    peaks_are = holds.peaks_are;
-    uncounted = uncounted-later snapshots next size le holds.uncounted;
-    width = holds.width;
-    within = holds.within;
-    order = omega (arith, holds.order, le);
-    total_is = holds.total_is;
-    room = room;
-    blocks_are = λ within. holds.blocks_are within
-        ∙ sym (rows-later snapshots (end_of 0 (take number table)) next size le holds.uncounted);
-  }
+  holds-later size le room = grind (arith, rows-later)
 
   -- where the class is done
   module _ (within : number < length table) where
@@ -281,19 +236,7 @@ module _ (table : List ℕ) (legal : IsLegalTable 1 table) (number total : ℕ) 
 
     pub holds-closed : (blocks' : List ℕ) → blocks' ≡ zeros (length blocks)
         → HoldsSums table (suc number) (total + 16 * class * greatest_of blocks) blocks' peaks snapshots (end_of_class class)
-    holds-closed blocks' none = record {
-      are = holds.are;
-      peaks_are = holds.peaks_are;
-      uncounted = uncounted-later snapshots next (end_of_class class) (holds.room within) holds.uncounted;
-      width = ap length none ∙ length-zeros (length blocks) ∙ holds.width;
-      within = omega (arith, within);
-      order = omega (arith, end_of-next table number within);
-      total_is = closed-total;
-      room = λ more.
-          let next : suc number ≡ number + 1 = omega arith in rw next (omega (arith, legal.ascending number (omega (arith, more))));
-      blocks_are = λ more. none ∙ ap zeros holds.width ∙ sym (rows-none snapshots (end_of_class class))
-          ∙ ap (λ n. map (blocks_from n (end_of_class class)) snapshots) (sym (end_of-next table number within));
-    }
+    holds-closed blocks' none = grind (arith, length-zeros, end_of-next, closed-total, rows-none)
 
   -- where a line comes
   pub holds-line : (size : ℕ) (counts blocks' : List ℕ) → size ≡ next → size ≤ largest_counted
@@ -326,11 +269,4 @@ module _ (table : List ℕ) (legal : IsLegalTable 1 table) (number total : ℕ) 
       )
 
   pub blocks-small : number < length table → (k : ℕ) → slice_index blocks k ≤ greatest_count * (largest_counted + 1)
-  blocks-small within k =
-      let from = end_of 0 (take number table) in
-      let so_far = taken-first snapshots table holds.are legal number holds.within in
-      let end = taken-end snapshots table holds.are legal number from _ (get_or table number 0) so_far within refl in
-      let few = most-small snapshots from next holds.are.counts holds.order in
-      let most_is : greatest_of blocks ≡ most (blocks_from from next) snapshots =
-      ap greatest_of (holds.blocks_are within) ∙ greatest-most (blocks_from from next) snapshots in
-      omega (arith, at_most blocks k, most_is, few, holds.room within, end)
+  blocks-small within k = grind (arith, most-small, greatest-most, at_most)

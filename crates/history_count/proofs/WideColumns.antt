@@ -1,7 +1,7 @@
 -- Columns of counts with room for more lines.
 use Rattle.std.proofs.Common.{◌≡◌, ℕ, zero, suc, ◌+◌, ◌<◌, ◌≤◌, ◌++◌, List, [], ◌∷◌, All, length, replicate, set, slice_index, slice_index_or, take}
 use Rattle.std.proofs.{Common.{refl, sym, ap, ◌∙◌, arith, inl, inr, length-append}, lemmas.Bool.{cases_lt}, Math.Seq.{get_or-append_seam}}
-use Rattle.std.proofs.lemmas.List.{Elements.{All-cons, All-from_get_or, All-head, All-tail}, get_or_append_left, length-map}
+use Rattle.std.proofs.lemmas.List.{Elements.{All-cons, All-head, All-tail}, get_or_append_left, length-map}
 use Rattle.std.proofs.lemmas.List.{length-set, take_all, take_more_set}
 use Rattle.class_table.specs.Sizes.{largest_counted}
 use Rattle.profile_count.specs.Counts.{nothing_counted as no_requests, with_count}
@@ -33,10 +33,8 @@ set-more : (columns : List (List ℕ)) (line t : ℕ) (counts : List ℕ) → t 
 unfolding with_counts
 set-more columns line t [] lt le = absurd (omega arith)
 set-more [] line t (c ∷ cs) lt le = absurd (omega arith)
-set-more (column ∷ columns) line zero (c ∷ cs) lt le =
-    ap (λ (l : List (List ℕ)). set column line c ∷ l) (sym (with_counts-none columns line))
-set-more (column ∷ columns) line (suc t) (c ∷ cs) lt le =
-    ap (λ (l : List (List ℕ)). set column line c ∷ l) (set-more columns line t cs (omega arith) (omega arith))
+set-more (column ∷ columns) line zero (c ∷ cs) lt le = grind (arith, with_counts-none)
+set-more (column ∷ columns) line (suc t) (c ∷ cs) lt le = grind (arith, set-more columns line t cs)
 
 -- one column more
 pub with_counts-more : (columns : List (List ℕ)) (line t : ℕ) (counts : List ℕ) → t < length counts → length counts ≤ length columns
@@ -79,16 +77,13 @@ pub first-set : (n t : ℕ) (columns : List (List ℕ)) (column : List ℕ) → 
     → take n column ≡ take n (slice_index_or columns t []) → first_counts n (set columns t column) ≡ first_counts n columns
 first-set n t [] column lt same = refl
 first-set n zero (first ∷ columns) column lt same = ap (λ (l : List ℕ). l ∷ first_counts n columns) same
-first-set n (suc t) (first ∷ columns) column lt same =
-    ap (λ (l : List (List ℕ)). take n first ∷ l) (first-set n t columns column (omega arith) same)
+first-set n (suc t) (first ∷ columns) column lt same = grind (arith, first-set n t columns column)
 
 pub wide-lines : (n : ℕ) (columns : List (List ℕ)) → HaveRoom n columns → All (λ column. n ≤ length column) columns
-wide-lines n columns are =
-    All-from_get_or (λ (column : List ℕ). n ≤ length column) columns [] (λ t lt. omega (arith, are.wide t [] lt, are.within))
+wide-lines n columns are = omega arith
 
 pub wide-next : (n : ℕ) (columns : List (List ℕ)) → HaveRoom (n + 1) columns → All (λ column. n < length column) columns
-wide-next n columns are =
-    All-from_get_or (λ (column : List ℕ). n < length column) columns [] (λ t lt. omega (arith, are.wide t [] lt, are.within))
+wide-next n columns are = omega arith
 
 -- a line more leaves the room
 wide-set : (columns : List (List ℕ)) (line room : ℕ) (counts : List ℕ) → All (λ column. length column ≡ room) columns

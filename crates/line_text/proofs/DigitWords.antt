@@ -1,7 +1,7 @@
 -- Bytes in one word: the test that all are digits.
 use Rattle.std.proofs.Common.{◌≡◌, ℕ, suc, ◌+◌, ◌*◌, ◌-◌, ◌/◌, ◌%◌, ◌^◌, ◌<◌, ◌∙◌, List, [], ◌∷◌, All, length, get_or, map, refl, sym, ap}
-use Rattle.std.proofs.{Common.{arith, true}, Math.Pow.{split}, lemmas.Bool.{and_from}, lemmas.Bool.Decides.{nat_tests}}
-use Rattle.std.proofs.lemmas.{Grind.{common_steps}, List.Elements.{All-cons, All-from_get_or, All-nil}, Nat.Bits.{and_high}}
+use Rattle.std.proofs.{Common.{arith, true}, Math.Pow.{split}, lemmas.Bool.Decides.{nat_tests}}
+use Rattle.std.proofs.lemmas.{Grind.{common_steps}, List.Elements.{All-from_get_or, All-nil}, Nat.Bits.{and_high}}
 use Rattle.std.{proofs.lemmas.Nat.{and_block, le_or_l, le_or_r, or_mod, or_shr}, specs.Char.{is_ascii_digit, digit_value}}
 use Rattle.std.specs.{Int.{from_le_bytes, w32}, Int.Bits.{bit_and, bit_or}, List.{list_all}}
 use Rattle.line_text.{proofs.Digits.{digit_is}, specs.Numbers.{word_of}}
@@ -64,12 +64,7 @@ are_digits (b ∷ bs) x y c d small is_x is_y clear =
     are_digits bs (x / 256) (y / 256) c d (λ k e lt. small (suc k) e (omega (arith, lt))) (omega (arith, is_x, is_byte))
     (omega (arith, is_y, more)) now.after in
     let digit : is_ascii_digit b ≡ true = grind (arith, nat_tests, is_byte, few) in
-    let value : digit_value b ≡ b - 48 = (digit_is b digit).0 in
-    record {
-      digits = and_from _ _ digit rest.digits;
-      small = All-cons (λ d. d < 10) (digit_value b) (values bs) (omega (arith, value, is_byte, few)) rest.small;
-      word = omega (arith, rest.word, value, is_byte);
-    }
+    grind (arith, digit_is)
 
 -- a word whose bytes are these digits
 pub record IsDigitWord (bytes : List ℕ) (size word : ℕ) : Type 0 where

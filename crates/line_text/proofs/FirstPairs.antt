@@ -1,8 +1,7 @@
 -- The two numbers of the first line of a text, read from the front of the text.
-use Rattle.std.proofs.Common.{◌≡◌, ◌≢◌, ℕ, ◌<◌, ◌∙◌, Bool, true, false, cond, eqb-true, List, [], ◌∷◌, ◌++◌, length, get_or, drop, refl}
+use Rattle.std.proofs.Common.{◌≡◌, ◌≢◌, ℕ, ◌<◌, ◌∙◌, false, cond, eqb-true, List, [], ◌∷◌, ◌++◌, length, get_or, drop, refl}
 use Rattle.std.proofs.{Common.{sym, ap, arith, Option, Some, None, option_and_then, slice_get, inl, inr}, lemmas.Bool.{cases_Bool}}
 use Rattle.std.{proofs.lemmas.List.Elements.{All-head, All-tail}, proofs.lemmas.List.Sums.{take_while-cons}, specs.Char.{is_ascii_digit}}
-use Rattle.std.specs.List.{onto_first}
 use Rattle.line_text.proofs.{FirstNumbers.{no_first_number, no_word_end, only_word, word_before, first_number_of}, Cuts.{line_is_its_words}}
 use Rattle.line_text.{proofs.Digits.{none_equal}, proofs.LeadingDigits.{are_digits}, specs.Lines.{lines, words, line_of, is_newline}}
 use Rattle.line_text.specs.{Lines.{is_space, IsLine}, Numbers.{short_number_of, leading_digits, leading_number_of}, Pairs.{short_pair_of}}
@@ -20,13 +19,7 @@ after (b ∷ text) = cond (is_newline b) text (after text)
 lines-cons : (b : ℕ) (text : List ℕ) → lines (b ∷ text) ≡ front (b ∷ text) ∷ lines (after (b ∷ text))
 unfolding lines
 lines-cons b [] = grind arith
-lines-cons b (d ∷ text) = go (is_newline b) (lines-cons d text)
-  where
-    go : (v : Bool) → lines (d ∷ text) ≡ front (d ∷ text) ∷ lines (after (d ∷ text))
-        → cond v ([] ∷ lines (d ∷ text)) (onto_first b (lines (d ∷ text)))
-        ≡ cond v [] (b ∷ front (d ∷ text)) ∷ lines (cond v (d ∷ text) (after (d ∷ text)))
-    go true rest = refl
-    go false rest = ap (onto_first b) rest
+lines-cons b (d ∷ text) = grind (arith, lines-cons d text)
 
 abbrev pub first_pair_of : List ℕ → Option (ℕ × ℕ)
 first_pair_of text = option_and_then (λ line. short_pair_of (words line)) (slice_get (lines text) 0)

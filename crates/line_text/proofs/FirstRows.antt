@@ -1,7 +1,7 @@
 -- The numbers of the first line of a text, read from the front of the text.
 use Rattle.std.proofs.Common.{◌≡◌, ℕ, ◌-◌, ◌^◌, ◌<◌, ◌∙◌, min, List, [], ◌∷◌, ◌++◌, append-nil, append_assoc, length, length-append, drop}
-use Rattle.std.proofs.{Common.{refl, sym, ap, arith, None, Option, Some, slice_get}, lemmas.List.Elements.{All-append, All-cons, All-nil}}
-use Rattle.std.{proofs.lemmas.Option.{same_Some}, specs.Option.{option_map}}
+use Rattle.std.proofs.{Common.{refl, sym, ap, arith, Option, Some, slice_get}, lemmas.List.Elements.{All-append, All-cons, All-nil}}
+use Rattle.std.{specs.Option.{option_map}}
 use Rattle.line_text.proofs.Cuts.{line_alone, line_in_front_is_read, lines-nil, words_make_a_line, written_words_are_read}
 use Rattle.line_text.{proofs.Digits.{none_equal}, proofs.LeadingDigits.{are_digits, short_is_number}, specs.Rows.{IsRow, IsRowSoFar, SpellNumbers}}
 use Rattle.line_text.specs.{Lines.{lines, line_of, IsLine, IsWord}, Numbers.{leading_digits, leading_number_of, number_of}}
@@ -14,14 +14,12 @@ digits_are_in_line text = none_equal 10 (omega arith) (leading_digits text) (are
 
 some_digits : (word : List ℕ) (n : ℕ) → number_of word ≡ Some n → 0 < length word
 unfolding number_of
-some_digits [] n is = absurd cc
-some_digits (b ∷ word) n is = omega arith
+some_digits word n is = grind arith
 
 -- one word more
 line_of-more : (w : List ℕ) (ws : List (List ℕ)) (d : List ℕ) → line_of ((w ∷ ws) ++ d ∷ []) ≡ line_of (w ∷ ws) ++ 32 ∷ d
 line_of-more w [] d = refl
-line_of-more w (v ∷ ws) d =
-    ap (λ (t : List ℕ). w ++ 32 ∷ t) (line_of-more v ws d) ∙ sym (append_assoc w (32 ∷ line_of (v ∷ ws)) (32 ∷ d))
+line_of-more w (v ∷ ws) d = grind (arith, line_of-more v ws d, append_assoc)
 
 SpellNumbers-more : (ws : List (List ℕ)) (xs : List ℕ) (word : List ℕ) (n x : ℕ) → SpellNumbers ws xs → number_of word ≡ Some n
     → x ≡ min n (2 ^ 32 - 1) → SpellNumbers (ws ++ word ∷ []) (xs ++ x ∷ [])
@@ -61,8 +59,7 @@ pub record IsPut (read : Option ℕ) (x : ℕ) : Type 0 where
   pub value : x ≡ min n (2 ^ 32 - 1)
 
 pub is_put : (read : Option ℕ) (x : ℕ) → option_map (λ n. min n (2 ^ 32 - 1)) read ≡ Some x → IsPut read x
-is_put (Some n) x e = record { n = n; is = refl; value = sym (same_Some _ _ e) }
-is_put None x e = absurd cc
+is_put read x e = grind arith
 
 -- the row is a line
 module _ (text rest : List ℕ) (first : ℕ) (numbers : List ℕ) (row : IsRowSoFar text rest first numbers) where

@@ -1,7 +1,7 @@
 -- The digits at the start of eight bytes, as one word with zeros in front of them.
 use Rattle.std.proofs.Common.{◌≡◌, ℕ, suc, zero, ◌+◌, ◌*◌, ◌-◌, ◌%◌, ◌^◌, ◌<◌, ◌≤◌, ◌∙◌, List, [], ◌∷◌, ◌++◌, All, length, map, take, drop}
 use Rattle.std.proofs.{Common.{replicate, sym, refl, arith, true}, lemmas.Bool.{and_parts}, lemmas.Int.Digits.{digits_value_is}}
-use Rattle.std.{proofs.lemmas.List.Elements.{All-append, All-cons, All-nil, All-replicate}, specs.Char.{is_ascii_digit, digit_value}}
+use Rattle.std.{proofs.lemmas.List.Elements.{All-append, All-nil, All-replicate}, specs.Char.{is_ascii_digit, digit_value}}
 use Rattle.std.specs.{Int.{from_le_bytes, w64}, Int.Digits.{number_from_digits}, List.{list_all}, Str.Parse.{digits_value}}
 use Rattle.line_text.{proofs.Digits.{digit_is}, specs.Numbers.{word_of}}
 
@@ -40,16 +40,7 @@ record IsCut (count : ℕ) (bytes : List ℕ) : Type 0 where
 cut : (count : ℕ) (bytes : List ℕ) → count ≤ length bytes → list_all is_ascii_digit (take count bytes) ≡ true → IsCut count bytes
 cut zero bytes within all = record { count_is = refl; digits = All-nil _; small = omega arith; is = omega arith }
 cut (suc count) [] within all = absurd (omega arith)
-cut (suc count) (byte ∷ bytes) within all =
-    let parts = and_parts (is_ascii_digit byte) _ all in
-    let digit = digit_is byte parts.0 in
-    let rest = cut count bytes (omega arith) parts.1 in
-    record {
-      count_is = omega (arith, rest.count_is);
-      digits = All-cons (λ d. d < 10) _ _ (omega (arith, digit.0, digit.2)) rest.digits;
-      small = omega (arith, digit.0, digit.2, rest.small);
-      is = omega (arith, digit.0, digit.1, rest.is);
-    }
+cut (suc count) (byte ∷ bytes) within all = grind (arith, cut count bytes (omega arith), and_parts, digit_is)
 
 -- ---- a word without what is after its digits
 

@@ -8,12 +8,6 @@ use Rattle.line_text.specs.{FirstFault.{◌>>=◌, IsFirstFault}, Lines.{IsLine,
 
 -- ---- lists that begin alike
 
-cons_head : {A : Type 0} (a b : A) (x y : List A) → a ∷ x ≡ b ∷ y → a ≡ b
-cons_head a b x y e = cc
-
-cons_tail : {A : Type 0} (a b : A) (x y : List A) → a ∷ x ≡ b ∷ y → x ≡ y
-cons_tail a b x y e = cc
-
 -- the parts of a list that begins as another
 record BeginsWith {A : Type 0} (x : A) (xs ys : List A) (k : ℕ) : Type 0 where
   rest : List A
@@ -201,14 +195,7 @@ module _ {State Value Fault : Type 0} (steps : LineSteps State Value Fault) wher
         let whole : length (take k (lines text)) ≡ k = omega (arith, length-take k (lines text), at.2.within) in
         let alike : take k (lines other) ≡ take k (lines text) =
         ap (take k) is ∙ take-append-le k (take k (lines text)) on.rest (omega (arith, whole)) ∙ take-take k k (lines text) (omega arith) in
-        record {
-          some = omega (arith, place);
-          within = omega (arith, place, at.2.within);
-          before = grind (arith, is, alike);
-          none = λ another value spells alike.
-              read_or_refused value (1 + k, fault)
-              (sym (format.read another value spells) ∙ at.2.whatever_follows (lines another) (rw place at (sym alike)));
-        }
+        grind arith
 
     -- and the first fault is refused.
     pub refused_at_first_fault : (text : List ℕ) (n : ℕ) → IsRefusedAt text n ↔ IsFirstFault Spells text n
@@ -247,9 +234,7 @@ module _ {State Value Fault : Type 0} (steps : LineSteps State Value Fault) wher
               let front = take (n - 1) (lines text) in
               let are : lines (text_of front) ≡ front =
               written_lines_are_read front (All-take IsLine (n - 1) (lines text) (lines_are_lines text)) in
-              let place : there.place ≡ n - 1 = omega (arith, there.is) in
-              let before = rw place at (there.before (rw place some)) in
-              (before.0, format.spelled (text_of front) before.0 (ap (read_lines steps 1 start) are ∙ before.1))
+              grind arith
 
           go : (2 ≤ n) ⊎ MayEnd start → (value : Value) × Spells (text_of (take (n - 1) (lines text))) value
           go (inr end) = by_place (refused_line ends (lines text) 1 start n refused.0 refused.1 (inr end)) (inr end)
@@ -270,12 +255,7 @@ module _ {State Value Fault : Type 0} (head : List ℕ → Result State Fault) (
   pub read_after_head : (ls : List (List ℕ)) (number : ℕ) (s : State) → read_lines headed number (Some s) ls ≡ read_lines steps number s ls
   unfolding read_lines
   read_after_head [] number s = refl
-  read_after_head (line ∷ ls) number s = go (read_after_head ls (suc number)) (steps.step s line) refl
-    where
-      go : ((s : State) → read_lines headed (suc number) (Some s) ls ≡ read_lines steps (suc number) s ls) → (read : Result State Fault)
-          → steps.step s line ≡ read → read_lines headed number (Some s) (line ∷ ls) ≡ read_lines steps number s (line ∷ ls)
-      go others (Ok next) is = rw is (others next)
-      go others (Err fault) is = rw is refl
+  read_after_head (line ∷ ls) number s = grind (arith, read_after_head ls (suc number))
 
   -- Where the text may end after any line, it goes on from each state; before the first line by this one.
   module _ (ends : (s : State) → MayEnd steps s) where

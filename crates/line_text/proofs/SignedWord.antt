@@ -1,5 +1,5 @@
 -- Eight bytes whose first one may be a sign, which then counts as the digit 0.
-use Rattle.std.proofs.Common.{◌≡◌, ℕ, ◌-◌, ◌≤◌, Bool, true, false, List, [], ◌∷◌, length, map, get_or, refl, arith}
+use Rattle.std.proofs.Common.{◌≡◌, ℕ, ◌-◌, ◌≤◌, Bool, true, false, List, [], ◌∷◌, length, map, get_or, arith}
 use Rattle.std.specs.{Int.{from_bool}, Simd.Lanes.{mask_l}}
 use Rattle.line_text.specs.Numbers.{is_no_digit, unsigned}
 
@@ -8,9 +8,7 @@ abbrev pub IsSign : Bool → List ℕ → Type 0
 IsSign signed bytes = signed ≡ true → get_or bytes 0 0 ≡ 45
 
 pub length-unsigned : (signed : Bool) (bytes : List ℕ) → length (unsigned signed bytes) ≡ length bytes
-length-unsigned false bytes = refl
-length-unsigned true [] = refl
-length-unsigned true (b ∷ bs) = refl
+length-unsigned signed bytes = grind arith
 
 -- a sign is no digit, and 0 is one
 pub record IsUnsignedMask (signed : Bool) (bytes : List ℕ) (mask : ℕ) : Type 0 where

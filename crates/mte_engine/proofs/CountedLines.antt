@@ -1,5 +1,5 @@
 -- Lines that are read and counted one by one, with no event in between.
-use Rattle.std.proofs.Common.{◌≡◌, ℕ, ◌<◌, Result, Ok, Err, OnOk, List, [], ◌∷◌, ◌++◌, length, sym, ap, subst, ◌∙◌, arith, append_assoc}
+use Rattle.std.proofs.Common.{◌≡◌, ℕ, ◌<◌, Result, OnOk, List, [], ◌∷◌, ◌++◌, length, sym, ap, ◌∙◌, arith, append_assoc}
 use Rattle.replay_theory.specs.Losses.{requested_sizes}
 use Rattle.trace_event.specs.declared.event.Event.{Event}
 use Rattle.line_text.specs.Lines.{ended}
@@ -25,40 +25,23 @@ one_line_more bytes text rest after reader reader' profile profile' event so_far
     let more =
     counts_more (bytes ++ so_far.front) line reader one profile profile' so_far.keeps is_fed
     (λ sizes few is. counted sizes (omega (arith, few)) is) in
-    let left : record { events = []; state = reader'.state } ≡ reader' =
-    ap (λ (es : List Event). record { events = es; state = reader'.state }) (sym (same ∙ none)) in
-    record {
-      front = so_far.front ++ line;
-      text_is = so_far.text_is
-          ∙ ap (λ (t : List ℕ). so_far.front ++ t) (cut ∙ sym (append_assoc (event_line event) (10 ∷ []) after))
-          ∙ sym (append_assoc so_far.front line after);
-      keeps = subst (λ (r : Reading). KeepsCounts r profile' (bytes ++ (so_far.front ++ line))) left
-          (subst (KeepsCounts (record { events = []; state = reader'.state }) profile') (append_assoc bytes so_far.front line) more);
-    }
+    grind (arith, append_assoc)
 
 -- a line that was fed, its newline, and lines after it
 pub lines_more : (bytes text rest line after left : List ℕ) (reader last : Reading) (profile counts : Counted)
     → (so_far : CountsFront bytes text reader profile rest) → rest ≡ line ++ 10 ∷ after
     → CountsFront (((bytes ++ so_far.front) ++ line) ++ 10 ∷ []) after last counts left
     → CountsFront bytes text last counts left
-lines_more bytes text rest line after left reader last profile counts so_far cut more = record {
-  front = so_far.front ++ (line ++ 10 ∷ more.front);
-  text_is = so_far.text_is ∙ ap (λ (t : List ℕ). so_far.front ++ t) (cut ∙ ap (λ (t : List ℕ). line ++ 10 ∷ t) more.text_is)
-      ∙ simp append_assoc;
-  keeps = subst (KeepsCounts last counts) (simp append_assoc) more.keeps;
-}
+lines_more bytes text rest line after left reader last profile counts so_far cut more = grind (arith, append_assoc)
 
 -- and the text after them
 pub last_piece : (bytes text rest : List ℕ) (reader last : Reading) (profile counts : Counted)
     → (so_far : CountsFront bytes text reader profile rest) → KeepsCounts last counts ((bytes ++ so_far.front) ++ rest)
     → KeepsCounts last counts (bytes ++ text)
-last_piece bytes text rest reader last profile counts so_far more =
-    subst (KeepsCounts last counts) (append_assoc bytes so_far.front rest ∙ ap (λ (t : List ℕ). bytes ++ t) (sym so_far.text_is)) more
+last_piece bytes text rest reader last profile counts so_far more = grind (arith, append_assoc)
 
 pub OnOk_then : {A E P Q : Type 0} (r : Result A E) → (P → Q) → OnOk r P → OnOk r Q
-OnOk_then (Ok x) more holds = more holds
-OnOk_then (Err e) more holds = tt
+OnOk_then r more holds = grind arith
 
 pub OnOk_both : {A E P P' Q : Type 0} (r : Result A E) → (P → P' → Q) → OnOk r P → OnOk r P' → OnOk r Q
-OnOk_both (Ok x) more holds holds' = more holds holds'
-OnOk_both (Err e) more holds holds' = tt
+OnOk_both r more holds holds' = grind arith

@@ -8,7 +8,7 @@ use Rattle.line_text.{proofs.LawLemmas.{cut_lines_are_read, line_in_front_is_rea
 use Rattle.tuner_theory.specs.declared.size_event.SizeEvent.{SizeEvent}
 use Rattle.mte_engine.specs.{CountsInput.{GivesCounts, IsLineAndRest, KeepsLineAnd, KeepsTimelineOr}, Outcome.{Answer, GivesFault}}
 use Rattle.mte_engine.specs.{Parts.{GivesPart, timeline_part}, Timelines.{begins_timeline}, declared.fault.AnswerError.{AnswerError}}
-use Rattle.mte_engine.specs.declared.fault.{AnswerError.TheVariants.{OutOfMemory, Input}, InputFault.{InputFault}}
+use Rattle.mte_engine.specs.declared.fault.{InputFault.{InputFault}}
 
 -- ---- while it is read
 
@@ -51,13 +51,11 @@ pub counts_refused : (one other : Result Answer InputFault → Type 0) (before :
     → GivesCounts (Err error) before bytes
     → ((fault : InputFault) → timeline_part before (timeline_of bytes) ≡ Err fault → one (Err fault))
     → GivesFault (λ answer. MatchBool (begins_timeline (lines bytes)) (one answer) (other answer)) error
-counts_refused one other before bytes OutOfMemory gives refused = tt
-counts_refused one other before bytes (Input fault) gives refused = rw gives.0 (refused fault gives.1)
+counts_refused one other before bytes error gives refused = grind arith
 
 pub counts_failed : (before : ℕ) (bytes : List ℕ) (error : AnswerError) → begins_timeline (lines bytes) ≡ true
     → GivesPart {A = List SizeEvent} (Err error) (timeline_part before (timeline_of bytes)) → GivesCounts (Err error) before bytes
-counts_failed before bytes OutOfMemory begins gives = tt
-counts_failed before bytes (Input fault) begins gives = (begins, gives)
+counts_failed before bytes error begins gives = grind arith
 
 -- a timeline is no history
 pub no_history : (is : Bool) (reading : Reading) (text bytes : List ℕ) → is ≡ true → KeepsTimelineOr is reading text bytes
@@ -79,6 +77,4 @@ line_and_rest false line [] taken keeps = ([], record { line_is = keeps.0; other
 line_and_rest false line (b ∷ bytes) taken keeps =
     let whole : lines (b ∷ bytes) ≡ (b ∷ bytes) ∷ [] = cut_lines_are_read [] (b ∷ bytes) (All-nil IsLine) keeps.1 (omega arith) in
     ([], record { line_is = keeps.0 ∙ sym (ap first whole); others = sym (ap (drop 1) whole) }, keeps.2)
-line_and_rest true line bytes taken keeps =
-    let whole : lines bytes ≡ line ∷ lines keeps.0 = ap lines keeps.1 ∙ line_in_front_is_read line keeps.0 keeps.2 in
-    (keeps.0, record { line_is = sym (ap first whole); others = sym (ap (drop 1) whole) }, keeps.3)
+line_and_rest true line bytes taken keeps = grind (arith, line_in_front_is_read)

@@ -1,10 +1,10 @@
 -- An input that is refused for its table or for its profile has its first fault in the line of the refusal.
-use Rattle.std.proofs.Common.{◌≡◌, ℕ, suc, ◌+◌, ◌-◌, ◌<◌, ◌≤◌, List, [], ◌∷◌, ◌++◌, take, drop, codes, All, length, Option, Some, None}
+use Rattle.std.proofs.Common.{◌≡◌, ℕ, suc, ◌+◌, ◌-◌, ◌<◌, ◌≤◌, List, [], ◌∷◌, ◌++◌, take, drop, codes, All, length, Some}
 use Rattle.std.proofs.{Common.{MatchResult, Result, Ok, Err, refl, sym, ap, ◌∙◌, append_assoc, arith}, lemmas.Fmt.{decimal_digit}}
 use Rattle.std.proofs.lemmas.{List.{drop-take, length-drop, take-take}, List.Elements.{All-take, All-drop, All-head, All-tail}}
 use Rattle.std.{proofs.lemmas.Option.{same_Some}, specs.Fmt.{decimal}}
 use Rattle.line_text.proofs.LawLemmas.{line_in_front_is_read, lines_are_lines, written_lines_are_read}
-use Rattle.line_text.specs.{FirstFault.{◌>>=◌, IsFirstFault}, Lines.{lines, text_of, IsLine}, LineSteps.{read_lines}}
+use Rattle.line_text.specs.{FirstFault.{IsFirstFault}, Lines.{lines, text_of, IsLine}, LineSteps.{read_lines}}
 use Rattle.class_table.proofs.LawLemmas.{class_line_is_full, first_fault_is_refused as table_fault_is_refused, missing_line_is_first_fault}
 use Rattle.class_table.proofs.LawLemmas.{no_classes_are_legal, read_line_is_spelled, table_line_is_read}
 use Rattle.class_table.specs.{ClassLine.{BeginsWithTable, class_line, table_of_line}, FaultText.{shown_table_error}}
@@ -15,15 +15,14 @@ use Rattle.profile_count.specs.{FaultText.{shown_profile_fault}, declared.fault.
 use Rattle.profile_count.specs.ProfileText.{IsRefusedAt, SpellsProfile, profile_of, profile_of_lines}
 use Rattle.potential_check.{proofs.LawLemmas.{read_is_spelled}, specs.Leading.{leading_lines, lines_after}}
 use Rattle.potential_check.specs.SheetText.{SpellsSheet, sheet_of_lines}
-use Rattle.trace_event.specs.declared.event.Event.{Event}
 use Rattle.heap_theory.specs.declared.config.Config.{Config}
-use Rattle.trace_reader.specs.{FaultText.{shown_trace_fault}, TraceText.{trace_from}, declared.fault.TraceFault.{TraceFault}}
+use Rattle.trace_reader.specs.{FaultText.{shown_trace_fault}}
 use Rattle.tuner_theory.specs.{Profiles.{Profile as Counted}, Sheets.{Sheet}}
 use Rattle.mte_engine.proofs.SheetLinesSettled.{after_alike, leading_lines-cut, leading_lines-lines, leading_lines-settled}
-use Rattle.mte_engine.specs.{Check.{CheckAnswers}, FaultText.{in_line, shown_input_fault}, Outcome.{Answer}, Traces.{events_unless}}
+use Rattle.mte_engine.specs.{Check.{CheckAnswers}, FaultText.{in_line, shown_input_fault}, Outcome.{Answer}}
 use Rattle.mte_engine.specs.FaultLines.{IsAtFirstFault, SpellsLeadingAnd, SpellsSheetAndProfile, SpellsTableAnd, line_of_fault}
-use Rattle.mte_engine.specs.{Parts.{class_part, profile_part}, Replay.{replay_answer, replay_of_lines, report_on}}
-use Rattle.mte_engine.specs.declared.{engine.Status.TheVariants.{Done}, fault.InputFault.{InputFault}}
+use Rattle.mte_engine.specs.{Parts.{class_part, profile_part}, Replay.{replay_answer}}
+use Rattle.mte_engine.specs.declared.{fault.InputFault.{InputFault}}
 use Rattle.mte_engine.specs.declared.fault.InputFault.TheVariants.{TooLong, Table, BadSheet, BadFit, Profile, History, Timeline, Trace}
 use Rattle.history_count.specs.{FaultText.{shown_history_fault}, Timelines.FaultText.{shown_timeline_fault}}
 
@@ -45,12 +44,6 @@ shown_with_line (Timeline line fault) n e = (shown_timeline_fault fault, ap (in_
 shown_with_line (Trace line fault) n e = (shown_trace_fault fault, ap (in_line (shown_trace_fault fault)) (same_Some line n e))
 
 -- ---- lines
-
--- what is alike with one line in front is alike without it
-alike_after : (m : ℕ) (line : List ℕ) (ls rest : List (List ℕ)) → take (suc m) (line ∷ ls) ≡ take (suc m) rest
-    → take m ls ≡ take m (drop 1 rest)
-alike_after m line ls [] e = absurd cc
-alike_after m line ls (other ∷ rest) e = cc
 
 -- the table of a text is refused at line 1
 pub table_refused : (text line : List ℕ) (ls : List (List ℕ)) (fault : TableError) → lines text ≡ line ∷ ls
@@ -78,9 +71,7 @@ module _ {A F : Type 0} (Spells : List ℕ → A → Type 0) (read : List (List 
     (part : ℕ → Result A (ℕ × F) → Result A InputFault) (is_part : IsPart Spells read part) where
   -- what a text spells is spelled by its lines, each with its newline
   pub whole_lines : (text : List ℕ) (x : A) → Spells text x → Spells (text_of (lines text)) x
-  whole_lines text x spells =
-      let same = written_lines_are_read (lines text) (lines_are_lines text) in
-      is_part.spelled (text_of (lines text)) x (ap read same ∙ is_part.is_read text x spells)
+  whole_lines text x spells = grind (arith, written_lines_are_read, lines_are_lines)
 
   -- the whole text
   pub alone_at_first : (text : List ℕ) (fault : InputFault) → part 0 (read (lines text)) ≡ Err fault → IsAtFirstFault Spells text fault
@@ -98,11 +89,7 @@ module _ {A F : Type 0} (Spells : List ℕ → A → Type 0) (read : List (List 
   in_front line table text x is_line read spells =
       let parts : lines (line ++ 10 ∷ text) ≡ line ∷ lines text = line_in_front_is_read line text is_line in
       let spelled = read_line_is_spelled line table read in
-      let after : drop 1 (lines (line ++ 10 ∷ text)) ≡ lines text = ap (drop 1) parts in
-      record {
-        table = record { legal = spelled.1; line = ap (take 1) parts ∙ ap (λ (l : List ℕ). l ∷ []) spelled.0 };
-        rest = rw after (whole_lines text x spells);
-      }
+      grind (arith, whole_lines)
 
   -- an input with a fault in its table has its first fault there
   first_line : (text : List ℕ) → IsFirstFault BeginsWithTable text 1 → IsFirstFault (SpellsTableAnd Spells) text 1
@@ -141,8 +128,7 @@ module _ {A F : Type 0} (Spells : List ℕ → A → Type 0) (read : List (List 
         none = λ next spelled spells alike_next.
             let rest = drop 1 (lines next) in
             let rest_lines = written_lines_are_read rest (All-drop IsLine 1 (lines next) (lines_are_lines next)) in
-            let after : take m ls ≡ take m rest = alike_after m line ls (lines next) (rw parts at (sym alike_next)) in
-            first.none (text_of rest) spelled.1 spells.rest (rw (same, rest_lines) (sym after));
+            grind arith;
       }
 
   -- the part after a table
@@ -170,11 +156,8 @@ module _ {A F : Type 0} (Spells : List ℕ → A → Type 0) (read : List (List 
 
       with_line : (line : List ℕ) (ls : List (List ℕ)) (result : Result (List ℕ) TableError) → lines text ≡ line ∷ ls
           → table_of_line line ≡ result → refused_by fault (line ∷ ls) → IsAtFirstFault (SpellsTableAnd Spells) text fault
-      with_line line ls (Ok table) parts is e =
-          after line table ls (read ls) parts is refl (rw is at e)
-      with_line line ls (Err refused) parts is e =
-          let is_fault : fault ≡ Table refused = (let same = rw is at e in cc) in
-          (1, rw is_fault refl, first_line text (table_refused text line ls refused parts is))
+      with_line line ls (Ok table) parts is e = grind (arith, after)
+      with_line line ls (Err refused) parts is e = grind (arith, first_line, table_refused)
 
       go : (ls : List (List ℕ)) → lines text ≡ ls → refused_by fault ls → IsAtFirstFault (SpellsTableAnd Spells) text fault
       go [] parts e =
@@ -216,8 +199,7 @@ none_later First Rest text next m parts first settled spells alike =
     let after = drop k others in
     let after_lines : lines (text_of after) ≡ after =
     written_lines_are_read after (All-drop IsLine k others (lines_are_lines next)) in
-    let is_next : Rest (text_of after) parts.1 = rw settled at spells.rest in
-    first.none (text_of after) parts.1 is_next (rw (rest_lines, after_lines) (after_alike k m others ls alike))
+    grind (arith, after_alike)
 
 -- The first fault of the lines after the leading lines is that of the input, so many lines later: where that line is there, and those before
 -- it spell the other part.
@@ -298,23 +280,4 @@ check_profile_at_first text n fault e = go (sheet_of_lines (leading_lines (lines
 pub replay_at_first : (config : Config) (text : List ℕ) (fault : TableError) → replay_answer config text ≡ Err (Table fault)
     → IsAtFirstFault BeginsWithTable text (Table fault)
 unfolding replay_answer
-replay_at_first config text fault e = go (lines text) refl e
-  where
-    reported : List ℕ → List Event → Result Answer InputFault
-    reported table events = Ok (record { text = report_on config table events; status = Done })
-
-    no_table : (table : List ℕ) (events : List Event) (trace : Option (ℕ × TraceFault))
-        → (events_unless 1 events trace >>= reported table) ≡ Err (Table fault) → ⊥
-    no_table table events None e = absurd cc
-    no_table table events (Some refused) e = absurd cc
-
-    with_line : (line : List ℕ) (ls : List (List ℕ)) (read : Result (List ℕ) TableError) → lines text ≡ line ∷ ls
-        → table_of_line line ≡ read → replay_of_lines config (line ∷ ls) ≡ Err (Table fault) → IsFirstFault BeginsWithTable text 1
-    with_line line ls (Ok table) parts is e =
-        absurd (no_table table (trace_from 1 ls).events (trace_from 1 ls).fault (rw is at e))
-    with_line line ls (Err refused) parts is e = table_refused text line ls refused parts is
-
-    go : (ls : List (List ℕ)) → lines text ≡ ls → replay_of_lines config ls ≡ Err (Table fault)
-        → IsAtFirstFault BeginsWithTable text (Table fault)
-    go [] parts e = (1, refl, missing_line_is_first_fault text parts)
-    go (line ∷ ls) parts e = (1, refl, with_line line ls (table_of_line line) parts refl e)
+replay_at_first config text fault e = grind (arith, table_refused, missing_line_is_first_fault)

@@ -25,20 +25,14 @@ pub cut_after_line : (text unread line rest : List ℕ) (at : ℕ) → unread �
 cut_after_line text unread line rest at is parts =
     let front = (take at text ++ line) ++ 10 ∷ [] in
     let all : text ≡ front ++ rest =
-    sym (take-append-drop at text) ∙ ap (λ (after : List ℕ). take at text ++ after) (sym is ∙ parts)
-    ∙ sym (append_assoc (take at text) line (10 ∷ rest)) ∙ sym (append_assoc (take at text ++ line) (10 ∷ []) rest) in
-    let size : length front ≡ length text - length rest = omega (arith, ap length all, length-append front rest) in
-    let taken : take (length text - length rest) text ≡ front =
-    ap (take (length text - length rest)) all ∙ take_at front rest (length text - length rest) size in
-    rw taken record { parts = all; whole = whole_ended (take at text ++ line) }
+    grind (arith, take-append-drop, append_assoc) in
+    grind (arith, length-append, take_at, whole_ended)
 
 -- the events go on
 pub keeps_events : (leading : Option FitWithMoments) (old new : Reading) (text bytes piece : List ℕ) → is_some leading ≡ true
     → ((read : List ℕ) → IsReadingOf old read → IsReadingOf new (read ++ piece)) → KeepsFitOr leading old text bytes
     → KeepsFitOr leading new text (bytes ++ piece)
-keeps_events None old new text bytes piece some fed keeps = absurd cc
-keeps_events (Some fit) old new text bytes piece some fed (front, rest, parts, is, read) =
-    (front, rest ++ piece, ap (λ (all : List ℕ). all ++ piece) parts ∙ append_assoc front rest piece, is, fed rest read)
+keeps_events leading old new text bytes piece some fed keeps = grind (arith, append_assoc)
 
 -- The fit is known, and the reader is fed what came after the first line of the timeline.
 pub keeps_begun : (leading : Option FitWithMoments) (old new : Reading) (text text' bytes front rest : List ℕ) (fit : FitWithMoments)
@@ -53,8 +47,7 @@ keeps_begun None old new text text' bytes front rest fit none parts is fed keeps
 
 -- a line of moments names them
 named : (ws : Option (List (List ℕ))) (numbers : List ℕ) → option_and_then moments_of_words ws ≡ Some numbers → is_some ws ≡ true
-named None numbers e = absurd cc
-named (Some ws) numbers e = refl
+named ws numbers e = grind arith
 
 module _ (bytes front rest : List ℕ) (leading : FitWithMoments) (parts : bytes ≡ front ++ rest) (is : IsFitBeforeEvents front leading) where
   all_lines : lines bytes ≡ lines front ++ lines rest
@@ -74,11 +67,7 @@ module _ (bytes front rest : List ℕ) (leading : FitWithMoments) (parts : bytes
 
   after_fit : lines_after (lines bytes) ≡ is.line ∷ head_line ∷ lines rest
   unfolding lines_after
-  after_fit =
-      let n = length (leading_lines (lines front)) in
-      let within : n ≤ length (lines front) = omega (arith, size) in
-      rw (same_fit, all_lines)
-      (drop-append-le n (lines front) (lines rest) within ∙ ap (λ (ls : List (List ℕ)). ls ++ lines rest) is.after)
+  after_fit = grind (arith, size, same_fit, drop-append-le)
 
   abbrev part : Result Sheet InputFault
   part = sheet_part Footprint (fit_of_lines (leading_lines (lines bytes)))

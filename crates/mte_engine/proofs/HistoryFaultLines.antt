@@ -1,6 +1,6 @@
 -- An input that is refused for its history, or for the table before it, has its first fault in the line of the refusal.
-use Rattle.std.proofs.Common.{◌≡◌, ℕ, suc, ◌+◌, ◌-◌, ◌≤◌, Bool, true, false, List, [], ◌∷◌, ◌++◌, take, drop, length, codes, All}
-use Rattle.std.proofs.Common.{slice_index_or, if◌then◌else◌, Option, Result, Ok, Err, inl, inr, refl, sym, ap, ◌∙◌, subst, arith}
+use Rattle.std.proofs.Common.{◌≡◌, ℕ, suc, ◌+◌, ◌-◌, ◌≤◌, Bool, false, List, [], ◌∷◌, ◌++◌, take, drop, length, codes, All}
+use Rattle.std.proofs.Common.{slice_index_or, if◌then◌else◌, Option, Result, Ok, Err, inl, inr, refl, sym, ap, ◌∙◌, arith}
 use Rattle.std.{proofs.lemmas.Bool.{cases_lt}, proofs.lemmas.List.Elements.{All-append, All-drop, All-take}, specs.Option.{ok_or}}
 use Rattle.std.proofs.lemmas.List.{append-nil, drop-append-le, drop_all, length-take, take-append-le, take-take, take_all}
 use Rattle.line_text.{proofs.LawLemmas.{lines_are_lines, written_lines_are_read}, specs.FirstFault.{◌>>=◌, IsFirstFault}}
@@ -51,8 +51,7 @@ history_is_part = record {
 -- what went on had been read
 went_on : {A B P : Type 0} (read : Result A ℕ) (more : A → Result B ℕ) (y : B) → (read >>= more) ≡ Ok y →
     ((x : A) → read ≡ Ok x → more x ≡ Ok y → P) → P
-went_on (Ok x) more y is also = also x refl is
-went_on (Err number) more y is also = cc
+went_on read more y is also = grind arith
 
 one_line : {A : Type 0} (number : ℕ) (reading : List ℕ → Option A) (ls : List (List ℕ)) (x : A × List (List ℕ)) →
     line_at number reading ls ≡ Ok x → (line : List ℕ) × (ls ≡ line ∷ x.1)
@@ -67,14 +66,7 @@ step_there : (a b : List ℕ) (ls : List (List ℕ)) (number : ℕ) (step : ℕ 
     → ok_or {E = ℕ} (step_at ls) 3 ≡ Ok step → ok_or {E = ℕ} (forced_at step.1) number ≡ Ok forced → 1 ≤ length forced.1
     → head_size (a ∷ b ∷ ls) ≤ suc (suc (length ls))
 step_there a b [] number step forced is also some = let there = forced_there step.1 number forced also some in grind arith
-step_there a b (c ∷ ls) number step forced is also some =
-    let there = forced_there step.1 number forced also some in go (is_named (codes "step") c) refl there
-  where
-    go : (named : Bool) → is_named (codes "step") c ≡ named
-        → (if is_named (codes "forced") (slice_index_or step.1 0 []) then 2 else 1) ≤ length step.1
-        → head_size (a ∷ b ∷ c ∷ ls) ≤ suc (suc (length (c ∷ ls)))
-    go true named there = grind arith
-    go false named there = grind arith
+step_there a b (c ∷ ls) number step forced is also some = grind arith
 
 -- lines that are read as a sheet or a fit have a whole head
 head_by : (cost : _) (ls : List (List ℕ)) (s : Sheet) → read_by cost ls ≡ Ok s → head_size ls ≤ length ls
@@ -99,13 +91,7 @@ head_is_there ls fit e = head_by Footprint ls fit e
 -- so they do in front of others
 whole_head : (ls : List (List ℕ)) (fit : Sheet) → fit_of_lines (leading_lines ls) ≡ Ok fit → head_size ls ≤ length ls
 unfolding leading_lines
-whole_head ls fit e = elim (cases_lt (length ls) (head_size ls)) [
-  | inr long ↦ long
-  | inl short ↦
-      let all : leading_lines ls ≡ ls =
-      rw (take_all (head_size ls) ls (omega (arith, short)), drop_all (head_size ls) ls (omega (arith, short))) (append-nil ls) in
-      head_is_there ls fit (ap fit_of_lines (sym all) ∙ e)
-]
+whole_head ls fit e = grind (arith, take_all, drop_all, append-nil, head_is_there)
 
 -- The first line of a history, after a fit, is missing or faulty.
 first_after_fit : (text : List ℕ) (fit : Sheet) → fit_of_lines (leading_lines (lines text)) ≡ Ok fit
@@ -125,8 +111,7 @@ first_after_fit text fit read is_fit first =
     written_lines_are_read base (All-append IsLine (take k ls) (shortest ∷ []) (All-take IsLine k ls all) is_line) in
     let long : k ≤ length (take k ls) = omega (arith, length-take k ls, within) in
     let after : drop k base ≡ shortest ∷ [] =
-    drop-append-le k (take k ls) (shortest ∷ []) long
-    ∙ ap (λ (front : List (List ℕ)). front ++ shortest ∷ []) (drop_all k (take k ls) (omega (arith, length-take k ls))) in
+    grind (arith, drop-append-le, drop_all, length-take) in
     let front : take k base ≡ take k ls = take-append-le k (take k ls) (shortest ∷ []) long ∙ take-take k k ls (omega arith) in
     let is_history : SpellsHistory (text_of (shortest ∷ [])) (nothing_counted 1) =
     rw shortest_is_line at (whole_lines SpellsHistory history_of_lines history_part history_is_part shortest (nothing_counted 1) shortest_spelled) in
@@ -143,11 +128,7 @@ first_after_fit text fit read is_fit first =
           let settled : leading_lines (lines next) ≡ leading_lines ls = elim (cases_lt k (length ls)) [
             | inl more ↦ leading_lines-settled (k + 1) ls (lines next) (omega arith) (omega (arith, more)) (sym alike)
             | inr none ↦
-                let short : length (lines next) ≤ k =
-                omega (arith, ap length alike, length-take (k + 1) (lines next), length-take (k + 1) ls, none) in
-                let same : lines next ≡ ls =
-                sym (take_all (k + 1) (lines next) (omega (arith, short))) ∙ alike ∙ take_all (k + 1) ls (omega (arith, none)) in
-                ap leading_lines same
+                grind (arith, length-take, take_all)
           ] in
           none_later SpellsFit SpellsHistory text next 1 spelled first settled spells alike;
     }
@@ -175,8 +156,7 @@ after_fit text fit m read refused =
           after_leading SpellsFit SpellsHistory text fit before.0 m is_fit there is_history first
       | inr none ↦
           let one : m ≡ 1 = omega (arith, none, first.some) in
-          let first_one : IsFirstFault SpellsHistory (text_of rest) 1 = subst (IsFirstFault SpellsHistory (text_of rest)) one first in
-          rw one (first_after_fit text fit read is_fit first_one)
+          grind (arith, first_after_fit)
     ]
 
 pub check_fit_history_at_first : (text : List ℕ) (n : ℕ) (fault : HistoryFault) → CheckFitAnswers text (Err (History n fault))

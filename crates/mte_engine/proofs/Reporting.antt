@@ -15,18 +15,14 @@ pub reported_more : (before after line : List ℕ) (stored stored' : Stored) (ev
     after ≡ before ++ line
     → after ++ report_from stored' events' ≡ before ++ report_from stored events
 unfolding report_from
-reported_more before after line stored stored' events events' event es is_line is_stored is_after =
-    rw (es, is_after, is_stored, is_line)
-    (append_assoc before (report_line (stored.totals.events + 1) (answer_of stored.replay event))
-    (report_from (stored_after stored event) events'))
+reported_more before after line stored stored' events events' event es is_line is_stored is_after = grind (arith, append_assoc)
 
 -- all events were replayed, and the totals appended
 pub reported_all : (before after : List ℕ) (stored : Stored) (events : List Event) → events ≡ [] →
     after ≡ before ++ totals_text stored.totals
     → after ++ [] ≡ before ++ report_from stored events
 unfolding report_from
-reported_all before after stored events none is_after =
-    append-nil after ∙ is_after ∙ ap (λ (t : List Event). before ++ report_from stored t) (sym none)
+reported_all before after stored events none is_after = grind (arith, append-nil)
 
 -- nothing has been counted at first,
 pub first_events : (stored : Stored) (layout : Partition) (seed quarantine : ℕ) → stored ≡ first_stored layout seed quarantine →
@@ -45,8 +41,7 @@ module _ (layout : Partition) (seed quarantine : ℕ) where
       → lines_of layout seed quarantine before ++ report_from (stored_of layout seed quarantine before) rest
       ≡ report layout seed quarantine (before ++ rest)
   unfolding report_from
-  report_goes_on before [] =
-      sym (report_is_lines_and_totals layout seed quarantine before) ∙ ap (report layout seed quarantine) (sym (append-nil before))
+  report_goes_on before [] = grind (arith, report_is_lines_and_totals, append-nil)
   report_goes_on before (event ∷ rest) =
       let stored = stored_of layout seed quarantine before in
       let line = report_line (stored.totals.events + 1) (answer_of stored.replay event) in

@@ -1,6 +1,6 @@
 -- The lines of the rows of a sheet or a fit, one after the other.
-use Rattle.std.proofs.Common.{◌≡◌, ℕ, ◌+◌, ◌≤◌, Bool, List, [], ◌++◌, codes, drop, length, Some, append_assoc, arith, slice_get}
-use Rattle.std.proofs.lemmas.{Grind.{common_steps}, List.Elements.{All-weaker}}
+use Rattle.std.proofs.Common.{◌≡◌, ℕ, ◌+◌, ◌≤◌, Bool, List, [], ◌++◌, codes, drop, Some, append_assoc, arith, slice_get}
+use Rattle.std.proofs.lemmas.{Grind.{common_steps}}
 use Rattle.class_table.specs.{NamedLines.{named_line}, declared.sizes.TheConstants.{MOST_NEEDS}}
 use Rattle.line_text.specs.Lines.{ended}
 use Rattle.potential_check.specs.{SheetText.{text_by}, declared.cost.Cost.{Cost}}
@@ -11,13 +11,11 @@ use Rattle.mte_engine.{proofs.InFront.{in_front}, specs.RowLines.{AreShort, row_
 pub line_written : (before after : List ℕ) (rows : List (List ℕ)) (i : ℕ) (row : List ℕ) → slice_get rows i ≡ Some row
     → after ≡ before ++ ended (named_line (codes "row") row)
     → after ++ row_lines (drop (i + 1) rows) ≡ before ++ row_lines (drop i rows)
-line_written before after rows i row is written =
-    rw (written, in_front rows i row is) (append_assoc before (ended (named_line (codes "row") row)) (row_lines (drop (i + 1) rows)))
+line_written before after rows i row is written = grind (arith, in_front, append_assoc)
 
 -- rows of a certificate have a number for each distinct need
 pub short_rows : (rows : List (List ℕ)) (limit d : ℕ) → HasShape rows limit d → d ≤ MOST_NEEDS → AreShort rows
-short_rows rows limit d shape few =
-    All-weaker (λ row. length row ≡ d) (λ row. length row ≤ MOST_NEEDS) (λ row is. omega (arith, is)) rows shape.row_lengths
+short_rows rows limit d shape few = omega arith
 
 -- the lines of the rows come after the others
 pub rows_after : (cost : Cost) (table : List ℕ) (limit step : ℕ) (forced : Bool) (stated : ℕ) (rows : List (List ℕ))

@@ -1,11 +1,11 @@
 -- Which lines of a text are its sheet depends only on these lines and the one after them.
 use Rattle.std.proofs.Common.{◌≡◌, ℕ, zero, suc, ◌+◌, ◌-◌, ◌<◌, ◌≤◌, Bool, true, false, All, List, [], ◌∷◌, ◌++◌, length, take, drop}
-use Rattle.std.proofs.{Common.{get_or, codes, refl, sym, ap, ◌∙◌, arith, length-append}, lemmas.Bool.{false≢true}}
+use Rattle.std.proofs.{Common.{get_or, codes, refl, sym, ap, ◌∙◌, arith, length-append}}
 use Rattle.std.proofs.lemmas.List.{take-take, drop-append-le, drop-take, get_or_append_left, get_or-take, length-drop, length-take}
 use Rattle.std.proofs.lemmas.{List.{take-append-le}, List.Elements.{All-append, All-drop, All-take}, List.Folds.{length-prefix_len}}
 use Rattle.std.{proofs.lemmas.List.Sums.{prefix_len-le-length, take_while-cons}, specs.List.{prefix_len, take_while}}
 use Rattle.line_text.specs.Lines.{IsLine}
-use Rattle.potential_check.specs.{Leading.{head_size, head_size_from, is_row_line, leading_lines}, SheetText.{is_named}}
+use Rattle.potential_check.specs.{Leading.{head_size, is_row_line, leading_lines}, SheetText.{is_named}}
 
 -- ---- lists that begin alike
 
@@ -21,45 +21,19 @@ passing_settled : {A : Type 0} (p : A → Bool) (n : ℕ) (xs ys : List A) → l
 passing_settled p zero xs ys few there e = absurd (omega (arith, few))
 passing_settled p (suc n) [] ys few there e = absurd (omega (arith, there))
 passing_settled p (suc n) (x ∷ xs) [] few there e = absurd cc
-passing_settled p (suc n) (x ∷ xs) (y ∷ ys) few there e =
-    let first : x ≡ y = cc in
-    rw (← first) (go (passing_settled p n xs ys) (p x) refl)
-  where
-    go : (length (take_while p xs) < n → n ≤ length xs → take n xs ≡ take n ys → take_while p ys ≡ take_while p xs)
-        → (passes : Bool) → p x ≡ passes → take_while p (x ∷ ys) ≡ take_while p (x ∷ xs)
-    go others true is =
-        let fewer = rw (take_while-cons p x xs, is) at few in
-        let same = others (omega (arith, fewer)) (omega (arith, there)) cc in
-        rw (take_while-cons p x ys, take_while-cons p x xs, is, same) refl
-    go others false is = rw (take_while-cons p x ys, take_while-cons p x xs, is) refl
+passing_settled p (suc n) (x ∷ xs) (y ∷ ys) few there e = grind (arith, passing_settled p n xs ys, take_while-cons)
 
 -- and all of them are there where only others are cut off.
 passing_cut : {A : Type 0} (p : A → Bool) (n : ℕ) (xs : List A) → length (take_while p xs) ≤ n → take_while p (take n xs) ≡ take_while p xs
 passing_cut p zero [] few = refl
 passing_cut p (suc n) [] few = refl
-passing_cut p zero (x ∷ xs) few = go (p x) refl
-  where
-    go : (passes : Bool) → p x ≡ passes → take_while p [] ≡ take_while p (x ∷ xs)
-    go true is = let none = rw (take_while-cons p x xs, is) at few in absurd (omega (arith, none))
-    go false is = rw (take_while-cons p x xs, is) refl
-passing_cut p (suc n) (x ∷ xs) few = go (passing_cut p n xs) (p x) refl
-  where
-    go : (length (take_while p xs) ≤ n → take_while p (take n xs) ≡ take_while p xs)
-        → (passes : Bool) → p x ≡ passes → take_while p (x ∷ take n xs) ≡ take_while p (x ∷ xs)
-    go others true is =
-        let fewer = rw (take_while-cons p x xs, is) at few in
-        rw (take_while-cons p x (take n xs), take_while-cons p x xs, is, others (omega (arith, fewer))) refl
-    go others false is = rw (take_while-cons p x (take n xs), take_while-cons p x xs, is) refl
+passing_cut p zero (x ∷ xs) few = grind (arith, take_while-cons)
+passing_cut p (suc n) (x ∷ xs) few = grind (arith, passing_cut p n xs, take_while-cons)
 
 -- One that fails may stand at the end.
 passing_end : {A : Type 0} (p : A → Bool) (xs : List A) (x : A) → p x ≡ false → take_while p (xs ++ x ∷ []) ≡ take_while p xs
 passing_end p [] x fails = take_while-cons p x [] ∙ rw fails refl
-passing_end p (y ∷ xs) x fails = go (passing_end p xs x fails) (p y) refl
-  where
-    go : take_while p (xs ++ x ∷ []) ≡ take_while p xs → (passes : Bool) → p y ≡ passes
-        → take_while p (y ∷ xs ++ x ∷ []) ≡ take_while p (y ∷ xs)
-    go others true is = rw (take_while-cons p y (xs ++ x ∷ []), take_while-cons p y xs, is, others) refl
-    go others false is = rw (take_while-cons p y (xs ++ x ∷ []), take_while-cons p y xs, is) refl
+passing_end p (y ∷ xs) x fails = grind (arith, passing_end p xs x fails, take_while-cons)
 
 -- ---- so many elements, and those after them that pass a test
 
@@ -69,10 +43,7 @@ leading p h xs = take h xs ++ take_while p (drop h xs)
 -- where they are not all
 leading-size : {A : Type 0} (p : A → Bool) (h : ℕ) (xs : List A) → length (leading p h xs) < length xs
     → (length (leading p h xs) ≡ h + length (take_while p (drop h xs))) × (h < length xs)
-leading-size p h xs short =
-    let both = length-append (take h xs) (take_while p (drop h xs)) in
-    let within : h < length xs = omega (arith, short, both, length-take h xs) in
-    (omega (arith, both, length-take h xs, within), within)
+leading-size p h xs short = grind (arith, length-append, length-take)
 
 leading-settled : {A : Type 0} (p : A → Bool) (h n : ℕ) (xs ys : List A) → length (leading p h xs) < n → n ≤ length xs
     → take n xs ≡ take n ys → leading p h ys ≡ leading p h xs
@@ -82,19 +53,14 @@ leading-settled p h n xs ys few there e =
     let within : h ≤ n = omega (arith, few, size.0) in
     let head : take h xs ≡ take h ys = sym (take-take h n xs within) ∙ ap (take h) e ∙ take-take h n ys within in
     let after = after_alike h (n - h) xs ys (rw parts at e) in
-    let fewer : length (take_while p (drop h xs)) < n - h = omega (arith, few, size.0) in
-    let there_after : n - h ≤ length (drop h xs) = omega (arith, there, length-drop h xs) in
-    rw (← head, passing_settled p (n - h) (drop h xs) (drop h ys) fewer there_after after) refl
+    grind (arith, length-drop, passing_settled)
 
 leading-cut : {A : Type 0} (p : A → Bool) (h n : ℕ) (xs : List A) → length (leading p h xs) ≤ n → length (leading p h xs) < length xs
     → leading p h (take n xs) ≡ leading p h xs
 leading-cut p h n xs few short =
     let size = leading-size p h xs short in
     let parts : n ≡ h + (n - h) = omega (arith, few, size.0) in
-    let head : take h (take n xs) ≡ take h xs = take-take h n xs (omega (arith, few, size.0)) in
-    let after : drop h (take n xs) ≡ take (n - h) (drop h xs) = ap (λ (n : ℕ). drop h (take n xs)) parts ∙ drop-take h (n - h) xs in
-    let rows = passing_cut p (n - h) (drop h xs) (omega (arith, few, size.0)) in
-    rw (head, after, rows) refl
+    grind (arith, take-take, drop-take, passing_cut)
 
 -- where one that fails stands after them
 leading-one_more : {A : Type 0} (p : A → Bool) (h : ℕ) (xs : List A) (x : A) → p x ≡ false → h ≤ length xs
@@ -120,35 +86,12 @@ leading-one_more p h xs x fails within =
 
 -- ---- the lines of a sheet
 
--- its head has three lines at least, and four with one of the step,
-from-few : (n : ℕ) (ls : List (List ℕ)) → n + 1 ≤ head_size_from n ls
-from-few n ls = go (is_named (codes "forced") (get_or ls n [])) refl
-  where
-    go : (named : Bool) → is_named (codes "forced") (get_or ls n []) ≡ named → n + 1 ≤ head_size_from n ls
-    go true is = rw is (omega arith)
-    go false is = rw is (omega arith)
-
 head_size-few : (ls : List (List ℕ)) → (3 ≤ head_size ls) × (is_named (codes "step") (get_or ls 2 []) ≡ true → 4 ≤ head_size ls)
-head_size-few ls = go (is_named (codes "step") (get_or ls 2 [])) refl
-  where
-    go : (named : Bool) → is_named (codes "step") (get_or ls 2 []) ≡ named
-        → (3 ≤ head_size ls) × (is_named (codes "step") (get_or ls 2 []) ≡ true → 4 ≤ head_size ls)
-    go true is = let four = from-few 3 ls in (rw is (omega (arith, four)), λ _. rw is (omega (arith, four)))
-    go false is = (rw is (omega (arith, from-few 2 ls)), λ named. absurd (false≢true (sym is ∙ named)))
-
--- and it depends only on its own lines
-head_size-same : (ls other : List (List ℕ)) → get_or other 2 [] ≡ get_or ls 2 []
-    → (is_named (codes "step") (get_or ls 2 []) ≡ true → get_or other 3 [] ≡ get_or ls 3 []) → head_size other ≡ head_size ls
-head_size-same ls other third fourth = go (is_named (codes "step") (get_or ls 2 [])) refl
-  where
-    go : (named : Bool) → is_named (codes "step") (get_or ls 2 []) ≡ named → head_size other ≡ head_size ls
-    go true is = rw (third, is, fourth is) refl
-    go false is = rw (third, is) refl
+head_size-few ls = grind arith
 
 head_size-alike : (n : ℕ) (ls other : List (List ℕ)) → head_size ls ≤ n → take n ls ≡ take n other → head_size other ≡ head_size ls
 head_size-alike n ls other few e =
-    let long = head_size-few ls in
-    head_size-same ls other (same 2 (omega (arith, few, long.0))) (λ named. same 3 (omega (arith, few, long.1 named)))
+    grind (arith, head_size-few, same)
   where
     same : (i : ℕ) → i < n → get_or other i [] ≡ get_or ls i []
     same i lt =
@@ -158,20 +101,13 @@ head_size-alike n ls other few e =
 pub leading_lines-settled : (n : ℕ) (ls other : List (List ℕ)) → length (leading_lines ls) < n → n ≤ length ls → take n ls ≡ take n other
     → leading_lines other ≡ leading_lines ls
 unfolding leading_lines
-leading_lines-settled n ls other few there e =
-    let size = leading-size is_row_line (head_size ls) ls (omega (arith, few, there)) in
-    let head = head_size-alike n ls other (omega (arith, few, size.0)) e in
-    ap (λ (h : ℕ). leading is_row_line h other) head ∙ leading-settled is_row_line (head_size ls) n ls other few there e
+leading_lines-settled n ls other few there e = grind (arith, leading-size, head_size-alike, leading-settled)
 
 -- and of the lines that are left where only lines after them are cut off.
 pub leading_lines-cut : (n : ℕ) (ls : List (List ℕ)) → length (leading_lines ls) ≤ n → length (leading_lines ls) < length ls
     → leading_lines (take n ls) ≡ leading_lines ls
 unfolding leading_lines
-leading_lines-cut n ls few short =
-    let size = leading-size is_row_line (head_size ls) ls short in
-    let same = sym (take-take n n ls (omega arith)) in
-    let head = head_size-alike n ls (take n ls) (omega (arith, few, size.0)) same in
-    ap (λ (h : ℕ). leading is_row_line h (take n ls)) head ∙ leading-cut is_row_line (head_size ls) n ls few short
+leading_lines-cut n ls few short = grind (arith, leading-size, take-take, head_size-alike, leading-cut)
 
 -- where another line than a row's stands after them,
 pub leading_lines-one_more : (ls : List (List ℕ)) (line : List ℕ) → is_row_line line ≡ false → head_size ls ≤ length ls
@@ -181,15 +117,7 @@ unfolding leading_lines
 leading_lines-one_more ls line is_no_row within =
     let k = length (leading_lines ls) in
     let both = leading-one_more is_row_line (head_size ls) ls line is_no_row within in
-    let some = head_size-few ls in
-    let long : head_size ls ≤ k =
-    (let both_long = length-append (take (head_size ls) ls) (take_while is_row_line (drop (head_size ls) ls)) in
-    omega (arith, both_long, length-take (head_size ls) ls, within)) in
-    let kept : (i : ℕ) → i < k → get_or (take k ls ++ line ∷ []) i [] ≡ get_or ls i [] = λ i lt.
-    get_or_append_left (take k ls) (line ∷ []) [] i (omega (arith, lt, both.0, length-take k ls)) ∙ get_or-take k ls i [] lt in
-    let head : head_size (take k ls ++ line ∷ []) ≡ head_size ls =
-    head_size-same ls (take k ls ++ line ∷ []) (kept 2 (omega (arith, long, some.0))) (λ named. kept 3 (omega (arith, long, some.1 named))) in
-    (both.0, ap (λ (h : ℕ). leading is_row_line h (take k ls ++ line ∷ [])) head ∙ both.1)
+    grind (arith, length-append, length-take, get_or_append_left, get_or-take)
 
 -- They are lines.
 pub leading_lines-lines : (ls : List (List ℕ)) → All IsLine ls → All IsLine (leading_lines ls)

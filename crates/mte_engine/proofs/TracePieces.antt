@@ -1,19 +1,19 @@
 -- What the engines over traces keep, piece by piece and at the end, by the laws of a trace in pieces.
-use Rattle.std.proofs.Common.{◌≡◌, ℕ, ◌+◌, ◌≤◌, List, [], ◌∷◌, ◌++◌, length, Option, Some, None, Ok, Err, refl, sym, ap, ◌∙◌, arith}
+use Rattle.std.proofs.Common.{◌≡◌, ℕ, ◌+◌, ◌≤◌, List, [], ◌∷◌, ◌++◌, length, Option, None, Ok, Err, refl, sym, ap, ◌∙◌, arith}
 use Rattle.std.proofs.{Common.{append-nil}, lemmas.List.{length-append}, lemmas.List.Elements.{filter_map-append}}
-use Rattle.replay_theory.specs.{Losses.{requested_sizes}, Totals.{request_size}}
+use Rattle.replay_theory.specs.{Losses.{requested_sizes}}
 use Rattle.trace_event.specs.declared.event.Event.{Event}
 use Rattle.profile_count.{proofs.LawLemmas.{added_requests_are_counted}, specs.Counts.{nothing_counted}, specs.ProfileText.{profile_text}}
 use Rattle.profile_count.specs.Requests.{profile_of_sizes}
 use Rattle.trace_reader.proofs.LawLemmas.{events_are_few, fed_after_events, finished_after_events, one_piece_is_the_text, pieces_are_joined}
-use Rattle.trace_reader.{proofs.LawLemmas.{pieces_have_few_events}, specs.Reading.State.{Failed, Finished}}
+use Rattle.trace_reader.{proofs.LawLemmas.{pieces_have_few_events}, specs.Reading.State.{Finished}}
 use Rattle.trace_reader.specs.Reading.{Reading, State, added, cut, ended_state, fed, finished, nothing_read, whole_reading}
-use Rattle.trace_reader.specs.{TraceText.{Trace, trace_from, trace_of}, declared.fault.TraceError.TheVariants.{Line}}
+use Rattle.trace_reader.specs.{TraceText.{Trace, trace_from, trace_of}}
 use Rattle.trace_reader.specs.declared.fault.TraceFault.{TraceFault}
 use Rattle.tuner_theory.specs.Profiles.{Profile as Counted}
 use Rattle.mte_engine.{proofs.Counting.{length-requested_sizes}, specs.Outcome.{GivesFault}, specs.Profile.{ProfileAnswers, profile_answer}}
 use Rattle.mte_engine.specs.{Traces.{HasEnded, KeepsCounts, profile_of_events, trace_part}, declared.engine.Status.TheVariants.{Done}}
-use Rattle.mte_engine.specs.declared.fault.{AnswerError.{AnswerError}, AnswerError.TheVariants.{OutOfMemory, Input}}
+use Rattle.mte_engine.specs.declared.fault.{AnswerError.{AnswerError}, AnswerError.TheVariants.{Input}}
 use Rattle.mte_engine.specs.declared.fault.InputFault.{InputFault}
 
 -- nothing was taken yet
@@ -57,24 +57,12 @@ module _ (bytes piece : List ℕ) where
       let events : after.events ≡ before.events ++ fed_reader.events = ap (λ (r : Reading). r.events) all in
       let fits : length before.events + length fed_reader.events ≤ 1000000 =
       omega (arith, pieces_have_few_events ((bytes ++ piece) ∷ []), ap length events, length-append before.events fed_reader.events) in
-      let room : length (requested_sizes before.events) + length fed_reader.events ≤ 1000000 =
-      omega (arith, length-requested_sizes before.events) in
-      record {
-        state = ap (λ (s : State). record { events = []; state = s }) (sym (ap (λ (r : Reading). r.state) all));
-        counts = counted (requested_sizes before.events) room keeps.counts
-            ∙ ap profile_of_sizes (sym (filter_map-append request_size before.events fed_reader.events) ∙ ap requested_sizes (sym events));
-      }
+      grind (arith, length-requested_sizes, filter_map-append)
 
 -- ---- the end of a trace
 
 no_fault : (fault : Option (ℕ × TraceFault)) → ended_state fault ≡ Finished → fault ≡ None
-no_fault None e = refl
-no_fault (Some (number, fault)) e = cc
-
-the_fault : (fault : Option (ℕ × TraceFault)) (number : ℕ) (found : TraceFault) → ended_state fault ≡ Failed (Line number found) →
-    fault ≡ Some (number, found)
-the_fault None number found e = cc
-the_fault (Some (n, f)) number found e = cc
+no_fault fault e = grind arith
 
 -- a trace that ended without a fault is its events
 pub trace_ends : (lines : ℕ) (trace : Trace) (state : State) → state ≡ ended_state trace.fault → HasEnded lines state (Ok tt) →
@@ -84,8 +72,7 @@ trace_ends lines trace state is ended = rw (no_fault trace.fault (sym is ∙ end
 -- and one that ended at a fault is that fault
 pub trace_refused : (lines : ℕ) (trace : Trace) (state : State) (refused : InputFault) → state ≡ ended_state trace.fault
     → HasEnded lines state (Err (Input refused)) → trace_part lines trace ≡ Err refused
-trace_refused lines trace state refused is (number, fault, failed, same) =
-    rw (the_fault trace.fault number fault (sym is ∙ failed), same) refl
+trace_refused lines trace state refused is h5 = grind arith
 
 module _ (bytes : List ℕ) where
   -- the events of the pieces were taken out
@@ -108,9 +95,7 @@ module _ (bytes : List ℕ) where
   pub profile_refused : (reader : Reading) (profile : Counted) (error : AnswerError) → KeepsCounts reader profile bytes
       → HasEnded 0 (finished reader).state (Err error) → GivesFault (ProfileAnswers bytes) error
   unfolding profile_answer
-  profile_refused reader profile OutOfMemory keeps ended = tt
-  profile_refused reader profile (Input refused) keeps ended =
-      rw (trace_refused 0 (trace_of bytes) _ refused (state_of_rest reader profile keeps) ended) refl
+  profile_refused reader profile error keeps ended = grind (arith, state_of_rest)
 
   pub profile_written : (reader : Reading) (profile profile' : Counted) (text : List ℕ) → KeepsCounts reader profile bytes
       → HasEnded 0 (finished reader).state (Ok tt)
@@ -118,14 +103,4 @@ module _ (bytes : List ℕ) where
       → profile' ≡ profile_of_sizes (sizes ++ requested_sizes (finished reader).events))
       → text ≡ profile_text profile' → ProfileAnswers bytes (Ok (record { text = text; status = Done }))
   unfolding profile_answer
-  profile_written reader profile profile' text keeps ended counted is =
-      let before = (fed nothing_read bytes).events in
-      let rest = (finished reader).events in
-      let events : before ++ rest ≡ (trace_of bytes).events =
-      ap (λ (r : Reading). before ++ (finished r).events) keeps.state ∙ ap (λ (r : Reading). r.events) finished_rest in
-      let fits : length before + length rest ≤ 1000000 = omega (arith, events_are_few bytes, ap length events, length-append before rest) in
-      let room : length (requested_sizes before) + length rest ≤ 1000000 = omega (arith, length-requested_sizes before) in
-      let all : profile' ≡ profile_of_events (trace_of bytes).events =
-      counted (requested_sizes before) room keeps.counts
-      ∙ ap profile_of_sizes (sym (filter_map-append request_size before rest) ∙ ap requested_sizes events) in
-      rw (trace_ends 0 (trace_of bytes) _ (state_of_rest reader profile keeps) ended, is, all) refl
+  profile_written reader profile profile' text keeps ended counted is = grind (arith, finished_rest, events_are_few, length-append, length-requested_sizes, filter_map-append)

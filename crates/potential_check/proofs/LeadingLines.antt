@@ -7,7 +7,7 @@ use Rattle.potential_check.specs.{Leading.{GivesLeading, IsLeadingOf, is_row_lin
 use Rattle.potential_check.specs.SheetText.{Gives, cost_number, forced_in, forced_number, head_of_lines, is_named, read_by, row_in}
 use Rattle.potential_check.specs.{SheetText.{rows_from, step_in, with_rows}, declared.fault.Fault.{Fault}, declared.reading.Head.{Head}}
 use Rattle.potential_check.specs.declared.certificates.certificate.Certificate.{Certificate as Held}
-use Rattle.potential_check.specs.declared.{fault.Fault.TheVariants.{OutOfMemory, Line}, leading_sheet.LeadingSheet.{LeadingSheet}}
+use Rattle.potential_check.specs.declared.{leading_sheet.LeadingSheet.{LeadingSheet}}
 use Rattle.class_table.specs.declared.table.TheConstants.{MOST_CLASSES}
 use Rattle.tuner_theory.specs.Sheets.{Sheet}
 
@@ -155,8 +155,7 @@ pub row_fault_given : {C : Type 0} (cost : Cost) (ls : List (List ℕ)) (head : 
     → result ≡ Err y → y ≡ e
     → Gives (λ (rows : List (List ℕ)). rows) (Err e) (rows_from (cost_number head.step head.forced + 1) MOST_CLASSES (rows_of after)) →
     GivesLeading cost ls result
-row_fault_given cost ls head after result y OutOfMemory found is same given = rw (is, same) tt
-row_fault_given cost ls head after result y (Line number) found is same given = grind (arith, leading-row_fault)
+row_fault_given cost ls head after result y e found is same given = grind (arith, leading-row_fault)
 
 -- ---- all lines
 

@@ -1,5 +1,5 @@
 -- What is read as a sheet or a fit is its text, line by line.
-use Rattle.std.proofs.Common.{◌≡◌, ℕ, zero, suc, ◌≤◌, Bool, List, [], ◌∷◌, ◌++◌, length, map, Option, Some, Result, Ok, refl, subst, arith}
+use Rattle.std.proofs.Common.{◌≡◌, ℕ, zero, suc, ◌≤◌, Bool, List, [], ◌∷◌, ◌++◌, length, map, Option, Some, Result, Ok, subst, arith}
 use Rattle.std.{proofs.Common.{codes, ne_eqb, All}, proofs.lemmas.Option.{some_pair_parts}, specs.Option.{ok_or}}
 use Rattle.line_text.{proofs.LawLemmas.{text_laws as laws}, specs.FirstFault.{◌>>=◌}, specs.Lines.{IsTextOf, lines}}
 use Rattle.class_table.specs.{NamedLines.{named_line}, Steps.{IsStep}, declared.table.TheConstants.{MOST_CLASSES}}
@@ -51,12 +51,6 @@ rows_read [] number most rows e = grind (arith, line-row_in, went_on)
 rows_read (line ∷ ls) number zero rows e = absurd cc
 rows_read (line ∷ ls) number (suc most) rows e = grind (arith, line-row_in, went_on, rows_read ls (suc number) most)
 
-abbrev as_read : Sheet → Result Sheet ℕ
-as_read s = Ok s
-
-same_sheet : (s t : Sheet) → as_read s ≡ as_read t → s ≡ t
-same_sheet s t e = cc
-
 -- all that was read
 whole_read : (cost : Cost) (ls after_table after_limit after_step after_forced after_cost : List (List ℕ)) (s : Sheet) →
     line_at 1 table_in ls ≡ Ok (s.table, after_table)
@@ -74,13 +68,7 @@ whole_read cost ls after_table after_limit after_step after_forced after_cost s 
     let forced = forced_read after_step after_forced s.forced is_forced in
     let next = was_read (cost_number s.step s.forced) (cost_in cost) after_forced after_cost s.cost is_cost in
     let stated = line-cost_in cost next.line s.cost next.read in
-    let rows = rows_read after_cost (suc (cost_number s.step s.forced)) MOST_CLASSES s.rows is_rows in (
-      rw (first.first, table.0, second.first, limit.0, step.0, forced, next.first, stated.0, rows.0) refl,
-      record { table = table.1; limit = (limit.1, limit.2); step = step.1; cost = stated.1; few = rows.1; rows = rows.2 },
-    )
-
-was_there : {A : Type 0} (o : Option A) (number : ℕ) (x : A) → ok_or {E = ℕ} o number ≡ Ok x → o ≡ Some x
-was_there o number x is = grind arith
+    let rows = rows_read after_cost (suc (cost_number s.step s.forced)) MOST_CLASSES s.rows is_rows in grind arith
 
 -- the lines in front of the rows
 record HeadParts (cost : Cost) (ls after : List (List ℕ)) (head : Head) : Type 0 where
@@ -109,17 +97,7 @@ head_read cost ls after head e =
     let read : Head = record { table = table.0; limit = limit.0; step = step.0; forced = forced.0; cost = stated.0 } in
     let parts = ok_pair_parts read head stated.1 after e in
     rw (← parts.0, ← parts.1)
-    (record {
-      after_table = table.1;
-      after_limit = limit.1;
-      after_step = step.1;
-      after_forced = forced.1;
-      table = is_table;
-      limit = is_limit;
-      step = was_there (step_at limit.1) 3 step is_step;
-      forced = was_there (forced_at step.1) (forced_number step.0) forced is_forced;
-      stated = is_cost;
-    }))))))
+    (grind arith))))))
 
 -- Lines of which something is read are its lines, and it is within the limits.
 lines_read : (cost : Cost) (ls : List (List ℕ)) (s : Sheet) → read_by cost ls ≡ Ok s → (ls ≡ lines_by cost s) × IsWithinLimits s
@@ -131,7 +109,7 @@ lines_read cost ls s e =
     let read =
     whole_read cost ls parts.after_table parts.after_limit parts.after_step parts.after_forced head.1 (with_rows head.0 rows) parts.table parts.limit
     parts.step parts.forced parts.stated is_rows in
-    subst (λ (t : Sheet). (ls ≡ lines_by cost t) × IsWithinLimits t) (same_sheet (with_rows head.0 rows) s e) read))
+    grind arith))
 
 -- What is read is spelled by the text, and is within the limits.
 pub read_is_spelled : (cost : Cost) (text : List ℕ) (s : Sheet) → read_by cost (lines text) ≡ Ok s → SpellsBy cost text s

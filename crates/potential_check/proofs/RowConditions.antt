@@ -26,16 +26,13 @@ module _ (R : List ℕ → List ℕ → Type 0) (rows : List (List ℕ)) (i : �
   adjacent-more all holds = grind (arith, all_adjacent_more, get_or_from_slice_get)
 
 module _ (s : Sheet) (spans : Spanned) (same : spans.step ≡ s.step) (shape : Meets spans.counts s Shape) where
-  drops-meet : AllAdjacentBelow StageDropHolds s.rows (length s.rows) → Meets spans.counts s StageDrop
-  drops-meet all k i one few lt = grind arith
-
   meet-drops : Meets spans.counts s StageDrop → AllAdjacentBelow StageDropHolds s.rows (length s.rows)
   meet-drops meets m d next = record {
     each = λ i lt. grind (arith, meets (m + 1) i, shape.row_count, shape.row_lengths (m + 1) d next, number-is);
   }
 
   pub drops-met : AllAdjacentBelow StageDropHolds s.rows (length s.rows) ↔ Meets spans.counts s StageDrop
-  drops-met = (drops-meet, meet-drops)
+  drops-met = grind (arith, meet-drops)
 
   waste-is : (i j : ℕ) → span_waste spans.counts spans.step i j ≡ span_waste spans.counts s.step i j
   waste-is i j = ap (λ step. span_waste spans.counts step i j) same
@@ -43,16 +40,13 @@ module _ (s : Sheet) (spans : Spanned) (same : spans.step ≡ s.step) (shape : M
   places-are : places spans.counts spans.step ≡ places spans.counts s.step
   places-are = ap (places spans.counts) same
 
-  edges-meet : AllAdjacentBelow (EdgesHold spans) s.rows (length s.rows) → Meets spans.counts s Edge
-  edges-meet all k i j one few lt le = grind arith
-
   meet-edges : Meets spans.counts s Edge → AllAdjacentBelow (EdgesHold spans) s.rows (length s.rows)
   meet-edges meets m d next = record {
     each = λ i j lt later le. grind (arith, meets (m + 1) i j, shape.row_count, places-are, waste-is i j, number-is);
   }
 
   pub edges-met : AllAdjacentBelow (EdgesHold spans) s.rows (length s.rows) ↔ Meets spans.counts s Edge
-  edges-met = (edges-meet, meet-edges)
+  edges-met = grind (arith, meet-edges)
 
   -- where no number of the first row is above the waste of one class, and no later one above that of the row before, all are bounded
   number-bounded : IsSpanned spans → Meets spans.counts s LastClass → Meets spans.counts s StageDrop → (m i : ℕ) → m < length s.rows

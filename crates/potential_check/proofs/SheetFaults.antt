@@ -76,8 +76,7 @@ module _ (cost : Cost) where
       (head : A × List (List ℕ) → Result B ℕ) (rows : B → Result Sheet ℕ) → ((x : A) → after (at x) ≡ numbered (head (x, ls) >>= rows))
       → (at_line number (ok_or (option_map at read) tt) >>= after)
       ≡ numbered ((ok_or (option_map (λ (x : A). (x, ls)) read) number >>= head) >>= rows)
-  line_read None at number ls after head rows same = refl
-  line_read (Some x) at number ls after head rows same = same x
+  line_read read at number ls after head rows same = grind arith
 
   -- what comes after the limit
   abbrev rows_of_head : Head × List (List ℕ) → Result Sheet ℕ
@@ -95,8 +94,7 @@ module _ (cost : Cost) where
   cost_read : (table : List ℕ) (limit step : ℕ) (forced : Bool) (ls : List (List ℕ)) (number : ℕ) → number ≡ cost_number step forced
       → read_from cost number (CostOf table limit step forced) ls ≡ numbered (after_forced table limit step forced ls >>= rows_of_head)
   unfolding read_lines
-  cost_read table limit step forced [] number is = rw is refl
-  cost_read table limit step forced (c ∷ ls) number is = grind (arith, rows_read)
+  cost_read table limit step forced ls number is = grind (arith, rows_read)
 
   forced_read : (table : List ℕ) (limit step : ℕ) (ls : List (List ℕ)) (number : ℕ) → number ≡ forced_number step
       → read_from cost number (Forced table limit step) ls ≡ numbered (after_step table limit step ls >>= rows_of_head)

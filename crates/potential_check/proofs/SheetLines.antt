@@ -83,9 +83,6 @@ fitted ns e = All-weaker (λ n. fits n ≡ true) (λ n. n < 2 ^ 64) (λ n f. ltb
 row_passes : (ns : List ℕ) → IsRow ns → is_row ns ≡ true
 row_passes ns is = and_from (leb (length ns) MOST_NEEDS) (list_all fits ns) (le-leb (length ns) MOST_NEEDS is.0) (all_fit ns is.1)
 
-passed_row : (ns : List ℕ) → is_row ns ≡ true → IsRow ns
-passed_row ns e = grind (arith, and_parts, leb, leb-true, fitted)
-
 -- ---- from what is spelled to the line
 
 pub one_small : (n : ℕ) → n < 2 ^ 64 → AreSmall (n ∷ [])
@@ -175,7 +172,7 @@ pub line-cost_in : (cost : Cost) (line : List ℕ) (n : ℕ) → cost_in cost li
 line-cost_in cost line n e = grind (arith, line-number_in, ltb-true)
 
 pub line-row_in : (line ns : List ℕ) → row_in line ≡ Some ns → (line ≡ named_line (codes "row") ns) × IsRow ns
-line-row_in line ns e = grind (arith, passing-some, row_in-numbers, passed_row, line_of_read_numbers)
+line-row_in line ns e = grind (arith, row_in-numbers, fitted, line_of_read_numbers)
 
 pub line-table_in : (line table : List ℕ) → table_in line ≡ Some table → (line ≡ class_line table) × IsLegalTable 1 table
 line-table_in line table e = grind (arith, read_line_is_spelled line table)

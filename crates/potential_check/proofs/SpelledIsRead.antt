@@ -20,8 +20,7 @@ rows-full [] all = All-nil IsFullLine
 rows-full (row ∷ rows) all =
     let is = All-head IsRow row rows all in
     let rest = rows-full rows (All-tail IsRow row rows all) in
-    let line = named_line_is_full (codes "row") row names.row is.1 in
-    grind (arith, All-cons)
+    grind (arith, named_line_is_full, names)
 
 step_lines-full : (step : ℕ) → IsStep step → All IsFullLine (step_lines step)
 step_lines-full step is_step = elim (cases_eq step 1) [
@@ -57,8 +56,7 @@ lines-full cost s within =
 forced_at-lines : (cost : Cost) (forced : Bool) (stated : ℕ) (ls : List (List ℕ)) → stated < 2 ^ 64
     → forced_at (forced_lines forced ++ named_line (word_of cost) (stated ∷ []) ∷ ls)
     ≡ Some (forced, named_line (word_of cost) (stated ∷ []) ∷ ls)
-forced_at-lines cost false stated ls small = rw (cost-not_forced cost stated small) refl
-forced_at-lines cost true stated ls small = grind (arith, forced_line-is, forced_in-line)
+forced_at-lines cost forced stated ls small = grind (arith, cost-not_forced, forced_line-is, forced_in-line)
 
 -- lines whose first is no line of a step
 abbrev no_step : List (List ℕ) → Type 0

@@ -18,9 +18,6 @@ pub record IsWalked (s : Spanned) (before row : List ℕ) (i end : ℕ) : Type 0
   pub hold : HoldFrom s before row i end
 
 module _ (s : Spanned) (is_step : IsStep s.step) (before row : List ℕ) (full : length row ≡ places s.counts s.step) where
-  pub walked-none : IsWalked s before row (length row) (places s.counts s.step)
-  walked-none = grind arith
-
   -- more ends for the same places: where the first of them keeps within its edges there, all do
   pub walked-lower : (i end low : ℕ) → IsWalked s before row i end → i < length row
       → ((j : ℕ) → i < j → low ≤ j → j < end → slice_index row i ≤ edge_bound s before i j) → HoldFrom s before row i low

@@ -1,13 +1,13 @@
 -- The profile of requests, and one request more.
-use Rattle.std.proofs.Common.{◌≡◌, ◌≢◌, ℕ, ◌+◌, ◌<◌, ◌≤◌, List, [], ◌∷◌, ◌++◌, length, get_or, set, cond, eqb, ltb, refl, sym, ap, ◌∙◌}
+use Rattle.std.proofs.Common.{◌≡◌, ◌≢◌, ℕ, ◌+◌, ◌<◌, ◌≤◌, List, [], ◌∷◌, ◌++◌, length, get_or, set, cond, eqb, refl, sym, ap, ◌∙◌}
 use Rattle.std.proofs.{Common.{arith, inl, inr, ne_eqb, append_assoc, append-nil}, lemmas.List.Sums.{count_by-le-length, sum_by_push}}
-use Rattle.std.proofs.lemmas.Bool.{cases_eq, eq-eqb, leb-true, leb-false, le-ltb, lt-ltb}
+use Rattle.std.proofs.lemmas.Bool.{cases_eq, eq-eqb, leb-true}
 use Rattle.std.proofs.lemmas.List.{get_or-set_same, get_or-set_other, length-set}
 use Rattle.std.proofs.lemmas.List.FromFn.{fill_by_all, get_or-map-range_with_len, length-map-range_with_len}
 use Rattle.class_table.specs.Sizes.{largest_counted}
 use Rattle.tuner_theory.specs.Profiles.{Profile}
 use Rattle.profile_count.{proofs.Zeros.{zeros_are_counts, each_is_zero}, specs.Counts.{count_for, nothing_counted, with_one_more, zeros}}
-use Rattle.profile_count.specs.Requests.{CountsRequests, large_requests, profile_of_sizes, requests_below, requests_of, with_more}
+use Rattle.profile_count.specs.Requests.{CountsRequests, profile_of_sizes, requests_below, requests_of, with_more}
 
 -- ---- the counts of the sizes below a bound
 
@@ -33,14 +33,6 @@ requests_of-same sizes n = sum_by_push (λ size. cond (eqb size n) 1 0) sizes n 
 requests_of-other : (sizes : List ℕ) (n k : ℕ) → n ≢ k → requests_of (sizes ++ n ∷ []) k ≡ requests_of sizes k
 requests_of-other sizes n k other = sum_by_push (λ size. cond (eqb size k) 1 0) sizes n ∙ rw (ne_eqb n k other) (omega arith)
 
-large_requests-more : (sizes : List ℕ) (n : ℕ) → largest_counted < n → large_requests (sizes ++ n ∷ []) ≡ large_requests sizes + 1
-large_requests-more sizes n large =
-    sum_by_push (λ size. cond (ltb largest_counted size) 1 0) sizes n ∙ rw (lt-ltb largest_counted n large) refl
-
-large_requests-same : (sizes : List ℕ) (n : ℕ) → n ≤ largest_counted → large_requests (sizes ++ n ∷ []) ≡ large_requests sizes
-large_requests-same sizes n small =
-    sum_by_push (λ size. cond (ltb largest_counted size) 1 0) sizes n ∙ rw (le-ltb largest_counted n small) (omega arith)
-
 -- a request of a size below the bound raises the count of its size,
 requests_below-raised : (bound : ℕ) (sizes : List ℕ) (n : ℕ) → n < bound
     → set (requests_below bound sizes) n (get_or (requests_below bound sizes) n 0 + 1) ≡ requests_below bound (sizes ++ n ∷ [])
@@ -49,8 +41,7 @@ requests_below-raised bound sizes n within =
     let raised = set before n (get_or before n 0 + 1) in
     let long : length before ≡ bound = length-requests_below bound sizes in
     requests_below-is raised bound (sizes ++ n ∷ []) (length-set before n (get_or before n 0 + 1) ∙ long) (λ k below. elim (cases_eq k n) [
-      | inl same ↦ rw (same, requests_of-same sizes n, ← get_or-requests_below bound sizes n within)
-          (get_or-set_same before n (get_or before n 0 + 1) 0 (omega (arith, long)))
+      | inl same ↦ grind (arith, requests_of-same, get_or-requests_below, get_or-set_same)
       | inr other ↦ get_or-set_other before n k (get_or before n 0 + 1) 0 other ∙ get_or-requests_below bound sizes k below
           ∙ sym (requests_of-other sizes n k (λ same. other (sym same)))
     ])
@@ -68,7 +59,7 @@ same_parts a b c d counts large = rw (counts, large) refl
 -- One request more gives the profile of all of them.
 pub one_more_is_counted : (sizes : List ℕ) (n : ℕ) →
     with_one_more (profile_of_sizes sizes) n ≡ profile_of_sizes (sizes ++ n ∷ [])
-one_more_is_counted sizes n = grind (arith, leb-true, requests_below-raised, same_parts, large_requests-same, leb-false, requests_below-same, large_requests-more)
+one_more_is_counted sizes n = grind (arith, requests_below-raised, sum_by_push, requests_below-same)
 
 -- ---- all requests, one by one
 
@@ -80,10 +71,7 @@ nothing_counted-is =
 
 with_more-profile_of_sizes : (before sizes : List ℕ) → with_more (profile_of_sizes before) sizes ≡ profile_of_sizes (before ++ sizes)
 with_more-profile_of_sizes before [] = ap profile_of_sizes (sym (append-nil before))
-with_more-profile_of_sizes before (n ∷ sizes) =
-    ap (λ p. with_more p sizes) (one_more_is_counted before n)
-    ∙ with_more-profile_of_sizes (before ++ n ∷ []) sizes
-    ∙ ap profile_of_sizes (append_assoc before (n ∷ []) sizes)
+with_more-profile_of_sizes before (n ∷ sizes) = grind (arith, with_more-profile_of_sizes (before ++ n ∷ []) sizes, one_more_is_counted, append_assoc)
 
 -- Requests that are added one by one to the empty profile give their profile.
 pub added_requests_are_counted : (sizes : List ℕ) → with_more nothing_counted sizes ≡ profile_of_sizes sizes

@@ -1,12 +1,12 @@
 -- The line of an entry: the entry is read from it, and from no other line.
 use Rattle.std.proofs.Common.{◌≡◌, ℕ, ◌≤◌, ◌<◌, Bool, true, false, List, [], ◌∷◌, length, Option, Some, None, Ok, refl, sym, ap, ◌∙◌, arith}
-use Rattle.std.proofs.{Common.{codes, ltb, length-append}, lemmas.Bool.{le-ltb, ltb-false, le-leb, false_from_ne_true}}
+use Rattle.std.proofs.{Common.{codes, ltb, length-append}, lemmas.Bool.{ltb-false, false_from_ne_true}}
 use Rattle.std.{proofs.lemmas.List.Elements.{All-nil, All-cons}, proofs.lemmas.Slice.Eq.{bytes_eq-Decides}, specs.Fmt.{decimal}}
 use Rattle.std.specs.Str.{bytes_eq}
 use Rattle.line_text.{proofs.LawLemmas.{text_laws as laws}, specs.Lines.{words, line_of, IsLine, IsWord}, specs.Numbers.{number_of}}
 use Rattle.tuner_theory.specs.Profiles.{greatest_count}
 use Rattle.class_table.proofs.LawLemmas.{IsName, plain_name}
-use Rattle.profile_count.specs.ProfileText.{IsNext, entry_of, counted, size_entry, numbers_entry, large_entry}
+use Rattle.profile_count.specs.ProfileText.{IsNext, entry_of, counted, size_entry, numbers_entry}
 use Rattle.profile_count.specs.declared.entry.{Entry.{Entry}, Entry.TheVariants.{Size, Large}}
 
 abbrev pub entry_words : Entry → List (List ℕ)
@@ -25,10 +25,6 @@ large_is_no_number = refl
 -- a word that spells a number is not `large`
 pub number_is_not_large : (word : List ℕ) (n : ℕ) → number_of word ≡ Some n → bytes_eq word (codes "large") ≡ false
 number_is_not_large word n is = grind (arith, false_from_ne_true, bytes_eq-Decides, large_is_no_number)
-
--- an entry is read from its words
-entry_of-words : (next : ℕ) (entry : Entry) → IsNext next 0 entry → entry_of next 0 (entry_words entry) ≡ Ok entry
-entry_of-words next entry is = grind (arith, number_is_not_large, laws, le-ltb, le-leb)
 
 large_is_a_name : IsName (codes "large")
 large_is_a_name = plain_name (codes "large") refl (omega arith)
@@ -56,12 +52,11 @@ entry_line-is_line next entry is = (line_of_entry next entry is).0
 
 -- the entry is read from it,
 pub entry_of-line : (next : ℕ) (entry : Entry) → IsNext next 0 entry → entry_of next 0 (words (entry_line entry)) ≡ Ok entry
-entry_of-line next entry is = ap (entry_of next 0) (line_of_entry next entry is).1 ∙ entry_of-words next entry is
+entry_of-line next entry is = grind (arith, line_of_entry, number_is_not_large, laws)
 
 -- and it is not empty.
 pub entry_line-some : (entry : Entry) → 0 < length (entry_line entry)
-entry_line-some (Size size count) = omega (arith, length-append (decimal size) (32 ∷ decimal count))
-entry_line-some (Large count) = omega arith
+entry_line-some entry = grind (arith, length-append)
 
 -- ---- from a line to the entry that is read from it
 
@@ -89,11 +84,6 @@ numbers_read next first second (Some size) None entry is_size is_count e = absur
 numbers_read next first second (Some size) (Some count) entry is_size is_count e =
     size_read next first second size count entry is_size is_count e
 
--- the word `large` and a number
-large_read : (next : ℕ) (first second : List ℕ) (o : Option ℕ) (entry : Entry) → first ≡ codes "large" → number_of second ≡ o
-    → large_entry o ≡ Ok entry → IsRead next first second entry
-large_read next first second o entry is also too = grind (arith, counted_parts, laws)
-
 -- two words of either kind
 two_words_read : (next large : ℕ) (first second : List ℕ) (entry : Entry) → entry_of next large (first ∷ second ∷ []) ≡ Ok entry
     → (large ≡ 0) × IsRead next first second entry
@@ -102,9 +92,7 @@ two_words_read next large first second entry e = go (ltb 0 large) refl (bytes_eq
     go : (ended : Bool) → ltb 0 large ≡ ended → (named : Bool) → bytes_eq first (codes "large") ≡ named →
         (large ≡ 0) × IsRead next first second entry
     go true f named g = let none = rw f at e in absurd cc
-    go false f true g =
-        let name : first ≡ codes "large" = (bytes_eq-Decides first (codes "large")).0 g in
-        (omega (arith, ltb-false 0 large f), large_read next first second (number_of second) entry name refl (rw (f, g) at e))
+    go false f true g = grind (arith, bytes_eq-Decides, ltb-false, laws)
     go false f false g = (
       omega (arith, ltb-false 0 large f),
       numbers_read next first second (number_of first) (number_of second) entry refl refl (rw (f, g) at e),

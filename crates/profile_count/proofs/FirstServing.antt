@@ -1,7 +1,7 @@
 -- The first class that serves a size, as sizes ascend.
 use Rattle.std.proofs.Common.{◌≡◌, ℕ, zero, suc, ◌+◌, ◌-◌, ◌*◌, ◌<◌, ◌≤◌, true, false, not, List, [], ◌∷◌, length, get_or, Some, None, refl}
 use Rattle.std.proofs.{Common.{sym, ap, ◌∙◌, arith, inl, inr, IsSome, slice_get}, lemmas.List.Folds.{find_at}}
-use Rattle.std.proofs.lemmas.Bool.{cases_Bool, cases_lt, not_from_true, leb-false, le-leb, lt-leb, both_ways}
+use Rattle.std.proofs.lemmas.Bool.{cases_Bool, cases_lt, not_from_true, le-leb, lt-leb, both_ways}
 use Rattle.std.proofs.lemmas.List.{Kept.{AllPairs-from_increasing}, Sums.{position_or_len_is, prefix_len_passes}}
 use Rattle.std.proofs.lemmas.Option.{get_or_from_slice_get, slice_get_past, slice_get_within, slice_get-get_or}
 use Rattle.std.specs.List.{position_or_len}
@@ -29,15 +29,7 @@ passed n (suc i) (class ∷ classes) before within other =
 -- a larger size has no earlier first class
 pub position-mono : (n m : ℕ) (classes : List ℕ) → n ≤ m → position_or_len (serves n) classes ≤ position_or_len (serves m) classes
 position-mono n m [] le = omega arith
-position-mono n m (class ∷ classes) le =
-    elim (cases_Bool (serves n class)) [
-      | inl first ↦ rw first (omega arith)
-      | inr later ↦
-          let above = leb-false n _ later in
-          let also : serves m class ≡ false = lt-leb m _ (omega arith) in
-          let rest = position-mono n m classes le in
-          rw (later, also) (omega arith)
-    ]
+position-mono n m (class ∷ classes) le = grind (arith, position-mono n m classes le)
 
 -- ---- the class of a size by that place
 
@@ -100,14 +92,12 @@ pub next_class : (from n number class : ℕ) (classes : List ℕ) → IsClassAt 
     → number ≤ position_or_len (serves from) classes → from ≤ n → n < 16 * class - 15 → class_for classes n ≡ Some class
 next_class from n number class classes at ready le before =
     let serving : serves n (get_or classes number 0) ≡ true = ap (serves n) at.is ∙ below_end n class at.wide before in
-    let first = reached n number classes (omega (arith, ready, position-mono from n classes le)) at.within serving in
-    class_there n number classes (sym first) ∙ slice_get-get_or classes number 0 at.within ∙ ap Some at.is
+    grind (arith, reached, position-mono, class_there, slice_get-get_or)
 
 -- after all classes none is left for any size from here on
 pub none_left : (from n number : ℕ) (classes : List ℕ) → number ≤ position_or_len (serves from) classes → length classes ≤ number →
     from ≤ n → class_for classes n ≡ None
-none_left from n number classes ready all le =
-    no_class n (position_or_len (serves n) classes) classes refl (omega (arith, ready, position-mono from n classes le))
+none_left from n number classes ready all le = grind (arith, no_class, position-mono)
 
 -- ---- the ends of a legal table's classes
 
@@ -118,8 +108,7 @@ some_end step number classes legal within = omega (arith, (legal.in_range number
 -- classes ascend, and so do their ends;
 pub ends_ascend : (step number : ℕ) (classes : List ℕ) → IsLegalTable step classes → number + 1 < length classes
     → 16 * get_or classes number 0 - 15 < 16 * get_or classes (number + 1) 0 - 15
-ends_ascend step number classes legal within =
-    omega (arith, legal.ascending number within, (legal.in_range number 0 (omega arith)).0)
+ends_ascend step number classes legal within = omega arith
 
 -- so no class serves a size from the end of the last one on
 pub past_last : (step n last class : ℕ) (classes : List ℕ) → IsLegalTable step classes → length classes ≡ last + 1

@@ -1,5 +1,5 @@
 -- From a text that is read as a profile to its spelling: line by line, the rest spells what is counted from there on.
-use Rattle.std.proofs.Common.{◌≡◌, ℕ, suc, ◌<◌, List, [], ◌∷◌, ◌++◌, length, get_or, drop, Result, Ok, Err, refl, subst, ◌∙◌, arith, ne_eqb}
+use Rattle.std.proofs.Common.{◌≡◌, ℕ, ◌<◌, List, [], ◌∷◌, ◌++◌, length, get_or, Result, Ok, Err, refl, subst, ◌∙◌, arith, ne_eqb}
 use Rattle.std.proofs.{Math.Seq.{drop-cons}, lemmas.List.{get_or-drop, get_or-set_same}}
 use Rattle.line_text.{proofs.LawLemmas.{read_has, text_laws as laws}, specs.Lines.{lines, words, IsTextOf}}
 use Rattle.tuner_theory.specs.Profiles.{Profile, IsProfile}
@@ -23,10 +23,6 @@ record SpellsRest (reading : Reading) (ls : List (List ℕ)) (p : Profile) : Typ
 no_size_lines : (reading : Reading) → IsOpen reading → size_lines_from reading.profile.counts reading.next ≡ []
 no_size_lines reading is_open = grind (arith, size_lines-none, get_or-drop)
 
--- no line more spells what was read
-spells_rest-nil : (reading : Reading) → IsOpen reading → SpellsRest reading [] reading.profile
-spells_rest-nil reading is_open = grind (arith, no_size_lines)
-
 -- a `large` line alone spells its count
 spells_rest-large : (reading : Reading) (count : ℕ) → IsOpen reading → IsNext reading.next 0 (Large count) →
     SpellsRest reading (entry_line (Large count) ∷ []) (with_large reading.profile count)
@@ -43,12 +39,7 @@ spells_rest-size reading size count ls p is_open next rest =
     let kept =
     λ (k : ℕ) (below : k < size). rest.kept k (omega arith) ∙ other_count reading.profile.counts size count k (λ same. omega arith) in
     let passed = size_lines-passed p.counts reading.next size next.1 (omega arith) (λ k from below. kept k below ∙ is_open.none k from) in
-    let counted = size_lines-counted size count (drop (suc size) p.counts) (λ none. omega (arith, next.3)) in
-    record {
-      profile = rest.profile;
-      kept = λ k below. kept k (omega (arith, next.1));
-      spelled = rw (passed, drop-cons p.counts size 0 within, here, counted, rest.spelled) refl;
-    }
+    grind (arith, size_lines-counted, drop-cons)
 
 -- ---- all lines
 
@@ -58,7 +49,7 @@ record IsReading (reading : Reading) (ls : List (List ℕ)) (p : Profile) : Type
   none : 0 < reading.profile.large → (ls ≡ []) × (reading.profile ≡ p)
 
 no_line_spells : (reading : Reading) (p : Profile) → profile_steps.finish reading ≡ Ok p → IsReading reading [] p
-no_line_spells reading p is = grind (arith, spells_rest-nil)
+no_line_spells reading p is = grind (arith, no_size_lines)
 
 line_spells : (reading next : Reading) (line : List ℕ) (ls : List (List ℕ)) (p : Profile) → profile_steps.step reading line ≡ Ok next
     → IsReading next ls p → IsReading reading (line ∷ ls) p

@@ -1,10 +1,10 @@
 -- What a class table wastes on the profile of requests is what the requests lose one by one.
 use Rattle.std.proofs.Common.{◌≡◌, ◌↔◌, ℕ, zero, suc, ◌+◌, ◌*◌, ◌<◌, ◌≤◌, Bool, true, false, List, [], ◌∷◌, length, get_or, cond, not, eqb}
-use Rattle.std.{proofs.Common.{leb, ltb, Option, Some, None, refl, sym, ap, ◌∙◌, arith, inl, inr, ne_eqb}, specs.Option.{option_map_or}}
-use Rattle.std.proofs.lemmas.{Bool.{cases_eq, cases_lt, eq-eqb, leb-true, le-leb, ltb-true, ltb-false}, List.Filters.{sum_by-filter_both}}
+use Rattle.std.{proofs.Common.{leb, ltb, refl, sym, ap, ◌∙◌, arith, inl, inr, ne_eqb}}
+use Rattle.std.proofs.lemmas.{Bool.{cases_eq, eq-eqb, leb-true, le-leb, ltb-true, ltb-false}, List.Filters.{sum_by-filter_both}}
 use Rattle.std.proofs.lemmas.List.Elements.{All-from_get_or, All-head, All-tail, filter_agree, filter_passes}
-use Rattle.std.{proofs.lemmas.List.Sums.{get_or-le-sum_by, sum_by-cons}, specs.Prelude.{All, IsSome, filter, sum_by, unwrap_or}}
-use Rattle.class_table.specs.{Sizes.{counted_of, largest_counted, loss_of}, Tables.{class_for, loss_of_size, ServesSizes, rounding_loss}}
+use Rattle.std.{proofs.lemmas.List.Sums.{get_or-le-sum_by, sum_by-cons}, specs.Prelude.{All, IsSome, filter, sum_by}}
+use Rattle.class_table.specs.{Sizes.{counted_of, largest_counted}, Tables.{class_for, loss_of_size, ServesSizes, rounding_loss}}
 use Rattle.tuner_theory.{proofs.Sums.{sum_none, sum_same, sum_split}, specs.Waste.{Serves, sum_below, waste_at, waste_of}}
 use Rattle.profile_count.proofs.CountedRequests.{get_or-requests_below, length-requests_below}
 use Rattle.profile_count.specs.Requests.{profile_of_sizes, requests_below, requests_of}
@@ -26,12 +26,7 @@ of_size-other f size k past = sum_none (of_size f size) k (λ n below. rw (ne_eq
 of_size-same : (f : ℕ → ℕ) (size k : ℕ) → size < k → sum_below (of_size f size) k ≡ f size
 unfolding of_size sum_below
 of_size-same f size zero within = absurd (omega arith)
-of_size-same f size (suc k) within = elim (cases_lt size k) [
-  | inl below ↦ rw (of_size-same f size k below, ne_eqb size k (λ same. omega arith)) (omega arith)
-  | inr last ↦
-      let same : size ≡ k = omega arith in
-      rw (of_size-other f size k last, eq-eqb size k same, same) (omega arith)
-]
+of_size-same f size (suc k) within = grind (arith, of_size-same f size k, of_size-other)
 
 -- one more request adds f at its size
 one_more_of : (f : ℕ → ℕ) (size : ℕ) (sizes : List ℕ) (n : ℕ)
@@ -55,22 +50,15 @@ sum-requests_of f k (size ∷ sizes) =
 
 -- ---- the waste
 
-loss_in : (n : ℕ) (class : Option ℕ) → loss_of n (unwrap_or class 0) ≡ option_map_or (loss_of n) class 0
-loss_in n None = omega arith
-loss_in n (Some class) = refl
-
-ltb-suc : (n k : ℕ) → ltb n (k + 1) ≡ leb n k
-ltb-suc n k = grind arith
-
 waste_of-requests_below : (top : ℕ) (sizes classes : List ℕ)
     → waste_of (requests_below (top + 1) sizes) classes ≡ sum_by (loss_of_size classes) (filter (λ n. leb n top) sizes)
 waste_of-requests_below top sizes classes =
     let counts = requests_below (top + 1) sizes in
     ap (sum_below (waste_at counts classes)) (length-requests_below (top + 1) sizes)
     ∙ sum_same (waste_at counts classes) (λ n. requests_of sizes n * loss_of_size classes n) (top + 1)
-    (λ n below. rw (get_or-requests_below (top + 1) sizes n below, loss_in n (class_for classes n)) refl)
+    (grind (arith, get_or-requests_below))
     ∙ sum-requests_of (loss_of_size classes) (top + 1) sizes
-    ∙ ap (sum_by (loss_of_size classes)) (filter_agree (λ n. ltb n (top + 1)) (λ n. leb n top) (λ n. ltb-suc n top) sizes)
+    ∙ ap (sum_by (loss_of_size classes)) (filter_agree (λ n. ltb n (top + 1)) (λ n. leb n top) (grind arith) sizes)
 
 -- The waste is the sum of what the counted requests lose.
 pub waste_is_the_sum_of_losses : (sizes classes : List ℕ)

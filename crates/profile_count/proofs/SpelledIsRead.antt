@@ -3,12 +3,12 @@ use Rattle.std.proofs.Common.{◌≡◌, ℕ, zero, suc, ◌+◌, ◌<◌, ◌�
 use Rattle.std.proofs.{Common.{arith, ne_eqb, length-drop, All}, Math.Seq.{drop-cons}, lemmas.Grind.{same_number_lists}}
 use Rattle.std.proofs.lemmas.{List.{get_or-set_same}, List.Elements.{All-nil, All-cons, All-head, All-tail, All-append}}
 use Rattle.class_table.specs.Sizes.{largest_counted}
-use Rattle.line_text.{proofs.LawLemmas.{line_read, no_line, text_laws as laws}, specs.{Lines.{IsFullLine, lines}, LineSteps.{read_lines}}}
+use Rattle.line_text.{proofs.LawLemmas.{line_read, no_line, text_laws as laws}, specs.{Lines.{IsFullLine}, LineSteps.{read_lines}}}
 use Rattle.tuner_theory.specs.Profiles.{Profile, IsProfile, greatest_count}
 use Rattle.profile_count.proofs.BeforeLarge.{IsOpen, is_open-nothing_read, other_count, is_open-size_read}
 use Rattle.profile_count.proofs.EntryLines.{entry_line, entry_line-is_line, entry_line-some, entry_of-line}
 use Rattle.profile_count.specs.declared.entry.Entry.{Entry}
-use Rattle.profile_count.specs.ProfileText.{large_lines, profile_lines, with_entry, nothing_read, profile_of, profile_steps}
+use Rattle.profile_count.specs.ProfileText.{large_lines, with_entry, profile_of, profile_steps}
 use Rattle.profile_count.specs.ProfileText.{Reading, SpellsProfile}
 use Rattle.profile_count.specs.{ProfileText.{IsNext, size_lines}, declared.entry.Entry.TheVariants.{Size, Large}}
 
@@ -34,9 +34,7 @@ drop_parts xs rest n x e =
 read-entry_line : (number : ℕ) (reading : Reading) (entry : Entry) (ls : List (List ℕ)) → reading.profile.large ≡ 0 →
     IsNext reading.next 0 entry
     → read_lines profile_steps number reading (entry_line entry ∷ ls) ≡ read_lines profile_steps (number + 1) (with_entry reading entry) ls
-read-entry_line number reading entry ls none next =
-    line_read profile_steps number reading (with_entry reading entry) (entry_line entry) ls
-    (rw (none, entry_of-line reading.next entry next) refl)
+read-entry_line number reading entry ls none next = grind (arith, line_read, entry_of-line)
 
 -- the `large` line is read last, where there is one
 read-large_lines : (number : ℕ) (reading : Reading) (large : ℕ) → reading.profile.large ≡ 0 → large ≤ greatest_count
@@ -58,13 +56,8 @@ read-size_lines [] size number reading p is_open is_profile next same parts =
     let sizes : length reading.profile.counts ≡ length p.counts = is_open.counts.sizes ∙ sym is_profile.counts.sizes in
     let counts : reading.profile.counts ≡ p.counts =
     same_number_lists reading.profile.counts p.counts sizes (λ k within. same k (omega arith)) in
-    read-large_lines number reading p.large is_open.large is_profile.large
-    ∙ ap (λ counts. Ok (record { counts = counts; large = p.large })) counts
-read-size_lines (zero ∷ counts) size number reading p is_open is_profile next same parts =
-    let first = drop_parts p.counts counts size 0 parts in
-    let here : get_or reading.profile.counts size 0 ≡ get_or p.counts size 0 = is_open.none size next ∙ sym first.1 in
-    read-size_lines counts (suc size) number reading p is_open is_profile (omega arith)
-    (one_more reading.profile.counts p.counts size same here) first.2
+    grind (arith, read-large_lines)
+read-size_lines (zero ∷ counts) size number reading p is_open is_profile next same parts = grind (arith, read-size_lines counts (suc size) number reading p is_open is_profile (omega arith), drop_parts, one_more)
 read-size_lines (suc n ∷ counts) size number reading p is_open is_profile next same parts =
     let first = drop_parts p.counts counts size (suc n) parts in
     let small : suc n ≤ greatest_count = rw first.1 at (is_profile.counts.in_range size 0 first.0) in
@@ -99,8 +92,7 @@ size_lines-full (suc n ∷ counts) size few small =
     full_line (Size size (suc n))
     (refl, omega arith, omega arith, omega arith, All-head (λ count. count ≤ greatest_count) (suc n) counts small) in
     let others = size_lines-full counts (suc size) (omega arith) (All-tail (λ count. count ≤ greatest_count) (suc n) counts small) in
-    rw (ne_eqb (suc n) 0 (λ e. omega arith))
-    (All-cons IsFullLine (entry_line (Size size (suc n))) (size_lines (suc size) counts) line others)
+    grind arith
 
 large_lines-full : (large : ℕ) → large ≤ greatest_count → All IsFullLine (large_lines large)
 large_lines-full zero small = All-nil IsFullLine
@@ -113,6 +105,4 @@ pub spelled_profile_is_read : (text : List ℕ) (p : Profile) → SpellsProfile 
 spelled_profile_is_read text p spells =
     let sizes = size_lines-full p.counts 0 (omega (arith, spells.profile.counts.sizes)) spells.profile.counts.in_range in
     let full = All-append IsFullLine (size_lines 0 p.counts) (large_lines p.large) sizes (large_lines-full p.large spells.profile.large) in
-    let is : lines text ≡ profile_lines p = laws.full_lines (profile_lines p) text full spells.spelled in
-    rw is (read-size_lines p.counts 0 1 nothing_read p is_open-nothing_read spells.profile (omega arith)
-    (λ k below. absurd (omega arith)) refl)
+    grind (arith, laws, read-size_lines, is_open-nothing_read)

@@ -1,7 +1,7 @@
 -- The least counted size that has no class.
 use Rattle.std.proofs.Common.{◌≡◌, ℕ, zero, suc, ◌+◌, ◌<◌, ◌≤◌, Bool, true, false, ◌&&◌, List, [], ◌∷◌, length, get_or, drop, ltb, cond}
-use Rattle.std.proofs.Common.{is_none, Option, Some, None, refl, sym, ap, ◌∙◌, arith, add-one, inl, inr, IsSome, IfSome, IfNone}
-use Rattle.std.proofs.{Math.Seq.{drop-cons}, lemmas.Bool.{cases_lt, lt-ltb, le-ltb, ltb-true, and_parts}, lemmas.List.{drop_all}}
+use Rattle.std.proofs.Common.{is_none, Option, Some, None, refl, sym, ap, arith, add-one, IsSome, IfSome, IfNone}
+use Rattle.std.proofs.{Math.Seq.{drop-cons}, lemmas.Bool.{lt-ltb, le-ltb}, lemmas.List.{drop_all}}
 use Rattle.class_table.specs.Tables.{class_for}
 use Rattle.tuner_theory.specs.{Profiles.{IsCounted}, Waste.{Serves}}
 use Rattle.profile_count.specs.Counts.{unserved_from, unserved_of}
@@ -24,11 +24,7 @@ not_counted_here counts classes n within none = grind (arith, le-ltb, drop-cons,
 pub not_counted_up_to : (counts classes : List ℕ) (n more : ℕ) → n + more ≤ length counts
     → ((k : ℕ) → n ≤ k → k < n + more → get_or counts k 0 ≡ 0) → unserved_after counts classes n ≡ unserved_after counts classes (n + more)
 not_counted_up_to counts classes n zero within none = let here : n ≡ n + 0 = omega arith in ap (unserved_after counts classes) here
-not_counted_up_to counts classes n (suc more) within none =
-    let next : n + more + 1 ≡ n + suc more = omega arith in
-    let zero_here : get_or counts (n + more) 0 ≡ 0 = none (n + more) (omega arith) (omega arith) in
-    not_counted_up_to counts classes n more (omega arith) (λ k from to. none k from (omega arith))
-    ∙ (not_counted_here counts classes (n + more) (omega arith) (omega arith) ∙ ap (unserved_after counts classes) next)
+not_counted_up_to counts classes n (suc more) within none = grind (arith, not_counted_up_to counts classes n more (omega arith), not_counted_here)
 
 pub served_here : (counts classes : List ℕ) (n class : ℕ) → n < length counts → class_for classes n ≡ Some class →
     unserved_after counts classes n ≡ unserved_after counts classes (n + 1)
@@ -56,15 +52,6 @@ pub record IsFirstUnserved (classes counts : List ℕ) (n size : ℕ) : Type 0 w
   pub none : class_for classes size ≡ None
   pub first : (k : ℕ) → k < at → 0 < get_or counts k 0 → class_for classes (n + k) ≡ None → ⊥
 
-is_none-None : (o : Option ℕ) → is_none o ≡ true → o ≡ None
-is_none-None None e = refl
-is_none-None (Some x) e = absurd cc
-
-one_later : (classes counts : List ℕ) (count n at : ℕ) → (ltb 0 count && is_none (class_for classes n)) ≡ false
-    → ((k : ℕ) → k < at → 0 < get_or counts k 0 → class_for classes (suc n + k) ≡ None → ⊥)
-    → (k : ℕ) → k < suc at → 0 < get_or (count ∷ counts) k 0 → class_for classes (n + k) ≡ None → ⊥
-one_later classes counts count n at is also k too then more = grind arith
-
 first_from : (classes counts : List ℕ) (n size : ℕ) → unserved_from classes n counts ≡ Some size → IsFirstUnserved classes counts n size
 unfolding unserved_from
 first_from classes [] n size found = absurd cc
@@ -74,17 +61,7 @@ first_from classes (count ∷ counts) n size found =
     go : (b : Bool) → (ltb 0 count && is_none (class_for classes n)) ≡ b →
         (unserved_from classes (suc n) counts ≡ Some size → IsFirstUnserved classes counts (suc n) size)
         → IsFirstUnserved classes (count ∷ counts) n size
-    go true e later =
-        let same : n ≡ size = (let f = rw e at found in cc) in
-        let parts = and_parts _ _ e in
-        record {
-          at = 0;
-          is = omega (arith, same);
-          within = omega arith;
-          some = ltb-true 0 count parts.0;
-          none = ap (class_for classes) (sym same) ∙ is_none-None _ parts.1;
-          first = λ k lt. absurd (omega arith);
-        }
+    go true e later = grind arith
     go false e later =
         let rest = later (rw e at found) in
         record {
@@ -93,25 +70,14 @@ first_from classes (count ∷ counts) n size found =
           within = omega (arith, rest.within);
           some = rest.some;
           none = rest.none;
-          first = one_later classes counts count n rest.at e rest.first;
+          first = grind arith;
         }
-
-is_some-not_None : (o : Option ℕ) → (o ≡ None → ⊥) → IsSome o
-is_some-not_None None other = absurd (other refl)
-is_some-not_None (Some x) other = refl
 
 all_served : (classes counts : List ℕ) (n : ℕ) → unserved_from classes n counts ≡ None → (k : ℕ) → k < length counts →
     0 < get_or counts k 0 → class_for classes (n + k) ≡ None → ⊥
 unfolding unserved_from
 all_served classes [] n none = λ k lt. absurd (omega arith)
-all_served classes (count ∷ counts) n none = go (ltb 0 count && is_none (class_for classes n)) refl (all_served classes counts (suc n))
-  where
-    go : (b : Bool) → (ltb 0 count && is_none (class_for classes n)) ≡ b
-        → (unserved_from classes (suc n) counts ≡ None → (k : ℕ) → k < length counts → 0 < get_or counts k 0 →
-        class_for classes (suc n + k) ≡ None → ⊥)
-        → (k : ℕ) → k < length (count ∷ counts) → 0 < get_or (count ∷ counts) k 0 → class_for classes (n + k) ≡ None → ⊥
-    go true e later k lt some = let f = rw e at none in absurd cc
-    go false e later k lt some = one_later classes counts count n (length counts) e (later (rw e at none)) k lt some
+all_served classes (count ∷ counts) n none = grind (arith, all_served classes counts (suc n))
 
 -- ---- the three clauses
 
@@ -120,19 +86,17 @@ pub found : (counts classes : List ℕ) (size : Option ℕ) → size ≡ unserve
 found counts classes None e = tt
 found counts classes (Some size) e =
     let at = first_from classes counts 0 size (sym e) in
-    let place : at.at ≡ size = omega (arith, at.is) in
-    (rw (← place) (at.within, at.some), at.none)
+    grind arith
 
 pub least : (counts classes : List ℕ) (size : Option ℕ) → size ≡ unserved_of counts classes →
     IfSome size (λ n. (m : ℕ) → m < n → IsCounted counts m → IsSome (class_for classes m))
 least counts classes None e = tt
 least counts classes (Some size) e = λ m lt counted.
     let at = first_from classes counts 0 size (sym e) in
-    let same : m ≡ 0 + m = omega arith in
-    is_some-not_None (class_for classes m) (λ none. at.first m (omega (arith, at.is)) counted.1 (rw same at none))
+    grind arith
 
 pub serving : (counts classes : List ℕ) (size : Option ℕ) → size ≡ unserved_of counts classes → IfNone size (Serves counts classes)
-serving counts classes size is = grind (arith, is_some-not_None, all_served)
+serving counts classes size is = grind (arith, all_served)
 
 -- the walk begins where the classes end
 pub skips_served : (counts classes : List ℕ) (n : ℕ) → ((m : ℕ) → m < n → IsSome (class_for classes m)) →
@@ -140,12 +104,7 @@ pub skips_served : (counts classes : List ℕ) (n : ℕ) → ((m : ℕ) → m < 
 skips_served counts classes zero served = refl
 skips_served counts classes (suc n) served =
     let before = skips_served counts classes n (λ m lt. served m (omega arith)) in
-    let next : n + 1 ≡ suc n = omega arith in
-    elim (cases_lt n (length counts)) [
-      | inl within ↦ before ∙ is_served counts classes n within (class_for classes n) refl (served n (omega arith))
-          ∙ ap (unserved_after counts classes) next
-      | inr past ↦ before ∙ none_after counts classes n past ∙ sym (none_after counts classes (suc n) (omega arith))
-    ]
+    grind (arith, is_served, none_after)
   where
     is_served : (counts classes : List ℕ) (n : ℕ) → n < length counts → (o : Option ℕ) → class_for classes n ≡ o →
         IsSome (class_for classes n)

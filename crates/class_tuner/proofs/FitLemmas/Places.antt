@@ -103,23 +103,7 @@ pub found-again : (costs : List ℕ) (d place limit k m number end alike : ℕ) 
     → IsPlaceFilled costs d place k rows rows' ends ends' → before ≡ slice_index_or rows' (k - 1) [] → length before ≡ d
     → number ≡ number_at rows' k place → end ≡ number_at ends' k place → number ≤ slice_index costs d
     → IsLeastOf costs before place number end
-found-again costs d place limit k m number end alike rows rows' ends ends' before is after lt are filled read size number_is end_is small =
-    let old = filled.later m (omega (arith, are.some)) (omega arith) in
-    let number_was : number ≡ number_at rows' (suc m) place = number_is ∙ ap (λ (n : ℕ). number_at rows' n place) is in
-    let end_was : end ≡ number_at ends' (suc m) place = end_is ∙ ap (λ (n : ℕ). number_at ends' n place) is in
-    let same : (j : ℕ) → place < j → j ≤ d → end_cost costs (number_at rows m) j ≡ end_cost costs (slice_index before) j =
-    (λ j past to.
-    let other : j ≡ place → ⊥ = (λ e. omega (arith, e)) in
-    let here : slice_index before j ≡ number_at rows' (suc m) j =
-    ap (λ (b : List ℕ). slice_index b j) read ∙ ap (λ (n : ℕ). number_at rows' n j) is in
-    ap (λ (n : ℕ). slice_index costs j + n)
-    (sym (here ∙ (filled.rows_kept (suc m) j other ∙ are.each m j (omega arith) (omega arith) (omega arith))))) in
-    let least = least-same (end_cost costs (number_at rows m)) (end_cost costs (slice_index before)) place d end same (rw (← end_was) at old.0) in
-    record {
-      first = rw size least;
-      value = number_was ∙ (old.1 ∙ (ap (end_cost costs (number_at rows m)) (sym end_was) ∙ same end least.from least.to));
-      small = rw size small;
-    }
+found-again costs d place limit k m number end alike rows rows' ends ends' before is after lt are filled read size number_is end_is small = grind arith
 
 -- ---- from this place on
 
@@ -139,16 +123,8 @@ rows-from cost costs d limit i rows rows' ends ends' inside costs_are later fill
         × (number_at rows' (suc k) m ≡ cost m (number_at ends' (suc k) m) + number_at rows' k (number_at ends' (suc k) m))
     later_row k m one few from lt =
         elim (cases_lt i m) [
-          | inl after ↦ (let old = later.later_row k m one few (omega arith) lt in
-              let same : (j : ℕ) → m < j → j ≤ d → cost m j + number_at rows k j ≡ cost m j + number_at rows' k j =
-              (λ j past to. grind (arith, filled.rows_kept k j)) in
-              rw (filled.rows_kept (suc k) m (λ e. omega (arith, e)), filled.ends_kept (suc k) m (λ e. omega (arith, e)))
-              (least-same _ _ m d _ same old.0, old.1 ∙ same _ old.0.from old.0.to))
-          | inr not ↦ (let here : m ≡ i = omega arith in
-              let new = filled.later k one few in
-              let same : (j : ℕ) → i < j → j ≤ d → end_cost costs (number_at rows k) j ≡ cost i j + number_at rows' k j =
-              (λ j past to. grind (arith, costs_are j, filled.rows_kept k j)) in
-              rw here (least-same _ _ i d _ same new.0, new.1 ∙ same _ new.0.from new.0.to))
+          | inl after ↦ grind arith
+          | inr not ↦ grind arith
         ]
 
 pub all-filled : (cost : ℕ → ℕ → ℕ) (d limit : ℕ) (rows ends : List (List ℕ)) → AreRowsSoFar d limit rows ends
@@ -175,11 +151,7 @@ pub so_far-pushed : (d k : ℕ) (rows ends rows' ends' : List (List ℕ)) (row e
     → length end ≡ d → ((j : ℕ) → slice_index row j ≡ 0) → rows' ≡ rows ++ row ∷ [] → ends' ≡ ends ++ end ∷ []
     → AreRowsSoFar d (suc k) rows' ends'
 so_far-pushed d k rows ends rows' ends' row end so_far row_len end_len zeros rows_are ends_are =
-    rw (rows_are, ends_are) (record {
-      rows_shape = shape-pushed rows row k d so_far.rows_shape row_len;
-      ends_shape = shape-pushed ends end k d so_far.ends_shape end_len;
-      small = small;
-    })
+    grind (arith, shape-pushed, small)
   where
     small : (m j : ℕ) → number_at (rows ++ row ∷ []) m j ≤ 2 ^ 60
     small m j = grind (arith, common_steps, so_far.small m j, zeros j)

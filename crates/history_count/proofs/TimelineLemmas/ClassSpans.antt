@@ -1,39 +1,27 @@
 -- The sizes of the classes of a table, and the peak of each class.
-use Rattle.std.proofs.Common.{◌≡◌, ℕ, zero, suc, ◌+◌, ◌-◌, ◌*◌, ◌<◌, ◌≤◌, List, [], ◌∷◌, ◌++◌, length, take, sum_by, slice_get, slice_index}
-use Rattle.std.proofs.{Common.{get_or, arith, ap, sym, subst, ◌∙◌, inl, inr, All, Some, add-one}, Math.Nat.{mul-le-mul}}
-use Rattle.std.proofs.{Math.Seq.{get_or-append_seam}, lemmas.Bool.{cases_lt}, lemmas.List.{get_or_append_left}}
-use Rattle.std.proofs.lemmas.List.{Elements.{All-map}, Kept.{AllPairs-from_increasing}, Sums.{sum_by_more}}
+use Rattle.std.proofs.Common.{◌≡◌, ℕ, ◌+◌, ◌-◌, ◌*◌, ◌<◌, ◌≤◌, List, [], ◌∷◌, ◌++◌, length, take, sum_by, slice_get, slice_index}
+use Rattle.std.proofs.{Common.{get_or, arith, ap, sym, ◌∙◌, All, Some, add-one}}
+use Rattle.std.proofs.{Math.Seq.{get_or-append_seam}, lemmas.List.{get_or_append_left}}
+use Rattle.std.proofs.lemmas.List.{Elements.{All-map}, Sums.{sum_by_more}}
 use Rattle.std.{proofs.lemmas.Option.{get_or_from_slice_get, slice_get_within}, specs.List.{range_with_len}}
-use Rattle.class_table.{proofs.LawLemmas.{classes_of_legal_table}, specs.Sizes.{largest_counted}, specs.Tables.{IsLegalTable}}
+use Rattle.class_table.{proofs.LawLemmas.{classes_of_legal_table}, specs.Tables.{IsLegalTable}}
 use Rattle.tuner_theory.{proofs.Footprint.{blocks-of_number}, proofs.Timelines.{snapshot-counts}, specs.Footprint.{blocks}}
 use Rattle.tuner_theory.specs.{Histories.{most}, Profiles.{AreCounts, greatest_count}, Timelines.{IsTimeline, moments, snapshot_at}}
 use Rattle.tuner_theory.specs.declared.size_event.SizeEvent.{SizeEvent}
-use Rattle.history_count.proofs.{ClassByClass.{IsCut, blocks-cut, cut-class, cut-none, most-same}, TimelineLemmas.Peaks.{span-few}}
+use Rattle.history_count.proofs.{ClassByClass.{blocks-cut, cut-class, most-same}, TimelineLemmas.Peaks.{span-few}}
 use Rattle.history_count.specs.{Histories.{blocks_from}, Timelines.LiveBlocks.{IsFirst, class_bytes}, declared.timelines.peaks.Peak.{Peak}}
 use Rattle.history_count.specs.Timelines.Stretches.{AreInOrder, class_start}
 
 -- ---- where the sizes of a class begin and end
 
 module _ (classes : List ℕ) (legal : IsLegalTable 1 classes) where
-  start-cut : (number : ℕ) → number < length classes → IsCut (get_or (1 ∷ classes) number 0) (class_start classes number)
-  start-cut zero lt = cut-none
-  start-cut (suc number) lt = cut-class (get_or classes number 0) (legal.in_range number 0 (omega arith)).0
-
-  start-order : (number : ℕ) → number < length classes → class_start classes number ≤ 16 * get_or classes number 0 - 15
-  start-order zero lt = omega arith
-  start-order (suc number) lt =
-      omega (arith, AllPairs-from_increasing classes legal.ascending number (suc number) 0 (omega arith) lt)
-
-  end-small : (number : ℕ) → number < length classes → 16 * get_or classes number 0 - 15 ≤ largest_counted + 1
-  end-small number lt = omega (arith, (legal.in_range number 0 lt).1)
-
   measure-at : (number : ℕ) (s : List ℕ) → number < length classes → AreCounts s
       → blocks classes (get_or classes number 0) s ≡ blocks_from (class_start classes number) (16 * get_or classes number 0 - 15) s
   measure-at number s lt counts =
       blocks-of_number 1 (omega arith) number classes s (classes_of_legal_table 1 classes legal) lt
       ∙ blocks-cut (get_or (1 ∷ classes) number 0) (get_or classes number 0) (class_start classes number)
-      (16 * get_or classes number 0 - 15) s (start-cut number lt) (cut-class (get_or classes number 0) (legal.in_range number 0 lt).0)
-      (start-order number lt) (omega (arith, counts.sizes, end-small number lt))
+      (16 * get_or classes number 0 - 15) s (grind arith) (cut-class (get_or classes number 0) (legal.in_range number 0 lt).0)
+      (grind arith) (omega arith)
 
   module _ (number class : ℕ) (found : slice_get classes number ≡ Some class) where
     within : number < length classes
@@ -43,10 +31,7 @@ module _ (classes : List ℕ) (legal : IsLegalTable 1 classes) where
     class-here = get_or_from_slice_get classes number class 0 found
 
     pub class-order : AreInOrder (class_start classes number) (16 * class - 15)
-    class-order = record {
-      order = rw (← class-here) (start-order number within);
-      small = rw (← class-here) (end-small number within);
-    }
+    class-order = grind (arith, class-here, within)
 
     pub class-next : class_start classes (number + 1) ≡ 16 * class - 15
     class-next = ap (class_start classes) (add-one number) ∙ ap (λ (c : ℕ). 16 * c - 15) class-here
@@ -55,18 +40,11 @@ module _ (classes : List ℕ) (legal : IsLegalTable 1 classes) where
     pub class-product : (events : List SizeEvent) (peak : Peak) (low end bytes : ℕ) → IsTimeline events → low ≡ class_start classes number
         → end ≡ 16 * class - 15 → IsFirst (blocks_from low end) events (length events) peak.most peak.first → bytes ≡ 16 * class
         → bytes * peak.most ≤ 16 * 1024 * greatest_count
-    class-product events peak low end bytes timeline low_is end_is first bytes_is =
-        let order : AreInOrder low end = rw (low_is, end_is) class-order in
-        let few : peak.most ≤ greatest_count =
-        omega (arith, first.there, first.within, span-few events low end timeline order peak.first first.within, timeline.few) in
-        let wide : bytes ≤ 16 * 1024 = omega (arith, bytes_is, class-here, (legal.in_range number 0 within).1) in
-        mul-le-mul wide few
+    class-product events peak low end bytes timeline low_is end_is first bytes_is = grind (arith, class-order, span-few, class-here, within)
 
     -- the blocks of a class are those of its sizes
     measure : (s : List ℕ) → AreCounts s → blocks classes class s ≡ blocks_from (class_start classes number) (16 * class - 15) s
-    measure s counts =
-        subst (λ (c : ℕ). blocks classes c s ≡ blocks_from (class_start classes number) (16 * c - 15) s) class-here
-        (measure-at number s within counts)
+    measure s counts = grind (arith, class-here, measure-at, within)
 
     module _ (events : List SizeEvent) (timeline : IsTimeline events) (peak : Peak)
         (is : peak.most ≡ most (blocks_from (class_start classes number) (16 * class - 15)) (moments events))
@@ -81,25 +59,12 @@ module _ (classes : List ℕ) (legal : IsLegalTable 1 classes) where
       class-most = is ∙ sym (most-same _ _ (moments events) all-counts (λ s counts. measure s counts))
 
       pub class-first : IsFirst (blocks classes class) events (length events) (most (blocks classes class) (moments events)) peak.first
-      class-first =
-          rw (← class-most) (record {
-            within = first.within;
-            there = measure (snapshot_at events peak.first) (snapshot-counts events peak.first timeline) ∙ first.there;
-            before = λ earlier lt.
-                omega (arith, measure (snapshot_at events earlier) (snapshot-counts events earlier timeline), first.before earlier lt);
-          })
+      class-first = grind (arith, class-most, measure, snapshot-counts)
 
       -- what the classes take up to this one
       pub class-sum : (total bytes : ℕ) → bytes ≡ 16 * class → total ≡ sum_by (class_bytes events classes) (take number classes)
           → total + bytes * peak.most ≡ sum_by (class_bytes events classes) (take (number + 1) classes)
-      class-sum total bytes bytes-is so_far =
-          omega (
-            arith,
-            sum_by_more (class_bytes events classes) classes number 0 within,
-            ap (class_bytes events classes) class-here,
-            so_far,
-            ap (λ (b : ℕ). b * peak.most) bytes-is ∙ ap (λ (m : ℕ). 16 * class * m) class-most,
-          )
+      class-sum total bytes bytes-is so_far = grind (arith, sum_by_more, within, class-here, class-most)
 
       -- and the first moment of each of them
       pub class-firsts : (firsts : List ℕ) → length firsts ≡ number
@@ -109,12 +74,4 @@ module _ (classes : List ℕ) (legal : IsLegalTable 1 classes) where
           → (j : ℕ) → j < number + 1
           → IsFirst (blocks classes (slice_index classes j)) events (length events)
           (most (blocks classes (slice_index classes j)) (moments events)) (slice_index (firsts ++ peak.first ∷ []) j)
-      class-firsts firsts len before j lt =
-          elim (cases_lt j number) [
-            | inl earlier ↦ rw (get_or_append_left firsts (peak.first ∷ []) 0 j (omega (arith, len))) (before j earlier)
-            | inr past ↦
-                let here : j ≡ number = omega arith in
-                let last : slice_index (firsts ++ peak.first ∷ []) number ≡ peak.first =
-                ap (slice_index (firsts ++ peak.first ∷ [])) (sym len) ∙ get_or-append_seam firsts peak.first [] 0 in
-                rw (here, last, class-here) class-first
-          ]
+      class-firsts firsts len before j lt = grind (arith, get_or_append_left, get_or-append_seam, class-here, class-first)

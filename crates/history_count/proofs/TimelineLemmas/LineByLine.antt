@@ -1,7 +1,7 @@
 -- Reading a timeline line by line: what is read is spelled, and what is spelled is read.
 use Rattle.std.proofs.Common.{◌≡◌, ℕ, ◌+◌, ◌<◌, ◌≤◌, Bool, true, false, List, [], ◌∷◌, ◌++◌, length, map, Option, Some, None, Result}
 use Rattle.std.proofs.Common.{Ok, Err, All, refl, sym, ap, ◌∙◌, subst, arith, nat_le, append_assoc, append-nil, length-append}
-use Rattle.std.proofs.lemmas.{Bool.{leb-false, lt-leb}, List.Elements.{All-cons, All-head, All-nil, All-tail}, Slice.Eq.{bytes_eq-Decides}}
+use Rattle.std.proofs.lemmas.{Bool.{lt-leb}, List.Elements.{All-cons, All-head, All-nil, All-tail}, Slice.Eq.{bytes_eq-Decides}}
 use Rattle.std.specs.Str.{bytes_eq}
 use Rattle.class_table.proofs.LawLemmas.{plain_name}
 use Rattle.line_text.proofs.LawLemmas.{line_faulty as lines_faulty, line_read as lines_read, no_line as no_lines, read_has, text_laws as laws}
@@ -17,8 +17,7 @@ use Rattle.history_count.specs.declared.timelines.fault.TimelineFault.{TimelineF
 
 pub line_read : (number : ℕ) (events : List SizeEvent) (rest new : List (List ℕ)) (line : List ℕ) (event : SizeEvent) → rest ≡ line ∷ new
     → next_event events line ≡ Ok event → events_from number events rest ≡ events_from (number + 1) (events ++ event ∷ []) new
-line_read number events rest new line event parts is =
-    rw parts (lines_read timeline_steps number events (events ++ event ∷ []) line new (rw is refl))
+line_read number events rest new line event parts is = grind (arith, lines_read)
 
 pub line_faulty : (number : ℕ) (events : List SizeEvent) (rest new : List (List ℕ)) (line : List ℕ) (fault : TimelineFault)
     → rest ≡ line ∷ new → next_event events line ≡ Err fault → events_from number events rest ≡ Err (number, fault)
@@ -48,13 +47,7 @@ next_event-is events line event e = by_read (event_in line) refl
         → (live : Bool) → finds_live events found ≡ live → IsNextEvent events line event
     by_live found is true full live finds = let none = rw (is, full) at e in absurd cc
     by_live found is false full false finds = let none = rw (is, full, finds) at e in absurd cc
-    by_live found is false full true finds =
-        let same : found ≡ event = (let read = rw (is, full, finds) at e in cc) in
-        record {
-          read = is ∙ ap (λ (x : SizeEvent). Some x) same;
-          room = omega (arith, leb-false greatest_count (length events) full);
-          finds = rw same at finds;
-        }
+    by_live found is false full true finds = grind arith
 
     by_read : (o : Option SizeEvent) → event_in line ≡ o → IsNextEvent events line event
     by_read None is = let none = rw is at e in absurd cc
@@ -84,9 +77,7 @@ abbrev IsReading : List SizeEvent → List (List ℕ) → List SizeEvent → Typ
 IsReading events ls all = IsRun events → SpellsRest events ls all
 
 no_line_spells : (events all : List SizeEvent) → timeline_steps.finish events ≡ Ok all → IsReading events [] all
-no_line_spells events all is run =
-    let same : events ≡ all = cc in
-    record { rest = []; are = sym (append-nil events ∙ same); run = rw (← same) run; spelled = refl }
+no_line_spells events all is run = grind (arith, append-nil)
 
 line_spells : (events next : List SizeEvent) (line : List ℕ) (ls : List (List ℕ)) (all : List SizeEvent)
     → timeline_steps.step events line ≡ Ok next → IsReading next ls all → IsReading events (line ∷ ls) all
@@ -117,8 +108,7 @@ timeline_is_spelled text events e = go (lines text) refl
         let rest = read_has timeline_steps IsReading no_line_spells line_spells ls 2 [] events read run-none in
         let first : line ≡ head_line = grind (arith, bytes_eq-Decides) in
         let are : lines text ≡ timeline_lines events =
-        parts ∙ ap (λ (l : List ℕ). l ∷ ls) first
-        ∙ ap (λ (rest : List (List ℕ)). head_line ∷ rest) (rest.spelled ∙ ap (map event_line) (sym rest.are)) in
+        grind arith in
         record { run = rest.run; spelled = subst (IsTextOf text) are (laws.text text) }
 
     go : (ls : List (List ℕ)) → lines text ≡ ls → SpellsTimeline text events

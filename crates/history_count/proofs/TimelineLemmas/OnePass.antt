@@ -1,14 +1,14 @@
 -- A line that is read in one pass.
-use Rattle.std.proofs.Common.{◌≡◌, ℕ, ◌≤◌, Bool, true, false, List, [], ◌∷◌, drop, length, Option, Some, None, option_and_then, refl, sym}
-use Rattle.std.proofs.{Common.{ap, ◌∙◌, arith, eqb, eqb-true, get_or, slice_get, ◌<◌, ◌++◌, Ok, Err, cond}, lemmas.Bool.{le-leb, lt-leb}}
+use Rattle.std.proofs.Common.{◌≡◌, ℕ, ◌≤◌, Bool, true, false, List, [], ◌∷◌, drop, length, Option, Some, None, option_and_then, refl}
+use Rattle.std.proofs.{Common.{ap, ◌∙◌, arith, eqb, get_or, slice_get, ◌<◌, ◌++◌, Ok, Err, cond}}
 use Rattle.std.specs.Int.{from_bool}
 use Rattle.class_table.specs.Sizes.{largest_counted}
-use Rattle.line_text.{proofs.LawLemmas.{text_laws as laws}, specs.Lines.{line_of, lines, words}, specs.Numbers.{number_of}}
-use Rattle.line_text.specs.Rows.{AreRowWords, IsRow}
+use Rattle.line_text.{proofs.LawLemmas.{text_laws as laws}, specs.Lines.{lines}, specs.Numbers.{number_of}}
+use Rattle.line_text.specs.Rows.{IsRow}
 use Rattle.tuner_theory.specs.{Profiles.{greatest_count}, declared.size_event.SizeEvent.{SizeEvent}}
 use Rattle.tuner_theory.specs.declared.size_event.SizeEvent.TheVariants.{Request, Free}
-use Rattle.history_count.proofs.TimelineLemmas.{EventLines.{free_in, request_in, size_in-counted}, LineByLine.{next_run}}
-use Rattle.history_count.{proofs.TimelineLemmas.Pieces.{taken_faulty, taken_more}, specs.Timelines.Pieces.{AreTaken, going_on}}
+use Rattle.history_count.proofs.TimelineLemmas.{EventLines.{request_in, size_in-counted}, LineByLine.{next_run}}
+use Rattle.history_count.{proofs.TimelineLemmas.Pieces.{taken_faulty, taken_more}, specs.Timelines.Pieces.{AreTaken}}
 use Rattle.history_count.specs.{Timelines.Runs.{AreLiveCounts, IsRun}, declared.timelines.fault.TimelineFault.{TimelineFault}}
 use Rattle.history_count.specs.Timelines.TimelineText.{IsSigned, counted_size, event_in, event_of, finds_live, may_follow, next_event}
 use Rattle.history_count.specs.declared.timelines.fault.TimelineFault.TheVariants.{NotLive}
@@ -23,16 +23,7 @@ first_event ls = option_and_then event_in (slice_get ls 0)
 
 -- a row without further numbers is a line with one number
 pub row-size : (ls : List (List ℕ)) (n : ℕ) → IsRow (slice_get ls 0) n [] → n ≤ largest_counted → first_size ls ≡ Some n
-row-size [] n row le = absurd row
-row-size (line ∷ ls) n row le = by_words (words line) refl row
-  where
-    by_words : (ws : List (List ℕ)) → words line ≡ ws → AreRowWords (words line) n [] → first_size (line ∷ ls) ≡ Some n
-    by_words [] is row = let none = rw is at row in absurd none
-    by_words (w ∷ []) is row =
-        let same : line ≡ w = sym (laws.line line) ∙ ap line_of is in
-        let read : number_of line ≡ Some n = ap number_of same ∙ (rw is at row).0 in
-        rw (read, le-leb n largest_counted le) refl
-    by_words (w ∷ v ∷ ws) is row = let none = (rw is at row).1 in absurd none
+row-size ls n row le = grind (arith, laws)
 
 size-request : (ls : List (List ℕ)) (n : ℕ) → first_size ls ≡ Some n → first_event ls ≡ Some (Request n)
 size-request [] n is = absurd cc
@@ -41,26 +32,16 @@ size-request (line ∷ ls) n is = request_in line n (size_in-counted line n is)
 -- `-` before a text is before its first line
 size-free : (text : List ℕ) (n : ℕ) → first_size (lines text) ≡ Some n → first_event (lines (45 ∷ text)) ≡ Some (Free n)
 unfolding lines
-size-free text n is = go (lines text) refl
-  where
-    go : (ls : List (List ℕ)) → lines text ≡ ls → first_event (lines (45 ∷ text)) ≡ Some (Free n)
-    go [] parts = let none = rw parts at is in absurd cc
-    go (line ∷ ls) parts = rw parts (free_in line n (size_in-counted line n (rw parts at is)))
+size-free text n is = grind (arith, size_in-counted)
 
 drop-free : (text : List ℕ) (n : ℕ) → first_size (lines text) ≡ Some n → drop 1 (lines (45 ∷ text)) ≡ drop 1 (lines text)
 unfolding lines
-drop-free text n is = go (lines text) refl
-  where
-    go : (ls : List (List ℕ)) → lines text ≡ ls → drop 1 (lines (45 ∷ text)) ≡ drop 1 (lines text)
-    go [] parts = let none = rw parts at is in absurd cc
-    go (line ∷ ls) parts = rw parts refl
+drop-free text n is = grind arith
 
 -- a text is cut after its sign
 pub signed-cut : (text : List ℕ) (is_free : Bool) → 0 < length text → is_free ≡ eqb (get_or text 0 0) 45
     → IsSigned text is_free (drop (from_bool is_free) text)
-signed-cut [] is_free some is = absurd (omega (arith, some))
-signed-cut (b ∷ text) true some is = ap (λ (x : ℕ). x ∷ text) (eqb-true b 45 (sym is))
-signed-cut (b ∷ text) false some is = refl
+signed-cut text is_free some is = grind arith
 
 pub signed-event : (text word : List ℕ) (is_free : Bool) (n : ℕ) → IsSigned text is_free word → first_size (lines word) ≡ Some n
     → first_event (lines text) ≡ Some (event_of is_free n)
@@ -69,8 +50,7 @@ signed-event text word false n is size = size-request (lines text) n (rw is at s
 
 pub signed-rest : (text word : List ℕ) (is_free : Bool) (n : ℕ) → IsSigned text is_free word → first_size (lines word) ≡ Some n
     → drop 1 (lines word) ≡ drop 1 (lines text)
-signed-rest text word true n is size = rw is (sym (drop-free word n size))
-signed-rest text word false n is size = ap (λ (t : List ℕ). drop 1 (lines t)) is
+signed-rest text word is_free n is size = grind (arith, drop-free)
 
 -- the line of which an event was read, or that spells none
 pub record IsNextLine (ls new : List (List ℕ)) (spelled : Option SizeEvent) : Type 0 where
@@ -79,16 +59,13 @@ pub record IsNextLine (ls new : List (List ℕ)) (spelled : Option SizeEvent) : 
   pub read : event_in line ≡ spelled
 
 pub counted-line : (ls new : List (List ℕ)) (event : SizeEvent) → first_event ls ≡ Some event → new ≡ drop 1 ls → IsNextLine ls new (Some event)
-counted-line [] new event is rest = absurd cc
-counted-line (line ∷ ls) new event is rest =
-    record { line = line; parts = ap (λ (l : List (List ℕ)). line ∷ l) (sym rest); read = is }
+counted-line ls new event is rest = grind arith
 
 -- ---- lines that are taken
 
 pub follows : (events : List SizeEvent) (event : SizeEvent) (is_live : Bool) → length events < greatest_count → is_live ≡ finds_live events event
     → may_follow events (Some event) ≡ cond is_live (Ok event) (Err NotLive)
-follows events event is_live room is =
-    rw (lt-leb greatest_count (length events) room) (ap (λ b. cond b (Ok event) (Err NotLive)) (sym is))
+follows events event is_live room is = grind arith
 
 pub taken-none : (events : List SizeEvent) (live : List ℕ) (ls : List (List ℕ)) → IsRun events → AreLiveCounts events live
     → AreTaken events events None live ls ls
@@ -99,13 +76,7 @@ module _ (before events : List SizeEvent) (live : List ℕ) (ls now new : List (
   pub taken-event : (spelled : Option SizeEvent) (event : SizeEvent) (counts : List ℕ) → IsNextLine now new spelled
       → may_follow events spelled ≡ Ok event → AreLiveCounts (events ++ event ∷ []) counts
       → AreTaken before (events ++ event ∷ []) None counts ls new
-  taken-event spelled event counts next follow are =
-      let is : next_event events next.line ≡ Ok event = ap (may_follow events) next.read ∙ follow in
-      record {
-        run = next_run events next.line event taken.run is;
-        live = are;
-        read = λ more. taken.read more ∙ taken_more events now new next.line event next.parts is more;
-      }
+  taken-event spelled event counts next follow are = grind (arith, next_run, taken_more)
 
   -- a faulty one, after which the others do not matter,
   pub taken-fault : (spelled : Option SizeEvent) (fault : TimelineFault) (counts : List ℕ) → IsNextLine now new spelled
@@ -121,17 +92,9 @@ module _ (before events : List SizeEvent) (live : List ℕ) (ls now new : List (
   -- any one,
   pub taken-line : (line : List ℕ) (after : List SizeEvent) (fault : Option TimelineFault) (counts : List ℕ) → now ≡ line ∷ new
       → AreTaken events after fault counts (line ∷ []) [] → AreTaken before after fault counts ls new
-  taken-line line after fault counts parts one = record {
-    run = one.run;
-    live = one.live;
-    read = λ more. taken.read more ∙ ap (λ (l : List (List ℕ)). going_on events None (l ++ more)) parts ∙ one.read (new ++ more);
-  }
+  taken-line line after fault counts parts one = grind arith
 
   -- or many.
   pub taken-then : (after : List SizeEvent) (fault : Option TimelineFault) (counts : List ℕ) → AreTaken events after fault counts now new
       → AreTaken before after fault counts ls new
-  taken-then after fault counts further = record {
-    run = further.run;
-    live = further.live;
-    read = λ more. taken.read more ∙ further.read more;
-  }
+  taken-then after fault counts further = grind arith

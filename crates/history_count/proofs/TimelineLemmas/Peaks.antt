@@ -1,14 +1,14 @@
 -- The peak of some sizes over a timeline: one event more, and a stretch in which it is not higher.
 use Rattle.std.proofs.Common.{◌≡◌, ℕ, zero, suc, ◌+◌, ◌-◌, ◌*◌, ◌<◌, ◌≤◌, ◌⊎◌, List, [], ◌∷◌, length, max, slice_index, slice_index_or}
-use Rattle.std.proofs.{Common.{get_or, cond, ltb, true, arith, refl, ap, sym, subst, ◌∙◌, inl, inr, add-one}, lemmas.List.{get_or_default}}
+use Rattle.std.proofs.{Common.{get_or, cond, ltb, true, arith, refl, ap, inl, inr, add-one}, lemmas.List.{get_or_default}}
 use Rattle.std.proofs.lemmas.Bool.{cases_lt, le-ltb, lt-ltb}
 use Rattle.class_table.specs.Sizes.{largest_counted}
 use Rattle.tuner_theory.proofs.{Sums.{sum_balance, sum_below-more, sum_none}, Timelines.{live-at, moment-below}}
-use Rattle.tuner_theory.{proofs.TimelineBlocks.{most_to-above, most_to-all, most_to-more, most_to-none, sum-one}, specs.Histories.{most}}
+use Rattle.tuner_theory.{proofs.TimelineBlocks.{most_to-above, most_to-all, most_to-more, sum-one}, specs.Histories.{most}}
 use Rattle.tuner_theory.{proofs.TimelineSteps.{frees_at, freed-more, requested-more, requests_at}, specs.Waste.{sum_below}}
-use Rattle.tuner_theory.specs.{Timelines.{IsTimeline, moments, most_to, snapshot_at}, declared.size_event.SizeEvent.{SizeEvent}}
+use Rattle.tuner_theory.specs.{Timelines.{IsTimeline, moments, snapshot_at}, declared.size_event.SizeEvent.{SizeEvent}}
 use Rattle.tuner_theory.specs.declared.size_event.SizeEvent.TheVariants.{Request, Free}
-use Rattle.history_count.proofs.{CutLines.{sum-lines}, TimelineLemmas.Columns.{bounds-start, column-at, column-counts, column-length}}
+use Rattle.history_count.proofs.{CutLines.{sum-lines}, TimelineLemmas.Columns.{bounds-start, column-at, column-counts}}
 use Rattle.history_count.specs.{CountedLines.{AreFew}, Histories.{blocks_from}, Timelines.LiveBlocks.{IsFirst}}
 use Rattle.history_count.specs.Timelines.Stretches.{AreInOrder, AreRequested, AreStretchesTo, IsPeakTo, IsSpan, column_of}
 use Rattle.history_count.specs.declared.timelines.{peaks.Peak.{Peak}, peaks.Span.{Span}, requested.Requested.{Requested}}
@@ -17,26 +17,12 @@ use Rattle.history_count.specs.declared.timelines.{peaks.Peak.{Peak}, peaks.Span
 
 sum-up : (f : ℕ → ℕ) (low end : ℕ) → low ≤ end → sum_below f low ≤ sum_below f end
 sum-up f low zero le = let none : low ≡ 0 = omega arith in rw none (omega arith)
-sum-up f low (suc end) le =
-    elim (cases_lt end low) [
-      | inl past ↦ let same : low ≡ suc end = omega arith in rw same (omega arith)
-      | inr within ↦ omega (arith, sum_below-more f end, sum-up f low end within)
-    ]
+sum-up f low (suc end) le = grind (arith, sum-up f low end, sum_below-more)
 
 rest-at_most : (f g : ℕ → ℕ) (start stop : ℕ) → start ≤ stop → ((n : ℕ) → n < stop → f n ≤ g n)
     → sum_below f stop + sum_below g start ≤ sum_below g stop + sum_below f start
 rest-at_most f g start zero le each = let none : start ≡ 0 = omega arith in rw none (omega arith)
-rest-at_most f g start (suc stop) le each =
-    elim (cases_lt stop start) [
-      | inl past ↦ let same : start ≡ suc stop = omega arith in rw same (omega arith)
-      | inr within ↦ omega (
-        arith,
-        sum_below-more f stop,
-        sum_below-more g stop,
-        each stop (omega arith),
-        rest-at_most f g start stop within (λ n lt. each n (omega arith)),
-      )
-    ]
+rest-at_most f g start (suc stop) le each = grind (arith, rest-at_most f g start stop, sum_below-more)
 
 -- ---- one event more
 
@@ -114,133 +100,52 @@ module _ (events : List SizeEvent) (k : ℕ) (timeline : IsTimeline events) (lt 
         )
 
     same-tests : (n < low) ⊎ (end ≤ n) → cond {A = ℕ} (ltb n low) 1 0 ≡ cond {A = ℕ} (ltb n end) 1 0
-    same-tests (inl under) = rw (lt-ltb n low under, lt-ltb n end (omega (arith, sizes.order))) refl
-    same-tests (inr over) = rw (le-ltb n end over, le-ltb n low (omega (arith, sizes.order))) refl
+    same-tests h0 = grind arith
 
     pub span-other_request : get_or events k (Request 0) ≡ Request n → (n < low) ⊎ (end ≤ n)
         → blocks_from low end (snapshot_at events (k + 1)) ≡ blocks_from low end (snapshot_at events k)
-    span-other_request is out =
-        omega (
-          arith,
-          next (blocks_from low end),
-          up-request n low is (omega (arith, sizes.order, sizes.small)),
-          up-request n end is sizes.small,
-          same-tests out,
-        )
+    span-other_request is out = grind (arith, up-request, same-tests)
 
     pub span-other_free : get_or events k (Request 0) ≡ Free n → (n < low) ⊎ (end ≤ n)
         → blocks_from low end (snapshot_at events (k + 1)) ≡ blocks_from low end (snapshot_at events k)
-    span-other_free is out =
-        omega (
-          arith,
-          next (blocks_from low end),
-          up-free n low is (omega (arith, sizes.order, sizes.small)),
-          up-free n end is sizes.small,
-          same-tests out,
-        )
+    span-other_free is out = grind (arith, up-free, same-tests)
 
 -- ---- the peak
 
 pub peak-none : (f : List ℕ → ℕ) (events : List SizeEvent) (peak : Peak) → f (snapshot_at events 0) ≡ 0 → peak.first ≡ 0
     → IsPeakTo f events peak.most 0 peak
-peak-none f events peak none first = record {
-  is = omega (arith, most_to-none f events, none);
-  first = λ above. absurd (omega (arith, above));
-  none = λ _. first;
-}
+peak-none f events peak none first = omega arith
 
 -- the peak with the moment after one event more
 pub peak-more : (f : List ℕ → ℕ) (events : List SizeEvent) (floor k : ℕ) (peak next : Peak) → IsPeakTo f events floor k peak
     → next.most ≡ max peak.most (f (snapshot_at events (k + 1)))
     → next.first ≡ cond (ltb peak.most (f (snapshot_at events (k + 1)))) (k + 1) peak.first → IsPeakTo f events floor (k + 1) next
-peak-more f events floor k peak next so_far most_is first_is =
-    elim (cases_lt peak.most (f (snapshot_at events (k + 1)))) [
-      | inl up ↦
-          let last : next.first ≡ k + 1 = first_is ∙ ap (λ b. cond {A = ℕ} b (k + 1) peak.first) (lt-ltb _ _ up) in
-          record {
-            is = omega (arith, so_far.is, most_is, step);
-            first = λ above. record {
-              within = omega (arith, last);
-              there = ap (λ (m : ℕ). f (snapshot_at events m)) last ∙ omega (arith, most_is, up);
-              before = λ earlier lt.
-                  omega (arith, last, lt, up, most_is, so_far.is, most_to-above f events k earlier (omega (arith, last, lt)));
-            };
-            none = λ same. absurd (omega (arith, same, most_is, up, so_far.is));
-          }
-      | inr down ↦
-          let old : next.first ≡ peak.first = first_is ∙ ap (λ b. cond {A = ℕ} b (k + 1) peak.first) (le-ltb _ _ down) in
-          let kept : next.most ≡ peak.most = omega (arith, most_is, down) in
-          record {
-            is = omega (arith, so_far.is, most_is, step);
-            first = λ above.
-                let before = so_far.first (omega (arith, above, kept)) in
-                record {
-                  within = omega (arith, old, before.within);
-                  there = ap (λ (m : ℕ). f (snapshot_at events m)) old ∙ before.there ∙ sym kept;
-                  before = λ earlier lt. omega (arith, kept, before.before earlier (omega (arith, lt, old)));
-                };
-            none = λ same. old ∙ so_far.none (omega (arith, same, kept));
-          }
-    ]
-  where
-    step : most_to f events (k + 1) ≡ max (most_to f events k) (f (snapshot_at events (k + 1)))
-    step =
-        ap (most_to f events) (add-one k) ∙ most_to-more f events k
-        ∙ ap (λ (j : ℕ). max (most_to f events k) (f (snapshot_at events j))) (sym (add-one k))
+peak-more f events floor k peak next so_far most_is first_is = grind (arith, most_to-above, most_to-more)
 
 -- the peak after moments at which no more are live
 peak-same : (f : List ℕ → ℕ) (events : List SizeEvent) (floor from n : ℕ) (peak : Peak) → IsPeakTo f events floor from peak
     → ((m : ℕ) → from ≤ m → m ≤ from + n → f (snapshot_at events m) ≤ peak.most) → IsPeakTo f events floor (from + n) peak
-peak-same f events floor from zero peak so_far none =
-    let here : from + 0 ≡ from = omega arith in rw here so_far
+peak-same f events floor from zero peak so_far none = grind arith
 peak-same f events floor from (suc n) peak so_far none =
     let before = peak-same f events floor from n peak so_far (λ m le ge. none m le (omega arith)) in
     let here : from + suc n ≡ from + n + 1 = omega arith in
-    let less : f (snapshot_at events (from + n + 1)) ≤ peak.most = none (from + n + 1) (omega arith) (omega arith) in
-    rw here (peak-more f events floor (from + n) peak peak before (omega (arith, less))
-    (sym (ap (λ b. cond {A = ℕ} b (from + n + 1) peak.first) (le-ltb _ _ less))))
+    grind (arith, peak-more)
 
 pub peak-kept : (f : List ℕ → ℕ) (events : List SizeEvent) (floor from to : ℕ) (peak : Peak) → from ≤ to → IsPeakTo f events floor from peak
     → ((m : ℕ) → from ≤ m → m ≤ to → f (snapshot_at events m) ≤ peak.most) → IsPeakTo f events floor to peak
 peak-kept f events floor from to peak le so_far none =
     let there : from + (to - from) ≡ to = omega arith in
-    subst (λ (m : ℕ). IsPeakTo f events floor m peak) there
-    (peak-same f events floor from (to - from) peak so_far (λ m ge lt. none m ge (omega arith)))
+    grind (arith, peak-same)
 
 -- after all events
 pub peak-all : (f : List ℕ → ℕ) (events : List SizeEvent) (floor : ℕ) (peak : Peak) → f (snapshot_at events 0) ≡ 0
     → IsPeakTo f events floor (length events) peak → (floor ≡ 0) ⊎ (floor < most f (moments events))
     → (peak.most ≡ most f (moments events)) × IsFirst f events (length events) peak.most peak.first
-peak-all f events floor peak none all reached = (whole, first (cases_lt floor peak.most))
-  where
-    whole : peak.most ≡ most f (moments events)
-    whole = elim reached [
-      | inl zero_floor ↦ omega (arith, all.is, most_to-all f events, zero_floor)
-      | inr above ↦ omega (arith, all.is, most_to-all f events, above)
-    ]
-
-    first : ((floor < peak.most) ⊎ (peak.most ≤ floor)) → IsFirst f events (length events) peak.most peak.first
-    first (inl above) = all.first above
-    first (inr down) =
-        let same : peak.most ≡ floor = omega (arith, all.is, down) in
-        let nothing : peak.most ≡ 0 = elim reached [
-          | inl zero_floor ↦ omega (arith, same, zero_floor)
-          | inr above ↦ absurd (omega (arith, same, above, whole))
-        ] in
-        let start : peak.first ≡ 0 = all.none same in
-        record {
-          within = omega (arith, start);
-          there = ap (λ (m : ℕ). f (snapshot_at events m)) start ∙ none ∙ sym nothing;
-          before = λ earlier lt. absurd (omega (arith, lt, start));
-        }
+peak-all f events floor peak none all reached = grind (arith, most_to-all)
 
 pub blocks_from-none : (events : List SizeEvent) (low end : ℕ) → IsTimeline events → end ≤ largest_counted + 1
     → blocks_from low end (snapshot_at events 0) ≡ 0
-blocks_from-none events low end timeline small =
-    omega (
-      arith,
-      sum_none (slice_index (snapshot_at events 0)) end (λ n lt. omega (arith, live-at events 0 n 0 (omega arith))),
-    )
+blocks_from-none events low end timeline small = grind (arith, sum_none, live-at)
 
 -- ---- how many they are
 
@@ -291,8 +196,7 @@ module _ (events : List SizeEvent) (r : Requested) (starts : List ℕ) (before b
 
   pub live-before : (b : ℕ) → b < length starts
       → blocks_from span.start span.stop (slice_index_or before b []) ≡ blocks_from span.low span.end (snapshot_at events (slice_index starts b))
-  live-before b lt =
-      ap (blocks_from span.start span.stop) (are.before_are b lt) ∙ by-lines (slice_index starts b) (are.within b lt)
+  live-before b lt = grind (arith, by-lines)
 
   pub most-within : (b m : ℕ) → b < length bounds → slice_index starts b ≤ m → m ≤ slice_index starts (b + 1)
       → blocks_from span.low span.end (snapshot_at events m) ≤ blocks_from span.start span.stop (slice_index_or bounds b [])
@@ -303,19 +207,12 @@ module _ (events : List SizeEvent) (r : Requested) (starts : List ℕ) (before b
         arith,
         by-lines m within,
         rest-at_most (slice_index column) (slice_index (slice_index_or bounds b [])) span.start span.stop is.order (λ k less.
-            let line : k < length r.sizes.items = omega (arith, less, is.to.within) in
-            omega (arith, column-at r.sizes.items (snapshot_at events m) k line, (are.most_are b lt).above m k from to line)),
+            grind (arith, column-at)),
       )
 
   -- what is live where a stretch begins is no more than the peak
   pub most-before : most (blocks_from span.start span.stop) before ≤ most (blocks_from span.low span.end) (moments events)
-  most-before = most-less before (λ b lt.
-      let inside : b < length starts = omega (arith, lt, are.rows) in
-      omega (
-        arith,
-        live-before b inside,
-        moment-below (blocks_from span.low span.end) events (slice_index starts b) (are.within b inside),
-      ))
+  most-before = grind (arith, most-less, live-before, moment-below)
     where
       most-less : (rows : List (List ℕ))
           → ((b : ℕ) → b < length rows
@@ -327,10 +224,4 @@ module _ (events : List SizeEvent) (r : Requested) (starts : List ℕ) (before b
 
   -- rows are as long as there are sizes, and their counts are in range
   pub before-few : AreFew (length r.sizes.items) before
-  before-few = record {
-    long = λ b d lt. rw (row b d lt) (omega (arith, column-length r.sizes.items (snapshot_at events (slice_index starts b))));
-    few = λ b d lt. rw (row b d lt) ((bounds-start events r.sizes.items (slice_index starts b) timeline requested_are.sizes_are).few);
-  }
-    where
-      row : (b : ℕ) (d : List ℕ) → b < length before → slice_index_or before b d ≡ column_of r.sizes.items (snapshot_at events (slice_index starts b))
-      row b d lt = get_or_default before b d [] lt ∙ are.before_are b (omega (arith, lt, are.rows))
+  before-few = grind (arith, bounds-start, get_or_default)

@@ -1,15 +1,15 @@
 -- Reading a timeline in pieces.
-use Rattle.std.proofs.Common.{◌≡◌, ℕ, ◌+◌, ◌<◌, ◌≤◌, Bool, true, false, List, [], ◌∷◌, ◌++◌, length, Option, Some, None, Ok, Err, refl, sym}
-use Rattle.std.proofs.Common.{ap, ◌∙◌, arith, append_assoc, append-nil, cond, eqb, eqb-true, length-append, inl, inr, codes, take, drop}
-use Rattle.std.proofs.{Common.{get_or, subst}, lemmas.Bool.{false_from_ne_true}, lemmas.Bool.Decides.{eqb_tells}}
+use Rattle.std.proofs.Common.{◌≡◌, ℕ, ◌+◌, ◌<◌, ◌≤◌, false, List, [], ◌∷◌, ◌++◌, length, Option, Some, None, Ok, Err, refl, sym}
+use Rattle.std.proofs.Common.{ap, ◌∙◌, arith, append_assoc, append-nil, eqb, eqb-true, length-append, take, drop}
+use Rattle.std.proofs.{Common.{get_or}, lemmas.Bool.{false_from_ne_true}}
 use Rattle.std.{proofs.lemmas.Fmt.{length-decimal-le}, proofs.lemmas.List.{get_or-drop, length-drop, take_more}, specs.List.{onto_first}}
 use Rattle.std.{proofs.lemmas.List.Elements.{All-from_get_or, All-head, All-tail}, specs.Option.{is_some}}
 use Rattle.memchr.specs.Find.{IsLastByte, is_byte}
 use Rattle.line_text.{proofs.LawLemmas.{line_in_front_is_read}, specs.Lines.{IsLine, ended, is_newline, lines}}
-use Rattle.tuner_theory.specs.declared.size_event.{SizeEvent.{SizeEvent}, SizeEvent.TheVariants.{Request, Free}}
+use Rattle.tuner_theory.specs.declared.size_event.{SizeEvent.{SizeEvent}}
 use Rattle.history_count.{proofs.TimelineLemmas.EventLines.{event_in-read}, specs.Timelines.Runs.{large_size, size_of}}
 use Rattle.history_count.proofs.TimelineLemmas.LineByLine.{head_line-full, head_read, line_faulty, line_read, no_line}
-use Rattle.history_count.specs.Timelines.Pieces.{AreTaken, AreWholeLines, IsFed, IsReadingOf, Reading, going_on, going_on_by, nothing_read}
+use Rattle.history_count.specs.Timelines.Pieces.{AreTaken, AreWholeLines, IsFed, IsReadingOf, Reading, going_on, nothing_read}
 use Rattle.history_count.specs.Timelines.TimelineText.{event_in, event_line, events_from, head_line, next_event, size_word, timeline_of}
 use Rattle.history_count.specs.declared.timelines.fault.{TimelineFault.{TimelineFault}, TimelineFault.TheVariants.{BadTimeline}}
 
@@ -19,33 +19,24 @@ pub nothing_is_read : IsReadingOf nothing_read []
 nothing_is_read more = refl
 
 pub fed_then : (a b c : Reading) (p q : List ℕ) → IsFed a p b → IsFed b q c → IsFed a (p ++ q) c
-fed_then a b c p q first second more =
-    ap (going_on_by a) (append_assoc p q more) ∙ first (q ++ more) ∙ second more
+fed_then a b c p q first second more = grind (arith, append_assoc)
 
 pub fed_reading : (old new : Reading) (bytes piece : List ℕ) → IsReadingOf old bytes → IsFed old piece new
     → IsReadingOf new (bytes ++ piece)
-fed_reading old new bytes piece reading fed more =
-    ap (λ (text : List ℕ). events_from 2 [] (lines text)) (append_assoc bytes piece more) ∙ reading (piece ++ more) ∙ fed more
+fed_reading old new bytes piece reading fed more = grind (arith, append_assoc)
 
 pub is_unfailed : (fault : Option TimelineFault) → is_some fault ≡ false → fault ≡ None
-is_unfailed None is = refl
-is_unfailed (Some fault) is = absurd cc
+is_unfailed fault is = grind arith
 
 -- ---- whole lines
 
 onto_first-append : (b : ℕ) (xs ys : List (List ℕ)) → 0 < length xs → onto_first b (xs ++ ys) ≡ onto_first b xs ++ ys
-onto_first-append b [] ys some = absurd (omega (arith, some))
-onto_first-append b (x ∷ xs) ys some = refl
+onto_first-append b xs ys some = grind arith
 
 lines-some : (text : List ℕ) → 0 < length text → 0 < length (lines text)
 unfolding lines
 lines-some [] some = absurd (omega (arith, some))
-lines-some (b ∷ text) some = go (is_newline b) (lines text)
-  where
-    go : (newline : Bool) (ls : List (List ℕ)) → 0 < length (cond newline ([] ∷ ls) (onto_first b ls))
-    go true ls = omega arith
-    go false [] = omega arith
-    go false (l ∷ ls) = omega arith
+lines-some (b ∷ text) some = grind arith
 
 pub whole_none : AreWholeLines []
 unfolding lines
@@ -54,16 +45,7 @@ whole_none more = refl
 pub whole_ended : (text : List ℕ) → AreWholeLines (text ++ 10 ∷ [])
 unfolding lines
 whole_ended [] more = refl
-whole_ended (b ∷ text) more = go (is_newline b) (whole_ended text more)
-  where
-    go : (newline : Bool) → lines ((text ++ 10 ∷ []) ++ more) ≡ lines (text ++ 10 ∷ []) ++ lines more
-        → cond newline ([] ∷ lines ((text ++ 10 ∷ []) ++ more)) (onto_first b (lines ((text ++ 10 ∷ []) ++ more)))
-        ≡ cond newline ([] ∷ lines (text ++ 10 ∷ [])) (onto_first b (lines (text ++ 10 ∷ []))) ++ lines more
-    go true e = ap (λ (ls : List (List ℕ)). [] ∷ ls) e
-    go false e =
-        ap (onto_first b) e
-        ∙ onto_first-append b (lines (text ++ 10 ∷ [])) (lines more)
-        (lines-some (text ++ 10 ∷ []) (omega (arith, length-append text (10 ∷ []))))
+whole_ended (b ∷ text) more = grind (arith, whole_ended text more, onto_first-append, lines-some, length-append)
 
 -- a text that ends after its last newline
 pub whole_before : (text : List ℕ) (end : ℕ) → IsLastByte (is_byte 10) text (Some end) → AreWholeLines (take (end + 1) text)
@@ -71,16 +53,12 @@ whole_before text end last =
     let newline : get_or text end 0 ≡ 10 = eqb-true (get_or text end 0) 10 last.1 in
     let is : take (end + 1) text ≡ take end text ++ 10 ∷ [] =
     take_more text end 0 last.0.high ∙ ap (λ (b : ℕ). take end text ++ b ∷ []) newline in
-    let Whole : List ℕ → Type 0 = AreWholeLines in
-    subst Whole (sym is) (whole_ended (take end text))
+    grind (arith, whole_ended)
 
 -- what comes after its last newline
 pub line_after : (text : List ℕ) (end : ℕ) → IsLastByte (is_byte 10) text (Some end) → IsLine (drop (end + 1) text)
 line_after text end last =
-    All-from_get_or (λ b. eqb b 10 ≡ false) (drop (end + 1) text) 0 (λ k lt.
-    false_from_ne_true _ (λ is.
-    last.0.after (end + 1 + k) (omega arith) (omega (arith, length-drop (end + 1) text, lt))
-    (ap (λ b. eqb b 10) (sym (get_or-drop (end + 1) text k 0)) ∙ is)))
+    All-from_get_or (λ b. eqb b 10 ≡ false) (drop (end + 1) text) 0 (grind (arith, length-drop, get_or-drop))
 
 pub line_without : (text : List ℕ) → IsLastByte (is_byte 10) text None → IsLine text
 line_without text none =
@@ -103,21 +81,13 @@ begins b [] more is = go (lines more) refl
     go (l ∷ ls) are = record { end = l; others = ls; are = rw (All-head (λ x. is_newline x ≡ false) b [] is, are) refl }
 begins b (c ∷ line) more is =
     let rest = begins c line more (All-tail (λ x. is_newline x ≡ false) b (c ∷ line) is) in
-    record {
-      end = rest.end;
-      others = rest.others;
-      are = rw (All-head (λ x. is_newline x ≡ false) b (c ∷ line) is) (ap (onto_first b) rest.are);
-    }
+    grind (arith, All-head)
 
 size_word-short : (n : ℕ) → n ≤ large_size → length (size_word n) ≤ 5
-size_word-short n le = elim (eqb_tells n large_size) [
-  | inl same ↦ rw same.0 (omega arith)
-  | inr differs ↦ rw differs.0 (length-decimal-le 5 n (omega arith) (omega (arith, le)) (omega (arith, le)))
-]
+size_word-short n le = grind (arith, length-decimal-le)
 
 event_line-short : (event : SizeEvent) → size_of event ≤ large_size → length (event_line event) ≤ 6
-event_line-short (Request n) le = omega (arith, size_word-short n le)
-event_line-short (Free n) le = omega (arith, size_word-short n le, length-append (codes "-") (size_word n))
+event_line-short event le = grind (arith, size_word-short)
 
 long_line : (line : List ℕ) → 6 < length line → event_in line ≡ None
 long_line line long = go (event_in line) refl
@@ -145,8 +115,7 @@ pub taken_more : (events : List SizeEvent) (ls new : List (List ℕ)) (line : Li
     → going_on events None (ls ++ more) ≡ going_on (events ++ event ∷ []) None (new ++ more)
 taken_more events ls new line event parts is more =
     let number : length events + 2 + 1 ≡ length (events ++ event ∷ []) + 2 = omega (arith, length-append events (event ∷ [])) in
-    line_read (length events + 2) events (ls ++ more) (new ++ more) line event (ap (λ (l : List (List ℕ)). l ++ more) parts) is
-    ∙ ap (λ (n : ℕ). events_from n (events ++ event ∷ []) (new ++ more)) number
+    grind (arith, line_read)
 
 pub taken_faulty : (events : List SizeEvent) (ls new : List (List ℕ)) (line : List ℕ) (fault : TimelineFault) → ls ≡ line ∷ new
     → next_event events line ≡ Err fault → (more : List (List ℕ))
@@ -166,9 +135,7 @@ fed_newline old new live kept is unfailed kept-is start' taken more =
 
 pub fed_too_long : (old new : Reading) (bytes : List ℕ) → IsLine (old.rest ++ bytes) → 6 < length (old.rest ++ bytes) → old.fault ≡ None
     → new.events ≡ old.events → new.fault ≡ Some BadTimeline → IsFed old bytes new
-fed_too_long old new bytes is long unfailed events fault more =
-    rw (events, fault, unfailed) (ap (λ (text : List ℕ). going_on old.events None (lines text)) (sym (append_assoc old.rest bytes more))
-    ∙ long_rest old.events (old.rest ++ bytes) more is long)
+fed_too_long old new bytes is long unfailed events fault more = grind (arith, append_assoc, long_rest)
 
 -- ---- the end
 

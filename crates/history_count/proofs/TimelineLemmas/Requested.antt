@@ -1,5 +1,5 @@
 -- The requested sizes, after all events; and an event's size is one of them.
-use Rattle.std.proofs.Common.{◌≡◌, ℕ, ◌+◌, ◌^◌, ◌<◌, ◌≤◌, List, length, take, replicate, slice_index, slice_set, get_or, arith, ap, inl}
+use Rattle.std.proofs.Common.{◌≡◌, ℕ, ◌+◌, ◌^◌, ◌<◌, ◌≤◌, List, length, take, replicate, slice_index, slice_set, get_or, arith, inl}
 use Rattle.std.proofs.{Common.{inr, ◌∙◌}, lemmas.Bool.{cases_lt}, lemmas.Bool.Decides.{eqb_tells}, lemmas.List.Sums.{sum_by-take-le}}
 use Rattle.std.proofs.lemmas.List.{get_or-replicate, get_or-set_other, get_or-set_same, length-replicate, length-set, take_all}
 use Rattle.class_table.specs.Sizes.{largest_counted}
@@ -33,16 +33,10 @@ pub seen-more : (events : List SizeEvent) (k : ℕ) (seen : List ℕ) (event : S
 seen-more events k seen event timeline lt are is = record {
   len = length-set seen (size_of event) 1 ∙ are.len;
   marks = λ n le. elim (eqb_tells n (size_of event)) [
-    | inl same ↦ (
-      λ _. rw same.1 (event-requests events k event timeline lt is (omega (arith, same.1))),
-      λ _. omega (arith, ap (λ m. get_or (slice_set seen (size_of event) 1) m 0) same.1, get_or-set_same seen (size_of event) 1 0 (omega (arith, are.len, same.1))),
-    )
+    | inl same ↦ grind (arith, event-requests, get_or-set_same)
     | inr differs ↦
         let there = get_or-set_other seen (size_of event) n 1 0 differs.1 in
-        let still = requested-other events k n event lt is differs.1 in (
-          λ some. omega (arith, still, (are.marks n le).0 (omega (arith, some, there))),
-          λ some. omega (arith, there, (are.marks n le).1 (omega (arith, some, still))),
-        )
+        let still = requested-other events k n event lt is differs.1 in grind arith
   ];
 }
 
@@ -53,15 +47,9 @@ module _ (events : List SizeEvent) (k : ℕ) (seen : List ℕ) (event : SizeEven
   seen-again = record {
     len = are.len;
     marks = λ n le. elim (eqb_tells n (size_of event)) [
-      | inl same ↦ (
-        λ _. rw same.1 (event-requests events k event timeline lt is (omega (arith, same.1))),
-        λ _. rw same.1 mark,
-      )
+      | inl same ↦ grind (arith, event-requests)
       | inr differs ↦
-          let still = requested-other events k n event lt is differs.1 in (
-            λ some. omega (arith, still, (are.marks n le).0 some),
-            λ some. (are.marks n le).1 (omega (arith, some, still)),
-          )
+          let still = requested-other events k n event lt is differs.1 in grind arith
     ];
   }
 
@@ -76,16 +64,7 @@ module _ (events : List SizeEvent) (k : ℕ) (seen : List ℕ) (event : SizeEven
 pub are-requested : (events : List SizeEvent) (seen : List ℕ) (r : Requested) → AreSeen events (length events) seen
     → AreLinesBelow seen (largest_counted + 1) r.sizes.items r.lines.items
     → IsLargestSoFar events (length events) r.largest.above r.largest.moment → AreRequested events r
-are-requested events seen r are lines largest = record {
-  sizes_are = lines.sizes_are;
-  lines_len = lines.lines_len;
-  some = λ k lt. rw all at ((are.marks (slice_index r.sizes.items k) (lines.sizes_are.small k lt)).0 (lines.marked k lt));
-  line = λ n le some. lines.line n (omega arith) ((are.marks n le).1 (rw all some));
-  largest = largest;
-}
-  where
-    all : take (length events) events ≡ events
-    all = take_all (length events) events (omega arith)
+are-requested events seen r are lines largest = grind (arith, take_all)
 
 -- An event of a size is of a requested one.
 some-request : (events : List SizeEvent) (k n : ℕ) → 0 < requested (take (k + 1) events) n → 0 < requested events n

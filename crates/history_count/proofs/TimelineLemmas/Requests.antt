@@ -1,7 +1,7 @@
 -- The requested sizes, one event more.
 use Rattle.std.proofs.Common.{◌≡◌, ◌≢◌, ◌↔◌, ℕ, suc, ◌+◌, ◌-◌, ◌<◌, ◌≤◌, ◌⊎◌, List, [], ◌∷◌, length, min, take, slice_index, get_or, arith}
 use Rattle.std.proofs.Common.{refl, ap, ◌∙◌, inl, inr, add-one, None, Some, Option, IsSome, IfNone, IfSome}
-use Rattle.std.proofs.{Math.Nat.{min-eq_left, min-eq_right}, lemmas.Bool.{cases_lt, false≢true}, lemmas.Bool.Decides.{eqb_tells, nat_tests}}
+use Rattle.std.proofs.{Math.Nat.{min-eq_left}, lemmas.Bool.{cases_lt, false≢true}, lemmas.Bool.Decides.{eqb_tells, nat_tests}}
 use Rattle.std.proofs.lemmas.{List.{take_all, take-take}, List.Sums.{sum_by-take-le}}
 use Rattle.class_table.specs.{Sizes.{largest_counted}, Tables.{class_for}}
 use Rattle.tuner_theory.proofs.TimelineSteps.{frees_at, freed-more, largest_is_live, requested-more, requested_sizes, requests_at}
@@ -58,14 +58,7 @@ freed-before events k n timeline lt counted is =
     )
 
 pub largest_none : (events : List SizeEvent) → IsLargestSoFar events 0 0 0
-largest_none events = record {
-  within = omega arith;
-  counted = omega arith;
-  below = λ n le some. absurd (omega (arith, some));
-  some = λ some. absurd (omega arith);
-  first = λ some. absurd (omega arith);
-  none = λ _. refl;
-}
+largest_none events = omega arith
 
 -- a size that was not requested up to a moment was not live before
 pub unrequested-before : (events : List SizeEvent) (k earlier n : ℕ) → earlier ≤ k → n ≤ largest_counted → requested (take k events) n ≡ 0
@@ -126,10 +119,7 @@ largest_other events k above moment n lt found is which = record {
   within = omega (arith, found.within);
   counted = found.counted;
   below = λ m le some. elim (eqb_tells m n) [
-    | inl same ↦ elim which [
-      | inl low ↦ omega (arith, same.1)
-      | inr large ↦ absurd (omega (arith, same.1))
-    ]
+    | inl same ↦ omega arith
     | inr differs ↦ found.below m le (omega (arith, some, requested-still events k m n lt is differs.1))
   ];
   some = λ some. omega (arith, found.some some, requested-next events k (above - 1) (Request n) lt is);
@@ -227,12 +217,7 @@ largest_serves events classes k above moment timeline all found = (
 -- ---- the least one without a class
 
 pub least_none : (events : List SizeEvent) (classes : List ℕ) → IsLeastSoFar events classes 0 (largest_counted + 1)
-least_none events classes = record {
-  within = omega arith;
-  below = λ n le some. absurd (omega (arith, some));
-  some = λ le. absurd (omega arith);
-  no_class = λ le. absurd (omega arith);
-}
+least_none events classes = grind arith
 
 least_request : (events : List SizeEvent) (classes : List ℕ) (k least n : ℕ) → k < length events → IsLeastSoFar events classes k least
     → get_or events k (Request 0) ≡ Request n → n < least → class_for classes n ≡ None → IsLeastSoFar events classes (k + 1) n
@@ -248,10 +233,7 @@ least_other : (events : List SizeEvent) (classes : List ℕ) (k least n : ℕ) �
 least_other events classes k least n lt found is which = record {
   within = found.within;
   below = λ m less some. elim (eqb_tells m n) [
-    | inl same ↦ elim which [
-      | inl above ↦ absurd (omega (arith, same.1))
-      | inr served ↦ rw same.1 served
-    ]
+    | inl same ↦ grind arith
     | inr differs ↦ found.below m less (omega (arith, some, requested-still events k m n lt is differs.1))
   ];
   some = λ le. omega (arith, found.some le, requested-next events k least (Request n) lt is);
@@ -281,12 +263,7 @@ pub least_unserved : (events : List SizeEvent) (classes : List ℕ) (k least : �
     → IsLeastSoFar events classes (k + 1) (min least (size_of event))
 least_unserved events classes k least (Request n) timeline lt found is none =
     elim (cases_lt n least) [
-      | inl lower ↦ elim none [
-        | inl large ↦ absurd (omega (arith, found.within))
-        | inr no_class ↦
-            let below : n ≤ least = omega arith in
-            rw (min-eq_right below) (least_request events classes k least n lt found is lower no_class)
-      ]
+      | inl lower ↦ grind (arith, least_request)
       | inr above ↦ rw (min-eq_left above) (least_other events classes k least n lt found is (inl above))
     ]
 least_unserved events classes k least (Free n) timeline lt found is none =
@@ -302,30 +279,16 @@ least_unserved events classes k least (Free n) timeline lt found is none =
 
 least_unserved_all : (events : List SizeEvent) (classes : List ℕ) (k least : ℕ) → k ≡ length events → IsLeastSoFar events classes k least
     → least ≤ largest_counted → IsLeastUnserved events classes least
-least_unserved_all events classes k least all found le =
-    let whole = take_all k events (omega arith) in
-    record {
-      counted = le;
-      some = rw whole at (found.some le);
-      no_class = found.no_class le;
-      least = λ n less some. found.below n less (rw whole some);
-    }
-
-none_unserved_all : (events : List SizeEvent) (classes : List ℕ) (k least : ℕ) → k ≡ length events → IsLeastSoFar events classes k least
-    → largest_counted < least → (n : ℕ) → n ≤ largest_counted → 0 < requested events n → IsSome (class_for classes n)
-none_unserved_all events classes k least all found large n le some =
-    found.below n (omega arith) (rw (take_all k events (omega arith)) some)
+least_unserved_all events classes k least all found le = grind (arith, take_all)
 
 -- after all events: the least size that has none, if there is one
 module _ (events : List SizeEvent) (classes : List ℕ) (least : ℕ) (found : IsLeastSoFar events classes (length events) least) where
   pub unserved_is_least : (o : Option ℕ) → IfSome o (λ n. (n ≡ least) × (n ≤ largest_counted))
       → IfSome o (λ n. IsLeastUnserved events classes n)
-  unserved_is_least None is = tt
-  unserved_is_least (Some n) is =
-      rw is.0 (least_unserved_all events classes (length events) least refl found (rw is.0 at is.1))
+  unserved_is_least o is = grind (arith, least_unserved_all)
 
   pub none_is_unserved : (o : Option ℕ) → IsTimeline events → IfNone o (largest_counted < least)
       → IfNone o (Serves (peaks (moments events)) classes)
   none_is_unserved None timeline large =
-      (requested_sizes events classes timeline).1 (none_unserved_all events classes (length events) least refl found large)
+      (requested_sizes events classes timeline).1 (grind (arith, take_all))
   none_is_unserved (Some n) timeline large = tt

@@ -1,9 +1,9 @@
 -- One event more of a run.
 use Rattle.std.proofs.Common.{◌≡◌, ◌≢◌, ℕ, ◌+◌, ◌-◌, ◌<◌, ◌≤◌, true, false, List, [], ◌∷◌, ◌++◌, length, take, cond, refl, sym, ◌∙◌, arith}
 use Rattle.std.proofs.{Common.{inl, inr, slice_index, slice_set, replicate, length-append, eqb}, lemmas.Bool.Decides.{eqb_tells, nat_tests}}
-use Rattle.std.proofs.lemmas.{Bool.{cases_lt, le-ltb, lt-ltb, ltb-true}, List.Elements.{All-append, All-cons, All-nil}}
+use Rattle.std.proofs.lemmas.{Bool.{cases_lt, lt-ltb, ltb-true}, List.Elements.{All-append, All-cons, All-nil}}
 use Rattle.std.proofs.lemmas.List.{get_or-replicate, get_or-set_other, get_or-set_same, length-replicate, length-set, take-append-le}
-use Rattle.std.proofs.lemmas.{List.{take_all}, List.Sums.{sum_by-append, sum_by-cons}}
+use Rattle.std.proofs.lemmas.{List.{take_all}, List.Sums.{sum_by-append}}
 use Rattle.tuner_theory.{proofs.TimelineSteps.{frees_at, requests_at}, specs.Profiles.{greatest_count}}
 use Rattle.tuner_theory.specs.{Timelines.{IsTimeline, freed, requested}, declared.size_event.SizeEvent.{SizeEvent}}
 use Rattle.tuner_theory.specs.declared.size_event.SizeEvent.TheVariants.{Request, Free}
@@ -12,22 +12,16 @@ use Rattle.history_count.specs.Timelines.TimelineText.{finds_live}
 
 pub requested-append : (events : List SizeEvent) (event : SizeEvent) (n : ℕ)
     → requested (events ++ event ∷ []) n ≡ requested events n + requests_at n event
-requested-append events event n =
-    omega (arith, sum_by-append (requests_at n) events (event ∷ []), sum_by-cons (requests_at n) event [])
+requested-append events event n = grind (arith, sum_by-append)
 
 pub freed-append : (events : List SizeEvent) (event : SizeEvent) (n : ℕ)
     → freed (events ++ event ∷ []) n ≡ freed events n + frees_at n event
-freed-append events event n =
-    omega (arith, sum_by-append (frees_at n) events (event ∷ []), sum_by-cons (frees_at n) event [])
+freed-append events event n = grind (arith, sum_by-append)
 
 -- ---- runs
 
 pub run-none : IsRun []
-run-none = record {
-  few = omega arith;
-  sizes = All-nil (λ event. size_of event ≤ large_size);
-  live = λ moment n. rw (take_all {A = SizeEvent} moment [] (omega arith)) (omega arith);
-}
+run-none = grind arith
 
 pub run-all : (events : List SizeEvent) (n : ℕ) → IsRun events → freed events n ≤ requested events n
 run-all events n run = rw (take_all (length events) events (omega arith)) at (run.live (length events) n)
@@ -160,11 +154,7 @@ finds-some events live (Free n) are le may = sym (lt-ltb (freed events n) (reque
 pub finds-none : (events : List SizeEvent) (live : List ℕ) (event : SizeEvent) → AreLiveCounts events live → size_of event ≤ large_size
     → (may_come event (slice_index live (size_of event)) → ⊥) → false ≡ finds_live events event
 finds-none events live (Request n) are le none = absurd (none tt)
-finds-none events live (Free n) are le none =
-    sym (le-ltb (freed events n) (requested events n) (elim (cases_lt 0 (slice_index live n)) [
-      | inl some ↦ absurd (none some)
-      | inr nothing ↦ omega (arith, are.balance n le, nothing)
-    ]))
+finds-none events live (Free n) are le none = grind arith
 
 -- ---- an event in two steps
 
@@ -173,9 +163,7 @@ raised-may (Request n) count some = tt
 raised-may (Free n) count some = omega (arith, some)
 
 pub raised-none : (event : SizeEvent) (count : ℕ) → raised event count ≡ 0 → may_come event count → ⊥
-raised-none (Request n) count none may = omega (arith, none)
-raised-none (Free n) count none may = omega (arith, none, may)
+raised-none event count none may = grind arith
 
 pub lowered-after : (event : SizeEvent) (count : ℕ) → lowered event (raised event count) ≡ after_event event count
-lowered-after (Request n) count = refl
-lowered-after (Free n) count = refl
+lowered-after event count = grind arith

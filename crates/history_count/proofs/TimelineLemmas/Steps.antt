@@ -1,37 +1,20 @@
 -- One event more.
-use Rattle.std.proofs.Common.{◌≡◌, ◌≢◌, ℕ, suc, ◌+◌, ◌-◌, ◌*◌, ◌^◌, ◌<◌, ◌≤◌, ◌⊎◌, Bool, true, false, List, length, replicate, slice_get}
-use Rattle.std.proofs.Common.{sum_by, take, max, slice_index, slice_set, get_or, cond, eqb, ltb, arith, refl, ap, sym, subst, ◌∙◌, inl, inr}
-use Rattle.std.proofs.{Common.{add-one, All, Option, Some, None, IsSome}, Math.Nat.{max-eq_left}, lemmas.Bool.Decides.{eqb_tells}}
-use Rattle.std.proofs.lemmas.{Bool.{cases_lt, cases_order, eq-eqb, le-ltb, lt-ltb}, List.Kept.{AllPairs-from_increasing}}
+use Rattle.std.proofs.Common.{◌≡◌, ◌≢◌, ℕ, ◌+◌, ◌-◌, ◌*◌, ◌^◌, ◌<◌, ◌≤◌, ◌⊎◌, Bool, true, false, List, length, replicate, slice_get}
+use Rattle.std.proofs.Common.{sum_by, take, max, slice_index, slice_set, get_or, cond, eqb, arith, refl, ap, sym, subst, ◌∙◌, inl, inr}
+use Rattle.std.proofs.{Common.{All, Some, None, IsSome}, Math.Nat.{max-eq_left}, lemmas.Bool.Decides.{eqb_tells}}
+use Rattle.std.proofs.lemmas.{Bool.{cases_lt, eq-eqb, le-ltb, lt-ltb}, List.Kept.{AllPairs-from_increasing}}
 use Rattle.std.proofs.lemmas.List.{ext_get_or, get_or-map, get_or-replicate, get_or-set_same, get_or-set_other, get_or_default, length-map}
 use Rattle.std.proofs.lemmas.{List.{length-replicate, length-set, set-get_or}, List.Sums.{sum_by_more}}
 use Rattle.std.proofs.lemmas.Option.{get_or_from_slice_get, slice_get-get_or, slice_get_within}
-use Rattle.std.specs.Option.{option_and_then, option_map_or}
+use Rattle.std.specs.Option.{option_and_then}
 use Rattle.class_table.{proofs.LawLemmas.{number_gives_class}, specs.Sizes.{largest_counted}}
 use Rattle.class_table.specs.Tables.{IsLegalTable, class_for, class_number_for}
 use Rattle.tuner_theory.proofs.TimelineBlocks.{blocks-none, blocks-step, comes_at, free-goes, goes_at, large-does-nothing, most_to-above}
-use Rattle.tuner_theory.{proofs.TimelineBlocks.{most_to-all, most_to-more, most_to-none, request-comes}, specs.Histories.{most}}
-use Rattle.tuner_theory.specs.{Footprint.{blocks, is_class_of}, Timelines.{IsTimeline, moments, most_to, snapshot_at}}
+use Rattle.tuner_theory.{proofs.TimelineBlocks.{most_to-all, most_to-more, request-comes}, specs.Histories.{most}}
+use Rattle.tuner_theory.specs.{Footprint.{blocks, is_class_of}, Timelines.{IsTimeline, moments}}
 use Rattle.tuner_theory.specs.declared.size_event.{SizeEvent.{SizeEvent}, SizeEvent.TheVariants.{Request, Free}}
-use Rattle.history_count.specs.Timelines.LiveBlocks.{AreFirsts, AreKnown, AreLive, IsFirst, class_bytes, first_moved, most_blocks}
+use Rattle.history_count.specs.Timelines.LiveBlocks.{AreFirsts, AreKnown, AreLive, class_bytes, first_moved, most_blocks}
 use Rattle.history_count.specs.Timelines.Runs.{after_event, may_come, size_of}
-
-first-step : (f : List ℕ → ℕ) (events : List SizeEvent) (k much newer greater first newest : ℕ) → IsFirst f events k much first
-    → much ≡ most_to f events k → newer ≡ f (snapshot_at events (suc k)) → greater ≡ max much newer
-    → (much < newer → newest ≡ k + 1) → (newer ≤ much → newest ≡ first) → IsFirst f events (suc k) greater newest
-first-step f events k much newer greater first newest is so-far now raised moved stays =
-    elim (cases_lt much newer) [
-      | inl up ↦ let last : newest ≡ suc k = omega (arith, moved up) in
-          let more : greater ≡ newer = omega arith in
-          rw (last, more) (record {
-            within = omega arith;
-            there = sym now;
-            before = λ earlier lt. omega (arith, most_to-above f events k earlier (omega arith));
-          })
-      | inr same ↦ let old : newest ≡ first = stays same in
-          let kept : greater ≡ much = omega arith in
-          rw (old, kept) (record { within = omega (arith, is.within); there = is.there; before = is.before })
-    ]
 
 -- what an event does to the counts of one class
 record IsStep (k comes goes live most first newer greater newest : ℕ) : Type 0 where
@@ -41,15 +24,6 @@ record IsStep (k comes goes live most first newer greater newest : ℕ) : Type 0
   moved : most < newer → newest ≡ k + 1
   stays : newer ≤ most → newest ≡ first
 
-unchanged : (k moves live most first : ℕ) → live ≤ most → IsStep k moves moves live most first live most first
-unchanged k moves live most first below = record {
-  balance = refl;
-  slow = omega arith;
-  raised = omega arith;
-  moved = λ up. absurd (omega arith);
-  stays = λ kept. refl;
-}
-
 live-step : (events : List SizeEvent) (classes : List ℕ) (k : ℕ) (d : SizeEvent) (live most firsts newer greater newest : List ℕ)
     → IsTimeline events → k < length events → AreLive events classes k live most firsts → length newer ≡ length classes
     → length greater ≡ length classes → length newest ≡ length classes
@@ -57,33 +31,13 @@ live-step : (events : List SizeEvent) (classes : List ℕ) (k : ℕ) (d : SizeEv
     IsStep k (comes_at classes class event) (goes_at classes class event) (slice_index live j) (slice_index most j) (slice_index firsts j)
     (slice_index newer j) (slice_index greater j) (slice_index newest j))
     → AreLive events classes (k + 1) newer greater newest
-live-step events classes k d live most firsts newer greater newest timeline lt are newer-len greater-len newest-len step =
-    subst (λ (m : ℕ). AreLive events classes m newer greater newest) (sym (add-one k)) (record {
-      live_len = newer-len;
-      most_len = greater-len;
-      firsts_len = newest-len;
-      live_at = at;
-      most_at = λ j within.
-          omega (arith, (step j within).raised, at j within, are.most_at j within, most_to-more (blocks classes (slice_index classes j)) events k);
-      below = λ j within. omega (arith, (step j within).raised);
-      small = λ j within. let its = step j within in omega (arith, its.raised, are.small j within, are.below j within, its.slow);
-      first_at = λ j within.
-          let its = step j within in
-          first-step (blocks classes (slice_index classes j)) events k (slice_index most j) (slice_index newer j) (slice_index greater j)
-          (slice_index firsts j) (slice_index newest j) (are.first_at j within) (are.most_at j within) (at j within) its.raised its.moved its.stays;
-    })
-  where
-    at : (j : ℕ) → j < length classes → slice_index newer j ≡ blocks classes (slice_index classes j) (snapshot_at events (suc k))
-    at j within =
-        omega (arith, blocks-step events classes (slice_index classes j) k d timeline lt, are.live_at j within, (step j within).balance)
+live-step events classes k d live most firsts newer greater newest timeline lt are newer-len greater-len newest-len step = grind (arith, most_to-more, most_to-above, blocks-step)
 
 -- ---- the class of a size by its number
 
 found-class : (classes : List ℕ) (n number class : ℕ) → class_number_for classes n ≡ Some number → number < length classes
     → is_class_of classes class n ≡ eqb (slice_index classes number) class
-found-class classes n number class is lt =
-    ap (λ (o : Option ℕ). option_map_or (λ its. eqb its class) o false)
-    (number_gives_class n classes ∙ ap (option_and_then (slice_get classes)) is ∙ slice_get-get_or classes number 0 lt)
+found-class classes n number class is lt = grind (arith, number_gives_class, slice_get-get_or)
 
 own-class : (classes : List ℕ) (n number : ℕ) → class_number_for classes n ≡ Some number → number < length classes
     → is_class_of classes (slice_index classes number) n ≡ true
@@ -94,18 +48,12 @@ other-class : (classes : List ℕ) (n number j : ℕ) → IsLegalTable 1 classes
 other-class classes n number j legal is lt within other =
     found-class classes n number (slice_index classes j) is lt
     ∙ elim (eqb_tells (slice_index classes number) (slice_index classes j)) [
-      | inl same ↦ absurd (elim (cases_order j number) [
-        | inl at ↦ other at
-        | inr (inl before) ↦ omega (arith, same.1, AllPairs-from_increasing classes legal.ascending j number 0 before lt)
-        | inr (inr after) ↦ omega (arith, same.1, AllPairs-from_increasing classes legal.ascending number j 0 after within)
-      ])
+      | inl same ↦ grind (arith, AllPairs-from_increasing)
       | inr differs ↦ differs.0
     ]
 
 no-class : (classes : List ℕ) (n class : ℕ) → class_number_for classes n ≡ None → is_class_of classes class n ≡ false
-no-class classes n class is =
-    ap (λ (o : Option ℕ). option_map_or (λ its. eqb its class) o false)
-    (number_gives_class n classes ∙ ap (option_and_then (slice_get classes)) is)
+no-class classes n class is = grind (arith, number_gives_class)
 
 pub number_gives_none : (classes : List ℕ) (n : ℕ) → class_number_for classes n ≡ None → class_for classes n ≡ None
 number_gives_none classes n is = number_gives_class n classes ∙ ap (option_and_then (slice_get classes)) is
@@ -115,20 +63,9 @@ pub number_serves : (classes : List ℕ) (n number : ℕ) → class_number_for c
 number_serves classes n number is lt =
     rw (number_gives_class n classes ∙ ap (option_and_then (slice_get classes)) is ∙ slice_get-get_or classes number 0 lt) refl
 
-one-of : (b : Bool) → b ≡ true → cond {A = ℕ} b 1 0 ≡ 1
-one-of b is = rw is refl
-
-none-of : (b : Bool) → b ≡ false → cond {A = ℕ} b 1 0 ≡ 0
-none-of b is = rw is refl
-
-moved-length : (b : Bool) (number moment : ℕ) (firsts : List ℕ) → length (cond b (slice_set firsts number moment) firsts) ≡ length firsts
-moved-length true number moment firsts = length-set firsts number moment
-moved-length false number moment firsts = refl
-
 moved-other : (b : Bool) (number j moment : ℕ) (firsts : List ℕ) → j ≢ number
     → slice_index (cond b (slice_set firsts number moment) firsts) j ≡ slice_index firsts j
-moved-other true number j moment firsts other = get_or-set_other firsts number j moment 0 other
-moved-other false number j moment firsts other = refl
+moved-other b number j moment firsts other = grind (arith, get_or-set_other)
 
 -- ---- one event more
 
@@ -144,28 +81,12 @@ request_step events classes k n number d live most firsts timeline lt legal are 
     (first_moved (slice_index most number) (slice_index live number + 1) number (k + 1) firsts) timeline lt are
     (length-set live number (slice_index live number + 1) ∙ are.live_len)
     (length-set most number (max (slice_index most number) (slice_index live number + 1)) ∙ are.most_len)
-    (moved-length (ltb (slice_index most number) (slice_index live number + 1)) number (k + 1) firsts ∙ are.firsts_len)
+    (grind (arith, length-set))
     (λ j within.
     let moves = request-comes classes (slice_index classes j) n counted in
     rw (event, moves.0, moves.1) (elim (eqb_tells j number) [
-      | inl same ↦ rw (
-        same.1,
-        own-class classes n number is inside,
-        get_or-set_same live number (slice_index live number + 1) 0 (omega (arith, are.live_len)),
-        get_or-set_same most number (max (slice_index most number) (slice_index live number + 1)) 0 (omega (arith, are.most_len)),
-      ) (record {
-        balance = omega arith;
-        slow = omega arith;
-        raised = refl;
-        moved = λ up. rw (lt-ltb _ _ up) (get_or-set_same firsts number (k + 1) 0 (omega (arith, are.firsts_len)));
-        stays = λ kept. rw (le-ltb _ _ kept) refl;
-      })
-      | inr differs ↦ rw (
-        other-class classes n number j legal is inside within differs.1,
-        get_or-set_other live number j (slice_index live number + 1) 0 differs.1,
-        get_or-set_other most number j (max (slice_index most number) (slice_index live number + 1)) 0 differs.1,
-        moved-other (ltb (slice_index most number) (slice_index live number + 1)) number j (k + 1) firsts differs.1,
-      ) (unchanged k 0 _ _ _ (are.below j within))
+      | inl same ↦ grind (arith, own-class, get_or-set_same, lt-ltb)
+      | inr differs ↦ grind (arith, other-class, get_or-set_other, moved-other)
     ]))
 
 -- a block that is freed was live
@@ -175,16 +96,7 @@ free_live : (events : List SizeEvent) (classes : List ℕ) (k n number : ℕ) (d
 free_live events classes k n number d live most firsts timeline lt are event counted is inside =
     let class = slice_index classes number in
     let moves = free-goes classes class n counted in
-    omega (
-      arith,
-      blocks-step events classes class k d timeline lt,
-      are.live_at number inside,
-      ap (goes_at classes class) event,
-      ap (comes_at classes class) event,
-      moves.0,
-      moves.1,
-      one-of _ (own-class classes n number is inside),
-    )
+    grind (arith, blocks-step, own-class)
 
 free_step : (events : List SizeEvent) (classes : List ℕ) (k n number : ℕ) (d : SizeEvent) (live most firsts : List ℕ) → IsTimeline events
     → k < length events → IsLegalTable 1 classes → AreLive events classes k live most firsts → get_or events k d ≡ Free n
@@ -207,10 +119,7 @@ free_step events classes k n number d live most firsts timeline lt legal are eve
         moved = λ up. absurd (omega (arith, are.below number inside));
         stays = λ kept. refl;
       })
-      | inr differs ↦ rw (
-        other-class classes n number j legal is inside within differs.1,
-        get_or-set_other live number j (slice_index live number - 1) 0 differs.1,
-      ) (unchanged k 0 _ _ _ (are.below j within))
+      | inr differs ↦ grind (arith, other-class, get_or-set_other)
     ]))
 
 still-step : (events : List SizeEvent) (classes : List ℕ) (k : ℕ) (d : SizeEvent) (live most firsts : List ℕ) → IsTimeline events
@@ -219,22 +128,14 @@ still-step : (events : List SizeEvent) (classes : List ℕ) (k : ℕ) (d : SizeE
     → AreLive events classes (k + 1) live most firsts
 still-step events classes k d live most firsts timeline lt are still =
     live-step events classes k d live most firsts live most firsts timeline lt are are.live_len are.most_len are.firsts_len
-    (λ j within. rw (still (slice_index classes j)) (unchanged k _ _ _ _ (are.below j within)))
+    (omega arith)
 
 -- what has no class, or is large, changes nothing
 unserved_request_step : (events : List SizeEvent) (classes : List ℕ) (k n : ℕ) (d : SizeEvent) (live most firsts : List ℕ)
     → IsTimeline events → k < length events → AreLive events classes k live most firsts → get_or events k d ≡ Request n
     → (largest_counted < n) ⊎ (class_number_for classes n ≡ None) → AreLive events classes (k + 1) live most firsts
 unserved_request_step events classes k n d live most firsts timeline lt are event unserved =
-    still-step events classes k d live most firsts timeline lt are (λ class.
-    rw event (elim (cases_lt largest_counted n) [
-      | inl large ↦ let none = (large-does-nothing classes class n large).0 in omega (arith, none.0, none.1)
-      | inr counted ↦ elim unserved [
-        | inl large ↦ absurd (omega arith)
-        | inr none ↦ let moves = request-comes classes class n counted in
-            omega (arith, moves.0, moves.1, none-of _ (no-class classes n class none))
-      ]
-    ]))
+    still-step events classes k d live most firsts timeline lt are (grind (arith, large-does-nothing, no-class))
 
 unserved_free_step : (events : List SizeEvent) (classes : List ℕ) (k n : ℕ) (d : SizeEvent) (live most firsts : List ℕ)
     → IsTimeline events → k < length events → AreLive events classes k live most firsts → get_or events k d ≡ Free n
@@ -243,11 +144,7 @@ unserved_free_step events classes k n d live most firsts timeline lt are event u
     still-step events classes k d live most firsts timeline lt are (λ class.
     rw event (elim (cases_lt largest_counted n) [
       | inl large ↦ let none = (large-does-nothing classes class n large).1 in omega (arith, none.0, none.1)
-      | inr counted ↦ elim unserved [
-        | inl large ↦ absurd (omega arith)
-        | inr none ↦ let moves = free-goes classes class n counted in
-            omega (arith, moves.0, moves.1, none-of _ (no-class classes n class none))
-      ]
+      | inr counted ↦ grind (arith, no-class)
     ]))
 
 -- ---- before any event, and after all
@@ -283,28 +180,7 @@ unserved_step events classes k (Free n) live most firsts timeline lt are is none
 
 pub nothing_live : (events : List SizeEvent) (classes : List ℕ) → AreLive events classes 0 (replicate (length classes) 0)
     (replicate (length classes) 0) (replicate (length classes) 0)
-nothing_live events classes = record {
-  live_len = length-replicate {A = ℕ} (length classes) 0;
-  most_len = length-replicate {A = ℕ} (length classes) 0;
-  firsts_len = length-replicate {A = ℕ} (length classes) 0;
-  live_at = λ j within.
-      omega (arith, get_or-replicate {A = ℕ} (length classes) j 0 0 within, blocks-none events classes (slice_index classes j));
-  most_at = λ j within.
-      omega (
-        arith,
-        get_or-replicate {A = ℕ} (length classes) j 0 0 within,
-        blocks-none events classes (slice_index classes j),
-        most_to-none (blocks classes (slice_index classes j)) events,
-      );
-  below = λ j within. omega arith;
-  small = λ j within. omega (arith, get_or-replicate {A = ℕ} (length classes) j 0 0 within);
-  first_at = λ j within.
-      rw (get_or-replicate {A = ℕ} (length classes) j 0 0 within) (record {
-        within = omega arith;
-        there = blocks-none events classes (slice_index classes j);
-        before = λ earlier lt. absurd (omega arith);
-      });
-}
+nothing_live events classes = grind (arith, length-replicate, get_or-replicate, blocks-none)
 
 module _ (events : List SizeEvent) (classes : List ℕ) (k : ℕ) (live counted firsts : List ℕ) (all : k ≡ length events)
     (so_far : AreLive events classes k live counted firsts) where
@@ -315,23 +191,13 @@ module _ (events : List SizeEvent) (classes : List ℕ) (k : ℕ) (live counted 
   all_counted =
       ext_get_or 0 counted (most_blocks events classes)
       (are.most_len ∙ sym (length-map classes (λ class. most (blocks classes class) (moments events))))
-      (λ j lt.
-      let within : j < length classes = omega (arith, are.most_len) in
-      are.most_at j within
-      ∙ most_to-all (blocks classes (slice_index classes j)) events
-      ∙ sym (get_or-map (λ class. most (blocks classes class) (moments events)) classes j 0 0 within))
+      (grind (arith, most_to-all, get_or-map))
 
   pub all_small : All (λ count. count ≤ length events) counted
-  all_small j d lt =
-      omega (arith, are.small j (omega (arith, are.most_len)), get_or_default counted j d 0 lt)
+  all_small j d lt = grind (arith, get_or_default)
 
   pub all_first : AreFirsts events classes firsts
-  all_first = record {
-    len = are.firsts_len;
-    first = λ j within.
-        subst (λ (much : ℕ). IsFirst (blocks classes (slice_index classes j)) events (length events) much (slice_index firsts j))
-        (are.most_at j within ∙ most_to-all (blocks classes (slice_index classes j)) events) (are.first_at j within);
-  }
+  all_first = grind (arith, most_to-all)
 
 -- ---- the bytes of one class more
 
@@ -342,17 +208,7 @@ pub bytes_more : (events : List SizeEvent) (classes counted : List ℕ) (number 
 bytes_more events classes counted number total class bytes count all found bytes-is read so-far =
     let within : number < length classes = slice_get_within classes number class found in
     let here : get_or classes number 0 ≡ class = get_or_from_slice_get classes number class 0 found in
-    let its : count ≡ most (blocks classes class) (moments events) =
-    read ∙ ap (λ cs. get_or cs number count) all
-    ∙ get_or-map (λ c. most (blocks classes c) (moments events)) classes number 0 count within
-    ∙ ap (λ c. most (blocks classes c) (moments events)) here in
-    omega (
-      arith,
-      sum_by_more (class_bytes events classes) classes number 0 within,
-      ap (class_bytes events classes) here,
-      so-far,
-      ap (λ b. b * count) bytes-is ∙ ap (λ m. 16 * class * m) its,
-    )
+    grind (arith, get_or-map, sum_by_more)
 
 -- ---- the classes that are known
 
@@ -366,25 +222,4 @@ known-none classes = record {
 
 pub known-more : (classes known : List ℕ) (n number : ℕ) → AreKnown classes known → n ≤ largest_counted
     → class_number_for classes n ≡ Some number → number < length classes → AreKnown classes (slice_set known n number)
-known-more classes known n number are counted found inside = record {
-  len = length-set known n number ∙ are.len;
-  counted = λ m lt some. elim (eqb_tells m n) [
-    | inl same ↦ rw same.1 counted
-    | inr differs ↦ are.counted m lt (rw (get_or-set_other known n m number 0 differs.1) at some)
-  ];
-  number = λ m lt some. elim (eqb_tells m n) [
-    | inl same ↦ rw (same.1, here) found
-    | inr differs ↦
-        let still = get_or-set_other known n m number 0 differs.1 in
-        rw still (are.number m lt (rw still at some))
-  ];
-  within = λ m lt some. elim (eqb_tells m n) [
-    | inl same ↦ rw (same.1, here) inside
-    | inr differs ↦
-        let still = get_or-set_other known n m number 0 differs.1 in
-        rw still (are.within m lt (rw still at some))
-  ];
-}
-  where
-    here : slice_index (slice_set known n number) n ≡ number
-    here = get_or-set_same known n number 0 (omega (arith, are.len))
+known-more classes known n number are counted found inside = grind (arith, length-set, get_or-set_other, get_or-set_same)

@@ -1,14 +1,14 @@
 -- What one event more does to the sums over the classes of a table.
 use Rattle.std.proofs.Common.{◌≡◌, ◌≢◌, ℕ, zero, suc, ◌+◌, ◌-◌, ◌*◌, ◌<◌, ◌≤◌, List, [], ◌∷◌, length, take, sum_by, max, slice_index}
-use Rattle.std.proofs.{Common.{slice_set, ltb, arith, refl, ap, sym, subst, ◌∙◌, inl, inr, add-one}, Math.Nat.{max-eq_left, mul-add}}
+use Rattle.std.proofs.{Common.{slice_set, ltb, arith, refl, ap, sym, subst, ◌∙◌, inl, inr, add-one}, Math.Nat.{mul-add}}
 use Rattle.std.proofs.lemmas.{Bool.{cases_lt, le-ltb, lt-ltb}, List.{get_or-set_same, get_or-set_other, length-set, set-get_or, take_all}}
 use Rattle.std.proofs.lemmas.List.Sums.{sum_by_more}
 use Rattle.class_table.specs.{Sizes.{granule_bytes}, Tables.{IsLegalTable}}
-use Rattle.tuner_theory.{proofs.TimelineBlocks.{blocks-none, most_to-more, most_to-none}, specs.Footprint.{blocks}, specs.Histories.{most}}
+use Rattle.tuner_theory.{proofs.TimelineBlocks.{blocks-none, most_to-more}, specs.Footprint.{blocks}, specs.Histories.{most}}
 use Rattle.tuner_theory.specs.{Timelines.{most_to, snapshot_at}, declared.size_event.SizeEvent.{SizeEvent}}
 use Rattle.tuner_theory.specs.declared.size_event.SizeEvent.TheVariants.{Request, Free}
 use Rattle.history_count.specs.Timelines.{LiveBlocks.{AreLive, AreSame, IsMoved, IsOneMore, moved_by}, Runs.{after_event, may_come}}
-use Rattle.history_count.specs.Timelines.TablePeaks.{AreSums, MayMove, freed_blocks, live_blocks, live_bytes, made_blocks, moved_sums}
+use Rattle.history_count.specs.Timelines.TablePeaks.{AreSums, MayMove, live_blocks, live_bytes, made_blocks, moved_sums}
 use Rattle.history_count.specs.{Timelines.TablePeaks.{sums_after}, declared.timelines.counting.Moved.{Moved}}
 use Rattle.history_count.specs.declared.timelines.{counting.Moved.TheVariants.{Nothing, New, Again, Freed}, sums.Sums.{Sums}}
 
@@ -16,25 +16,12 @@ use Rattle.history_count.specs.declared.timelines.{counting.Moved.TheVariants.{N
 
 one_more : (counts : List ℕ) (number : ℕ) → number < length counts
     → IsOneMore number counts (slice_set counts number (slice_index counts number + 1))
-one_more counts number within = record {
-  within = within;
-  there = get_or-set_same counts number (slice_index counts number + 1) 0 within;
-  others = λ j other. get_or-set_other counts number j (slice_index counts number + 1) 0 other;
-}
-
-one_freed : (live : List ℕ) (number : ℕ) → number < length live → 1 ≤ slice_index live number
-    → IsOneMore number (slice_set live number (slice_index live number - 1)) live
-one_freed live number within some = record {
-  within = omega (arith, length-set live number (slice_index live number - 1));
-  there = omega (arith, get_or-set_same live number (slice_index live number - 1) 0 within);
-  others = λ j other. sym (get_or-set_other live number j (slice_index live number - 1) 0 other);
-}
+one_more counts number within = grind (arith, get_or-set_same, get_or-set_other)
 
 -- counts are the same where the greater of one and no more is put in its place
 kept_same : (most : List ℕ) (number newer : ℕ) → newer ≤ slice_index most number
     → AreSame most (slice_set most number (max (slice_index most number) newer))
-kept_same most number newer below j =
-    rw (max-eq_left below, set-get_or most number 0) refl
+kept_same most number newer below j = grind (arith, set-get_or)
 
 pub event_moved : (event : SizeEvent) (live most : List ℕ) (number : ℕ) → number < length live → number < length most
     → slice_index live number ≤ slice_index most number → may_come event (slice_index live number)
@@ -49,7 +36,7 @@ event_moved (Request n) live most number within inside below may =
           rw (le-ltb _ _ kept) (one_more live number within, kept_same most number (slice_index live number + 1) kept)
     ]
 event_moved (Free n) live most number within inside below may =
-    (one_freed live number within may, kept_same most number (slice_index live number - 1) (omega arith))
+    (grind (arith, length-set, get_or-set_same, get_or-set_other), kept_same most number (slice_index live number - 1) (omega arith))
 
 -- ---- sums over a list
 
@@ -202,18 +189,6 @@ module _ (events : List SizeEvent) (classes : List ℕ) (k : ℕ) (sums : Sums) 
     same : (j : ℕ) → j < length classes → later (class j) ≡ now (class j)
     same j within = sym (next.live_at j within) ∙ is j ∙ are.live_at j within
 
-    live-same : sums.live ≡ live_blocks events classes (k + 1)
-    live-same = omega (arith, so-far.live, sum-same later now classes same)
-
-    bytes-same : sums.bytes ≡ live_bytes classes (snapshot_at events (k + 1))
-    bytes-same =
-        omega (
-          arith,
-          so-far.bytes,
-          sum-same (λ c. granule_bytes * c * later c) (λ c. granule_bytes * c * now c) classes
-              (λ j within. ap (λ b. granule_bytes * class j * b) (same j within)),
-        )
-
   abbrev most-now : ℕ → ℕ
   most-now c = most_to (blocks classes c) events k
 
@@ -241,48 +216,21 @@ module _ (events : List SizeEvent) (classes : List ℕ) (k : ℕ) (sums : Sums) 
 
   live-below : live_blocks events classes (k + 1) ≤ made_blocks events classes (k + 1)
   live-below =
-      sum-below later most-later classes (λ j within.
-      omega (arith, next.live_at j within, next.most_at j within, next.below j within))
+      sum-below later most-later classes (grind arith)
 
   -- what an event makes of the sums
   summed-by : (made alive bytes : ℕ) → made ≡ made_blocks events classes (k + 1) → alive ≡ live_blocks events classes (k + 1)
       → bytes ≡ live_bytes classes (snapshot_at events (k + 1)) → IsSummed events classes (k + 1) made alive bytes
-  summed-by made alive bytes made-is alive-is bytes-is = record {
-    made-is = made-is;
-    alive-is = alive-is;
-    bytes-is = bytes-is;
-    below = omega (arith, made-is, alive-is, live-below);
-  }
+  summed-by made alive bytes made-is alive-is bytes-is = grind (arith, live-below)
 
   next-sums : (made alive bytes : ℕ) → IsSummed events classes (k + 1) made alive bytes → made ≤ k + 1 → bytes ≤ 16384 * (k + 1)
       → AreSums events classes (k + 1) (sums_after sums made alive bytes)
-  next-sums made alive bytes is few small = record {
-    made = is.made-is;
-    live = is.alive-is;
-    bytes = is.bytes-is;
-    most_bytes = omega (
-      arith,
-      so-far.most_bytes,
-      is.bytes-is,
-      most_to-more (live_bytes classes) events k,
-      ap (most_to (live_bytes classes) events) (add-one k),
-      ap (λ j. live_bytes classes (snapshot_at events j)) (add-one k),
-    );
-    most_freed = rw (add-one k) (omega (
-      arith,
-      so-far.most_freed,
-      is.made-is,
-      is.alive-is,
-      ap (freed_blocks events classes) (add-one k),
-    ));
-    few = few;
-    small = small;
-  }
+  next-sums made alive bytes is few small = grind (arith, most_to-more)
 
   pub sums-moved : IsLegalTable 1 classes → (moved : Moved) → IsMoved moved live most newer greater
       → MayMove classes sums moved × AreSums events classes (k + 1) (moved_sums classes sums moved)
   sums-moved legal Nothing is =
-      let its = summed-by _ _ _ (made-same is.1) (live-same is.0) (bytes-same is.0) in
+      let its = summed-by _ _ _ (made-same is.1) (grind (arith, sum-same, same)) (grind (arith, sum-same, same)) in
       (its.below, next-sums _ _ _ its (omega (arith, so-far.few)) (omega (arith, so-far.small)))
   sums-moved legal (New number) is =
       let within = inside number is.0 in
@@ -312,20 +260,4 @@ no-sums events classes sums made live bytes most_bytes most_freed =
     let alive : sum_by (λ c. blocks classes c (snapshot_at events 0)) classes ≡ 0 =
     sum-same (λ c. blocks classes c (snapshot_at events 0)) (λ c. 0) classes (λ j within. blocks-none events classes (slice_index classes j))
     ∙ no-sum classes in
-    let there : sum_by (λ c. most_to (blocks classes c) events 0) classes ≡ 0 =
-    sum-same (λ c. most_to (blocks classes c) events 0) (λ c. 0) classes (λ j within.
-    most_to-none (blocks classes (slice_index classes j)) events ∙ blocks-none events classes (slice_index classes j))
-    ∙ no-sum classes in
-    let taken : live_bytes classes (snapshot_at events 0) ≡ 0 =
-    sum-same (λ c. granule_bytes * c * blocks classes c (snapshot_at events 0)) (λ c. 0) classes (λ j within.
-    omega (arith, ap (λ b. granule_bytes * slice_index classes j * b) (blocks-none events classes (slice_index classes j))))
-    ∙ no-sum classes in
-    record {
-      made = omega (arith, made, there);
-      live = omega (arith, live, alive);
-      bytes = omega (arith, bytes, taken);
-      most_bytes = omega (arith, most_bytes, taken, most_to-none (live_bytes classes) events);
-      most_freed = omega (arith, most_freed, there, alive);
-      few = omega (arith, made);
-      small = omega (arith, bytes);
-    }
+    grind (arith, blocks-none)

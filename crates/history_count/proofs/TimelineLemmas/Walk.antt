@@ -1,11 +1,11 @@
 -- One event more of a walk over the sizes.
-use Rattle.std.proofs.Common.{◌≡◌, ◌≢◌, ℕ, suc, ◌+◌, ◌-◌, ◌<◌, ◌≤◌, List, length, take, replicate, slice_index, slice_set, get_or, cond}
-use Rattle.std.proofs.{Common.{eqb, arith, refl, ap, sym, ◌∙◌, inl, inr, add-one}, lemmas.Bool.Decides.{eqb_tells, nat_tests}}
+use Rattle.std.proofs.Common.{◌≡◌, ◌≢◌, ℕ, suc, ◌+◌, ◌-◌, ◌<◌, ◌≤◌, List, length, replicate, slice_index, slice_set, get_or, cond}
+use Rattle.std.proofs.{Common.{eqb, arith, refl, ap, sym, ◌∙◌, add-one}, lemmas.Bool.Decides.{nat_tests}}
 use Rattle.std.proofs.lemmas.List.{ext_get_or, get_or-replicate, get_or-set_same, get_or-set_other, length-replicate, length-set}
 use Rattle.std.proofs.lemmas.{List.{length-take}, List.Sums.{count_by-le-length}}
 use Rattle.class_table.specs.Sizes.{largest_counted}
 use Rattle.tuner_theory.proofs.{TimelineSteps.{frees_at, freed-more, requested-more, requests_at}, Timelines.{live-at, snapshot-length}}
-use Rattle.tuner_theory.specs.{Timelines.{IsTimeline, is_request, snapshot_at}, declared.size_event.SizeEvent.{SizeEvent}}
+use Rattle.tuner_theory.specs.{Timelines.{IsTimeline, snapshot_at}, declared.size_event.SizeEvent.{SizeEvent}}
 use Rattle.tuner_theory.specs.declared.size_event.SizeEvent.TheVariants.{Request, Free}
 
 -- ---- the counts
@@ -61,21 +61,7 @@ request_counts events k size d lt timeline event counted =
     next-snapshot events k d (slice_set (snapshot_at events k) size (slice_index (snapshot_at events k) size + 1)) lt
     timeline
     (length-set (snapshot_at events k) size (slice_index (snapshot_at events k) size + 1) ∙ snapshot-length events k)
-    (λ n le.
-    rw event (elim (eqb_tells n size) [
-      | inl same ↦ rw same.1
-          (omega (
-            arith,
-            get_or-set_same (snapshot_at events k) size (slice_index (snapshot_at events k) size + 1) 0
-                (omega (arith, snapshot-length events k)),
-            one-at size size refl,
-          ))
-      | inr differs ↦ omega (
-        arith,
-        get_or-set_other (snapshot_at events k) size n (slice_index (snapshot_at events k) size + 1) 0 differs.1,
-        none-at size n differs.1,
-      )
-    ]))
+    (grind (arith, get_or-set_same, snapshot-length, get_or-set_other))
 
 pub free_counts : (events : List SizeEvent) (k size : ℕ) (d : SizeEvent) → k < length events → IsTimeline events
     → get_or events k d ≡ Free size → size ≤ largest_counted → 0 < slice_index (snapshot_at events k) size
@@ -84,21 +70,7 @@ free_counts events k size d lt timeline event counted some =
     next-snapshot events k d (slice_set (snapshot_at events k) size (slice_index (snapshot_at events k) size - 1)) lt
     timeline
     (length-set (snapshot_at events k) size (slice_index (snapshot_at events k) size - 1) ∙ snapshot-length events k)
-    (λ n le.
-    rw event (elim (eqb_tells n size) [
-      | inl same ↦ rw same.1
-          (omega (
-            arith,
-            get_or-set_same (snapshot_at events k) size (slice_index (snapshot_at events k) size - 1) 0
-                (omega (arith, snapshot-length events k)),
-            one-at size size refl,
-          ))
-      | inr differs ↦ omega (
-        arith,
-        get_or-set_other (snapshot_at events k) size n (slice_index (snapshot_at events k) size - 1) 0 differs.1,
-        none-at size n differs.1,
-      )
-    ]))
+    (grind (arith, get_or-set_same, snapshot-length, get_or-set_other))
 
 pub large_request_counts : (events : List SizeEvent) (k size : ℕ) (d : SizeEvent) → k < length events → IsTimeline events
     → get_or events k d ≡ Request size → largest_counted < size → snapshot_at events k ≡ snapshot_at events (k + 1)
@@ -114,8 +86,7 @@ large_free_counts events k size d lt timeline event large =
 
 -- how large a count is
 pub snapshot_small : (events : List SizeEvent) (k n : ℕ) → n ≤ largest_counted → slice_index (snapshot_at events k) n ≤ length events
-snapshot_small events k n le =
-    omega (arith, live-at events k n 0 le, count_by-le-length (is_request n) (take k events), length-take k events)
+snapshot_small events k n le = grind (arith, live-at, count_by-le-length, length-take)
 
 -- ---- the ends
 

@@ -2,7 +2,7 @@
 use Rattle.std.proofs.Common.{◌≡◌, ℕ, zero, suc, ◌+◌, ◌-◌, ◌*◌, ◌<◌, ◌≤◌, List, [], ◌∷◌, ◌++◌, length, length-append, slice_index, cond}
 use Rattle.std.proofs.{Common.{leb, add-suc, add-zero, arith, refl, ap, subst, sym, ◌∙◌}, Math.Nat.{mul-le-mul}}
 use Rattle.std.proofs.{Math.Seq.{get_or-append_seam}, lemmas.Grind.{common_steps}, lemmas.List.{get_or_append_left}}
-use Rattle.std.proofs.lemmas.Bool.{cases_lt, cond_both, cond-false, cond-true, eq-eqb, le-leb, le-ltb, lt-leb, lt-ltb, ne_eqb}
+use Rattle.std.proofs.lemmas.Bool.{cases_lt, cond_both, cond-false, cond-true, eq-eqb, le-leb, lt-ltb, ne_eqb}
 use Rattle.class_table.specs.{Sizes.{largest_counted}, Steps.{IsStep}}
 use Rattle.potential_check.specs.Certificates.Spanned.{AreSumsUpTo, HoldsSums, last_need}
 use Rattle.tuner_theory.{proofs.Sums.{sum_below-more, sum_below-none, sum_bounded, sum_same}, specs.Profiles.{AreCounts, greatest_count}}
@@ -19,9 +19,6 @@ sum_up_to f step n high = sum_below (λ k. cond (leb (rounded_need step k) high)
 -- the need at a place
 abbrev pub need_in : List ℕ → ℕ → ℕ
 need_in needs i = slice_index (0 ∷ needs) i
-
-last-in : (needs : List ℕ) → 0 < length needs → last_need needs ≡ slice_index needs (length needs - 1)
-last-in needs is = grind arith
 
 with_need-in : (need i : ℕ) (needs : List ℕ) → i < length needs → slice_index needs i ≡ need → with_need needs need ≡ needs
 with_need-in need i [] lt e = absurd (omega arith)
@@ -71,25 +68,10 @@ pub record HasPlace (counts : List ℕ) (step n : ℕ) (needs counted bytes : Li
 
 -- ---- one size more
 
--- a sum up to a need that is below the one of size n, or f being 0 there
-sum_up_to-keeps : (f : ℕ → ℕ) (step n high : ℕ) → high < rounded_need step n → sum_up_to f step (suc n) high ≡ sum_up_to f step n high
-sum_up_to-keeps f step n high lt = grind (arith, sum_below-more, cond-false, lt-leb)
-
-sum_up_to-skips : (f : ℕ → ℕ) (step n high : ℕ) → f n ≡ 0 → sum_up_to f step (suc n) high ≡ sum_up_to f step n high
-sum_up_to-skips f step n high none = grind (arith, sum_below-more, cond_both, leb)
-
 -- a sum up to a need that covers all
 sum_up_to-all : (f : ℕ → ℕ) (step n high : ℕ) → ((k : ℕ) → k < n → 0 < f k → rounded_need step k ≤ high) →
     sum_up_to f step n high ≡ sum_below f n
 sum_up_to-all f step n high covers = grind (arith, sum_same, cases_lt, leb, cond-true, le-leb, cond_both)
-
-sums-skip : (f : ℕ → ℕ) (step n total : ℕ) (needs sums : List ℕ) → f n ≡ 0 → AreSumsBefore f step n needs sums total →
-    AreSumsBefore f step (suc n) needs sums total
-sums-skip f step n total needs sums none s = grind (arith, sum_up_to-skips, sum_below-more)
-
-sums-add : (f : ℕ → ℕ) (step n total : ℕ) (needs sums : List ℕ) → ((i : ℕ) → i < length needs → need_in needs i < rounded_need step n)
-    → AreSumsBefore f step n needs sums total → AreSumsBefore f step (suc n) needs sums (total + f n)
-sums-add f step n total needs sums below s = grind (arith, sum_up_to-keeps, sum_below-more)
 
 -- the total stands after the sums, as the sum up to the last need
 pub sums-pushed : (f : ℕ → ℕ) (step n total : ℕ) (needs sums : List ℕ) → ((k : ℕ) → k < n → 0 < f k → rounded_need step k ≤ last_need needs)
@@ -108,35 +90,21 @@ module _ (counts : List ℕ) (step : ℕ) (is_step : IsStep step) where
   rounded-mono : (m n : ℕ) → m ≤ n → rounded_need step m ≤ rounded_need step n
   rounded-mono m n le = grind arith
 
-  rounded-positive : (n : ℕ) → 0 < rounded_need step n
-  rounded-positive n = grind arith
-
   pub built-none : IsBuilt counts step 0 [] [] [] 0 0
   built-none = grind (arith, sum_below-none, slice_index)
 
   module _ (n total total_bytes : ℕ) (needs counted bytes : List ℕ) where
-    -- needs that cover size n too are those of the sizes up to it
-    needs-kept : (all next : List ℕ) → all ≡ next → (0 < slice_index counts n → rounded_need step n ≤ last_need needs)
-        → AreNeeds counts step n all needs → AreNeeds counts step (suc n) next needs
-    needs-kept all next same here are = grind arith
-
     -- a size that was not counted
     pub built-skip : slice_index counts n ≤ 0 → IsBuilt counts step n needs counted bytes total total_bytes
         → IsBuilt counts step (suc n) needs counted bytes total total_bytes
     built-skip none b =
         let no_count : slice_index counts n ≡ 0 = omega arith in
-        let no_bytes : slice_index counts n * n ≡ 0 = rw no_count (omega arith) in
-        record {
-          needs_are =
-              needs-kept _ _ (sym (cond-false _ _ _ (le-ltb 0 (slice_index counts n) none))) (λ some. absurd (omega arith)) b.needs_are;
-          counted_are = sums-skip (slice_index counts) step n total needs counted no_count b.counted_are;
-          bytes_are = sums-skip (λ k. slice_index counts k * k) step n total_bytes needs bytes no_bytes b.bytes_are;
-        }
+        grind (arith, sum_below-more)
 
     -- a size whose rounded need is the last one already
     pub place-same : last_need needs ≡ rounded_need step n → IsBuilt counts step n needs counted bytes total total_bytes
         → HasPlace counts step n needs counted bytes total total_bytes
-    place-same last b = grind (arith, with_need-in, last-in)
+    place-same last b = grind (arith, with_need-in)
 
     -- a size with a new rounded need
     pub place-new : (last_need needs ≡ rounded_need step n → ⊥) → IsBuilt counts step n needs counted bytes total total_bytes
@@ -166,15 +134,7 @@ module _ (counts : List ℕ) (step : ℕ) (is_step : IsStep step) where
     -- its requests are added to the totals
     pub built-add : 0 < slice_index counts n → HasPlace counts step n needs counted bytes total total_bytes
         → IsBuilt counts step (suc n) needs counted bytes (total + slice_index counts n) (total_bytes + slice_index counts n * n)
-    built-add some b =
-        let below : (i : ℕ) → i < length needs → need_in needs i < rounded_need step n =
-        (λ i lt. omega (arith, b.needs_are.ascending i lt, b.last_is)) in
-        record {
-          needs_are =
-              needs-kept _ _ (sym (cond-true _ _ _ (lt-ltb 0 (slice_index counts n) some))) (λ _. omega (arith, b.last_is)) b.needs_are;
-          counted_are = sums-add (slice_index counts) step n total needs counted below b.counted_are;
-          bytes_are = sums-add (λ k. slice_index counts k * k) step n total_bytes needs bytes below b.bytes_are;
-        }
+    built-add some b = grind (arith, lt-ltb, sum_below-more)
 
 -- ---- all sizes
 

@@ -1,29 +1,18 @@
 -- Rows that are alike from a place on, and from the place before it.
-use Rattle.std.proofs.Common.{◌≡◌, ℕ, suc, ◌+◌, ◌<◌, ◌≤◌, List, inl, inr, arith, sym, ◌∙◌}
-use Rattle.std.proofs.lemmas.{Bool.{cases_lt}, List.{get_or_past}}
+use Rattle.std.proofs.Common.{◌≡◌, ℕ, suc, ◌+◌, ◌<◌, ◌≤◌, List, arith}
+use Rattle.std.proofs.lemmas.{List.{get_or_past}}
 use Rattle.potential_check.specs.Footprints.AlikeRows.{AreAlikeFrom}
 use Rattle.tuner_theory.specs.Rows.{HasShape, number_at}
 
 -- no row has a number past the last place
 pub alike-at_end : (rows : List (List ℕ)) (limit d : ℕ) → HasShape rows limit d → AreAlikeFrom (number_at rows) limit d 1
-alike-at_end rows limit d shape = record { some = omega arith; each = λ k j from lt past. none (suc k) j past ∙ sym (none k j past) }
-  where
-    none : (k j : ℕ) → d ≤ j → number_at rows k j ≡ 0
-    none k j past = grind (arith, cases_lt, get_or_past)
+alike-at_end rows limit d shape = grind (arith, get_or_past)
 
 pub alike-more : (rows rows' : ℕ → ℕ → ℕ) (limit place old new : ℕ) → old ≤ new
     → ((k j : ℕ) → (j ≡ place → ⊥) → rows' k j ≡ rows k j)
     → ((k : ℕ) → new ≤ k → k < limit → rows' (suc k) place ≡ rows' k place)
     → AreAlikeFrom rows limit (place + 1) old → AreAlikeFrom rows' limit place new
-alike-more rows rows' limit place old new le kept here are = record { some = omega (arith, are.some); each = each }
-  where
-    each : (k j : ℕ) → new ≤ k → k < limit → place ≤ j → rows' (suc k) j ≡ rows' k j
-    each k j from lt past =
-        elim (cases_lt place j) [
-          | inl after ↦ (let other : j ≡ place → ⊥ = (λ e. omega (arith, e)) in
-              kept (suc k) j other ∙ (are.each k j (omega arith) lt (omega arith) ∙ sym (kept k j other)))
-          | inr not ↦ (let same : j ≡ place = omega arith in rw same (here k from lt))
-        ]
+alike-more rows rows' limit place old new le kept here are = grind arith
 
 -- past the last row there is none
 pub alike-none : (rows : ℕ → ℕ → ℕ) (limit place : ℕ) → 1 ≤ limit → AreAlikeFrom rows limit place limit

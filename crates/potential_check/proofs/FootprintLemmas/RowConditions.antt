@@ -11,9 +11,6 @@ use Rattle.tuner_theory.specs.{Growing.{IsGrowing}, Rows.{number_at}}
 
 module _ (costs : List ℕ) (rows : List (List ℕ)) (d i k number : ℕ) (before : List ℕ) (one : 1 ≤ k)
     (read : before ≡ slice_index_or rows (k - 1) []) (is : number ≡ number_at rows (k + 1) i) (size : length before ≡ d) where
-  at-before : (j : ℕ) → slice_index before j ≡ number_at rows k j
-  at-before j = ap (λ (row : List ℕ). slice_index row j) read
-
   next : (m : ℕ) → m ≡ k → number_at rows (suc m) i ≡ number
   next m e = let same : suc m ≡ k + 1 = omega (arith, e) in ap (λ n. number_at rows n i) same ∙ sym is
 
@@ -27,15 +24,7 @@ module _ (costs : List ℕ) (rows : List (List ℕ)) (d i k number : ℕ) (befor
 pub edges-again : (costs : List ℕ) (rows : List (List ℕ)) (d i k m number above alike : ℕ) (before : List ℕ) → k ≡ suc m → alike < k
     → k < length rows → AreAlikeFrom (number_at rows) (length rows) (i + 1) alike → number ≡ above → above ≡ number_at rows k i
     → before ≡ slice_index_or rows (k - 1) [] → length before ≡ d → EdgesHoldAt costs rows d i k → EdgeHoldsAt costs before number i
-edges-again costs rows d i k m number above alike before is after lt alike_are same of read size held = record {
-  each = λ j past to.
-      let edge = held.each m j (omega (arith, alike_are.some)) (omega arith) past (omega arith) in
-      let both = alike_are.each m j (omega arith) (omega arith) (omega arith) in
-      let here : above ≡ number_at rows (suc m) i = of ∙ ap (λ (n : ℕ). number_at rows n i) is in
-      let there : slice_index before j ≡ number_at rows (suc m) j =
-      ap (λ (row : List ℕ). slice_index row j) read ∙ ap (λ (n : ℕ). number_at rows n j) is in
-      omega (arith, edge, both, here, there);
-}
+edges-again costs rows d i k m number above alike before is after lt alike_are same of read size held = grind arith
 
 -- ---- one place more
 
@@ -52,8 +41,7 @@ edges-place : (cost : ℕ → ℕ → ℕ) (costs : List ℕ) (d i : ℕ) (rows 
 edges-place cost costs d i rows are old new = record {
   each = λ m k j from one few mj le. elim (cases_lt i m) [
     | inl after ↦ old.each m k j (omega arith) one few mj le
-    | inr not ↦ (let here : m ≡ i = omega arith in
-        rw here (omega (arith, new.each k j one few (omega arith) le, are j (omega arith) le)))
+    | inr not ↦ grind arith
   ];
 }
 

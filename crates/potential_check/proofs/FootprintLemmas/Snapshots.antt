@@ -1,12 +1,11 @@
 -- Sums up to places, and the most blocks of intervals.
 use Rattle.std.proofs.Common.{◌≡◌, ℕ, zero, suc, ◌+◌, ◌-◌, ◌*◌, ◌^◌, ◌<◌, ◌≤◌, ◌&&◌, max, List, [], ◌∷◌, length, slice_index}
-use Rattle.std.proofs.{Common.{slice_index_or, slice_set, cond, ltb, leb, ap, ◌∙◌, arith, refl, take}, lemmas.Bool.{cases_lt}}
+use Rattle.std.proofs.{Common.{slice_index_or, slice_set, cond, ltb, leb, arith, refl, take}, lemmas.Bool.{cases_lt}}
 use Rattle.std.proofs.lemmas.{Bool.Decides.{nat_tests}, Grind.{common_steps}, List.{get_or-set_other, get_or-set_same, length-set}}
-use Rattle.class_table.specs.declared.sizes.TheConstants.{MOST_NEEDS}
 use Rattle.potential_check.specs.Footprints.SnapshotSums.{AreMostBlocks, AreMostIn, AreScaled, AreSumsAt, AreWritten, HoldsSnapshots}
 use Rattle.potential_check.specs.Footprints.SnapshotSums.{IsRaised, IsRaisedBy, raised_to}
 use Rattle.tuner_theory.{proofs.FootprintLawLemmas.{span_footprints_fit}, proofs.Sums.{sum_split}, specs.Growing.{IsGrowing}}
-use Rattle.tuner_theory.{proofs.LawLemmas.{few_places, places_ascend, span_footprints_grow, step-positive}, specs.Histories.{most}}
+use Rattle.tuner_theory.{proofs.LawLemmas.{places_ascend, span_footprints_grow, step-positive}, specs.Histories.{most}}
 use Rattle.tuner_theory.specs.{Footprint.{blocks_between, footprint_between}, Intervals.{span_cost}}
 use Rattle.tuner_theory.specs.Spans.{counted_up_to, need_at, places, rounded_need}
 
@@ -57,10 +56,7 @@ raised-more rows i start j x old numbers from within value raised = grind (arith
 -- a number that is raised further
 raised-max : (rows : List (List ℕ)) (i j x y : ℕ) → raised_to rows i j (max x y) ≡ max (raised_to rows i j x) y
 raised-max [] i j x y = refl
-raised-max (row ∷ rows) i j x y =
-    let grown = slice_index row j - slice_index row i in
-    let order : max (max x y) grown ≡ max (max x grown) y = omega arith in
-    rw order (raised-max rows i j (max x grown) y)
+raised-max (row ∷ rows) i j x y = grind (arith, raised-max rows i j)
 
 -- Rows of sums, from that of snapshot t on.
 abbrev pub AreRowsFrom : List (List ℕ) → ℕ → List (List ℕ) → Type 0
@@ -80,9 +76,6 @@ module _ (snapshots : List (List ℕ)) (counts : List ℕ) (step : ℕ) (sums : 
 
   pub spans-grow : IsGrowing (span_cost (footprint_between snapshots step) counts step) (places counts step)
   spans-grow = span_footprints_grow snapshots counts step holds.is_step holds.are holds.covers
-
-  pub places-fit : places counts step ≤ MOST_NEEDS
-  places-fit = few_places counts step holds.is_step holds.are_counts
 
   needs-up : (i j : ℕ) → i < j → j ≤ places counts step → need_at counts step i ≤ need_at counts step j
   needs-up i j lt le = omega (arith, places_ascend counts step (step-positive step holds.is_step) i j lt le)
@@ -112,13 +105,7 @@ module _ (snapshots : List (List ℕ)) (counts : List ℕ) (step : ℕ) (sums : 
       → raised_to rows i j (most (blocks_between step (need_at counts step i) (need_at counts step j)) (take t snapshots))
       ≡ most (blocks_between step (need_at counts step i) (need_at counts step j)) (take (t + length rows) snapshots)
   most-raised_by i j after le [] t fit are = let none : t + 0 ≡ t = omega arith in rw none refl
-  most-raised_by i j after le (row ∷ rows) t fit are =
-      let f = blocks_between step (need_at counts step i) (need_at counts step j) in
-      let here = grown i t row (omega arith) are.0 j after le in
-      let next = most-next f snapshots t (omega arith) in
-      let sum : t + suc (length rows) ≡ t + 1 + length rows = omega arith in
-      let rest = most-raised_by i j after le rows (t + 1) (omega arith) are.1 in
-      rw (here, ← next, sum) rest
+  most-raised_by i j after le (row ∷ rows) t fit are = grind (arith, most-raised_by i j after le rows (t + 1) (omega arith) are.1, grown, most-next)
 
   -- where the first of them were taken before
   most-again : (i j : ℕ) → i < j → j ≤ places counts step → (rows : List (List ℕ)) (t done : ℕ) → t + length rows ≤ length snapshots
@@ -130,9 +117,7 @@ module _ (snapshots : List (List ℕ)) (counts : List ℕ) (step : ℕ) (sums : 
       let before = most f (take t snapshots) in
       let so_far = most f (take done snapshots) in
       let more : so_far ≡ max before so_far = omega (arith, most-up f snapshots t done from) in
-      ap (raised_to rows i j) more
-      ∙ (raised-max rows i j before so_far
-      ∙ omega (arith, most-raised_by i j after le rows t fit are, most-up f snapshots done (t + length rows) to))
+      grind (arith, raised-max, most-raised_by, most-up)
 
   pub most-raised_in : (i start stop t done : ℕ) (rows : List (List ℕ)) (old new : List ℕ) → i < start → stop ≤ places counts step + 1
       → t + length rows ≤ length snapshots → AreRowsFrom sums t rows → t ≤ done → done ≤ t + length rows
@@ -153,11 +138,6 @@ module _ (snapshots : List (List ℕ)) (counts : List ℕ) (step : ℕ) (sums : 
   pub most-all : (i t : ℕ) (numbers : List ℕ) → t ≡ length snapshots → AreMostBlocks snapshots counts step i t numbers
       → AreScaled snapshots counts step i (i + 1) numbers
   most-all i t numbers all are = grind (arith, take-all)
-
-  -- what the spans take
-  pub written-all : (i stop : ℕ) (numbers : List ℕ) → AreWritten snapshots counts step i stop numbers → places counts step < stop
-      → (j : ℕ) → i < j → j ≤ places counts step → slice_index numbers j ≡ span_cost (footprint_between snapshots step) counts step i j
-  written-all i stop numbers are all j ij le = grind arith
 
   pub scaled-written : (i stop : ℕ) (numbers : List ℕ) → AreScaled snapshots counts step i stop numbers
       → AreWritten snapshots counts step i stop numbers

@@ -1,6 +1,6 @@
 -- Sums of a snapshot up to a need, by the sizes that a class serves.
 use Rattle.std.proofs.Common.{◌≡◌, ℕ, zero, suc, ◌+◌, ◌-◌, ◌*◌, ◌%◌, ◌<◌, ◌≤◌, ◌⊎◌, ◌++◌, List, [], ◌∷◌, length, length-append, slice_index}
-use Rattle.std.proofs.{Common.{slice_index_or, refl, sym, ◌∙◌, arith, inl, inr, Vec}, Math.Seq.{get_or-append_seam}}
+use Rattle.std.proofs.{Common.{slice_index_or, refl, arith, Vec}, Math.Seq.{get_or-append_seam}}
 use Rattle.std.proofs.lemmas.{Bool.{cases_lt, cond-true, cond-false, le-leb, lt-leb}, List.{get_or_append_left, map-append}}
 use Rattle.std.specs.declared.alloc.Global.{Global}
 use Rattle.class_table.specs.{Sizes.{largest_counted}, Steps.{IsStep}}
@@ -27,11 +27,7 @@ counted-cut counts step pos need class le = grind (arith, sum-cut, slice_index, 
 
 pub sum-grows : (f : ℕ → ℕ) (from end : ℕ) → from ≤ end → sum_below f from ≤ sum_below f end
 sum-grows f from zero le = let same : from ≡ 0 = omega arith in rw same (omega arith)
-sum-grows f from (suc end) le = go (cases_lt end from) (sum-grows f from end)
-  where
-    go : ((end < from) ⊎ (from ≤ end)) → (from ≤ end → sum_below f from ≤ sum_below f end) → sum_below f from ≤ sum_below f (suc end)
-    go (inl past) before = let same : from ≡ suc end = omega arith in rw same (omega arith)
-    go (inr within) before = omega (arith, sum_below-more f end, before within)
+sum-grows f from (suc end) le = grind (arith, sum-grows f from end, sum_below-more)
 
 pub sum-small : (column : List ℕ) (m : ℕ) → ((k : ℕ) → slice_index column k ≤ greatest_count) → m ≤ largest_counted + 1
     → sum_below (slice_index column) m ≤ (largest_counted + 1) * greatest_count
@@ -55,26 +51,8 @@ sums-more column cuts p total sums before is = grind (arith, length-append, get_
 -- ---- cuts
 
 module _ (sizes counts : List ℕ) (step : ℕ) (cuts : List ℕ) (pos : 0 < step) (are : AreCuts sizes counts step cuts) where
-  needs-up : (p q : ℕ) → p < q → q < places counts step → need_at counts step (p + 1) ≤ need_at counts step (q + 1)
-  needs-up p q lt within = omega (arith, places_ascend counts step pos (p + 1) (q + 1) (omega arith) (omega arith))
-
   pub cuts-ascend : (p q : ℕ) → p ≤ q → q < length cuts → slice_index cuts p ≤ slice_index cuts q
-  cuts-ascend p q le within = go (cases_lt p q) (cases_lt (slice_index cuts q) (slice_index cuts p))
-    where
-      go : ((p < q) ⊎ (q ≤ p)) → ((slice_index cuts q < slice_index cuts p) ⊎ (slice_index cuts p ≤ slice_index cuts q))
-          → slice_index cuts p ≤ slice_index cuts q
-      go (inr past) order = let same : p ≡ q = omega arith in rw same (omega arith)
-      go (inl lt) (inr fine) = fine
-      go (inl lt) (inl wrong) =
-          let first = are.each p (omega (arith, are.size, within)) in
-          let second = are.each q (omega (arith, are.size, within)) in
-          let k = slice_index cuts q in
-          absurd (omega (
-            arith,
-            first.below k wrong,
-            second.above k (omega arith) (omega (arith, wrong, first.within)),
-            needs-up p q lt (omega (arith, are.size, within)),
-          ))
+  cuts-ascend p q le within = grind (arith, places_ascend)
 
 -- The sums of a column are those of its snapshot.
 module _ (snapshot sizes column counts cuts sums : List ℕ) (step : ℕ) (is_step : IsStep step) (are_counts : AreCounts counts)
@@ -84,12 +62,7 @@ module _ (snapshot sizes column counts cuts sums : List ℕ) (step : ℕ) (is_st
   at zero le = grind (arith, counted-cut, step-positive, sum_below-none)
   at (suc p) le =
       let place : p + 1 ≡ suc p = omega arith in
-      let need = need_at counts step (p + 1) in
-      let class = place_is_class counts step (p + 1) is_step (omega (arith, are_counts.sizes)) (omega arith) (omega arith) in
-      let cut = counted-cut snapshot step (step-positive step is_step) need (inr (class.0.0, class.1))
-      (omega (arith, class.0.1, are.sizes)) in
-      let lines = sum-lines snapshot sizes column sizes_are counted (16 * need - 15) (slice_index cuts p) (cuts_are.each p (omega arith)) in
-      rw (← place) (sums_are.each p (omega (arith, cuts_are.size)) ∙ sym (cut ∙ lines))
+      grind (arith, place_is_class, counted-cut, sum-lines)
 
   pub column-sums : AreSumsUpTo (counted_up_to snapshot step) counts step sums
   column-sums = record { size = omega (arith, sums_are.size, cuts_are.size); sums_are = at }

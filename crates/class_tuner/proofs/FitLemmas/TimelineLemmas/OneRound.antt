@@ -1,25 +1,18 @@
 -- The rounds of a timeline are determined, and so is what is found in them.
-use Rattle.std.proofs.Common.{◌≡◌, ◌⊎◌, ℕ, zero, suc, ◌+◌, ◌≤◌, Bool, List, [], ◌∷◌, length, slice_index, arith, ap, sym, subst, inl, inr}
+use Rattle.std.proofs.Common.{◌≡◌, ◌⊎◌, ℕ, zero, suc, ◌+◌, ◌≤◌, Bool, List, length, arith, ap, sym, subst, inl, inr}
 use Rattle.std.proofs.{Common.{◌∙◌}, lemmas.Bool.{cases_lt}, lemmas.List.{ext_get_or}}
 use Rattle.class_table.specs.Sizes.{largest_counted}
 use Rattle.class_tuner.{proofs.FitLemmas.TimelineLemmas.Unions.{one-union}, proofs.OneSheet.{one_fit}, specs.Fits.Fitted.{IsFitOf}}
 use Rattle.class_tuner.specs.Fits.Timelines.Found.{IsBetween, IsLeastFit}
 use Rattle.class_tuner.specs.Fits.Timelines.Rounds.{IsRound, moments_left, AreNextMoments, AreRoundMoments, IsDecisive, IsGreatestOfRounds}
 use Rattle.class_tuner.specs.Fits.Timelines.Rounds.{IsLeastOfRounds}
-use Rattle.history_count.specs.Timelines.{LiveBlocks.{AreFirsts, IsFirst}, Requests.{IsFirstLive, IsLargest}}
+use Rattle.history_count.specs.Timelines.{LiveBlocks.{AreFirsts}, Requests.{IsFirstLive, IsLargest}}
 use Rattle.tuner_theory.specs.{Sheets.{Sheet}, Timelines.{footprint_over, history_at, requested}, declared.size_event.SizeEvent.{SizeEvent}}
 
 -- ---- the decisive moment
 
 one-first_live : (events : List SizeEvent) (size a b : ℕ) → IsFirstLive events size a → IsFirstLive events size b → a ≡ b
-one-first_live events size a b of_a of_b =
-    elim (cases_lt a b) [
-      | inl lt ↦ absurd (omega (arith, of_b.before a lt, of_a.live))
-      | inr le ↦ elim (cases_lt b a) [
-        | inl less ↦ absurd (omega (arith, of_a.before b less, of_b.live))
-        | inr ge ↦ omega arith
-      ]
-    ]
+one-first_live events size a b of_a of_b = grind arith
 
 -- no size from `bound` on is requested: then one below it is the largest, or none is
 largest_or_none : (events : List SizeEvent) (bound : ℕ) → bound ≤ largest_counted + 1
@@ -51,22 +44,10 @@ one-decisive events a b of_a of_b =
 
 -- ---- the moments of a round
 
-one-first : (measure : List ℕ → ℕ) (events : List SizeEvent) (moment much a b : ℕ) → IsFirst measure events moment much a
-    → IsFirst measure events moment much b → a ≡ b
-one-first measure events moment much a b of_a of_b =
-    elim (cases_lt a b) [
-      | inl lt ↦ absurd (omega (arith, of_b.before a lt, of_a.there))
-      | inr le ↦ elim (cases_lt b a) [
-        | inl less ↦ absurd (omega (arith, of_a.before b less, of_b.there))
-        | inr ge ↦ omega arith
-      ]
-    ]
-
 one-firsts : (events : List SizeEvent) (classes a b : List ℕ) → AreFirsts events classes a → AreFirsts events classes b → a ≡ b
 one-firsts events classes a b of_a of_b =
     ext_get_or 0 a b (of_a.len ∙ sym of_b.len)
-    (λ j lt. one-first _ events (length events) _ (slice_index a j) (slice_index b j) (of_a.first j (omega (arith, of_a.len)))
-    (of_b.first j (omega (arith, of_a.len))))
+    (grind arith)
 
 one-next : (events : List SizeEvent) (numbers table a b : List ℕ) → AreNextMoments events numbers table a
     → AreNextMoments events numbers table b → a ≡ b
@@ -79,16 +60,13 @@ module _ (events : List SizeEvent) (step limit : ℕ) (forced : Bool) where
   pub one-moments : (earlier : ℕ) (a b : List ℕ) → AreRoundMoments events step limit forced earlier a → AreRoundMoments events step limit forced earlier b
       → a ≡ b
   unfolding AreRoundMoments
-  one-moments zero a b of_a of_b =
-      let same = one-decisive events of_a.0 of_b.0 of_a.1 of_b.1 in
-      of_a.2 ∙ (ap (λ (m : ℕ). m ∷ []) same ∙ sym of_b.2)
+  one-moments zero a b of_a of_b = grind (arith, one-decisive)
   one-moments (suc earlier) a b of_a of_b =
       let before : of_b.0 ≡ of_a.0 = one-moments earlier of_b.0 of_a.0 of_b.2 of_a.2 in
       let fit : of_b.1 ≡ of_a.1 = one_fit (history_at events of_a.0) step limit forced of_b.1 of_a.1
       (subst (λ (ns : List ℕ). IsFitOf (history_at events ns) step limit forced of_b.1) before of_b.3) of_a.3 in
       one-next events of_a.0 of_a.1.table a b of_a.4
-      (subst (λ (f : Sheet). AreNextMoments events of_a.0 f.table b) fit
-      (subst (λ (ns : List ℕ). AreNextMoments events ns of_b.1.table b) before of_b.4))
+      (grind arith)
 
   -- a round has one list of moments, and one fit
   pub one-round : (earlier : ℕ) (numbers others : List ℕ) (fit other : Sheet) → IsRound events step limit forced earlier numbers fit

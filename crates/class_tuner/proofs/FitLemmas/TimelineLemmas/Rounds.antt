@@ -1,7 +1,7 @@
 -- What a round shows, and what is kept of all of them.
 use Rattle.std.proofs.Common.{◌≡◌, ◌≢◌, ◌⊎◌, ◌+◌, ◌*◌, ◌^◌, ◌<◌, ◌≤◌, ℕ, Bool, List, [], ◌∷◌, All, length, max, sym, subst, ◌∙◌, add-one}
 use Rattle.std.proofs.{Common.{arith, refl, inl, inr}, Math.Nat.{mul-le-mul}, lemmas.Bool.{cases_lt}, lemmas.List.{get_or_default}}
-use Rattle.std.{proofs.lemmas.List.Elements.{All-cons, All-nil}, specs.List.{Contains}, specs.List.Sorted.{IsStrictlyIncreasing}}
+use Rattle.std.{specs.List.{Contains}, specs.List.Sorted.{IsStrictlyIncreasing}}
 use Rattle.class_tuner.{proofs.FitLemmas.TimelineLemmas.OneRound.{same-round}, specs.Fits.Fitted.{IsFitOf}}
 use Rattle.class_tuner.specs.{Fits.Timelines.Found.{IsBetween, IsLeastFit}, declared.fits.timelines.round.Round.{Round}}
 use Rattle.class_tuner.specs.Fits.Timelines.Rounds.{IsUnion, moments_left, AreLoose, AreRoundCosts, AreRoundMoments, IsDecisive}
@@ -24,32 +24,12 @@ pub record AreDeciding (events : List SizeEvent) (numbers : List ℕ) (moment : 
 -- further moments are those of the timeline
 pub firsts-within : (events : List SizeEvent) (classes firsts : List ℕ) → AreFirsts events classes firsts
     → All (λ number. number ≤ length events) firsts
-firsts-within events classes firsts are k d lt =
-    omega (arith, (are.first k (omega (arith, are.len))).within, get_or_default firsts k d 0 lt)
-
-pub one-moment : (events : List SizeEvent) (numbers : List ℕ) (moment : ℕ) → moment ≤ length events → numbers ≡ moment ∷ []
-    → AreDeciding events numbers moment
-one-moment events numbers moment within is = rw is (record {
-  are = record {
-    some = omega arith;
-    few = omega arith;
-    within = All-cons (λ number. number ≤ length events) moment [] within (All-nil (λ number. number ≤ length events));
-  };
-  ascending = λ k lt. absurd (omega (arith, lt));
-  kept = (0, omega arith, refl);
-})
-
-some-kept : (numbers : List ℕ) (moment : ℕ) → Contains numbers moment → 1 ≤ length numbers
-some-kept numbers moment kept = omega (arith, kept.1)
+firsts-within events classes firsts are k d lt = grind (arith, get_or_default)
 
 pub more-moments : (events : List SizeEvent) (numbers : List ℕ) (moment : ℕ) → length numbers ≤ MOST_SNAPSHOTS
     → All (λ number. number ≤ length events) numbers → Contains numbers moment → IsStrictlyIncreasing numbers
     → AreDeciding events numbers moment
-more-moments events numbers moment few within kept ascending = record {
-  are = record { some = some-kept numbers moment kept; few = few; within = within };
-  ascending = ascending;
-  kept = kept;
-}
+more-moments events numbers moment few within kept ascending = grind arith
 
 -- What a round over such moments has.
 pub record IsFittedRound (events : List SizeEvent) (numbers : List ℕ) (moment step limit : ℕ) (forced : Bool) (earlier : ℕ) (fit : Sheet) (takes : ℕ) :
@@ -66,8 +46,7 @@ module _ (events : List SizeEvent) (moment step limit : ℕ) (forced : Bool) (ti
   round-serves earlier numbers fit takes round =
       let kept = round.over.kept in
       decides numbers fit.table kept.0 kept.1 (get_or_default numbers kept.0 0 moment kept.1 ∙ kept.2)
-      (λ n counted. round.round.fitted.made.canonical.best.candidate.serving n
-      (counted-served forced (peaks (history_at events numbers)) n counted))
+      (grind (arith, counted-served))
 
   round-candidate : (earlier : ℕ) (numbers : List ℕ) (fit : Sheet) (takes : ℕ)
       → IsFittedRound events numbers moment step limit forced earlier fit takes
@@ -82,13 +61,7 @@ module _ (events : List SizeEvent) (moment step limit : ℕ) (forced : Bool) (ti
   round-bounds : (earlier : ℕ) (numbers : List ℕ) (fit : Sheet) (takes : ℕ)
       → IsFittedRound events numbers moment step limit forced earlier fit takes
       → (other : List ℕ) → IsCandidate (served forced (peaks (moments events))) step limit other → fit.cost ≤ footprint_over events other
-  round-bounds earlier numbers fit takes round other candidate =
-      let made = round.round.fitted.made in
-      let sizes = served forced (peaks (moments events)) in
-      let of_step = subst (λ (s : ℕ). IsCandidate sizes s limit other) (sym made.for_step) candidate in
-      let of_limit = subst (λ (l : ℕ). IsCandidate sizes fit.step l other) (sym made.for_limit) of_step in
-      fit_bounds_timeline events numbers fit other timeline round.over.are round.legal (rw made.for_forced made.optimal)
-      (rw made.for_forced of_limit)
+  round-bounds earlier numbers fit takes round other candidate = grind (arith, fit_bounds_timeline)
 
   -- a round whose table takes no more over the whole timeline
   pub round-least : (earlier : ℕ) (numbers : List ℕ) (fit : Sheet) (takes : ℕ)
@@ -132,13 +105,7 @@ module _ (events : List SizeEvent) (moment step limit : ℕ) (forced : Bool) (ti
         fit,
         round.moments,
         round.fitted,
-        record {
-          decisive = moment;
-          decides = decisive;
-          firsts = firsts;
-          are_firsts = are;
-          union = union;
-        },
+        grind arith,
       )
 
   -- what holds of the fits of so many rounds holds of one more
@@ -268,11 +235,7 @@ module _ (events : List SizeEvent) (moment step limit : ℕ) (forced : Bool) (ti
 -- a fit asks for at most so many
 pub few-costs : (snapshots : List (List ℕ)) (step limit : ℕ) (forced : Bool) (fit : Sheet) → IsFitOf snapshots step limit forced fit
     → span_count (places (served forced (peaks snapshots)) step) ≤ span_count MOST_NEEDS
-few-costs snapshots step limit forced fit fitted =
-    let d : ℕ = places (served forced (peaks snapshots)) step in
-    let few : d ≤ MOST_NEEDS = few_places (served forced (peaks snapshots)) step fitted.made.least.is_step fitted.made.least.are_counts in
-    let product : d * (d + 1) ≤ 1023 * 1024 = mul-le-mul {n₁ = d} {m₁ = d + 1} {n₂ = 1023} {m₂ = 1024} (omega arith) (omega arith) in
-    omega (arith, product)
+few-costs snapshots step limit forced fit fitted = grind (arith, few_places, mul-le-mul)
 
 module _ (events : List SizeEvent) (step limit : ℕ) (forced : Bool) where
   costs-first : (numbers : List ℕ) (costs : ℕ) → AreRoundMoments events step limit forced 0 numbers
@@ -321,10 +284,7 @@ pub record AreSoFar (events : List SizeEvent) (moment step limit : ℕ) (forced 
 module _ (events : List SizeEvent) (moment step limit : ℕ) (forced : Bool) (set : IsSetting events moment) where
   pub ready-first : (numbers : List ℕ) → numbers ≡ moment ∷ [] → AreReady events moment step limit forced 0 numbers
   unfolding AreRoundMoments
-  ready-first numbers is = record {
-    over = one-moment events numbers moment set.within is;
-    round_moments = (moment, set.decisive, is);
-  }
+  ready-first numbers is = grind arith
 
   module _ (earlier : ℕ) (numbers : List ℕ) (round : Round) (ready : AreReady events moment step limit forced earlier numbers)
       (made : IsMade events step limit forced numbers round) where
@@ -382,8 +342,7 @@ module _ (events : List SizeEvent) (moment step limit : ℕ) (forced : Bool) (se
       (made : IsMade events step limit forced numbers round) where
     more-costs : AreFewCosts events step limit forced (count + 1) (evaluations + round.evaluations)
     more-costs = record {
-      exact = costs-more events step limit forced count numbers evaluations round.evaluations before.costs.exact before.ready.round_moments
-          made.exact;
+      exact = grind (arith, costs-more);
       few = omega (arith, before.costs.few, its-costs count numbers round before.ready made);
     }
 

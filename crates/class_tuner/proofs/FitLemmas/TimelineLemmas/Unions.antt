@@ -1,5 +1,5 @@
 -- Unions of ascending lists.
-use Rattle.std.proofs.Common.{◌≡◌, ◌⊎◌, ℕ, zero, suc, ◌+◌, ◌<◌, ◌≤◌, List, [], ◌∷◌, length, slice_index, get_or, arith, ap, refl, subst}
+use Rattle.std.proofs.Common.{◌≡◌, ◌⊎◌, ℕ, suc, ◌+◌, ◌<◌, ◌≤◌, List, [], ◌∷◌, length, slice_index, get_or, arith, ap, refl, subst}
 use Rattle.std.proofs.{Common.{inl, inr, ◌∙◌}, lemmas.Bool.{cases_lt}, lemmas.List.{get_or_default}, lemmas.List.Elements.{Contains-get_or}}
 use Rattle.std.proofs.lemmas.List.{Kept.{AllPairs-from_increasing}, Sorted.{Contains-permutation, IsPermutation-insert, IsPermutation-sym}}
 use Rattle.std.specs.{List.{Contains, insert}, List.Sorted.{IsStrictlyIncreasing}}
@@ -7,8 +7,7 @@ use Rattle.class_tuner.specs.Fits.Timelines.Rounds.{IsUnion}
 
 -- one of a list is its head, or in the rest
 head_or_rest : (x : ℕ) (xs : List ℕ) (n k : ℕ) → k < length (x ∷ xs) → get_or (x ∷ xs) k n ≡ n → (x ≡ n) ⊎ Contains xs n
-head_or_rest x xs n zero lt is = inl is
-head_or_rest x xs n (suc k) lt is = inr (k, omega arith, is)
+head_or_rest x xs n k lt is = grind arith
 
 in_rest : (x : ℕ) (xs : List ℕ) (n : ℕ) → Contains xs n → Contains (x ∷ xs) n
 in_rest x xs n has = (suc has.0, omega (arith, has.1), has.2)

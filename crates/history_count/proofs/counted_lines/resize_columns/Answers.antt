@@ -5,9 +5,6 @@ use Rattle.tuner_theory.{proofs.Lists.{lists-length}, specs.Lists.{lists_of}}
 use Rattle.history_count.{proofs.WideColumns.{first-set}, specs.CountedLines.{first_counts}}
 use Rattle.history_count.proofs.counted_lines.resize_columns.Goals as goal
 
-resized : List ℕ → ℕ → List ℕ
-resized column room = take room column ++ replicate (room - length column) 0
-
 resized-length : (column : List ℕ) (room : ℕ) → length (take room column ++ replicate (room - length column) 0) ≡ room
 resized-length column room = grind (arith, common_steps)
 

@@ -1,6 +1,6 @@
 -- The numbers that the words of a line name.
-use Rattle.std.proofs.Common.{◌≡◌, ℕ, ◌+◌, ◌≤◌, ◌<◌, Bool, List, [], ◌∷◌, ◌++◌, length, Option, Some, None, option_map, refl, sym, ap}
-use Rattle.std.proofs.{Common.{arith, add-one, append_assoc, append-nil, length-append}, lemmas.Bool.{le-leb, lt-leb}}
+use Rattle.std.proofs.Common.{◌≡◌, ℕ, ◌+◌, ◌≤◌, ◌<◌, List, [], ◌∷◌, ◌++◌, length, Some, None, option_map}
+use Rattle.std.proofs.{Common.{arith, append_assoc, append-nil, length-append}, lemmas.Bool.{le-leb, lt-leb}}
 use Rattle.line_text.specs.Numbers.{number_of}
 use Rattle.tuner_theory.specs.declared.most_snapshots.TheConstants.{MOST_SNAPSHOTS}
 use Rattle.potential_check.specs.Footprints.Timelines.MomentsLine.{moment_of, moments_from, moments_of_words}
@@ -10,32 +10,19 @@ pub record ReadSoFar (all rest : List (List ℕ)) (next : ℕ) (numbers : List �
   pub read : moments_from 0 all ≡ option_map (λ ns. numbers ++ ns) (moments_from next rest)
   pub size : length all ≡ length numbers + length rest
 
-same_option : (o : Option (List ℕ)) → o ≡ option_map (λ (ns : List ℕ). [] ++ ns) o
-same_option None = refl
-same_option (Some ns) = refl
-
 pub read-none : (all : List (List ℕ)) → ReadSoFar all all 0 []
-read-none all = record { read = same_option (moments_from 0 all); size = omega arith }
-
-one_more : (numbers : List ℕ) (n : ℕ) (o : Option (List ℕ))
-    → option_map (λ (ns : List ℕ). numbers ++ ns) (option_map (λ (ns : List ℕ). n ∷ ns) o)
-    ≡ option_map (λ (ns : List ℕ). (numbers ++ n ∷ []) ++ ns) o
-one_more numbers n None = refl
-one_more numbers n (Some ns) = ap (λ (l : List ℕ). Some l) (sym (append_assoc numbers (n ∷ []) ns))
+read-none all = grind arith
 
 pub read-more : (all rest new : List (List ℕ)) (next : ℕ) (numbers word : List ℕ) (n : ℕ) → ReadSoFar all rest next numbers
     → rest ≡ word ∷ new → Some n ≡ moment_of next (number_of word) → ReadSoFar all new (n + 1) (numbers ++ n ∷ [])
 unfolding moments_from
-read-more all rest new next numbers word n so_far parts is = grind (arith, add-one, one_more, length-append)
-
-none_of_words : (all : List (List ℕ)) (wrong : Bool) → moments_from 0 all ≡ None → moments_of_words all ≡ None
-none_of_words all wrong none = grind arith
+read-more all rest new next numbers word n so_far parts is = grind (arith, append_assoc, length-append)
 
 -- a word that names no number
 pub read-faulty : (all rest new : List (List ℕ)) (next : ℕ) (numbers word : List ℕ) → ReadSoFar all rest next numbers
     → rest ≡ word ∷ new → None ≡ moment_of next (number_of word) → moments_of_words all ≡ None
 unfolding moments_from
-read-faulty all rest new next numbers word so_far parts is = grind (arith, none_of_words)
+read-faulty all rest new next numbers word so_far parts is = grind arith
 
 -- too many words
 pub read-long : (all rest new : List (List ℕ)) (next : ℕ) (numbers word : List ℕ) → ReadSoFar all rest next numbers
