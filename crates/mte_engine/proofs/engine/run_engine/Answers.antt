@@ -1,4 +1,4 @@
-use Rattle.std.proofs.{Common.{rules, ◌≡◌, ℕ, ◌≤◌, false, ltb, List, ◌++◌, length, Result, Ok, Err, arith, subst}, lemmas.Bool.{le-ltb}}
+use Rattle.std.proofs.{Common.{rules, ◌≡◌, ℕ, ◌≤◌, List, ◌++◌, length, Result, Ok, Err, arith, subst}}
 use Rattle.std.proofs.lemmas.Result.{err_from_is_err_and}
 use Rattle.byte_streams.specs.{Streams.{SinkState, SourceState}, Transfer.{HasEnded, HasGiven, HasTaken, most_input}}
 use Rattle.mte_engine.specs.{Outcome.{Answer, AnswersGiven, Reports}, declared.engine.Status.{Status}}
@@ -11,9 +11,7 @@ use Rattle.mte_engine.proofs.engine.run_engine.Goals as goal
 answers_given : (answers : List ℕ → Result Answer InputFault → Type 0) (source source' : SourceState) (input : List ℕ)
     (answer : Result Answer InputFault) → HasGiven source source' input → length input ≤ most_input → HasEnded source' → answers input answer
     → AnswersGiven answers source source' answer
-answers_given answers source source' input answer gave short ended given =
-    let fits : ltb most_input (length input) ≡ false = le-ltb most_input (length input) (omega arith) in
-    (input, gave, rw fits given, λ _. ended)
+answers_given answers source source' input answer gave short ended given = grind arith
 
 -- a write failed: the sink took a prefix of the text of the answer
 write_failed : (answers : List ℕ → Result Answer InputFault → Type 0) (source source' : SourceState) {W : Type 0} (state : W → SinkState)

@@ -1,4 +1,4 @@
-use Rattle.std.proofs.Common.{◌≡◌, ◌+◌, ◌∙◌, ap, refl, drop, length-drop, take, arith}
+use Rattle.std.proofs.Common.{◌≡◌, ◌+◌, ◌∙◌, ap, length-drop, arith}
 use Rattle.trace_event.specs.declared.event.Event.{Event}
 use Rattle.replay_core.specs.ReplayState.{Stored, stored_after}
 use Rattle.mte_engine.proofs.{InFront.{in_front}, Reporting.{events_after, reported_more}}
@@ -13,13 +13,4 @@ lines-preserved c =
     let events = c.args.events.now in
     let k = c.lines.done in
     let more = one_more c.lines.replay c.step_at-end.new.self _ c.step_at-end.ensures.stored in
-    record {
-      report =
-          reported_more (take c.lines.end c.lines.text) (take c.step_at-end.result c.step_at-end.new.text) _ c.lines.replay c.step_at-end.new.self
-          (drop k events) (drop (k + 1) events) _ (in_front events k _ c.at-event.ensures) refl c.step_at-end.ensures.stored
-          c.step_at-end.ensures.line
-          ∙ inv.report;
-      few = omega (arith, inv.few, more, length-drop k events, length-drop (k + 1) events);
-      done = omega arith;
-      room = omega (arith, c.lines-test.true, c.step_at-end.ensures.end);
-    }
+    grind (arith, reported_more, in_front, length-drop)
