@@ -1,7 +1,7 @@
 -- Arrays that are written number by number, and rows in one array.
 use Rattle.std.proofs.Common.{◌≡◌, ℕ, ◌+◌, ◌-◌, ◌*◌, ◌/◌, ◌%◌, ◌<◌, ◌≤◌, List, [], ◌∷◌, ◌++◌, length, get_or, set, take, drop, append_assoc}
-use Rattle.std.proofs.{Common.{arith, refl, sym, slice_get, Some}, lemmas.List.{drop_more, length-take-le, set-append_right, take_more}}
-use Rattle.std.proofs.lemmas.{Nat.{div-mul-add, mod-mul-add}, Option.{get_or_from_slice_get, slice_get_within}}
+use Rattle.std.proofs.{Common.{arith, refl, slice_get, Some}, lemmas.List.{drop_more, length-take-le, set-append_right, take_more}}
+use Rattle.std.proofs.lemmas.{Nat.{div-mul-add}, Option.{get_or_from_slice_get, slice_get_within}}
 use Rattle.tuner_theory.specs.Rows.{HasShape, number_at}
 use Rattle.mte_c.specs.Arrays.Spelled.{AreRows}
 
@@ -15,16 +15,7 @@ one_more xs ys n x room is =
     let none : n - n ≡ 0 = omega arith in
     rw (set-append_right (take n xs) (drop n ys) n n x long (omega arith), none, tail, next, append_assoc) refl
 
-in_range : (k limit i places : ℕ) → k < limit → i < places → k * places + i < limit * places
-in_range k limit i places some within = grind arith
-
 pub rows_laid : (limit places : ℕ) (numbers : List ℕ) (rows : List (List ℕ)) → HasShape rows limit places →
     ((at : ℕ) → at < limit * places → get_or numbers at 0 ≡ number_at rows (at / places + 1) (at % places))
     → AreRows limit places numbers rows
-rows_laid limit places numbers rows shape each = record {
-  shape = shape;
-  each = λ k i some within.
-      let back : k + 1 - 1 ≡ k = omega arith in
-      let at = each (k * places + i) (in_range k limit i places some within) in
-      sym (rw (div-mul-add k places i within, mod-mul-add k places i within, back) at at);
-}
+rows_laid limit places numbers rows shape each = grind (arith, div-mul-add)
