@@ -1,5 +1,5 @@
 -- What the error stream was told.
-use Rattle.std.specs.Prelude.{◌≡◌, ◌⊎◌, ◌+◌, ◌<◌, ℕ, List, ◌++◌, codes}
+use Rattle.std.specs.Prelude.{◌≡◌, ◌⊎◌, ◌<◌, ℕ, List, ◌++◌, codes}
 use Rattle.byte_streams.specs.Streams.{SinkState}
 use Rattle.line_text.specs.Lines.{ended}
 use Rattle.mte_engine.specs.{FaultText.{shown_fault}, declared.fault.ToolFault.{ToolFault}}
