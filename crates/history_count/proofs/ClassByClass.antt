@@ -121,9 +121,6 @@ module _ (sizes : List ℕ) (columns : List (List ℕ)) (table : List ℕ) (size
     order : so_far.from ≤ 16 * class - 15
     order = taken-order (spread sizes columns) table are legal number so_far.from total class so_far.taken within is
 
-    pub by_lines-below : (k : ℕ) → k < line → slice_index sizes k < 16 * class - 15
-    by_lines-below k lt = omega (arith, so_far.cut.below k lt, order)
-
     module _ (next : ℕ) (cut : IsCutAt sizes next (16 * class - 15)) where
       same : most (blocks_from line next) columns ≡ most (blocks_from so_far.from (16 * class - 15)) (spread sizes columns)
       same = most-lines sizes columns line next so_far.from (16 * class - 15) sizes_are long so_far.cut cut
@@ -136,9 +133,6 @@ module _ (sizes : List ℕ) (columns : List (List ℕ)) (table : List ℕ) (size
       by_lines-small bytes blocks few are_most =
           taken-small (spread sizes columns) table are legal number so_far.from total class so_far.taken within is bytes blocks few
           (small blocks are_most)
-
-      pub by_lines-end : 16 * class - 15 ≤ largest_counted + 1
-      by_lines-end = taken-end (spread sizes columns) table are legal number so_far.from total class so_far.taken within is
 
       pub by_lines-more : (bytes blocks : ℕ) → bytes ≡ 16 * class → blocks ≡ most (blocks_from line next) columns
           → TakenByLines sizes columns table (number + 1) next (total + bytes * blocks)

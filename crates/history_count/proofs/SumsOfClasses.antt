@@ -148,11 +148,6 @@ sums-none : (blocks : List ℕ) → sum_of_rows blocks [] ≡ blocks
 sums-none [] = refl
 sums-none (b ∷ bs) = refl
 
-pub sums-length : (blocks counts : List ℕ) → length (sum_of_rows blocks counts) ≡ length blocks
-sums-length [] counts = refl
-sums-length (b ∷ bs) [] = refl
-sums-length (b ∷ bs) (c ∷ cs) = ap suc (sums-length bs cs)
-
 pub sums-before : (blocks counts : List ℕ) (t : ℕ) → length counts ≡ length blocks
     → get_or (sum_of_rows blocks (take t counts)) t 0 ≡ get_or blocks t 0
 sums-before [] counts t wide = refl

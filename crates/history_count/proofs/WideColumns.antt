@@ -79,9 +79,6 @@ first-set n t [] column lt same = refl
 first-set n zero (first ∷ columns) column lt same = ap (λ (l : List ℕ). l ∷ first_counts n columns) same
 first-set n (suc t) (first ∷ columns) column lt same = grind (arith, first-set n t columns column)
 
-pub wide-lines : (n : ℕ) (columns : List (List ℕ)) → HaveRoom n columns → All (λ column. n ≤ length column) columns
-wide-lines n columns are = omega arith
-
 pub wide-next : (n : ℕ) (columns : List (List ℕ)) → HaveRoom (n + 1) columns → All (λ column. n < length column) columns
 wide-next n columns are = omega arith
 

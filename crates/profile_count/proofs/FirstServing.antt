@@ -101,10 +101,6 @@ none_left from n number classes ready all le = grind (arith, no_class, position-
 
 -- ---- the ends of a legal table's classes
 
-pub some_end : (step number : ℕ) (classes : List ℕ) → IsLegalTable step classes → number < length classes
-    → 0 < 16 * get_or classes number 0 - 15
-some_end step number classes legal within = omega (arith, (legal.in_range number 0 within).0)
-
 -- classes ascend, and so do their ends;
 pub ends_ascend : (step number : ℕ) (classes : List ℕ) → IsLegalTable step classes → number + 1 < length classes
     → 16 * get_or classes number 0 - 15 < 16 * get_or classes (number + 1) 0 - 15

@@ -163,6 +163,3 @@ zero-at n i = grind (arith, common_steps)
 pub ready-at_end : (costs : List ℕ) (d limit : ℕ) (rows ends : List (List ℕ)) (memory : Memory) → IsFresh limit d memory
     → AreRowsSoFar d limit rows ends → AreReady costs memory.slack.items d d limit rows ends (lists_of memory.bounds.items)
 ready-at_end costs d limit rows ends memory fresh so_far = grind (arith, length-replicate, zero-at)
-
-pub least-at_end : (cost : ℕ → ℕ → ℕ) (d limit : ℕ) (rows ends : ℕ → ℕ → ℕ) → AreLeastRowsFrom cost d limit d rows ends
-least-at_end cost d limit rows ends = grind arith

@@ -154,10 +154,6 @@ module _ (events : List SizeEvent) (r : Requested) (timeline : IsTimeline events
 
 -- ---- the stretches
 
-pub stretches-none : (events : List SizeEvent) (sizes : List ℕ)
-    → AreStretchesTo events sizes 0 (0 ∷ []) (column_of sizes (snapshot_at events 0) ∷ []) []
-stretches-none events sizes = grind arith
-
 module _ (events : List SizeEvent) (sizes : List ℕ) (from to : ℕ) (starts : List ℕ) (before most : List (List ℕ)) (row : List ℕ)
     (are : AreStretchesTo events sizes from starts before most) (order : from ≤ to) (inside : to ≤ length events)
     (bounds : Bounds events sizes from to row) where

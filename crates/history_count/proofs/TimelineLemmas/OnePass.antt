@@ -88,13 +88,3 @@ module _ (before events : List SizeEvent) (live : List ℕ) (ls now new : List (
         live = tt;
         read = λ more. taken.read more ∙ taken_faulty events now new next.line fault next.parts is more;
       }
-
-  -- any one,
-  pub taken-line : (line : List ℕ) (after : List SizeEvent) (fault : Option TimelineFault) (counts : List ℕ) → now ≡ line ∷ new
-      → AreTaken events after fault counts (line ∷ []) [] → AreTaken before after fault counts ls new
-  taken-line line after fault counts parts one = grind arith
-
-  -- or many.
-  pub taken-then : (after : List SizeEvent) (fault : Option TimelineFault) (counts : List ℕ) → AreTaken events after fault counts now new
-      → AreTaken before after fault counts ls new
-  taken-then after fault counts further = grind arith

@@ -112,10 +112,6 @@ module _ (events : List SizeEvent) (k : ℕ) (timeline : IsTimeline events) (lt 
 
 -- ---- the peak
 
-pub peak-none : (f : List ℕ → ℕ) (events : List SizeEvent) (peak : Peak) → f (snapshot_at events 0) ≡ 0 → peak.first ≡ 0
-    → IsPeakTo f events peak.most 0 peak
-peak-none f events peak none first = omega arith
-
 -- the peak with the moment after one event more
 pub peak-more : (f : List ℕ → ℕ) (events : List SizeEvent) (floor k : ℕ) (peak next : Peak) → IsPeakTo f events floor k peak
     → next.most ≡ max peak.most (f (snapshot_at events (k + 1)))

@@ -13,7 +13,3 @@ pub alike-more : (rows rows' : ℕ → ℕ → ℕ) (limit place old new : ℕ) 
     → ((k : ℕ) → new ≤ k → k < limit → rows' (suc k) place ≡ rows' k place)
     → AreAlikeFrom rows limit (place + 1) old → AreAlikeFrom rows' limit place new
 alike-more rows rows' limit place old new le kept here are = grind arith
-
--- past the last row there is none
-pub alike-none : (rows : ℕ → ℕ → ℕ) (limit place : ℕ) → 1 ≤ limit → AreAlikeFrom rows limit place limit
-alike-none rows limit place some = record { some = some; each = λ k j from lt past. absurd (omega arith) }

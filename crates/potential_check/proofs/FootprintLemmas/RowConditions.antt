@@ -1,9 +1,8 @@
 -- The conditions on rows, one more row and one more place.
 use Rattle.std.proofs.Common.{◌≡◌, ℕ, suc, ◌+◌, ◌-◌, ◌<◌, ◌≤◌, List, [], length, slice_index, slice_index_or, arith, ap, sym, ◌∙◌, ◌↔◌}
 use Rattle.std.proofs.{Common.{IsTrue, inl, inr}, lemmas.Bool.{cases_lt}}
-use Rattle.potential_check.specs.Footprints.AlikeRows.{AreAlikeFrom}
 use Rattle.potential_check.specs.Footprints.RowConditions.{AreBoth, AreRowTests, AreTestsAt, AreTestsFrom, DropsHoldAt, DropsHoldFrom}
-use Rattle.potential_check.specs.Footprints.RowConditions.{EdgeHoldsAt, EdgesHoldAt, EdgesHoldFrom, LastHoldsFrom}
+use Rattle.potential_check.specs.Footprints.RowConditions.{EdgesHoldAt, EdgesHoldFrom, LastHoldsFrom}
 use Rattle.potential_check.specs.declared.measured.RowTests.{RowTests}
 use Rattle.tuner_theory.specs.{Growing.{IsGrowing}, Rows.{number_at}}
 
@@ -13,18 +12,6 @@ module _ (costs : List ℕ) (rows : List (List ℕ)) (d i k number : ℕ) (befor
     (read : before ≡ slice_index_or rows (k - 1) []) (is : number ≡ number_at rows (k + 1) i) (size : length before ≡ d) where
   next : (m : ℕ) → m ≡ k → number_at rows (suc m) i ≡ number
   next m e = let same : suc m ≡ k + 1 = omega (arith, e) in ap (λ n. number_at rows n i) same ∙ sym is
-
-  pub edges-more : EdgesHoldAt costs rows d i k → EdgeHoldsAt costs before number i → EdgesHoldAt costs rows d i (k + 1)
-  edges-more old new = grind arith
-
-  pub edges-one : (stop : ℕ) → k < stop → EdgesHoldAt costs rows d i stop → EdgeHoldsAt costs before number i
-  edges-one stop lt all = grind arith
-
--- a row that has the numbers of the row before it has its edges
-pub edges-again : (costs : List ℕ) (rows : List (List ℕ)) (d i k m number above alike : ℕ) (before : List ℕ) → k ≡ suc m → alike < k
-    → k < length rows → AreAlikeFrom (number_at rows) (length rows) (i + 1) alike → number ≡ above → above ≡ number_at rows k i
-    → before ≡ slice_index_or rows (k - 1) [] → length before ≡ d → EdgesHoldAt costs rows d i k → EdgeHoldsAt costs before number i
-edges-again costs rows d i k m number above alike before is after lt alike_are same of read size held = grind arith
 
 -- ---- one place more
 

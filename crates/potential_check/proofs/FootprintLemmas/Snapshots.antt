@@ -139,10 +139,6 @@ module _ (snapshots : List (List ℕ)) (counts : List ℕ) (step : ℕ) (sums : 
       → AreScaled snapshots counts step i (i + 1) numbers
   most-all i t numbers all are = grind (arith, take-all)
 
-  pub scaled-written : (i stop : ℕ) (numbers : List ℕ) → AreScaled snapshots counts step i stop numbers
-      → AreWritten snapshots counts step i stop numbers
-  scaled-written i stop numbers are = record { size = are.size; written = are.scaled }
-
   product-is : (i j w m : ℕ) → i < j → j ≤ places counts step
       → m ≡ most (blocks_between step (need_at counts step i) (need_at counts step j)) snapshots
       → w ≡ m * (16 * need_at counts step j)

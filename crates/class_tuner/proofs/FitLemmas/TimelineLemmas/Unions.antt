@@ -79,9 +79,6 @@ pub record AreAdded (start further : List ℕ) (i : ℕ) (xs : List ℕ) : Type 
   pub left : (n : ℕ) → Contains start n → Contains xs n
   pub added : (k : ℕ) → k < i → Contains xs (slice_index further k)
 
-pub added-none : (start further : List ℕ) → IsStrictlyIncreasing start → AreAdded start further 0 start
-added-none start further up = grind arith
-
 pub added-more : (start further xs more : List ℕ) (i : ℕ) → i < length further → AreAdded start further i xs
     → IsUnion xs (slice_index further i ∷ []) more → AreAdded start further (i + 1) more
 added-more start further xs more i lt before union = record {

@@ -1,7 +1,6 @@
-use Rattle.std.proofs.Common.{[], ◌≡◌, ℕ, ◌+◌, ◌-◌, ◌^◌, add-one, arith, subst, ◌∙◌}
+use Rattle.std.proofs.Common.{◌≡◌, ◌+◌, ◌-◌, ◌^◌, add-one, arith, ◌∙◌}
 use Rattle.class_tuner.proofs.{CallCounts.{calls-more, room-left}, Rows.{filled-first, filled-pushed, filled-small, has-row, row-read}}
 use Rattle.class_tuner.{proofs.SourceChanges.{OnlyCounts-more}, proofs.Tried.{calls-first, calls-pushed}, specs.Filling.{IsFilledWithin}}
-use Rattle.tuner_theory.specs.{Lists.{lists_of}, Rows.{IsFilled, number_at}}
 use Rattle.class_tuner.proofs.filling.fill_rows.Goals as goal
 
 pub next_row-requires-clause-before : goal.next_row-requires-clause-before
@@ -12,8 +11,7 @@ next_row-requires-clause-before g c =
     c.index.ensures c.deref.ensures.value in
     record {
       few = rw c.loop-k.invariant.only_counts.same_places c.requires.places;
-      length = rw (row, c.loop-k.invariant.only_counts.same_places)
-          (f.rows_shape.row_lengths (c.loop-k.k - 1) [] (omega (arith, f.rows_shape.row_count)));
+      length = grind arith;
       small = λ j. rw row (filled-small _ d c.loop-k.k (2 ^ 60) _ _ f
           (λ i lt. g.met.C.CostSource.is_small c.args.costs.now i d lt (omega arith)) c.loop-k.k j (omega arith) (omega arith));
     }
@@ -26,13 +24,10 @@ next_row-requires-clause-room g c =
 
 pub loop-k-init : goal.loop-k-init
 loop-k-init g c = record {
-  filled = rw (c.in_ok-push.ensures.rows, c.in_ok-push.ensures.ends, c.new.ensures.items, c.new-2.ensures.items)
-      (filled-first _ _ _ _ c.in_ok-first.ensures.first.costs_length c.in_ok-first.ensures.first.ends_length
-      c.in_ok-first.ensures.first.costs c.in_ok-first.ensures.first.ends);
+  filled = grind (arith, filled-first);
   bounded = omega (arith, c.first_row.ensures.bounded);
   exact =
-      let one = calls-first (number_at (lists_of c.push.new.self.ends.items)) (g.C.CostSource.place_count c.args.costs.now) in
-      omega (arith, c.in_ok-first.ensures.exact);
+      grind (arith, calls-first);
   only_counts = c.first_row.ensures.only_counts;
 }
 
@@ -67,9 +62,7 @@ loop-k-preserved g c =
 pub returns-clause-filled : goal.returns-clause-filled
 returns-clause-filled g c =
     let all : c.loop-k.k ≡ c.args.limit = omega arith in
-    subst (λ (k : ℕ). IsFilled (g.C.CostSource.cost c.args.costs.now) (g.C.CostSource.place_count c.args.costs.now) k
-    (lists_of c.loop-k.filled.rows.items) (lists_of c.loop-k.filled.ends.items))
-    all c.loop-k.invariant.filled
+    grind arith
 
 pub returns-in_err-next-clause-bounded : goal.returns-in_err-next-clause-bounded
 returns-in_err-next-clause-bounded g c =

@@ -1,4 +1,4 @@
-use Rattle.std.proofs.Common.{◌-◌, ◌∷◌, [], length-append, ℕ, arith, ◌≡◌, suc, ◌<◌, ◌≤◌, List, ◌++◌, ap, sym, ◌∙◌, append_assoc}
+use Rattle.std.proofs.Common.{◌-◌, ◌∷◌, [], ℕ, arith, ◌≡◌, suc, ◌<◌, ◌≤◌, List, ◌++◌, ap, sym, ◌∙◌, append_assoc}
 use Rattle.std.proofs.lemmas.Bool.{cond-true, lt-ltb}
 use Rattle.tuner_theory.specs.{Lists.{lists_of}, Rows.{number_at, table_of_ends}, Spans.{need_at, places}}
 use Rattle.class_tuner.proofs.read_off.classes_of_ends.Goals.{then-place-places, else-place-places}
@@ -34,8 +34,7 @@ loop-done-preserved c =
                 (omega arith) (omega arith) w.end_at-place.ensures w.need.ensures.need c.loop-done.invariant.read);
             within = omega (arith, w.place-is, w.end_at-place.ensures, later.1);
             few =
-                rw (w.classes-is, w.push.ensures.items)
-                (omega (arith, length-append {A = ℕ} c.loop-done.classes.items (w.need.result ∷ []), c.loop-done.invariant.few));
+                grind arith;
           })
       | else-place-places w ↦ record {
         read =

@@ -1,6 +1,4 @@
 use Rattle.std.proofs.Common.{◌+◌, arith}
-use Rattle.tuner_theory.specs.Lists.{lists_of}
-use Rattle.history_count.proofs.WideColumns.{wide-lines}
 use Rattle.history_count.proofs.counted_lines.make_room.Goals as goal
 
 pub returns-clause-room : goal.returns-clause-room
@@ -11,6 +9,4 @@ returns-clause-room c = record {
 }
 
 pub returns-clause-kept : goal.returns-clause-kept
-returns-clause-kept c =
-    c.in_ok-resize_columns.ensures.kept c.args.lines (omega arith)
-    (wide-lines c.args.lines (lists_of c.args.columns.now.items) c.requires.room)
+returns-clause-kept c = grind arith

@@ -1,4 +1,4 @@
-use Rattle.std.proofs.Common.{◌≡◌, ℕ, ◌-◌, ◌<◌, ◌++◌, List, [], length, replicate, slice_index_or, slice_set, sym, ap, ◌∙◌, arith, take, Vec}
+use Rattle.std.proofs.Common.{◌≡◌, ℕ, ◌-◌, ◌<◌, ◌++◌, List, [], length, replicate, slice_index_or, slice_set, arith, take, Vec}
 use Rattle.std.{proofs.lemmas.List.{get_or-map, map-set}, specs.declared.alloc.Global.{Global}}
 use Rattle.tuner_theory.specs.Lists.{lists_of}
 use Rattle.history_count.proofs.counted_lines.resize_column.Goals as goal
@@ -8,13 +8,7 @@ set-column : (columns : List (Vec ℕ Global)) (t room size : ℕ) (old new : Ve
     → old ≡ slice_index_or columns t old → length old.items ≡ size → new.items ≡ take room old.items ++ replicate (room - size) 0
     → lists_of (slice_set columns t new) ≡ slice_set (lists_of columns) t
     (take room (slice_index_or (lists_of columns) t []) ++ replicate (room - length (slice_index_or (lists_of columns) t [])) 0)
-set-column columns t room size old new lt at long is =
-    let column : slice_index_or (lists_of columns) t [] ≡ old.items =
-    get_or-map (λ (v : Vec ℕ Global). v.items) columns t old [] lt ∙ ap (λ (v : Vec ℕ Global). v.items) (sym at) in
-    rw (column, long) (rw (← is) (map-set (λ (v : Vec ℕ Global). v.items) columns t new))
+set-column columns t room size old new lt at long is = grind (arith, get_or-map, map-set)
 
 pub returns : goal.returns
-returns c =
-    let column = c.index_mut.result.now in
-    set-column c.args.columns.now.items c.args.t c.args.room column.len column c.resize.new.self c.requires c.index_mut.ensures.value
-    (omega (arith, column.ok.0)) c.in_ok-resize.ensures.items
+returns c = grind (arith, set-column)

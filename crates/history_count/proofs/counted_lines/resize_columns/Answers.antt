@@ -1,5 +1,5 @@
 use Rattle.std.proofs.Common.{◌≡◌, ℕ, ◌-◌, ◌<◌, ◌≤◌, ◌++◌, List, [], length, replicate, slice_index_or, take}
-use Rattle.std.proofs.{Common.{refl, ap, ◌∙◌, arith, inl, inr}, lemmas.Bool.{cases_lt}}
+use Rattle.std.proofs.{Common.{ap, ◌∙◌, arith, inl, inr}, lemmas.Bool.{cases_lt}}
 use Rattle.std.proofs.lemmas.{Grind.{common_steps}, List.{get_or-set_other, get_or-set_same, length-set}, List.Elements.{All-from_get_or}}
 use Rattle.tuner_theory.{proofs.Lists.{lists-length}, specs.Lists.{lists_of}}
 use Rattle.history_count.{proofs.WideColumns.{first-set}, specs.CountedLines.{first_counts}}
@@ -13,12 +13,7 @@ resized-first : (column : List ℕ) (room n : ℕ) → n ≤ room → n ≤ leng
 resized-first column room n le within = grind (arith, common_steps)
 
 pub loop-t-init : goal.loop-t-init
-loop-t-init c = record {
-  size = refl;
-  wide = λ k lt. absurd (omega arith);
-  others = λ k from. refl;
-  kept = λ n le wide. refl;
-}
+loop-t-init c = grind arith
 
 pub resize_column-requires : goal.resize_column-requires
 resize_column-requires c = omega (arith, c.loop-t.invariant.size)
@@ -48,8 +43,7 @@ loop-t-preserved c =
         | inr not ↦ (let here : k ≡ t = omega arith in
             rw (here, get_or-set_same before t new [] lt) (resized-length column room))
       ];
-      others = λ k from. ap (λ l. slice_index_or l k []) set
-          ∙ (get_or-set_other before t k new [] (λ e. omega (arith, e)) ∙ is.others k (omega arith));
+      others = grind (arith, get_or-set_other);
       kept = λ n le wide. ap (first_counts n) set
           ∙ (first-set n t before new lt (resized-first column room n le
           (rw (is.others t (omega arith)) (wide t [] (omega (arith, lt, lists-length c.loop-t.columns.items, lists-length c.args.columns.now.items, is.size)))))

@@ -1,6 +1,6 @@
 use Rattle.std.proofs.Common.{refl, arith}
 use Rattle.line_text.specs.Numbers.{number_of}
-use Rattle.history_count.proofs.Filling.{fills-few, fills-more, next_word, no_next_word, no_number, none_on, read_number}
+use Rattle.history_count.proofs.Filling.{fills-few, fills-more, next_word, no_next_word, no_number, none_on}
 use Rattle.history_count.proofs.line.fill.Goals as goal
 
 pub returns-in_default : goal.returns-in_default
@@ -15,7 +15,4 @@ returns-in_default-capped c =
     rw (none_on _ _ _ _ next.word c.loop-place.invariant.read next.parts none) refl
 
 pub loop-place-preserved : goal.loop-place-preserved
-loop-place-preserved c =
-    let next = next_word _ _ _ c.in-Some.ensures.number c.in-Some.ensures.taken in
-    let read = read_number (number_of next.word) c.in-Some-capped.number (c.in-Some-capped.ensures (number_of next.word) next.says) in
-    fills-more _ _ _ _ _ next.word read.0 c.in-Some-capped.number c.loop-place.invariant next.parts read.1 read.2 (omega arith)
+loop-place-preserved c = grind (arith, fills-more)

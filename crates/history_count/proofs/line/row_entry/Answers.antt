@@ -1,10 +1,9 @@
-use Rattle.std.proofs.Common.{length, arith}
+use Rattle.std.proofs.Common.{arith}
 use Rattle.history_count.proofs.RowEntries.{row-no_size, row-size}
 use Rattle.history_count.proofs.line.row_entry.Goals as goal
 
 pub returns-then-size-from : goal.returns-then-size-from
-returns-then-size-from c = λ ws row.
-    row-no_size ws (length c.args.counts.now) c.args.next c.args.size c.args.counts.now row (omega arith)
+returns-then-size-from c = grind (arith, row-no_size)
 
 pub returns : goal.returns
 returns c = λ ws row.

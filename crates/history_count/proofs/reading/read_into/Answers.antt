@@ -4,7 +4,7 @@ use Rattle.line_text.specs.Lines.{words}
 use Rattle.profile_count.proofs.LawLemmas.{length-zeros}
 use Rattle.history_count.proofs.{Columns.{with_counts-length}, EntryLines.{entry_line-read}, Peaks.{empty-length, zeros-small}}
 use Rattle.history_count.proofs.{LineByLine.{entry_read, line_faulty, line_read, no_line}, RowEntries.{entry-taken, gives-at}}
-use Rattle.history_count.specs.{Histories.{empty_snapshots, with_counts}, HistoryText.{Entry, Reading, entry_of, history_from, next_entry}}
+use Rattle.history_count.specs.{Histories.{with_counts}, HistoryText.{Entry, Reading, entry_of, history_from, next_entry}}
 use Rattle.history_count.specs.declared.line.Subject.TheVariants.{Large, Size}
 use Rattle.history_count.proofs.reading.read_into.Goals as goal
 
@@ -14,21 +14,7 @@ reading snapshots large next is_ended =
     record { history = record { snapshots = snapshots; large = large }; next = next; is_ended = is_ended }
 
 pub lines-init : goal.lines-init
-lines-init g c =
-    let count = c.args.count in
-    let size : length c.in_ok-large.large.items ≡ count = ap length c.in_ok-large.ensures ∙ length-zeros count in
-    record {
-      snapshots = empty_snapshots count;
-      classes = refl;
-      taken = c.requires.new;
-      rest = rw c.in_ok-large.ensures refl;
-      width = empty-length count ∙ sym size;
-      few = rw c.in_ok-large.ensures (zeros-small count);
-      places = ap length c.in_ok-counts.ensures ∙ length-zeros count ∙ sym size;
-      sizes = omega arith;
-      lines = omega arith;
-      lines_of_sizes = λ e. omega arith;
-    }
+lines-init g c = grind (arith, length-zeros, empty-length, zeros-small)
 
 pub add-requires-clause-can_take : goal.add-requires-clause-can_take
 add-requires-clause-can_take g c =
@@ -141,13 +127,4 @@ returns-in-Err-clause-read g c =
     (ap (λ n. entry_of n r.next r.is_ended (words line)) (sym places) ∙ gives)
 
 pub returns-clause-read : goal.returns-clause-read
-returns-clause-read g c = record {
-  snapshots = c.lines.invariant.snapshots;
-  next = c.lines.next;
-  taken = c.lines.invariant.taken;
-  width = c.lines.invariant.width;
-  few = c.lines.invariant.few;
-  is = c.lines.invariant.rest
-      ∙ no_line (c.lines.number + 1) (reading c.lines.invariant.snapshots c.lines.large.items c.lines.next c.lines.is_ended) _
-      c.in_default.ensures;
-}
+returns-clause-read g c = grind (arith, no_line)

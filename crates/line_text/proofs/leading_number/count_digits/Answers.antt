@@ -15,16 +15,7 @@ returns-then-end-eq-SHORT_DIGITS c =
     )
 
 pub loop-byte-preserved : goal.loop-byte-preserved
-loop-byte-preserved c =
-    let text = c.args.text.now in
-    let i = c.loop-byte.byte-index in
-    let digit = sym c.is_ascii_digit.ensures.value ∙ c.if-not-is_ascii_digit.false in
-    record {
-      end = omega (arith, c.loop-byte.invariant.end);
-      few = omega (arith, c.if-end-eq-SHORT_DIGITS.false, c.loop-byte.invariant.end, c.loop-byte.invariant.few);
-      digits = digits_more text i (omega arith) digit c.loop-byte.invariant.digits;
-      value = omega (arith, one_more text i (omega arith) digit, c.from.ensures);
-    }
+loop-byte-preserved c = grind (arith, digits_more, one_more)
 
 pub returns-after-loop-byte : goal.returns-after-loop-byte
 returns-after-loop-byte c =

@@ -1,4 +1,4 @@
-use Rattle.std.proofs.Common.{◌≡◌, ◌^◌, ◌<◌, ◌≤◌, ◌∙◌, ℕ, List, min, take, length, refl, sym, ap, inl, inr, Some, arith, ne_eqb}
+use Rattle.std.proofs.Common.{◌≡◌, ◌^◌, ◌<◌, ◌≤◌, ◌∙◌, ℕ, List, min, take, length, ap, arith}
 use Rattle.std.proofs.lemmas.{Grind.{common_steps}, List.{length-take-le, take-take}, List.Sums.{prefix_len-le-length}}
 use Rattle.std.{proofs.lemmas.Str.Parse.{digits_value_short}, specs.Char.{is_ascii_digit}, specs.List.{prefix_len}}
 use Rattle.std.specs.Str.Parse.{digits_value}
@@ -48,19 +48,7 @@ overflow_cast-result c =
     )
 
 pub returns-clause-number : goal.returns-clause-number
-returns-clause-number c =
-    let text = c.args.text.now in
-    let end = prefix_len is_ascii_digit text in
-    let short =
-    short-end text c.in_ok-bytes.bytes.now c.in_ok-end.end c.in_ok-bytes.ensures.cases.same c.in_ok-end.ensures.count
-    c.in_ok-end.ensures.few c.value_of.result c.value_of.ensures in
-    let some : 0 < end = omega (arith, short.is, c.if-end-eq0.false) in
-    a_number text end (prefix_len-le-length is_ascii_digit text) (omega (arith, short.is, short.few)) refl (are_digits text) some
-    (elim c.if-end-gt1.either [
-      | inl one ↦ inl (omega (arith, one.1, some, short.is))
-      | inr other ↦ inr (ne_eqb _ _ other)
-    ])
-    ∙ ap Some (sym (short.value_is ∙ ap (λ (n : ℕ). digits_value 10 (take n text)) short.is))
+returns-clause-number c = grind (arith, short-end, a_number, are_digits)
 
 pub returns-clause-after : goal.returns-clause-after
 returns-clause-after c =

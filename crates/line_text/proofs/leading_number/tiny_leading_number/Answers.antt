@@ -1,5 +1,5 @@
-use Rattle.std.proofs.Common.{◌≡◌, ◌+◌, ◌*◌, ◌-◌, ◌<◌, ◌≤◌, ◌∙◌, ◌⊎◌, ℕ, List, Some, true, false, eqb, get_or, length, take}
-use Rattle.std.proofs.Common.{arith, ap, inl, inr, ne_eqb, refl, sym}
+use Rattle.std.proofs.Common.{◌≡◌, ◌+◌, ◌*◌, ◌-◌, ◌<◌, ◌≤◌, ◌⊎◌, ℕ, List, Some, true, false, eqb, get_or, length, take}
+use Rattle.std.proofs.Common.{arith, inr, ne_eqb, refl}
 use Rattle.std.specs.{Char.{is_ascii_digit}, List.{list_all}, Str.Parse.{digits_value}}
 use Rattle.line_text.proofs.{Digits.{digits_more, one_more}, LeadingDigits.{a_number, ends_at}}
 use Rattle.line_text.specs.Numbers.{leading_number_of}
@@ -15,30 +15,20 @@ none-read text = record { digits = refl; value_is = refl }
 
 more-read : (text : List ℕ) (count value more : ℕ) → AreRead text count value → count < length text
     → is_ascii_digit (get_or text count 0) ≡ true → more ≡ value * 10 + (get_or text count 0 - 48) → AreRead text (count + 1) more
-more-read text count value more read inside digit is = record {
-  digits = digits_more text count inside digit read.digits;
-  value_is = omega (arith, one_more text count inside digit, read.value_is, is);
-}
+more-read text count value more read inside digit is = grind (arith, digits_more, one_more)
 
 -- and the byte after them is none
 all-read : (text : List ℕ) (count value : ℕ) → AreRead text count value → 0 < count → count ≤ 19 → count < length text
     → is_ascii_digit (get_or text count 0) ≡ false → (count ≡ 1) ⊎ (eqb (get_or text 0 0) 48 ≡ false)
     → leading_number_of text ≡ Some value
-all-read text count value read some few inside other first =
-    a_number text count (omega arith) few (ends_at text count (omega arith) read.digits (λ _. other)) read.digits some first
-    ∙ ap Some (sym read.value_is)
+all-read text count value read some few inside other first = search (arith, a_number, ends_at)
 
 one : (text : List ℕ) (first : ℕ) → 0 < length text → is_ascii_digit (get_or text 0 0) ≡ true → first ≡ get_or text 0 0 - 48
     → AreRead text 1 first
 one text first inside digit is = more-read text 0 0 first (none-read text) inside digit (omega (arith, is))
 
 pub returns-in_default-clause-number : goal.returns-in_default-clause-number
-returns-in_default-clause-number c =
-    let text = c.args.text.now in
-    let enough : 4 ≤ length text = c.requires in
-    let first = c.in_ok-first.ensures.digit in
-    all-read text 1 c.in_ok-first.first (one text c.in_ok-first.first (omega arith) first.0 first.1) (omega arith) (omega arith)
-    (omega arith) c.in_default.ensures.other (inl refl)
+returns-in_default-clause-number c = grind (arith, all-read, one)
 
 two : (text : List ℕ) (first second both : ℕ) → 4 ≤ length text → is_ascii_digit (get_or text 0 0) ≡ true
     → first ≡ get_or text 0 0 - 48 → is_ascii_digit (get_or text 1 0) ≡ true → second ≡ get_or text 1 0 - 48

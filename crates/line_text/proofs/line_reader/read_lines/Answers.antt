@@ -7,13 +7,7 @@ returns-in-Err g c =
     rw c.loop-read.invariant.rest (stops _ _ _ c.take.new.self _ _ c.in-Err.stop (rw c.in-Err.is at c.in-Some.ensures.line))
 
 pub loop-read-preserved : goal.loop-read-preserved
-loop-read-preserved g c =
-    let line = rw c.in_default-read.is at c.in-Some.ensures.line in
-    let fewer = rw c.in_default-read.is at c.in-Some.ensures.fewer in
-    record {
-      rest = c.loop-read.invariant.rest ∙ goes_on _ _ _ _ _ _ line;
-      few = omega (arith, c.loop-read.invariant.few, fewer);
-    }
+loop-read-preserved g c = grind (arith, goes_on)
 
 pub returns-in-Ok : goal.returns-in-Ok
 returns-in-Ok g c =

@@ -1,4 +1,4 @@
-use Rattle.std.proofs.Common.{◌≡◌, ℕ, ◌-◌, ◌∙◌, get_or, take_all, true, ap, sym, arith, ◌+◌, ◌%◌, ◌^◌, ◌<◌, ◌≤◌, false}
+use Rattle.std.proofs.Common.{◌≡◌, ℕ, ◌-◌, get_or, take_all, true, sym, arith, ◌+◌, ◌%◌, ◌^◌, ◌<◌, false}
 use Rattle.std.specs.Char.{is_ascii_digit}
 use Rattle.line_text.proofs.{Digits.{one_more, digits_more, room_for_one}, LeadingDigits.{ends_at}}
 use Rattle.line_text.proofs.near_digits.last_digits.Goals as goal
@@ -8,9 +8,6 @@ use Rattle.line_text.proofs.near_digits.last_digits.Goals as goal
 -- the distance, which is large for a byte below `0`
 abbrev distance : ℕ → ℕ
 distance byte = (byte + (2 ^ 64 - 48)) % 2 ^ 64
-
-near_digit : (byte : ℕ) → byte < 2 ^ 64 → distance byte ≤ 9 → (is_ascii_digit byte ≡ true) × (distance byte ≡ byte - 48)
-near_digit byte small near = grind arith
 
 far_digit : (byte : ℕ) → byte < 2 ^ 64 → 9 < distance byte → is_ascii_digit byte ≡ false
 far_digit byte small far = grind arith
@@ -30,31 +27,16 @@ record IsNext (byte added : ℕ) : Type 0 where
   pub value : added ≡ byte - 48
 
 next : (c : goal.Else-digit-gt9) → IsNext (get_or c.args.bytes.now c.loop-place.place 0) (distance c.from.result)
-next c =
-    let near = rw c.from-in-loop-place.ensures at c.if-digit-gt9.false in
-    let is = near_digit c.from.result c.from.type_inv near in
-    record { digit = rw c.from.ensures at is.0; value = is.1 ∙ ap (λ byte. byte - 48) c.from.ensures }
+next c = grind arith
 
 pub overflow_mul-value : goal.overflow_mul-value
-overflow_mul-value c =
-    omega (arith, room_for_one c.args.bytes.now c.loop-place.place (omega arith) (omega arith) (next c).digit c.loop-place.invariant.digits)
+overflow_mul-value c = grind (arith, room_for_one)
 
 pub overflow_add-value : goal.overflow_add-value
-overflow_add-value c =
-    rw c.from-in-loop-place.ensures
-    (omega (
-      arith,
-      (next c).value,
-      room_for_one c.args.bytes.now c.loop-place.place (omega arith) (omega arith) (next c).digit c.loop-place.invariant.digits,
-    ))
+overflow_add-value c = grind (arith, room_for_one)
 
 pub loop-place-preserved : goal.loop-place-preserved
-loop-place-preserved c = record {
-  digits = digits_more c.args.bytes.now c.loop-place.place (omega arith) (next c).digit c.loop-place.invariant.digits;
-  value =
-      rw c.from-in-loop-place.ensures
-      (omega (arith, (next c).value, one_more c.args.bytes.now c.loop-place.place (omega arith) (next c).digit));
-}
+loop-place-preserved c = grind (arith, digits_more, one_more)
 
 pub returns : goal.returns
 returns c =

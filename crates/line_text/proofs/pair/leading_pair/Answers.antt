@@ -8,19 +8,13 @@ onto_space : (text tail more : List ℕ) → text ≡ leading_digits text ++ tai
 onto_space text tail more cut space = cut ∙ ap (λ (t : List ℕ). leading_digits text ++ t) space
 
 pub returns-in_err-first-clause-numbers : goal.returns-in_err-first-clause-numbers
-returns-in_err-first-clause-numbers c =
-    ap (option_map (λ found. found.0)) c.from_residual.ensures ∙ sym (no_first c.args.text.now (sym c.in_err-first.ensures.number))
+returns-in_err-first-clause-numbers c = grind (arith, no_first)
 
 pub returns-in_err-after_byte-clause-numbers : goal.returns-in_err-after_byte-clause-numbers
-returns-in_err-after_byte-clause-numbers c =
-    ap (option_map (λ found. found.0)) c.from_residual-in_err-after_byte.ensures
-    ∙ sym (no_space c.args.text.now c.in_ok-first.after_first.now c.in_ok-first.ensures.after c.in_err-after_byte.ensures.other)
+returns-in_err-after_byte-clause-numbers c = grind (arith, no_space)
 
 pub returns-in_err-second-clause-numbers : goal.returns-in_err-second-clause-numbers
-returns-in_err-second-clause-numbers c =
-    ap (option_map (λ found. found.0)) c.from_residual-in_err-second.ensures
-    ∙ sym (no_second c.args.text.now c.in_ok-after_byte.field-0.now
-    (onto_space _ _ _ c.in_ok-first.ensures.after c.in_ok-after_byte.ensures.first) (sym c.in_err-second.ensures.number))
+returns-in_err-second-clause-numbers c = grind (arith, no_second)
 
 pub returns-then-is_empty-clause-numbers : goal.returns-then-is_empty-clause-numbers
 returns-then-is_empty-clause-numbers c =

@@ -7,9 +7,7 @@ nothing [] none = refl
 nothing (b ∷ text) none = absurd (omega (arith, none))
 
 pub returns-then-is_empty-clause-row : goal.returns-then-is_empty-clause-row
-returns-then-is_empty-clause-row c = λ text numbers row.
-    let none = nothing c.args.rest.now (eqb-true (length c.args.rest.now) 0 (sym c.if-is_empty.ensures)) in
-    row-last text c.args.rest.now c.args.first numbers row none
+returns-then-is_empty-clause-row c = grind (arith, nothing, row-last)
 
 pub returns-then-is_empty-clause-after : goal.returns-then-is_empty-clause-after
 returns-then-is_empty-clause-after c = λ text numbers row.

@@ -1,13 +1,10 @@
-use Rattle.std.proofs.Common.{◌<◌, length, take, drop, arith}
+use Rattle.std.proofs.Common.{◌<◌, length, take, arith}
 use Rattle.std.proofs.lemmas.List.{length-set, take_more_set}
 use Rattle.line_text.proofs.FirstRows.{is_put, row-first, row-more}
 use Rattle.line_text.proofs.row.leading_row.Goals as goal
 
 pub loop-place-init : goal.loop-place-init
-loop-place-init c = record {
-  within = omega arith;
-  row = row-first c.args.text.now c.in_ok-first.rest.now c.in_ok-first.first c.in_ok-first.ensures.number c.in_ok-first.ensures.after;
-}
+loop-place-init c = grind (arith, row-first)
 
 pub loop-place-preserved : goal.loop-place-preserved
 loop-place-preserved c =
@@ -15,9 +12,7 @@ loop-place-preserved c =
     let put = is_put _ c.in-Some.number c.in-Some.ensures.number in
     rw (take_more_set c.loop-place.numbers c.loop-place.place c.in-Some.number inside) (record {
       within = omega (arith, inside, length-set c.loop-place.numbers c.loop-place.place c.in-Some.number);
-      row = row-more c.args.text.now c.loop-place.rest.now (drop 1 c.loop-place.rest.now) c.in-Some.after.now c.in_ok-first.first
-          (take c.loop-place.place c.loop-place.numbers) put.n c.in-Some.number c.loop-place.invariant.row
-          c.in-Some.ensures.space put.is c.in-Some.ensures.after put.value;
+      row = grind (arith, row-more);
     })
 
 pub returns-then-place-numbers-clause-after : goal.returns-then-place-numbers-clause-after

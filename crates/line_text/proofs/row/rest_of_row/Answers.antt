@@ -1,4 +1,4 @@
-use Rattle.std.proofs.Common.{◌≡◌, ◌<◌, List, ℕ, length, take, drop, arith}
+use Rattle.std.proofs.Common.{◌≡◌, ◌<◌, List, ℕ, length, take, arith}
 use Rattle.std.proofs.lemmas.{Grind.{common_steps}, List.{take_more_set}}
 use Rattle.line_text.proofs.FirstRows.{is_put, row-more}
 use Rattle.line_text.proofs.row.rest_of_row.Goals as goal
@@ -10,11 +10,7 @@ pub loop-place-preserved : goal.loop-place-preserved
 loop-place-preserved c =
     let inside : c.loop-place.place < length c.loop-place.numbers = omega arith in
     let put = is_put _ c.in_ok-number.number c.in_ok-number.ensures.number in
-    rw (take_more_set c.loop-place.numbers c.loop-place.place c.in_ok-number.number inside) (record {
-      row = λ text row. row-more text c.loop-place.rest.now (drop 1 c.loop-place.rest.now) c.in_ok-number.after.now c.args.first
-          (take c.loop-place.place c.loop-place.numbers) put.n c.in_ok-number.number (c.loop-place.invariant.row text row)
-          c.in_ok-number.ensures.space put.is c.in_ok-number.ensures.after put.value;
-    })
+    grind (arith, take_more_set, row-more)
 
 pub returns-clause-row : goal.returns-clause-row
 returns-clause-row c = λ text row.

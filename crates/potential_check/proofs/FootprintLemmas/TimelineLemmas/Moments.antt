@@ -1,6 +1,6 @@
 -- The numbers that the words of a line name.
 use Rattle.std.proofs.Common.{◌≡◌, ℕ, ◌+◌, ◌≤◌, ◌<◌, List, [], ◌∷◌, ◌++◌, length, Some, None, option_map}
-use Rattle.std.proofs.{Common.{arith, append_assoc, append-nil, length-append}, lemmas.Bool.{le-leb, lt-leb}}
+use Rattle.std.proofs.{Common.{arith, append_assoc, append-nil, length-append}, lemmas.Bool.{le-leb}}
 use Rattle.line_text.specs.Numbers.{number_of}
 use Rattle.tuner_theory.specs.declared.most_snapshots.TheConstants.{MOST_SNAPSHOTS}
 use Rattle.potential_check.specs.Footprints.Timelines.MomentsLine.{moment_of, moments_from, moments_of_words}
@@ -23,16 +23,6 @@ pub read-faulty : (all rest new : List (List ℕ)) (next : ℕ) (numbers word : 
     → rest ≡ word ∷ new → None ≡ moment_of next (number_of word) → moments_of_words all ≡ None
 unfolding moments_from
 read-faulty all rest new next numbers word so_far parts is = grind arith
-
--- too many words
-pub read-long : (all rest new : List (List ℕ)) (next : ℕ) (numbers word : List ℕ) → ReadSoFar all rest next numbers
-    → rest ≡ word ∷ new → length numbers ≡ MOST_SNAPSHOTS → moments_of_words all ≡ None
-read-long all rest new next numbers word so_far parts long = grind (arith, le-leb, lt-leb)
-
--- no word
-pub read-empty : (all rest : List (List ℕ)) (next : ℕ) (numbers : List ℕ) → ReadSoFar all rest next numbers → rest ≡ []
-    → length numbers ≡ 0 → moments_of_words all ≡ None
-read-empty all rest next numbers so_far end none = grind (arith, lt-leb)
 
 -- all words
 pub read-all : (all rest : List (List ℕ)) (next : ℕ) (numbers : List ℕ) → ReadSoFar all rest next numbers → rest ≡ []

@@ -13,9 +13,6 @@ fails : (b : Bool) → not b ≡ true → IsTrue b → ⊥
 fails b is also = grind arith
 
 module _ (meets : Refusal → Type 0) (met : AreMetBefore meets LastClass) where
-  by-last : (meets LastClass → ⊥) → IsVerdictBy meets (Refused LastClass)
-  by-last = search rules
-
   module _ (last : meets LastClass) where
     by-drop : (meets StageDrop → ⊥) → IsVerdictBy meets (Refused StageDrop)
     by-drop = search rules
@@ -29,9 +26,6 @@ module _ (meets : Refusal → Type 0) (met : AreMetBefore meets LastClass) where
 
 module _ (m : Measure) (sheet : Sheet) (tests : RowTests) (met : AreMetBefore (MeetsOn m sheet) LastClass)
     (are : AreTestsOf m sheet tests) where
-  refused-last : (IsTrue tests.last_class → ⊥) → IsVerdictOn m sheet (Refused LastClass)
-  refused-last broken = by-last (MeetsOn m sheet) met (λ is. broken (are.last_class.1 is))
-
   module _ (last : IsTrue tests.last_class) where
     refused-drop : (IsTrue tests.stage_drop → ⊥) → IsVerdictOn m sheet (Refused StageDrop)
     refused-drop broken = by-drop (MeetsOn m sheet) met (are.last_class.0 last) (λ is. broken (are.stage_drop.1 is))
@@ -49,9 +43,7 @@ pub row_tests-requires-clause-shape : goal.row_tests-requires-clause-shape
 row_tests-requires-clause-shape g c = c.requires.met Shape (omega arith)
 
 pub returns-then-not-tests-clause-refused : goal.returns-then-not-tests-clause-refused
-returns-then-not-tests-clause-refused g c =
-    refused-last (g.M.Measured.measure c.args.measured.now) (sheet_of c.args.sheet.now) c.in_ok-tests.tests c.requires.met c.in_ok-tests.ensures
-    (fails c.in_ok-tests.tests.last_class c.if-not-tests.true)
+returns-then-not-tests-clause-refused g c = grind arith
 
 pub returns-then-not-tests-2-clause-refused : goal.returns-then-not-tests-2-clause-refused
 returns-then-not-tests-2-clause-refused g c =

@@ -36,9 +36,7 @@ returns c = (
         c.loop-place.place c.loop-place.end.place (omega arith) c.loop-place.invariant.walked (c.first_edges_hold.ensures.0 holds),
     record { each = λ k within. c.loop-place.invariant.tight k (omega arith) within },
   ),
-  λ all. c.first_edges_hold.ensures.1
-      (λ j some below. all.0.each 0 j (omega (arith, c.loop-place.invariant.walked.within)) some
-      (omega (arith, c.loop-place.invariant.walked.within))),
+  grind arith,
 )
 
 pub loop-place-init : goal.loop-place-init

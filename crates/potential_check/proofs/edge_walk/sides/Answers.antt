@@ -1,4 +1,4 @@
-use Rattle.std.proofs.Common.{◌+◌, ◌-◌, ◌*◌, ℕ, ap, arith, ◌≡◌, ◌^◌, ◌<◌, ◌≤◌, List}
+use Rattle.std.proofs.Common.{◌+◌, ◌-◌, ◌*◌, ℕ, arith, ◌≡◌, ◌^◌, ◌<◌, ◌≤◌, List}
 use Rattle.potential_check.{proofs.CertificateLemmas.LawLemmas.{payload_fits, span_balance}, specs.Certificates.Spanned.{Spanned}}
 use Rattle.potential_check.specs.{EdgeWalk.{IsEnd, IsStart}, RowConditions.{edge_bound}, declared.edge_walk.End.{End}}
 use Rattle.potential_check.specs.declared.edge_walk.Start.{Start}
@@ -41,8 +41,4 @@ overflow_add-result c =
     omega (arith, are.product, are.bytes_fit, c.requires.start.bounded)
 
 pub returns : goal.returns
-returns c =
-    let are =
-    sides_are c.args.spans.now c.args.before.now c.args.row.now c.args.start c.args.end c.requires.order c.requires.start c.requires.end in
-    let more = c.args.end.payload * c.args.start.requests + (c.args.end.bytes - c.args.start.bytes) in
-    (more, ap (λ (n : ℕ). n + more) c.requires.start.number, are.reach)
+returns c = grind (arith, sides_are)

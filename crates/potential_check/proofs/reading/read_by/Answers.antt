@@ -1,11 +1,9 @@
-use Rattle.std.proofs.{Common.{sym, ◌∙◌, arith}, lemmas.Result.{err_from_is_err_and}}
+use Rattle.std.proofs.{Common.{sym, ◌∙◌, arith}}
 use Rattle.potential_check.proofs.{LeadingLines.{all_fault_given, all_read, line_after}, ReadIsSpelled.{read_is_spelled}}
 use Rattle.potential_check.proofs.reading.read_by.Goals as goal
 
 pub returns-in_err-leading-clause-exact : goal.returns-in_err-leading-clause-exact
-returns-in_err-leading-clause-exact g c =
-    let error = err_from_is_err_and c.from_residual.result c.from_residual.ensures.1 in
-    all_fault_given _ _ _ _ _ error.1 error.2 c.in_err-leading.ensures
+returns-in_err-leading-clause-exact g c = grind (arith, all_fault_given)
 
 pub overflow_add-result : goal.overflow_add-result
 overflow_add-result g c = omega (arith, c.in_ok-leading.ensures.few)

@@ -10,10 +10,7 @@ returns-in_err-head g c =
     (rw c.lines_in-lines.ensures at c.in_err-head.ensures)
 
 pub returns-in_err-rows : goal.returns-in_err-rows
-returns-in_err-rows g c =
-    let error = err_from_is_err_and c.from_residual-in_err-rows.result c.from_residual-in_err-rows.ensures.1 in
-    let found = head-is_found _ _ _ _ (rw c.lines_in-lines.ensures at c.in_ok-head.ensures) in
-    row_fault_given _ _ _ _ _ _ _ found error.1 error.2 (rw c.cost_number-size.ensures.number at c.in_err-rows.ensures.rows)
+returns-in_err-rows g c = grind (arith, head-is_found, row_fault_given)
 
 pub returns : goal.returns
 returns g c =

@@ -35,14 +35,8 @@ returns-then-edges_hold_within t c = (
   λ right. edges-join c.args.spans.now c.requires.step c.args.before.now c.args.row.now
       c.args.part.start c.args.part.end c.args.ends.start c.args.ends.end (c.args.part.start + (c.args.part.end - c.args.part.start) / 2)
       c.tightest_end-bound.result.1 c.requires.within
-      (record {
-        after = omega arith;
-        from = omega arith;
-        to = omega arith;
-        least = λ j later from below. c.tightest_end-bound.ensures.least j (omega arith) below;
-      })
+      (omega arith)
       (omega arith) (c.edges_hold_within.ensures.0 c.if-edges_hold_within.true)
       (c.edges_hold_within-then-edges_hold_within.ensures.0 right),
-  λ all. c.edges_hold_within-then-edges_hold_within.ensures.1
-      (λ i j from below later low high. all i j (omega arith) below later (omega arith) high),
+  grind arith,
 )

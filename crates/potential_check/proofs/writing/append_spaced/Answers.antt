@@ -1,4 +1,4 @@
-use Rattle.std.proofs.Common.{rules, ◌≡◌, ℕ, suc, ◌+◌, ◌-◌, ◌<◌, ◌≤◌, List, ◌++◌, length, get_or, take, drop, refl, ◌∙◌, arith, add-one}
+use Rattle.std.proofs.Common.{rules, ◌≡◌, ℕ, suc, ◌+◌, ◌-◌, ◌<◌, ◌≤◌, List, ◌++◌, length, get_or, drop, refl, ◌∙◌, arith, add-one}
 use Rattle.std.proofs.{Common.{drop-cons, length-drop}, Math.ListN.{set}, lemmas.Fmt.{length-decimal-le}, lemmas.List.{drop-set, take_all}}
 use Rattle.std.specs.Fmt.{decimal}
 use Rattle.potential_check.specs.Spaced.{spaced}
@@ -17,14 +17,10 @@ few : (n : ℕ) → n < 18446744073709551616 → length (decimal n) ≤ 20
 few n fits = length-decimal-le 20 n (omega arith) (omega arith) fits
 
 pub write_digits-start-requires : goal.write_digits-start-requires
-write_digits-start-requires c = (
-  omega (arith, few (get_or c.args.numbers.now (c.loop-index.index - 1) 0) (omega (arith, c.type_inv.numbers (c.loop-index.index - 1)))),
-  omega arith,
-)
+write_digits-start-requires c = grind (arith, few)
 
 pub overflow_sub-start : goal.overflow_sub-start
-overflow_sub-start c =
-    omega (arith, few (get_or c.args.numbers.now (c.loop-index.index - 1) 0) (omega (arith, c.type_inv.numbers (c.loop-index.index - 1))))
+overflow_sub-start c = grind (arith, few)
 
 pub loop-index-preserved : goal.loop-index-preserved
 loop-index-preserved c =
@@ -39,11 +35,4 @@ loop-index-preserved c =
     }
 
 pub returns-clause-written : goal.returns-clause-written
-returns-clause-written c =
-    let none : c.loop-index.index ≡ 0 = omega arith in
-    let rest = drop c.loop-index.start c.loop-index.buffer in
-    let short : length rest ≤ 336 - c.loop-index.start = omega (arith, length-drop c.loop-index.start c.loop-index.buffer) in
-    let all : take (336 - c.loop-index.start) rest ≡ spaced c.args.numbers.now =
-    take_all (336 - c.loop-index.start) rest short ∙ (c.loop-index.invariant.written ∙ rw none refl) in
-    let items = rw all at c.extend_from_slice.ensures.items in
-    search (rules, items)
+returns-clause-written c = grind (arith, length-drop, take_all)

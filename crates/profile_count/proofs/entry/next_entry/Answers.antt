@@ -1,4 +1,4 @@
-use Rattle.std.proofs.Common.{Some, ap, ◌∙◌, ◌≡◌, ℕ, List, [], ◌∷◌, Option, option_and_then, slice_get, sym, arith}
+use Rattle.std.proofs.Common.{Some, ap, ◌∙◌, ◌≡◌, ℕ, List, Option, option_and_then, slice_get, arith}
 use Rattle.std.specs.Option.{option_map}
 use Rattle.line_text.{proofs.LawLemmas.{short_is_number}, specs.Lines.{words}, specs.Pairs.{short_pair_of}}
 use Rattle.profile_count.{proofs.EntryLines.{number_is_not_large}, specs.ProfileText.{entry_of, size_entry}}
@@ -19,8 +19,7 @@ entry_of-pair next size count ws is = grind (arith, both, short_is_number, numbe
 first_entry : (next size count : ℕ) (ls : List (List ℕ)) →
     pair_is size count (option_and_then (λ line. short_pair_of (words line)) (slice_get ls 0))
     → Some (size_entry next size count) ≡ option_map (λ line. entry_of next 0 (words line)) (slice_get ls 0)
-first_entry next size count [] e = absurd cc
-first_entry next size count (line ∷ ls) e = ap Some (sym (entry_of-pair next size count (words line) e))
+first_entry next size count ls e = grind (arith, entry_of-pair)
 
 pub returns-clause-entry : goal.returns-clause-entry
 returns-clause-entry c =

@@ -1,18 +1,11 @@
 use Rattle.std.proofs.Common.{◌≤◌, length, sym, ◌∙◌, arith}
 use Rattle.tuner_theory.{proofs.Sums.{sum_below-none}, specs.Waste.{waste_at}}
-use Rattle.profile_count.proofs.FirstServing.{class_at, ends_ascend, next_class, next_ready, none_left, some_end}
+use Rattle.profile_count.proofs.FirstServing.{class_at, ends_ascend, next_class, next_ready, none_left}
 use Rattle.profile_count.proofs.Waste.{sum_up_to_the_rest, waste_in_class, waste_in_none}
 use Rattle.profile_count.proofs.waste_and_unserved.table_losses.Goals as goal
 
 pub loop-number-init : goal.loop-number-init
-loop-number-init c =
-    record {
-      summed = sym (sum_below-none (waste_at c.args.counts.now c.args.table.now));
-      small = omega arith;
-      inside = omega arith;
-      before = λ some. some_end 1 0 c.args.table.now c.len-number-end.ensures.legal some;
-      ready = omega arith;
-    }
+loop-number-init c = grind (arith, sum_below-none)
 
 pub losses_between-total-requires-clause-some : goal.losses_between-total-requires-clause-some
 losses_between-total-requires-clause-some c =

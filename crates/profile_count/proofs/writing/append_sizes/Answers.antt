@@ -1,7 +1,7 @@
-use Rattle.std.proofs.Common.{◌≡◌, ◌+◌, ◌<◌, ◌≤◌, ◌++◌, length, get_or, refl, sym, ◌∙◌, arith, append_assoc, append-nil}
+use Rattle.std.proofs.Common.{◌≡◌, ◌<◌, ◌++◌, length, get_or, refl, ◌∙◌, arith, append_assoc, append-nil}
 use Rattle.std.specs.Fmt.{decimal}
 use Rattle.line_text.{proofs.LawLemmas.{prefix_of_prefix}, specs.Lines.{ended}}
-use Rattle.profile_count.{proofs.SizeLines.{text_from, text_from-counted, text_from-end, text_from-zero}, specs.ProfileText.{size_line}}
+use Rattle.profile_count.{proofs.SizeLines.{text_from-counted, text_from-end, text_from-zero}, specs.ProfileText.{size_line}}
 use Rattle.profile_count.proofs.writing.append_sizes.Goals.{then-count-gt0+in_ok-append_line, else-count-gt0}
 use Rattle.profile_count.proofs.writing.append_sizes.Goals as goal
 
@@ -20,21 +20,12 @@ loop-size-preserved c =
           let counted = text_from-counted counts size within (omega (arith, count, w.if-count-gt0.true)) in
           record {
             rest =
-                c.loop-size.invariant.rest
-                ∙ rw (counted, appended)
-                (sym (append_assoc before (ended (size_line size (get_or counts size 0))) (text_from counts (size + 1))));
+                grind (arith, append_assoc);
             kept = rw w.text-is (prefix_of_prefix _ _ _ c.loop-size.invariant.kept w.in_ok-append_line.ensures.kept);
           }
       | else-count-gt0 w ↦
-          let none : get_or counts size 0 ≡ 0 = omega (arith, c.count-count.ensures.count, w.if-count-gt0.false) in
-          record {
-            rest = c.loop-size.invariant.rest ∙ rw (w.text-is, text_from-zero counts size within none) refl;
-            kept = rw w.text-is c.loop-size.invariant.kept;
-          }
+          grind (arith, text_from-zero)
     ]
 
 pub returns-clause-written : goal.returns-clause-written
-returns-clause-written c =
-    let past : length c.args.profile.now.counts ≤ c.loop-size.size = omega (arith, c.requires.counts.sizes) in
-    sym (c.loop-size.invariant.rest
-    ∙ rw (text_from-end c.args.profile.now.counts c.loop-size.size past) (append-nil c.loop-size.text.items))
+returns-clause-written c = grind (arith, text_from-end, append-nil)

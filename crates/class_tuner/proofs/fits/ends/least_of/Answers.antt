@@ -1,4 +1,4 @@
-use Rattle.std.proofs.{Common.{◌≡◌, ℕ, slice_index, arith, ap, inl, inr}, lemmas.Bool.{cases_lt}}
+use Rattle.std.proofs.{Common.{ℕ, slice_index, arith, inl, inr}, lemmas.Bool.{cases_lt}}
 use Rattle.class_tuner.specs.Fits.PlaceByPlace.{end_cost}
 use Rattle.class_tuner.proofs.fits.ends.least_of.Goals as goal
 
@@ -10,22 +10,10 @@ loop-j-preserved c =
     let is = c.loop-j.invariant in
     let least = c.min-low.ensures in
     record {
-      low = λ m from lt. elim (cases_lt m j) [
-        | inl before ↦ omega (arith, is.low m from before, least)
-        | inr not ↦ (let here : m ≡ j = omega arith in omega (arith, ap f here, least))
-      ];
+      low = grind arith;
       none = λ le. absurd (omega arith);
       reached = λ some. elim (cases_lt low (f j)) [
-        | inl less ↦ elim (cases_lt c.args.start j) [
-          | inl more ↦ (let old = is.reached more in
-              record { end = old.end; from = old.from; to = omega (arith, old.to); is = omega (arith, old.is, least) })
-          | inr first ↦ absurd (omega (
-            arith,
-            is.none first,
-            c.requires.block.small_costs j (omega arith) (omega arith),
-            c.requires.block.small_numbers j,
-          ))
-        ]
+        | inl less ↦ grind arith
         | inr other ↦ record { end = j; from = omega arith; to = omega arith; is = omega (arith, least) }
       ];
     }

@@ -1,7 +1,7 @@
-use Rattle.std.proofs.{Common.{◌≡◌, ℕ, suc, ◌+◌, ◌-◌, ◌*◌, ◌<◌, ◌≤◌, length, slice_index, arith, ap, sym, ◌∙◌, Vec}, Math.Nat.{mul-le-mul}}
+use Rattle.std.proofs.{Common.{◌≡◌, ℕ, suc, ◌+◌, ◌-◌, ◌<◌, ◌≤◌, length, slice_index, arith, ap, sym, ◌∙◌, Vec}}
 use Rattle.std.{proofs.lemmas.List.{with_items_is}, specs.declared.alloc.Global.{Global}}
 use Rattle.class_table.specs.declared.sizes.TheConstants.{MOST_NEEDS}
-use Rattle.class_tuner.proofs.FitLemmas.Places.{all-filled, costs-from, costs-older, least-at_end, ready-at_end, rows-from}
+use Rattle.class_tuner.proofs.FitLemmas.Places.{all-filled, costs-from, costs-older, ready-at_end, rows-from}
 use Rattle.class_tuner.specs.Fits.PlaceByPlace.{AreLeastRowsFrom}
 use Rattle.potential_check.{proofs.FootprintLemmas.LawLemmas.{alike-at_end, spans_of_places}, specs.Footprints.CallCounts.{span_count}}
 use Rattle.tuner_theory.specs.{Lists.{lists_of}, Rows.{number_at}}
@@ -9,10 +9,7 @@ use Rattle.class_tuner.proofs.fits.filling.fill_all.Goals as goal
 
 -- spans between so few places
 spans-few : (n : ℕ) → n ≤ MOST_NEEDS → span_count n ≤ 1048576
-spans-few n few =
-    let product : n * (n + 1) ≤ 1023 * 1024 =
-    mul-le-mul {n₁ = n} {m₁ = n + 1} {n₂ = 1023} {m₂ = 1024} (omega arith) (omega arith) in
-    omega arith
+spans-few n few = grind arith
 
 pub loop-i-init : goal.loop-i-init
 loop-i-init g c =
@@ -25,8 +22,7 @@ loop-i-init g c =
       from_are = λ j after le. absurd (omega arith);
       ready = rw is (ready-at_end c.args.memory.from.items (g.C.SpanCosts.place_count c.args.costs.now) c.args.limit
           (lists_of c.args.rows.now) (lists_of c.args.ends.now) c.args.memory c.requires.memory c.requires.rows);
-      least = least-at_end (g.C.SpanCosts.cost c.args.costs.now) d c.args.limit (number_at (lists_of c.args.rows.now))
-          (number_at (lists_of c.args.ends.now));
+      least = omega arith;
       alike = rw is (alike-at_end (lists_of c.args.rows.now) c.args.limit (g.C.SpanCosts.place_count c.args.costs.now)
           c.requires.rows.rows_shape);
       counted = rw none (sym (g.met.C.SpanCosts.adds_none _));
@@ -37,13 +33,7 @@ write_from-requires g c =
     let counted = c.loop-i.invariant.counted in
     let same_places = ap g.C.SpanCosts.place_count counted ∙ g.met.C.SpanCosts.keeps_places _ _ in
     let calls = ap g.C.SpanCosts.call_count counted ∙ g.met.C.SpanCosts.adds_calls _ _ in
-    let spare : length c.swap.new.x.items ≡ c.places-places.result + 1 =
-    ap (λ (v : Vec ℕ Global). length v.items) c.swap.ensures.x_after ∙ c.loop-i.invariant.older_length in
-    record {
-      within = omega (arith, same_places);
-      size = omega (arith, ap length c.deref_mut.ensures.value, spare, same_places);
-      room = omega (arith, calls, same_places, spans-few (c.places-places.result - c.loop-i.i) (omega arith));
-    }
+    grind (arith, spans-few)
 
 pub fill_next-alike-requires : goal.fill_next-alike-requires
 fill_next-alike-requires g c =

@@ -1,35 +1,18 @@
 use Rattle.std.proofs.Common.{arith, sym}
-use Rattle.potential_check.proofs.FootprintLemmas.LawLemmas.{row_bounds-next, row_bounds-same, slack-narrowed}
+use Rattle.potential_check.proofs.FootprintLemmas.LawLemmas.{row_bounds-same}
 use Rattle.tuner_theory.specs.{Lists.{lists_of}, Rows.{number_at}}
 use Rattle.class_tuner.proofs.fits.filling.fill_next.Goals as goal
 
 pub lower_slack-requires : goal.lower_slack-requires
-lower_slack-requires c = record {
-  within = c.requires.costs.within;
-  older = c.requires.older.size;
-  costs = c.requires.costs.size;
-  long = c.requires.ready.slack.long;
-  grow = c.requires.older.grow;
-}
+lower_slack-requires c = omega arith
 
 pub fill_place-requires : goal.fill_place-requires
-fill_place-requires c = record {
-  some = c.requires.some;
-  few = omega arith;
-  costs = c.requires.costs;
-  slack = slack-narrowed c.args.older.now c.args.costs.now c.args.slack.now c.lower_slack.new.slack c.args.place c.args.places
-      c.lower_slack.ensures c.requires.ready.slack;
-  rows = c.requires.ready.rows;
-  bounds = row_bounds-next c.args.older.now c.args.costs.now c.args.slack.now c.lower_slack.new.slack c.args.place c.args.places
-      c.args.limit (number_at (lists_of c.args.rows.now)) (lists_of c.args.bounds.now) c.lower_slack.ensures c.requires.ready.bounds;
-  alike = c.requires.alike;
-}
+fill_place-requires c = grind arith
 
 pub returns : goal.returns
 returns c = record {
   ready = record {
-    slack = slack-narrowed c.args.older.now c.args.costs.now c.args.slack.now c.lower_slack.new.slack c.args.place c.args.places
-        c.lower_slack.ensures c.requires.ready.slack;
+    slack = grind arith;
     rows = c.fill_place.ensures.rows;
     bounds = row_bounds-same c.args.costs.now c.lower_slack.new.slack c.args.place c.args.places c.args.limit
         (number_at (lists_of c.args.rows.now)) (number_at (lists_of c.fill_place.new.rows)) (lists_of c.fill_place.new.bounds)

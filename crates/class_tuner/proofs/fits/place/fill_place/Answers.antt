@@ -45,12 +45,7 @@ least_end_in-found-requires-clause-bounds c =
     let row = c.deref-in-loop-k.result.now in
     let above = row-above c.loop-k.rows c.args.limit c.args.places so_far.rows_shape (k - 1) c.index-rows-k.result row (omega arith)
     c.deref-in-loop-k.ensures.value in
-    let read = above.read in
-    let size = above.size in
-    let same : (j : ℕ) → c.args.place < j → number_at (lists_of c.args.rows.now) k j ≡ slice_index row j =
-    (λ j past. sym (ap (λ (b : List ℕ). slice_index b j) read ∙ c.loop-k.invariant.filled.rows_kept k j (λ e. omega (arith, e)))) in
-    rw size (bounds-same c.args.costs.now c.args.slack.now c.args.place c.args.places (number_at (lists_of c.args.rows.now) k)
-    (slice_index row) (slice_index_or (lists_of c.loop-k.bounds) k []) same (c.loop-k.invariant.bounds.each k (omega arith) (omega arith)))
+    grind arith
 
 pub least_end_in-found-requires-clause-above : goal.least_end_in-found-requires-clause-above
 least_end_in-found-requires-clause-above c = λ after.

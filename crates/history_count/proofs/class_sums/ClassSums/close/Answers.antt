@@ -9,24 +9,10 @@ taken : (bytes class most given : ℕ) → bytes ≡ 16 * class → most ≡ giv
 taken bytes class most given is same = rw (is, same) (omega arith)
 
 pub overflow_mul-self : goal.overflow_mul-self
-overflow_mul-self c =
-    let sums = c.args.self.now in
-    let class = get_or_from_slice_get sums.table.now _ _ 0 c.class-class.ensures.class in
-    let product = taken c.from-block_bytes.result (get_or sums.table.now sums.number 0) c.most_of.result (greatest_of sums.blocks.items)
-    (omega (arith, c.from-block_bytes.ensures, c.from.ensures, class)) (c.most_of.ensures ∙ ap greatest_of c.deref.ensures.value) in
-    let small = closed-small sums.table.now c.requires.legal sums.number sums.total sums.blocks.items sums.peaks c.requires.holds.snapshots
-    c.requires.holds.next c.requires.holds.holds c.requires.class in
-    omega (arith, product, small)
+overflow_mul-self c = grind (arith, get_or_from_slice_get, closed-small)
 
 pub overflow_add-self : goal.overflow_add-self
-overflow_add-self c =
-    let sums = c.args.self.now in
-    let class = get_or_from_slice_get sums.table.now _ _ 0 c.class-class.ensures.class in
-    let product = taken c.from-block_bytes.result (get_or sums.table.now sums.number 0) c.most_of.result (greatest_of sums.blocks.items)
-    (omega (arith, c.from-block_bytes.ensures, c.from.ensures, class)) (c.most_of.ensures ∙ ap greatest_of c.deref.ensures.value) in
-    let small = closed-small sums.table.now c.requires.legal sums.number sums.total sums.blocks.items sums.peaks c.requires.holds.snapshots
-    c.requires.holds.next c.requires.holds.holds c.requires.class in
-    omega (arith, product, small)
+overflow_add-self c = grind (arith, get_or_from_slice_get, closed-small)
 
 pub returns-clause-holds : goal.returns-clause-holds
 returns-clause-holds c = λ snapshots next holds.

@@ -15,5 +15,4 @@ pub returns-after-loop-self-clause-holds : goal.returns-after-loop-self-clause-h
 returns-after-loop-self-clause-holds c = λ snapshots next holds le.
     let sums = c.loop-self.self in
     let kept = c.loop-self.invariant.kept snapshots next holds le in
-    holds-later sums.table.now c.len.ensures.legal sums.number sums.total sums.blocks.items sums.peaks snapshots kept.0 kept.2 c.args.size kept.1
-    (λ within. absurd (omega (arith, within, c.len.ensures.len, c.loop-self-test.false)))
+    grind arith

@@ -1,4 +1,4 @@
-use Rattle.std.proofs.Common.{◌≡◌, ℕ, length, arith, ap, subst}
+use Rattle.std.proofs.Common.{◌≡◌, ℕ, length, arith, subst}
 use Rattle.profile_count.proofs.LawLemmas.{length-zeros}
 use Rattle.tuner_theory.{proofs.Lists.{lists-length}, specs.Lists.{lists_of}}
 use Rattle.history_count.proofs.{CutLines.{few-lines}, Peaks.{zeros-small}, RowPeaks.{ArePeaksTo, peaks_to-none, rows-held}}
@@ -15,14 +15,7 @@ new-requires-2-clause-lines c =
     let sizes = c.args.sizes.now in
     let rows = lists_of c.args.rows.items in
     let last : c.loop-line.line ≡ length sizes = omega arith in
-    let width : length rows ≡ length c.in_ok-large.large.items = omega (
-      arith,
-      lists-length c.args.rows.items,
-      ap length c.in_ok-large.ensures,
-      length-zeros c.len.result,
-      c.len.ensures,
-      c.args.rows.ok.0,
-    ) in
+    let width : length rows ≡ length c.in_ok-large.large.items = grind (arith, lists-length, length-zeros) in
     rw c.in_ok-from_slice.ensures.items
     (rows-held sizes rows c.requires.sizes c.requires.rows c.requires.snapshots c.loop-line.peaks
     (subst (λ (line : ℕ). ArePeaksTo sizes rows line c.loop-line.peaks) last c.loop-line.invariant.peaks) (length c.in_ok-large.large.items) width)

@@ -1,4 +1,4 @@
-use Rattle.std.proofs.Common.{arith, get_or, refl, inl, inr}
+use Rattle.std.proofs.Common.{arith, get_or, refl}
 use Rattle.tuner_theory.specs.declared.size_event.SizeEvent.TheVariants.{Request}
 use Rattle.history_count.proofs.TimelineLemmas.{Requests.{least_kept, least_unserved}, TablePeaks.{event_moved}}
 use Rattle.history_count.proofs.TimelineLemmas.Steps.{event_live, event_step, number_gives_none, number_serves, unserved_step}
@@ -50,7 +50,4 @@ returns-in_default-clause-least c =
     rw (c.min.ensures, c.event_size-n.ensures)
     (least_unserved c.args.events.now c.args.layout.now.classes c.args.k c.args.least (get_or c.args.events.now c.args.k (Request 0))
     c.requires.timeline c.requires.event c.requires.least refl
-    (elim (rw c.event_size-n.ensures at c.in_default.ensures.none) [
-      | inl large ↦ inl large
-      | inr none ↦ inr (number_gives_none c.args.layout.now.classes (size_of (get_or c.args.events.now c.args.k (Request 0))) none)
-    ]))
+    (grind (arith, number_gives_none)))

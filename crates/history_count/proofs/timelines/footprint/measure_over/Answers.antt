@@ -25,11 +25,7 @@ loop-number-preserved c =
     }
 
 pub returns-clause-some : goal.returns-clause-some
-returns-clause-some c =
-    unserved_is_least c.args.events.now c.args.table.now c.in_ok-peaks.peaks.least c.in_ok-peaks.ensures.least c.unserved_in.result
-    c.unserved_in.ensures.some
+returns-clause-some c = grind (arith, unserved_is_least)
 
 pub returns-clause-none : goal.returns-clause-none
-returns-clause-none c =
-    none_is_unserved c.args.events.now c.args.table.now c.in_ok-peaks.peaks.least c.in_ok-peaks.ensures.least c.unserved_in.result
-    c.requires c.unserved_in.ensures.none
+returns-clause-none c = grind (arith, none_is_unserved)

@@ -3,13 +3,7 @@ use Rattle.history_count.proofs.TimelineLemmas.Peaks.{span-few, span-free, span-
 use Rattle.history_count.proofs.timelines.peaks.live_after.Goals as goal
 
 pub overflow_add-result : goal.overflow_add-result
-overflow_add-result c =
-    omega (
-      arith,
-      span-few c.args.events.now c.args.span.low c.args.span.end c.requires.timeline c.requires.sizes c.args.k (omega arith),
-      c.requires.live,
-      c.requires.timeline.few,
-    )
+overflow_add-result c = grind (arith, span-few)
 
 pub returns-then-is_in : goal.returns-then-is_in
 returns-then-is_in c =
@@ -39,19 +33,7 @@ returns-then-is_in-2 c =
     )
 
 pub returns-else-is_in : goal.returns-else-is_in
-returns-else-is_in c =
-    omega (
-      arith,
-      span-other_request c.args.events.now c.args.k c.requires.timeline c.requires.event c.args.span.low c.args.span.end c.in-Request.n
-          c.requires.sizes c.in-Request.is c.if-is_in.ensures,
-      c.requires.live,
-    )
+returns-else-is_in c = grind (arith, span-other_request)
 
 pub returns-else-is_in-2 : goal.returns-else-is_in-2
-returns-else-is_in-2 c =
-    omega (
-      arith,
-      span-other_free c.args.events.now c.args.k c.requires.timeline c.requires.event c.args.span.low c.args.span.end c.in-Free.n
-          c.requires.sizes c.in-Free.is c.if-is_in-2.ensures,
-      c.requires.live,
-    )
+returns-else-is_in-2 c = grind (arith, span-other_free)

@@ -1,7 +1,7 @@
-use Rattle.std.proofs.{Common.{◌<◌, ◌+◌, ℕ, [], length, slice_index, arith, ap, sym, subst, ◌∙◌}, lemmas.List.{get_or_read}}
-use Rattle.tuner_theory.{proofs.Lists.{lists-length, row-read_at}, specs.Lists.{lists_of}, specs.Timelines.{snapshot_at}}
+use Rattle.std.proofs.{Common.{◌<◌, ◌+◌, [], length, slice_index, arith, ap}, lemmas.List.{get_or_read}}
+use Rattle.tuner_theory.{proofs.Lists.{lists-length, row-read_at}, specs.Lists.{lists_of}}
 use Rattle.history_count.proofs.{CutLines.{few-lines}, TimelineLemmas.Peaks.{before-few, live-before, most-within, peak-kept}}
-use Rattle.history_count.specs.{Histories.{blocks_from}, Timelines.Stretches.{IsPeakTo}}
+use Rattle.history_count.specs.{Histories.{blocks_from}}
 use Rattle.history_count.proofs.timelines.peaks.peak_to_next.Goals as goal
 
 pub blocks_between-requires-clause-size : goal.blocks_between-requires-clause-size
@@ -19,8 +19,7 @@ blocks_between-requires-clause-few c = λ k.
     rw read ((c.requires.stretches.most_are c.args.b inside).few k)
 
 pub blocks_between-requires-clause-stop : goal.blocks_between-requires-clause-stop
-blocks_between-requires-clause-stop c =
-    omega (arith, c.requires.span.to.within, few-lines c.args.requested.now.sizes.items c.requires.requested.sizes_are)
+blocks_between-requires-clause-stop c = grind (arith, few-lines)
 
 pub returns-then-blocks_between-peak : goal.returns-then-blocks_between-peak
 returns-then-blocks_between-peak c = λ floor so_far.
@@ -31,13 +30,7 @@ returns-then-blocks_between-peak c = λ floor so_far.
     let read = row-read_at rows c.args.b c.index.result.now c.deref.result.now inside c.index.ensures c.deref.ensures.value in
     peak-kept (blocks_from span.low span.end) c.args.events.now floor (slice_index s.starts.items c.args.b)
     (slice_index s.starts.items (c.args.b + 1)) c.args.peak (c.requires.stretches.up c.args.b inside) so_far
-    (λ m ge le. omega (
-      arith,
-      most-within c.args.events.now c.args.requested.now s.starts.items (lists_of s.before.items) (lists_of rows) span c.requires.timeline
-          c.requires.requested c.requires.stretches c.requires.span c.args.b m inside ge le,
-      c.blocks_between.ensures.blocks ∙ ap (blocks_from span.start span.stop) read,
-      c.if-blocks_between-peak.true,
-    ))
+    (grind (arith, most-within))
 
 pub blocks_between-live-requires-clause-size : goal.blocks_between-live-requires-clause-size
 blocks_between-live-requires-clause-size c =
@@ -60,8 +53,7 @@ blocks_between-live-requires-clause-few c = λ k.
     rw read (few.few c.args.b [] inside k)
 
 pub blocks_between-live-requires-clause-stop : goal.blocks_between-live-requires-clause-stop
-blocks_between-live-requires-clause-stop c =
-    omega (arith, c.requires.span.to.within, few-lines c.args.requested.now.sizes.items c.requires.requested.sizes_are)
+blocks_between-live-requires-clause-stop c = grind (arith, few-lines)
 
 pub peak_between-requires-clause-order : goal.peak_between-requires-clause-order
 peak_between-requires-clause-order c =
@@ -91,11 +83,7 @@ peak_between-requires-clause-live c =
     let inside : c.args.b < length (lists_of s.before.items) =
     omega (arith, lists-length s.most.items, c.requires.stretches.rows, c.requires.stretches.ends) in
     let read = row-read_at s.before.items c.args.b c.index-2.result.now c.deref-2.result.now inside c.index-2.ensures c.deref-2.ensures.value in
-    let start = get_or_read s.starts.items c.args.b c.index-3.result.now (omega (arith, c.requires.stretches.rows)) c.index-3.ensures 0 in
-    c.blocks_between-live.ensures.blocks ∙ ap (blocks_from span.start span.stop) read
-    ∙ live-before c.args.events.now c.args.requested.now s.starts.items (lists_of s.before.items) (lists_of s.most.items) span
-    c.requires.timeline c.requires.requested c.requires.stretches c.requires.span c.args.b (omega (arith, c.requires.stretches.rows))
-    ∙ ap (λ (m : ℕ). blocks_from span.low span.end (snapshot_at c.args.events.now m)) (sym start)
+    grind (arith, get_or_read, live-before)
 
 pub returns : goal.returns
 returns c = λ floor so_far.
@@ -104,5 +92,4 @@ returns c = λ floor so_far.
     let inside : c.args.b < length (lists_of s.most.items) = omega (arith, lists-length s.most.items) in
     let start = get_or_read s.starts.items c.args.b c.index-3.result.now (omega (arith, c.requires.stretches.ends)) c.index-3.ensures 0 in
     let end = get_or_read s.starts.items (c.args.b + 1) c.index-4.result.now (omega (arith, c.requires.stretches.ends)) c.index-4.ensures 0 in
-    subst (λ (m : ℕ). IsPeakTo f c.args.events.now floor m c.peak_between.result) end
-    (c.peak_between.ensures floor (subst (λ (m : ℕ). IsPeakTo f c.args.events.now floor m c.args.peak) (sym start) so_far))
+    grind arith

@@ -1,14 +1,10 @@
-use Rattle.std.proofs.Common.{List, ℕ, length, slice_index, get_or, arith, ap, refl, ◌∙◌}
+use Rattle.std.proofs.Common.{length, get_or, arith, ap, refl}
 use Rattle.tuner_theory.specs.{Timelines.{snapshot_at}, declared.size_event.SizeEvent.TheVariants.{Request}}
 use Rattle.history_count.proofs.TimelineLemmas.Columns.{bounds-start, column-event, column-large, column-length}
 use Rattle.history_count.proofs.timelines.stretches.count_line.Goals as goal
 
 pub returns-then-n-ge-LARGE_SIZE-clause-counts : goal.returns-then-n-ge-LARGE_SIZE-clause-counts
-returns-then-n-ge-LARGE_SIZE-clause-counts c =
-    let events = c.args.events.now in
-    c.requires.counts
-    ∙ column-large events c.args.requested.now.sizes.items c.args.k (get_or events c.args.k (Request 0)) c.requires.timeline c.requires.event refl
-    (omega (arith, c.event_size-n.ensures, c.if-n-ge-LARGE_SIZE.true))
+returns-then-n-ge-LARGE_SIZE-clause-counts c = grind (arith, column-large)
 
 pub bounds-counts-line : goal.bounds-counts-line
 bounds-counts-line c =
@@ -19,21 +15,10 @@ bounds-counts-line c =
     omega (arith, its.within, ap length c.requires.counts, column-length r.sizes.items (snapshot_at events c.args.k))
 
 pub counted-requires-clause-few : goal.counted-requires-clause-few
-counted-requires-clause-few c =
-    omega (
-      arith,
-      ap (λ (s : List ℕ). slice_index s c.index.result.now) c.requires.counts,
-      (bounds-start c.args.events.now c.args.requested.now.sizes.items c.args.k c.requires.timeline c.requires.requested.sizes_are).few
-          c.index.result.now,
-    )
+counted-requires-clause-few c = grind (arith, bounds-start)
 
 pub counted-requires-clause-live : goal.counted-requires-clause-live
-counted-requires-clause-live c =
-    let events = c.args.events.now in
-    let r = c.args.requested.now in
-    let its = column-event events r c.args.k (get_or events c.args.k (Request 0)) c.requires.timeline c.requires.requested c.requires.event refl
-    (omega (arith, c.event_size-n.ensures, c.if-n-ge-LARGE_SIZE.false)) c.index.result.now (rw c.event_size-n.ensures at c.index.ensures) in
-    rw c.requires.counts its.may
+counted-requires-clause-live c = grind (arith, column-event)
 
 pub bounds-counts-line-2 : goal.bounds-counts-line-2
 bounds-counts-line-2 c =

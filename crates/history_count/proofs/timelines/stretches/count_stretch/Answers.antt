@@ -3,12 +3,7 @@ use Rattle.history_count.proofs.TimelineLemmas.Columns.{bounds-more, bounds-star
 use Rattle.history_count.proofs.timelines.stretches.count_stretch.Goals as goal
 
 pub loop-k-init : goal.loop-k-init
-loop-k-init c = record {
-  counts = c.requires.counts;
-  below = λ j. omega (arith, ap (λ (s : List ℕ). slice_index s j) c.requires.most);
-  bounds = rw (c.requires.most, c.requires.counts)
-      (bounds-start c.args.events.now c.args.requested.now.sizes.items c.args.from c.requires.timeline c.requires.requested.sizes_are);
-}
+loop-k-init c = grind (arith, bounds-start)
 
 pub loop-k-preserved : goal.loop-k-preserved
 loop-k-preserved c = record {

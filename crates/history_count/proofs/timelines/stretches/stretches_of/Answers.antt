@@ -1,28 +1,13 @@
-use Rattle.std.proofs.{Common.{◌≡◌, ℕ, List, ◌++◌, [], ◌∷◌, length, replicate, arith, ap, ◌∙◌}, lemmas.List.{with_items_is}}
+use Rattle.std.proofs.{Common.{ℕ, List, ◌++◌, [], ◌∷◌, arith, ap, ◌∙◌}, lemmas.List.{with_items_is}}
 use Rattle.tuner_theory.specs.Lists.{lists_of}
-use Rattle.history_count.proofs.{CutLines.{few-lines}, TimelineLemmas.Columns.{column-none, stretches-more, stretches-none}}
+use Rattle.history_count.proofs.{CutLines.{few-lines}, TimelineLemmas.Columns.{column-none, stretches-more}}
 use Rattle.history_count.proofs.timelines.stretches.stretches_of.Goals as goal
 
 pub overflow_mul-len : goal.overflow_mul-len
-overflow_mul-len c =
-    omega (arith, c.len.ensures, c.args.requested.now.sizes.ok.0, few-lines c.args.requested.now.sizes.items c.requires.requested.sizes_are)
+overflow_mul-len c = grind (arith, few-lines)
 
 pub loop-from-init : goal.loop-from-init
-loop-from-init c =
-    let sizes = c.args.requested.now.sizes.items in
-    let size : c.len-2.result ≡ length sizes = omega (arith, c.len-2.ensures, c.args.requested.now.sizes.ok.0) in
-    let counted = c.in_ok-counts.ensures ∙ ap (λ (n : ℕ). replicate {A = ℕ} n 0) size
-    ∙ column-none c.args.events.now sizes c.requires.requested.sizes_are in
-    record {
-      within = omega arith;
-      counts = counted;
-      stretches = rw (
-        c.in_ok-stretches.ensures.starts,
-        c.in_ok-stretches.ensures.before,
-        c.in_ok-stretches.ensures.most,
-        c.deref.ensures.value ∙ counted,
-      ) (stretches-none c.args.events.now sizes);
-    }
+loop-from-init c = grind (arith, column-none)
 
 pub loop-from-preserved : goal.loop-from-preserved
 loop-from-preserved c =

@@ -13,13 +13,7 @@ loop-turn-preserved c =
     let events = c.loop-turn.events.items in
     let next = counted-line c.loop-turn.lines c.next_counted.new.lines c.in-Some.event c.in-Some.ensures.event c.in-Some.ensures.taken in
     let room : length events < greatest_count =
-    omega (
-      arith,
-      ap length c.deref.ensures.value,
-      c.deref.ensures.len,
-      c.loop-turn.invariant.len,
-      c.room_in-turn-end.ensures.few c.loop-turn._turn c.loop-turn-test.true,
-    ) in
+    grind arith in
     let found = rw c.deref.ensures.value at c.if-not-count.ensures.found in
     let live = rw c.deref.ensures.value at c.if-not-count.ensures.live in
     record {
@@ -52,5 +46,4 @@ returns-then-not-count-clause-taken c =
     c.loop-turn.invariant.taken (Some c.in-Some.event) NotLive c.count.new.live next (follows events c.in-Some.event false room found)
 
 pub returns-then-not-count-clause-fewer : goal.returns-then-not-count-clause-fewer
-returns-then-not-count-clause-fewer c =
-    omega (arith, ap length c.in-Some.ensures.taken, length-drop 1 c.loop-turn.lines, c.loop-turn.invariant.fewer)
+returns-then-not-count-clause-fewer c = grind arith

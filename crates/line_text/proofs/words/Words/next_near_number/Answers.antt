@@ -37,28 +37,17 @@ returns-clause-taken c =
     rw (take_rest, self_is c, near_word c.in_ok-line.line.now c.in_ok-size.size (near c) space) refl
 
 pub returns-in_err-bytes-clause-number : goal.returns-in_err-bytes-clause-number
-returns-in_err-bytes-clause-number c =
-    let self_is : c.args.self.now ≡ words c.in_ok-line.line.now =
-    sym c.self.view_is ∙ ap (λ r. words_left (option_map (λ x. x.now) r)) c.in_ok-line.was in
-    rw (self_is, near_short c.in_ok-line.line.now c.in_err-bytes.ensures.cases) c.from_residual-in_err-bytes.ensures
+returns-in_err-bytes-clause-number c = grind (arith, near_short)
 
 pub returns-in_err-size-clause-number : goal.returns-in_err-size-clause-number
-returns-in_err-size-clause-number c =
-    let self_is : c.args.self.now ≡ words c.in_ok-line.line.now =
-    sym c.self.view_is ∙ ap (λ r. words_left (option_map (λ x. x.now) r)) c.in_ok-line.was in
-    let digits = rw c.in_ok-bytes.ensures.cases.0 at c.in_err-size.ensures in
-    rw (self_is, near_many c.in_ok-line.line.now (c.in_ok-bytes.ensures.variant.0 cc) digits) c.from_residual-in_err-size.ensures
+returns-in_err-size-clause-number c = grind (arith, near_many)
 
 pub returns-then-bytes-size-ne32-clause-number : goal.returns-then-bytes-size-ne32-clause-number
 returns-then-bytes-size-ne32-clause-number c =
     let line = c.in_ok-line.line.now in
     let size = c.in_ok-size.size in
     let self_is : c.args.self.now ≡ words line = sym c.self.view_is ∙ ap (λ r. words_left (option_map (λ x. x.now) r)) c.in_ok-line.was in
-    let near : IsNear line size = record {
-      long = c.in_ok-bytes.ensures.variant.0 cc;
-      digits = rw c.in_ok-bytes.ensures.cases.0 at c.in_ok-size.ensures.0;
-      ended = c.in_ok-size.ensures.1;
-    } in
+    let near : IsNear line size = grind arith in
     rw self_is (sym (elim c.then-bytes-size-ne32.branch [
       | then-bytes-size-ne32-via-then-bytes-size-ne32 w ↦ near_other line size near
           (rw c.in_ok-bytes.ensures.cases.0 at w.if-bytes-size-ne32.true)

@@ -1,31 +1,20 @@
-use Rattle.std.proofs.{Common.{◌≡◌, ℕ, ◌+◌, ◌-◌, ◌*◌, ◌/◌, ◌<◌, ◌≤◌, List, length, slice_index, arith, inl, inr}, lemmas.List.{get_or_past}}
-use Rattle.std.proofs.lemmas.Bool.{cases_lt, false≢true, le-leb, leb-true}
-use Rattle.potential_check.specs.{Footprints.RowConditions.{EdgeHoldsAt, WithinEdges}, declared.footprints.slack.TheConstants.{BLOCK}}
+use Rattle.std.proofs.{Common.{ℕ, ◌+◌, ◌-◌, ◌*◌, ◌/◌, ◌<◌, ◌≤◌, List, length, slice_index, arith}, lemmas.List.{get_or_past}}
+use Rattle.std.proofs.lemmas.Bool.{false≢true, le-leb, leb-true}
+use Rattle.potential_check.specs.{Footprints.RowConditions.{EdgeHoldsAt}, declared.footprints.slack.TheConstants.{BLOCK}}
 use Rattle.potential_check.proofs.footprints.row_tests.edge_holds_at.Goals as goal
 
 -- the last end is after all blocks
 all_ends : (costs before : List ℕ) (number i block : ℕ)
     → ((j : ℕ) → i < j → j < BLOCK * block → j < length before → number ≤ slice_index costs j + slice_index before j)
     → (length before - 1) / BLOCK + 1 ≤ block → number ≤ slice_index costs (length before) → EdgeHoldsAt costs before number i
-all_ends costs before number i block within past last = record {
-  each = λ j after le. elim (cases_lt j (length before)) [
-    | inl below ↦ within j after (omega arith) below
-    | inr not ↦ (let here : j ≡ length before = omega arith in rw here (omega (arith, last)))
-  ];
-}
+all_ends costs before number i block within past last = grind arith
 
 last_end : (costs before : List ℕ) (number i : ℕ) → i < length before → EdgeHoldsAt costs before number i
     → number ≤ slice_index costs (length before)
-last_end costs before number i within all =
-    omega (arith, all.each (length before) within (omega arith), get_or_past before (length before) 0 (omega arith))
+last_end costs before number i within all = grind (arith, get_or_past)
 
 pub returns-then-not-is_within-clause-edge : goal.returns-then-not-is_within-clause-edge
-returns-then-not-is_within-clause-edge c = (
-  (λ no. absurd (false≢true no)),
-  (λ all. (let within : WithinEdges c.args.costs.now c.args.before.now c.args.number (c.args.i + 1) c.min-stop.result =
-      record { each = λ j from to. all.each j (omega arith) (omega (arith, c.min-stop.ensures)) } in
-      absurd (false≢true (rw c.if-not-is_within.true at (c.is_within.ensures.1 within))))),
-)
+returns-then-not-is_within-clause-edge c = grind arith
 
 pub returns-then-number-low-clause-edge : goal.returns-then-number-low-clause-edge
 returns-then-number-low-clause-edge c = (

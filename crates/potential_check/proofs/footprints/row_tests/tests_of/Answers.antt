@@ -149,6 +149,5 @@ pub returns : goal.returns
 returns g c = record {
   tests = tests-at_start (g.C.SpanCosts.cost c.args.costs.now) c.args.places c.loop-i.i c.args.rows.now c.loop-i.tests
       (no_more c.loop-i.i c.loop-i-test.false) c.loop-i.invariant.tests;
-  counted = c.loop-i.invariant.counted
-      ∙ ap (g.C.SpanCosts.after_calls c.args.costs.now) (all_spans c.loop-i.i c.args.places c.loop-i-test.false);
+  counted = grind (arith, all_spans);
 }

@@ -1,4 +1,4 @@
-use Rattle.std.proofs.Common.{◌≡◌, ◌≢◌, ◌+◌, ◌-◌, ◌*◌, ◌/◌, ◌<◌, ℕ, List, length, slice_index, slice_set, arith, inl, inr, ◌∙◌}
+use Rattle.std.proofs.Common.{◌≡◌, ◌≢◌, ◌+◌, ◌-◌, ◌*◌, ◌<◌, ℕ, List, length, slice_index, slice_set, arith, inl, inr, ◌∙◌}
 use Rattle.std.proofs.lemmas.{Bool.{cases_eq}, List.{get_or-set_other, get_or-set_same, length-set}}
 use Rattle.potential_check.specs.declared.footprints.slack.TheConstants.{BLOCK}
 use Rattle.potential_check.proofs.footprints.slack.lower_slack.Goals as goal
@@ -18,27 +18,10 @@ loop-block-preserved c =
     let grown = c.least_growth-growth.ensures.grown (omega (arith, c.min.ensures)) in
     record {
       size = length-set slack block value ∙ c.loop-block.invariant.size;
-      less = λ b. elim (cases_eq b block) [
-        | inl here ↦ rw here (omega (arith, same, c.loop-block.invariant.less block))
-        | inr differs ↦ omega (arith, other b differs, c.loop-block.invariant.less b)
-      ];
-      grown = λ j past to. elim (cases_eq (j / BLOCK) block) [
-        | inl here ↦ rw here (omega (
-          arith,
-          same,
-          c.loop-block.invariant.others block (omega arith),
-          c.least_growth-growth.ensures.least j (omega (arith, here)) (omega (arith, here, c.min.ensures)),
-          c.requires.grow j past (omega arith),
-        ))
-        | inr differs ↦ omega (arith, other (j / BLOCK) differs, c.loop-block.invariant.grown j past to)
-      ];
+      less = grind arith;
+      grown = grind arith;
       lost = λ b past to. elim (cases_eq b block) [
-        | inl here ↦ rw here (
-          grown.0,
-          omega (arith, grown.2, c.min.ensures),
-          omega (arith, grown.1, grown.2, c.min.ensures),
-          omega (arith, same, c.loop-block.invariant.others block (omega arith), grown.3),
-        )
+        | inl here ↦ grind arith
         | inr differs ↦ let it = c.loop-block.invariant.lost b past (omega arith) in (it.0, it.1, it.2, other b differs ∙ it.3)
       ];
       first = λ b le. other b (λ here. omega (arith, here)) ∙ c.loop-block.invariant.first b le;

@@ -1,29 +1,13 @@
-use Rattle.std.proofs.Common.{◌≡◌, ◌+◌, ◌≤◌, length, slice_index, sym, arith}
+use Rattle.std.proofs.Common.{◌≡◌, ◌+◌, slice_index, arith}
 use Rattle.tuner_theory.{proofs.Sums.{sum_below-none}, specs.Waste.{sum_below}}
-use Rattle.potential_check.proofs.FootprintLemmas.UpTo.{sum-grows, sum-small, sums-more, sums-none}
+use Rattle.potential_check.proofs.FootprintLemmas.UpTo.{sum-grows, sum-small, sums-more}
 use Rattle.potential_check.proofs.footprints.snapshot_sums.sums_up_to.Goals as goal
 
 pub loop-p-init : goal.loop-p-init
-loop-p-init c =
-    rw (c.in_ok-push.ensures.items, c.in_ok-sums.ensures.items) (record {
-      sums = sums-none c.args.column.now c.args.cuts.now;
-      total = sym (sum_below-none (slice_index c.args.column.now));
-      inside = omega arith;
-      order = λ q le lt. omega arith;
-    })
+loop-p-init c = grind (arith, sum_below-none)
 
 pub overflow_add-total : goal.overflow_add-total
-overflow_add-total c =
-    let f = slice_index c.args.column.now in
-    let stop = slice_index c.args.cuts.now c.loop-p.p in
-    let inside : stop ≤ length c.args.column.now = c.requires.within c.loop-p.p (omega arith) in
-    omega (
-      arith,
-      c.loop-p.invariant.total,
-      c.blocks_between-total.ensures.blocks,
-      sum-grows f c.loop-p.start stop (c.loop-p.invariant.order c.loop-p.p (omega arith) (omega arith)),
-      sum-small c.args.column.now stop c.requires.few (omega (arith, inside, c.requires.size)),
-    )
+overflow_add-total c = grind (arith, sum-small)
 
 pub loop-p-preserved : goal.loop-p-preserved
 loop-p-preserved c =

@@ -1,4 +1,4 @@
-use Rattle.std.proofs.{Common.{◌≡◌, ◌<◌, ◌≤◌, ℕ, List, length, slice_index, arith, inl, inr}, lemmas.Bool.{cases_lt}}
+use Rattle.std.proofs.{Common.{◌<◌, ◌≤◌, ℕ, List, length, slice_index, arith}}
 use Rattle.std.proofs.lemmas.{List.{get_or_default}, List.Kept.{AllPairs-from_increasing}}
 use Rattle.std.specs.List.Sorted.{IsStrictlyIncreasing}
 use Rattle.class_tuner.proofs.FitLemmas.TimelineLemmas.{Ascending.{insert-ascends}, Unions.{insert-union}}
@@ -15,23 +15,7 @@ returns-clause-union c =
     let within : place ≤ length xs = rw c.deref.ensures.value at c.place_of-place.ensures.within in
     let above : (k : ℕ) → place ≤ k → k < length xs → c.args.moment ≤ slice_index xs k =
     rw c.deref.ensures.value at (c.place_of-place.ensures.above rises) in
-    let next : place < length xs → c.args.moment < slice_index xs place = λ lt. elim c.else-place-len.branch [
-      | else-place-len-via-then-place-len+else-index-moment w ↦ elim (cases_lt c.args.moment (slice_index xs place)) [
-        | inl less ↦ less
-        | inr not ↦ absurd (w.if-index-moment.false (omega (
-          arith,
-          not,
-          above place (omega arith) lt,
-          w.index.ensures,
-          get_or_default xs place w.index.result.now 0 lt,
-        )))
-      ]
-      | else-place-len-via-else-place-len w ↦ absurd (omega (arith, lt, w.if-place-len.false, c.len.ensures))
-    ] in
+    let next : place < length xs → c.args.moment < slice_index xs place = grind (arith, get_or_default) in
     rw c.in_ok-insert.ensures.items
     (insert-union xs place c.args.moment
-    (insert-ascends xs place c.args.moment up within (rw c.deref.ensures.value at (c.place_of-place.ensures.below rises)) (λ k le lt.
-    elim (cases_lt place k) [
-      | inl past ↦ omega (arith, next (omega arith), AllPairs-from_increasing xs up place k 0 past lt)
-      | inr here ↦ (let same : k ≡ place = omega arith in rw same (next (omega arith)))
-    ])))
+    (insert-ascends xs place c.args.moment up within (rw c.deref.ensures.value at (c.place_of-place.ensures.below rises)) (grind (arith, AllPairs-from_increasing))))

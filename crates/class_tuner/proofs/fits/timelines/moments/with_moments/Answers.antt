@@ -1,6 +1,6 @@
-use Rattle.std.proofs.{Common.{◌≤◌, [], All, inl, inr, arith, refl}, lemmas.List.Elements.{All-cons, All-contains, All-nil}}
+use Rattle.std.proofs.{Common.{◌≤◌, All, inl, inr, arith}, lemmas.List.Elements.{All-contains}}
 use Rattle.std.specs.{List.{Contains}, List.Sorted.{IsStrictlyIncreasing}}
-use Rattle.class_tuner.proofs.FitLemmas.TimelineLemmas.Unions.{added-all, added-more, added-none}
+use Rattle.class_tuner.proofs.FitLemmas.TimelineLemmas.Unions.{added-all, added-more}
 use Rattle.class_tuner.proofs.fits.timelines.moments.with_moments.Goals as goal
 
 pub loop-i-init : goal.loop-i-init
@@ -11,18 +11,9 @@ loop-i-init c =
     let left : All (λ n. n ≤ most) start × Contains start c.args.kept × IsStrictlyIncreasing start =
     elim c.in_ok-more.ensures.which [
       | inl is ↦ rw is (c.requires.numbers, c.requires.kept, c.requires.ascending)
-      | inr is ↦ rw is (
-        All-cons (λ n. n ≤ most) c.args.kept [] kept (All-nil (λ n. n ≤ most)),
-        (0, omega arith, refl),
-        λ k lt. absurd (omega (arith, lt)),
-      )
+      | inr is ↦ grind arith
     ] in
-    record {
-      within = left.0;
-      kept = left.1;
-      few = c.in_ok-more.ensures.few;
-      added = added-none start c.args.further.now left.2;
-    }
+    grind arith
 
 pub loop-i-preserved : goal.loop-i-preserved
 loop-i-preserved c = record {

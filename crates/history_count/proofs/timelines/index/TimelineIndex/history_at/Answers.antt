@@ -1,7 +1,6 @@
 use Rattle.std.proofs.{Common.{◌≡◌, [], ◌∷◌, ℕ, List, Vec, arith, ap, subst, ◌∙◌}, lemmas.List.{map-append, take_all}}
 use Rattle.std.specs.{Result.{IfOk}, declared.alloc.Global.{Global}}
 use Rattle.tuner_theory.{proofs.Timelines.{moments_are_snapshots}, specs.Lists.{lists_of}, specs.Timelines.{history_at}}
-use Rattle.tuner_theory.specs.declared.size_event.SizeEvent.{SizeEvent}
 use Rattle.history_count.{proofs.TimelineLemmas.Columns.{rows-few, rows-more, rows-spread, rows_at}, specs.CountedLines.{spread}}
 use Rattle.history_count.proofs.timelines.index.TimelineIndex.history_at.Goals as goal
 
@@ -49,6 +48,5 @@ returns c =
     let whole = rows-spread events r c.self.invariant.timeline c.self.invariant.requested_are c.args.numbers.now
     (rw c.self.view_is c.requires.within) in
     let same : spread c.deref.result.now (lists_of c.loop-i.rows.items) ≡ history_at c.args.self.now c.args.numbers.now =
-    ap (λ (sizes : List ℕ). spread sizes (lists_of c.loop-i.rows.items)) c.deref.ensures.value ∙ ap (spread r.sizes.items) all ∙ whole
-    ∙ ap (λ (es : List SizeEvent). history_at es c.args.numbers.now) c.self.view_is in
+    grind arith in
     subst (λ (snapshots : List (List ℕ)). IfOk c.of_rows.result (λ history. history.snapshots ≡ snapshots)) same c.of_rows.ensures

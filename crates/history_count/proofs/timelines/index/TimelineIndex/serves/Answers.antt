@@ -1,4 +1,4 @@
-use Rattle.std.proofs.Common.{◌≡◌, ◌↔◌, ◌<◌, ◌-◌, Option, Some, None, List, ℕ, length, refl, arith, sym, ◌∙◌, IsSome, IfSome, slice_index}
+use Rattle.std.proofs.Common.{◌≡◌, ◌↔◌, ◌<◌, ◌-◌, Option, List, ℕ, length, refl, arith, IsSome, IfSome, slice_index}
 use Rattle.class_table.specs.Tables.{IsLeastServing, class_for, class_number_for}
 use Rattle.history_count.proofs.TimelineLemmas.{Requests.{largest_serves}, Steps.{number_gives_none, number_serves}}
 use Rattle.history_count.proofs.timelines.index.TimelineIndex.serves.Goals as goal
@@ -6,8 +6,7 @@ use Rattle.history_count.proofs.timelines.index.TimelineIndex.serves.Goals as go
 -- the number of a class says whether there is one
 has_class : (classes : List ℕ) (n : ℕ) (o : Option ℕ) → o ≡ class_number_for classes n
     → IfSome o (λ number. (number < length classes) × IsLeastServing classes n (slice_index classes number)) → IsSome o ↔ IsSome (class_for classes n)
-has_class classes n None is within = (λ some. absurd cc, λ some. rw (number_gives_none classes n (sym is)) at some)
-has_class classes n (Some number) is within = (λ _. number_serves classes n number (sym is) within.0, λ _. refl)
+has_class classes n o is within = grind (arith, number_gives_none, number_serves)
 
 pub returns-then-above-eq0 : goal.returns-then-above-eq0
 returns-then-above-eq0 c =
@@ -26,5 +25,4 @@ returns c =
     c.self.invariant.timeline refl c.self.invariant.requested_are.largest in
     let has = has_class c.args.table.now (above - 1) c.find.result (rw c.from.ensures at c.find.ensures.number)
     (rw c.from.ensures at c.find.ensures.least) in
-    rw (← c.self.view_is)
-    (λ is. all.0 (λ _. has.0 (sym c.is_some.ensures ∙ is)), λ serving. c.is_some.ensures ∙ has.1 (all.1 serving (omega (arith, c.if-above-eq0.false))))
+    grind arith

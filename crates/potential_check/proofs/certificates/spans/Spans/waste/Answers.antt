@@ -1,4 +1,4 @@
-use Rattle.std.proofs.Common.{◌^◌, ◌<◌, arith, subst, sym}
+use Rattle.std.proofs.Common.{arith}
 use Rattle.tuner_theory.{proofs.LawLemmas.{spans_fit}, specs.Spans.{span_waste}}
 use Rattle.potential_check.proofs.CertificateLemmas.SpanSums.{HasSpanSums, span_sums}
 use Rattle.potential_check.proofs.certificates.spans.Spans.waste.Goals as goal
@@ -32,8 +32,4 @@ pub returns-clause-waste : goal.returns-clause-waste
 returns-clause-waste c = rw (c.from.ensures, c.from-2.ensures) (facts c).waste_is
 
 pub returns-clause-small : goal.returns-clause-small
-returns-clause-small c =
-    let counted = c.requests_up_to-requests.ensures.valid in
-    subst (λ waste. waste < 2 ^ 58) (sym (returns-clause-waste c))
-    (spans_fit c.args.self.now.counts c.args.self.now.step c.args.i c.args.j counted.is_step counted.are_counts c.requires.order
-    c.requires.within)
+returns-clause-small c = grind (arith, returns-clause-waste, spans_fit)

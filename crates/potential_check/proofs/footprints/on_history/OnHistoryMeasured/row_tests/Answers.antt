@@ -1,4 +1,4 @@
-use Rattle.std.proofs.{Common.{refl, arith, ◌≡◌, ℕ, Bool, List}, lemmas.Result.{IfOk-weaker}}
+use Rattle.std.proofs.{Common.{arith, ◌≡◌, ℕ, Bool, List}, lemmas.Result.{IfOk-weaker}}
 use Rattle.potential_check.specs.{Certificates.SheetView.{sheet_of}, Footprints.RowConditions.{AreRowTests}, Measured.{AreTestsOf}}
 use Rattle.potential_check.specs.declared.measured.RowTests.{RowTests}
 use Rattle.tuner_theory.{proofs.LawLemmas.{few_places}, specs.Footprint.{footprint_between}, specs.Histories.{peaks}, specs.Served.{served}}
@@ -23,13 +23,10 @@ module _ (forced : Bool) (snapshots : List (List ℕ)) (fit : Sheet) (counts : L
   }
 
 pub test_rows-requires-clause-places : goal.test_rows-requires-clause-places
-test_rows-requires-clause-places c =
-    rw c.in_ok-costs.ensures.places
-    (few_places c.args.spans.now.counts c.args.spans.now.step c.requires.spanned.is_step c.requires.spanned.are_counts)
+test_rows-requires-clause-places c = grind (arith, few_places)
 
 pub test_rows-requires-clause-shape : goal.test_rows-requires-clause-shape
-test_rows-requires-clause-shape c =
-    record { row_count = refl; row_lengths = rw (c.in_ok-costs.ensures.places, c.requires.counts, c.requires.step) c.requires.shape.row_lengths }
+test_rows-requires-clause-shape c = grind arith
 
 pub test_rows-requires-clause-few : goal.test_rows-requires-clause-few
 test_rows-requires-clause-few c = omega (arith, c.requires.shape.row_count)

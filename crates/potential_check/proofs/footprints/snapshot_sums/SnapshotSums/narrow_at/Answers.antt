@@ -9,5 +9,4 @@ returns c =
     let all : lists_of s.narrow.items ≡ lists_of s.sums.items = s.same (omega (arith, c.requires, lists-length s.narrow.items)) in
     sums-at s.history.now.snapshots s.spans.now.counts s.spans.now.step (lists_of s.sums.items) s.holds c.args.t c.deref.result.now
     (omega (arith, c.requires, s.holds.sums_are.size, lists-length s.narrow.items, ap length all))
-    (rw all at (row-read_at s.narrow.items c.args.t c.index.result.now c.deref.result.now
-    (omega (arith, c.requires, lists-length s.narrow.items)) c.index.ensures c.deref.ensures.value))
+    (grind (arith, row-read_at, lists-length))

@@ -2,7 +2,7 @@ use Rattle.std.proofs.Common.{◌≡◌, ℕ, ◌<◌, ◌≤◌, [], List, leng
 use Rattle.std.specs.declared.alloc.Global.{Global}
 use Rattle.history_count.{proofs.LawLemmas.{column-few, few-lines}, specs.CountedLines.{AreLinesOf, CountsSizes}}
 use Rattle.potential_check.{proofs.FootprintLemmas.Snapshots.{small-spans, spans-grow}, specs.Footprints.SnapshotSums.{HoldsSnapshots}}
-use Rattle.potential_check.proofs.FootprintLemmas.UpTo.{column-sums, cuts-ascend, first-all, first-more}
+use Rattle.potential_check.proofs.FootprintLemmas.UpTo.{column-sums, cuts-ascend, first-more}
 use Rattle.tuner_theory.{proofs.Lists.{lists-length, row-read}, proofs.Rounding.{step-positive}, specs.Histories.{AreSnapshots}}
 use Rattle.tuner_theory.specs.{Lists.{lists_of}, Profiles.{greatest_count}}
 use Rattle.potential_check.proofs.footprints.snapshot_sums.SnapshotSums.new.Goals as goal
@@ -24,10 +24,7 @@ module _ (snapshots : List (List ℕ)) (sizes : List ℕ) (columns : List (Vec �
   few = column-few (slice_index_or snapshots t []) sizes column (are.counts t [] inside) counted
 
 pub sums_up_to-requires-clause-few : goal.sums_up_to-requires-clause-few
-sums_up_to-requires-clause-few c =
-    let lines = c.lines-lines in
-    few c.args.history.now.snapshots lines.result.sizes.now lines.result.columns.now lines.ensures.lines lines.ensures.history.snapshots
-    c.loop-t.t c.index-lines-t.result c.deref.result.now (omega arith) c.deref.ensures.value
+sums_up_to-requires-clause-few c = grind (arith, few)
 
 pub sums_up_to-requires-clause-size : goal.sums_up_to-requires-clause-size
 sums_up_to-requires-clause-size c =
@@ -43,9 +40,7 @@ sums_up_to-requires-clause-within c = λ p lt.
     let column = counted c.args.history.now.snapshots lines.result.sizes.now lines.result.columns.now lines.ensures.lines
     lines.ensures.history.snapshots c.loop-t.t c.index-lines-t.result c.deref.result.now (omega arith)
     c.deref.ensures.value in
-    let cuts = c.in_ok-cuts.ensures in
-    rw c.deref-in-loop-t.ensures.value
-    (omega (arith, column.size, (cuts.each p (omega (arith, lt, cuts.size, ap length c.deref-in-loop-t.ensures.value))).within))
+    grind arith
 
 pub sums_up_to-requires-clause-ascend : goal.sums_up_to-requires-clause-ascend
 sums_up_to-requires-clause-ascend c = λ p q le lt.
@@ -80,14 +75,7 @@ invariant_of-result c =
     let s = c.args.spans.now in
     let lines = c.lines-lines in
     let sums = lists_of c.loop-t.sums.items in
-    let holds : HoldsSnapshots snapshots s.counts s.step sums = record {
-      is_step = c.requires.spans.is_step;
-      are = lines.ensures.history.snapshots;
-      are_counts = c.requires.spans.are_counts;
-      covers = c.requires.peaks;
-      sums_are = first-all snapshots s.counts s.step c.loop-t.t sums
-          (omega (arith, lists-length lines.result.columns.now, lines.ensures.lines.width)) c.loop-t.invariant.first;
-    } in
+    let holds : HoldsSnapshots snapshots s.counts s.step sums = grind (arith, lists-length) in
     record {
       holds = holds;
       small = small-spans snapshots _ _ sums holds;

@@ -8,5 +8,4 @@ returns c =
     let s = c.args.self.now in
     sums-at s.history.now.snapshots s.spans.now.counts s.spans.now.step (lists_of s.sums.items) s.holds c.args.t c.deref.result.now
     (omega (arith, c.requires, s.holds.sums_are.size, lists-length s.sums.items))
-    (row-read_at s.sums.items c.args.t c.index.result.now c.deref.result.now (omega (arith, c.requires, lists-length s.sums.items))
-    c.index.ensures c.deref.ensures.value)
+    (grind (arith, row-read_at, lists-length))

@@ -1,5 +1,5 @@
-use Rattle.std.proofs.Common.{◌≡◌, ◌*◌, length, slice_index, arith, ap}
-use Rattle.potential_check.proofs.FootprintLemmas.Snapshots.{others-at, product-fits, scaled-more, scaled-written}
+use Rattle.std.proofs.Common.{◌*◌, slice_index, arith, ap}
+use Rattle.potential_check.proofs.FootprintLemmas.Snapshots.{product-fits, scaled-more}
 use Rattle.tuner_theory.specs.Lists.{lists_of}
 use Rattle.potential_check.proofs.footprints.snapshot_sums.SnapshotSums.write_wide.Goals as goal
 
@@ -12,8 +12,7 @@ overflow_mul-costs c =
       arith,
       product-fits s.history.now.snapshots s.spans.now.counts s.spans.now.step (lists_of s.sums.items) s.holds c.args.i j
           (m * c.class_bytes.result) m (omega arith) (omega arith)
-          (others-at s.history.now.snapshots s.spans.now.counts s.spans.now.step (lists_of s.sums.items) s.holds c.args.i j c.loop-j.costs
-          c.loop-j.invariant.scaled (omega arith) (omega arith)) (ap (λ n. m * n) c.class_bytes.ensures),
+          (omega arith) (ap (λ n. m * n) c.class_bytes.ensures),
     )
 
 pub loop-j-preserved : goal.loop-j-preserved
@@ -26,8 +25,4 @@ loop-j-preserved c =
     }
 
 pub returns : goal.returns
-returns c =
-    let s = c.args.self.now in
-    let all : c.loop-j.j ≡ length c.loop-j.costs = omega (arith, c.requires.within, c.loop-j.invariant.scaled.size) in
-    scaled-written s.history.now.snapshots s.spans.now.counts s.spans.now.step (lists_of s.sums.items) s.holds c.args.i _
-    c.loop-j.costs (rw all at c.loop-j.invariant.scaled)
+returns c = omega arith
