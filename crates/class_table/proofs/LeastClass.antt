@@ -76,10 +76,6 @@ counted_place step classes n number legal bound below above =
     (λ k less. too_small n (get_or classes k 0) (legal.in_range k 0 (omega arith)).0 (below k 0 (omega arith) less))
     (λ within. large_enough n (get_or classes number 0) (above number 0 (omega arith) within))
 
-pub number_counted : (n : ℕ) (classes : List ℕ) (number : ℕ) → position_or_len (serves n) classes ≡ number → number < length classes →
-    Some number ≡ class_number_for classes n
-number_counted n classes number place within = grind arith
-
 pub none_counted : (n : ℕ) (classes : List ℕ) (number : ℕ) → position_or_len (serves n) classes ≡ number → length classes ≤ number →
     None ≡ class_number_for classes n
 none_counted n classes number place past = grind arith

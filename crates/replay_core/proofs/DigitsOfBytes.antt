@@ -17,7 +17,3 @@ pub digits_to : (bytes text front : List ℕ) (at len most : ℕ) → length fro
 digits_to bytes text front at len most long fewer is =
     written_to text front (flat_map hex (take most bytes)) at (2 * len) (2 * most) long (omega (arith, fewer)) is
     ∙ ap (λ digits. front ++ digits) (first_digits len (take most bytes) ∙ ap (flat_map hex) (take-take len most bytes fewer))
-
-pub length_digits : (bytes : List ℕ) → length (flat_map hex bytes) ≡ 2 * length bytes
-length_digits [] = refl
-length_digits (byte ∷ bytes) = omega (arith, length_digits bytes)

@@ -1,7 +1,7 @@
 -- What a call makes of a heap, by what is chosen for it.
 use Rattle.std.proofs.Common.{◌≡◌, ℕ, ◌<◌, List, refl, ◌∙◌, Ok, Err, ◌≢◌, ◌+◌, sym, subst, arith, Result}
-use Rattle.std.proofs.{Common.{MatchResult, IfOk, IfErr, OnErr, if◌then◌else◌, is_some, ◌↔◌}, lemmas.List.{get_or-set_other}}
-use Rattle.std.specs.Result.{result_map_both, result_ok, IsErrAnd}
+use Rattle.std.proofs.{Common.{IfOk, IfErr, OnErr, if◌then◌else◌, is_some, ◌↔◌}, lemmas.List.{get_or-set_other}}
+use Rattle.std.specs.Result.{result_map_both, result_ok}
 use Rattle.heap_theory.{proofs.OwnPointers.{free_accepts, realloc_accepts}, specs.Lookups.{slot_for_request, Chunk, IsReusable}}
 use Rattle.heap_theory.specs.{Calls.{given_out, with_payload, move_with, moved, payload_bytes, free_step, realloc_step}, State.State.{Live}}
 use Rattle.heap_theory.specs.{OwnPointers.{IsNotRefused, IsNullOrOwn}, Sound.{IsSoundHeap}, declared.refusal.FreeError.{FreeError}}
@@ -16,24 +16,6 @@ use Rattle.tagged_heap.specs.{Chunks.{IsChunk}, HeapAtRest.{HeapAndFrees}, decla
 pub room_given : (h : Heap) (n s r : ℕ) → chunk_granules n < (slot_in h r).class → chunk_granules n < (slot_in (given_out h s n) r).class
 unfolding given_out
 room_given h n s r room = room
-
--- ---- a result whose error is another's, under a name
-
-pub err_named : {T E D : Type 0} (Q : E → D → Type 0) (r : Result T E) (out : Result T D) (d : D) →
-    MatchResult r (λ x. out ≡ Ok x) (λ e. IsErrAnd out (Q e)) → out ≡ Err d → (e : E) × (r ≡ Err e) × Q e d
-err_named {T} {E} {D} Q (Ok x) out d cases is = let never : ◌≡◌ {A = Result T D} (Ok x) (Err d) = sym cases ∙ is in absurd cc
-err_named {T} {E} {D} Q (Err e) out d cases is = (e, refl, subst (λ o. IsErrAnd o (Q e)) is cases)
-
-pub ok_named : {T E D : Type 0} (Q : E → D → Type 0) (r : Result T E) (out : Result T D) (x : T) →
-    MatchResult r (λ x. out ≡ Ok x) (λ e. IsErrAnd out (Q e)) → out ≡ Ok x → r ≡ Ok x
-ok_named {T} {E} {D} Q (Ok y) out x cases is = grind arith
-ok_named {T} {E} {D} Q (Err e) out x cases is = absurd (subst (λ o. IsErrAnd o (Q e)) is cases)
-
--- the address of a chunk that comes with what it loses, where only an error gets a name
-pub addresses_named : {E D : Type 0} (f : E → D) (r : Result (ℕ × ℕ) E) (out : Result (ℕ × ℕ) D) →
-    MatchResult r (λ x. out ≡ Ok x) (λ e. IsErrAnd out (λ d. d ≡ f e)) →
-    result_map_both (λ given. given.0) (λ e. e) out ≡ result_map_both (λ p. p) f (result_map_both (λ given. given.0) (λ e. e) r)
-addresses_named f r out cases = grind arith
 
 -- ---- a chunk that moves
 

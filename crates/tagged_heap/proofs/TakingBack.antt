@@ -1,5 +1,5 @@
 -- The chunk of a live slot is taken back, and the slot goes into the quarantine.
-use Rattle.std.proofs.Common.{lit<, ◌≡◌, ◌≢◌, ℕ, zero, suc, ◌+◌, ◌^◌, ◌<◌, ◌≤◌, List, [], ◌∷◌, ◌++◌, length, refl, sym, ap, ◌∙◌, subst}
+use Rattle.std.proofs.Common.{◌≡◌, ◌≢◌, ℕ, zero, suc, ◌+◌, ◌^◌, ◌<◌, ◌≤◌, List, [], ◌∷◌, ◌++◌, length, refl, sym, ap, ◌∙◌, subst}
 use Rattle.std.proofs.{Common.{arith, Contains}, lemmas.Bool.{cases_eq}}
 use Rattle.machine_theory.specs.{Machine.{Machine}, Memory.{Granule, IsMemory, tagged}, Seed.{next_seed}}
 use Rattle.class_table.specs.{Layout.{block_bytes}, Sizes.{chunk_granules}}
@@ -27,16 +27,6 @@ module _ {h : Heap} {frees : ℕ} {p : Parts} {counters : List ℕ} (held : IsAt
       let room = subst (λ x. chunk_granules_of x < (slot_in h s).class) live (held.kept.sound.tagged s in_range).room in
       subst (HasRoom h.layout p.memory s) (grind arith)
       (has_room held.kept s n in_range (size_most n _ room (class_most h s held.kept.sound in_range)) room)
-
-  -- the header says what is known of the chunk,
-  pub live_header : header_in (region_of h.layout p.memory) s ≡ header_from h.layout held.kept.from s (Live n tag) 0
-  live_header = grind arith
-
-  -- and has room for it
-  pub live_fits : FitsWords (header_from h.layout held.kept.from s (Live n tag) 0)
-  live_fits =
-      subst (λ x. FitsWords (header_from h.layout held.kept.from s x 0)) live
-      (header_fits h held.kept.from s 0 held.kept.sound in_range (lit< tt) held.fits)
 
   -- another slot's header stays
   dead_differs : (r mark : ℕ) → HasMark (state_at h r) mark → r ≢ s

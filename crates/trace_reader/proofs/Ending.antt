@@ -215,6 +215,3 @@ finish_empty old events lines rest status events' is open_now none same =
     grind (arith, finished-empty) in
     came old (finished old) (at events' Finished) (Ok tt) (sym ends) (ap (λ (r : Reading). answer_of r.state) (sym ends))
     (IsPrefix-finished old)
-
-pub finished_after : (old new : Reading) (error : TraceError) → HasReached old (finished old) new (Err error) → is_finished new ≡ false
-finished_after old new error reached = ap (λ (s : State). is_finished (at [] s)) (failed_at new error reached.answer)

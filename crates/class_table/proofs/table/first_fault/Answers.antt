@@ -1,4 +1,4 @@
-use Rattle.std.proofs.Common.{◌≡◌, [], drop, refl, sym, ◌∙◌, ℕ, ◌+◌, ◌<◌, ◌≤◌, true, false, List, length, get_or, Option, Some, add-one}
+use Rattle.std.proofs.Common.{◌≡◌, drop, refl, ℕ, ◌+◌, ◌<◌, ◌≤◌, true, false, List, length, get_or, Option, Some, add-one}
 use Rattle.std.proofs.{Common.{arith}, Math.Seq.{drop-cons}, lemmas.Bool.{le-leb, lt-leb}, lemmas.Grind.{common_steps}}
 use Rattle.std.proofs.lemmas.List.{drop_all}
 use Rattle.class_table.specs.{Faults.{fault_from, is_out_of_range}, declared.fault.TableError.{TableError}}
@@ -29,22 +29,14 @@ unfolding fault_from
 no_fault_at classes below i within in_range above = grind (arith, common_steps, lt-leb, drop-cons, add-one)
 
 pub returns-then-is_out_of_range : goal.returns-then-is_out_of_range
-returns-then-is_out_of_range c =
-    sym (c.loop-class.invariant ∙ out_of_range_at _ _ _ c.loop-class-test.true (sym c.is_out_of_range.ensures ∙ c.if-is_out_of_range.true))
+returns-then-is_out_of_range c = grind (arith, out_of_range_at)
 
 pub returns-then-class-below : goal.returns-then-class-below
-returns-then-class-below c =
-    sym (c.loop-class.invariant
-    ∙ not_ascending_at _ _ _ c.loop-class-test.true (sym c.is_out_of_range.ensures ∙ c.if-is_out_of_range.false) c.if-class-below.true)
+returns-then-class-below c = grind (arith, not_ascending_at)
 
 pub loop-class-preserved : goal.loop-class-preserved
-loop-class-preserved c =
-    c.loop-class.invariant ∙ no_fault_at _ _ _ c.loop-class-test.true (sym c.is_out_of_range.ensures ∙ c.if-is_out_of_range.false)
-    c.if-class-below.false
+loop-class-preserved c = grind (arith, no_fault_at)
 
 pub returns : goal.returns
 unfolding fault_from
-returns c =
-    let none : drop c.loop-class.class-index c.args.classes.now ≡ [] =
-    drop_all c.loop-class.class-index c.args.classes.now c.loop-class-test.false in
-    sym (c.loop-class.invariant ∙ rw none refl)
+returns c = grind (arith, drop_all)

@@ -1,4 +1,4 @@
-use Rattle.std.proofs.Common.{◌∙◌, arith}
+use Rattle.std.proofs.Common.{arith}
 use Rattle.raw_region.proofs.{Windows.{overlaid_twice}, Written.{filled_twice}}
 use Rattle.raw_region.proofs.short_fill.fill_then_clear.Goals as goal
 
@@ -17,7 +17,4 @@ returns-then-bytes-from c =
     c.window_at-rest.ensures c.put_window-then-bytes-from-2.ensures
 
 pub returns-then-middle-to : goal.returns-then-middle-to
-returns-then-middle-to c =
-    c.fill_run-then-middle-to.ensures
-    ∙ filled_twice c.args.bytes.now c.fill_run.new.bytes c.args.from c.args.middle c.args.to c.args.value 0 c.requires.0 c.requires.1
-    c.requires.2 c.fill_run.ensures
+returns-then-middle-to c = grind (arith, filled_twice)

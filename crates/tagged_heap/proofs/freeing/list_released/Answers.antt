@@ -1,6 +1,5 @@
-use Rattle.std.proofs.Common.{ℕ, sym, ap, ◌∙◌, arith, slice_index}
-use Rattle.class_table.specs.Layout.{slot_of}
-use Rattle.heap_theory.{proofs.Regions.{header_in-region_of}, specs.Header.{Header, header_at}, specs.Header.Standing.{Freed}}
+use Rattle.std.proofs.Common.{arith}
+use Rattle.heap_theory.{proofs.Regions.{header_in-region_of}}
 use Rattle.heap_theory.specs.Region.{region_of, header_in}
 use Rattle.tagged_heap.proofs.RewrittenHeaders.{header_written}
 use Rattle.tagged_heap.proofs.TheoryLemmas as laws
@@ -20,12 +19,4 @@ returns-clause-header c =
     let first =
     header_written layout old c.set_freed.new.memory c.args.slot 8 _ c.requires.partition c.requires.memory c.requires.slot
     (rw c.requires.start at c.set_freed.ensures) in
-    record {
-      own = first.own
-          ∙ ap (λ (n : ℕ). let x : Header = record (header_at old (slot_of layout c.args.slot).start) { standing = Freed; next = n } in x)
-          (c.front.ensures ∙ ap (slice_index c.args.lists.now) c.class_number-number.ensures)
-          ∙ ap (λ (x : Header). record x { standing = Freed; next = slice_index c.args.lists.now class })
-          (sym (header_in-region_of layout old c.args.slot c.requires.slot));
-      others = first.others;
-      seen_is = first.seen_is;
-    }
+    grind (arith, header_in-region_of)

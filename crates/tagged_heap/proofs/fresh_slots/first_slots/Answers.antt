@@ -1,21 +1,10 @@
-use Rattle.std.{proofs.Common.{◌≡◌, [], ◌∷◌, ◌++◌, length, map, ap, ◌∙◌, sym, arith}, specs.List.{range_with_len}}
+use Rattle.std.{proofs.Common.{[], ◌∷◌, ◌++◌, map, ap, ◌∙◌, sym, arith}, specs.List.{range_with_len}}
 use Rattle.std.proofs.lemmas.List.FromFn.{length-map-range_with_len, map-range_with_len_more}
 use Rattle.class_table.specs.Layout.{first_slot}
 use Rattle.tagged_heap.proofs.fresh_slots.first_slots.Goals as goal
 
 pub push-requires : goal.push-requires
-push-requires c =
-    let long : length c.loop-number.counters.items ≡ c.loop-number.number =
-    ap length c.loop-number.invariant ∙ length-map-range_with_len (first_slot c.args.layout.now) 0 c.loop-number.number in (
-      omega arith,
-      omega (
-        arith,
-        long,
-        c.loop-number-test.true,
-        c.classes-number-end.ensures.classes,
-        c.classes-number-end.ensures.partition.table.few,
-      ),
-    )
+push-requires c = grind (arith, length-map-range_with_len)
 
 pub loop-number-preserved : goal.loop-number-preserved
 loop-number-preserved c =

@@ -1,6 +1,6 @@
-use Rattle.std.proofs.Common.{◌≡◌, ℕ, ◌+◌, ◌*◌, ◌-◌, ◌<◌, ◌≤◌, Some, refl, sym, ap, ◌∙◌, subst, inl, inr, arith, slice_index}
-use Rattle.std.proofs.lemmas.{Bool.{cases_lt}, Option.{slice_get-get_or}}
-use Rattle.class_table.{proofs.LawLemmas.{slot_by_its_class}, specs.Layout.{IsClassOf, Slot, first_slot, share_of, slot_of}}
+use Rattle.std.proofs.Common.{◌≡◌, ℕ, ◌+◌, ◌*◌, ◌-◌, ◌<◌, ◌≤◌, ap, ◌∙◌, arith, slice_index}
+use Rattle.std.proofs.lemmas.{Option.{slice_get-get_or}}
+use Rattle.class_table.{proofs.LawLemmas.{slot_by_its_class}, specs.Layout.{IsClassOf, first_slot, share_of, slot_of}}
 use Rattle.heap_theory.specs.{Header.{Header, class_number}, Header.Standing.{Fresh as NeverGiven}, Region.{region_of, header_in}}
 use Rattle.heap_theory.specs.State.State.{Fresh}
 use Rattle.tagged_heap.proofs.{NewHeap.{class_is_number}, RewrittenHeaders.{header_written}, Shares.{in_share}}
@@ -11,24 +11,7 @@ abbrev fresh_header : ℕ → Header
 fresh_header class = record { standing = NeverGiven; size = 0; tag = 0; class = class; next = 0; mark = 0 }
 
 pub loop-slot-init : goal.loop-slot-init
-loop-slot-init c =
-    let layout = c.args.layout.now in
-    let number = c.args.number in
-    let first = c.first_slot-first.result in
-    let is : IsClassOf layout first number = record {
-      within = c.requires.number;
-      from = omega (arith, c.first_slot-first.ensures.first);
-      to = omega (arith, c.if-first-end.false, c.first_slot-end.ensures.first);
-    } in
-    record {
-      from = omega arith;
-      start = c.slot_of_class-start.ensures.start ∙ ap (λ (slot : Slot). slot.start) (slot_by_its_class layout first number is)
-          ∙ ap (λ n. share_of layout * number + slice_index layout.classes number * (first - n)) (sym c.first_slot-first.ensures.first);
-      headers = λ s below. c.requires.before s (omega (arith, below, c.first_slot-first.ensures.first));
-      seen = refl;
-      memory = c.requires.memory;
-      long = refl;
-    }
+loop-slot-init c = grind (arith, slot_by_its_class)
 
 pub loop-slot-preserved : goal.loop-slot-preserved
 loop-slot-preserved c =
@@ -41,15 +24,11 @@ loop-slot-preserved c =
     let own = in_share layout number slot c.requires.number from to in
     let is : IsClassOf layout slot number = record { within = c.requires.number; from = from; to = to } in
     let begins : c.loop-slot.next ≡ (slot_of layout slot).start =
-    c.loop-slot.invariant.start
-    ∙ ap (λ n. share_of layout * number + slice_index layout.classes number * (slot - n)) c.first_slot-first.ensures.first
-    ∙ sym (ap (λ (slot : Slot). slot.start) (slot_by_its_class layout slot number is)) in
+    grind (arith, slot_by_its_class) in
     let wide : c.slot_of_class-start.result.class ≡ slice_index layout.classes number =
-    c.slot_of_class-start.ensures.class
-    ∙ (in_share layout number first c.requires.number (omega (arith, c.first_slot-first.ensures.first)) (omega (arith, to, c.loop-slot.invariant.from))).1 in
+    grind (arith, in_share) in
     let class : number ≡ class_number layout slot =
-    class_is_number layout slot number c.requires.partition.table own.0
-    (slice_get-get_or layout.classes number 0 c.requires.number ∙ ap Some (sym own.1)) in
+    grind (arith, class_is_number, slice_get-get_or) in
     let written =
     header_written layout c.loop-slot.memory c.write.new.memory slot 16 (fresh_header number) c.requires.partition
     c.loop-slot.invariant.memory own.0 (rw begins at c.write.ensures) in
@@ -59,12 +38,7 @@ loop-slot-preserved c =
       from = omega (arith, c.loop-slot.invariant.from);
       start = one_more (share_of layout * number) (slice_index layout.classes number) _ _ slot first c.loop-slot.invariant.from
           c.loop-slot.invariant.start wide;
-      headers = λ s below. elim (cases_lt s slot) [
-        | inl less ↦ written.others s (omega arith) (omega arith) ∙ c.loop-slot.invariant.headers s less
-        | inr more ↦
-            let same : slot ≡ s = omega arith in
-            subst (λ s. header_in (region_of layout c.write.new.memory) s ≡ header_from layout 0 s Fresh 0) same here
-      ];
+      headers = grind arith;
       seen = written.seen_is ∙ c.loop-slot.invariant.seen;
       memory = c.write.ensures.memory;
       long = c.write.ensures.others.len ∙ c.loop-slot.invariant.long;

@@ -1,4 +1,4 @@
-use Rattle.std.proofs.Common.{◌≡◌, ◌^◌, ◌<◌, refl, sym, ap, ◌∙◌, arith, Some, None, ℕ, ◌+◌, ◌-◌, ◌/◌, Option}
+use Rattle.std.proofs.Common.{◌≡◌, ◌<◌, sym, ap, ◌∙◌, arith, Some, ℕ, ◌+◌, ◌-◌, ◌/◌, Option}
 use Rattle.class_table.specs.Layout.{slot_of, Partition, IsPartition, slot_count, slot_over}
 use Rattle.heap_theory.specs.State.{payload_place}
 use Rattle.machine_theory.specs.Address.{region_start}
@@ -40,38 +40,10 @@ returns-then-plain-ne1-clause-none c s within plain at =
     c.if-plain-ne1.true (omega (arith, payload_inside c.args.layout.now is s c.place_of.result within place, place, plain, is.most))
 
 pub returns-then-before-eq1-clause-slot : goal.returns-then-before-eq1-clause-slot
-returns-then-before-eq1-clause-slot c =
-    let is = c.granules.ensures.partition in
-    let within =
-    covered_within c.args.layout.now is _ c.in_ok-slot.slot (Some c.in_ok-slot.slot) (sym c.in_ok-slot.ensures.some) refl in
-    let plain : c.args.p < 2 ^ 60 = omega (arith, c.place_of.ensures, c.if-plain-ne1.false, c.ranges.p.fits) in
-    let begins : c.place_of.result ≡ payload_place (slot_of c.args.layout.now c.in_ok-slot.slot) =
-    omega (
-      arith,
-      plain,
-      c.place_of.ensures,
-      c.if-at-ne0.false,
-      c.if-plain-ne1.false,
-      c.in_ok-slot.ensures.place,
-      c.if-before-eq1.true,
-    ) in (within, plain, sym c.place_of.ensures ∙ begins)
+returns-then-before-eq1-clause-slot c = grind (arith, covered_within)
 
 pub returns-in_err-slot-clause-none : goal.returns-in_err-slot-clause-none
-returns-in_err-slot-clause-none c =
-    rw c.from_residual.ensures
-    (λ s within plain at.
-    let place = c.place_of.ensures ∙ at in
-    let some : None ≡ Some s =
-    sym c.in_err-slot.ensures.none
-    ∙ payload_found c.args.layout.now c.granules.ensures.partition s c.place_of.result _ within place (omega (arith, place, plain)) in
-    cc)
+returns-in_err-slot-clause-none c = grind (arith, payload_found)
 
 pub returns-else-before-eq1-clause-none : goal.returns-else-before-eq1-clause-none
-returns-else-before-eq1-clause-none c s within plain at =
-    let place = c.place_of.ensures ∙ at in
-    let found : Some c.in_ok-slot.slot ≡ Some s =
-    sym c.in_ok-slot.ensures.some
-    ∙ payload_found c.args.layout.now c.granules.ensures.partition s c.place_of.result _ within place (omega (arith, place, plain)) in
-    let same : c.in_ok-slot.slot ≡ s = cc in
-    let start = ap (λ q. (slot_of c.args.layout.now q).start) same in
-    c.if-before-eq1.false (omega (arith, start, place, plain, c.in_ok-slot.ensures.place))
+returns-else-before-eq1-clause-none c s within plain at = grind (arith, payload_found)

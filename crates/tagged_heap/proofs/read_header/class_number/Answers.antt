@@ -1,5 +1,5 @@
-use Rattle.std.proofs.Common.{sym, ap, ◌∙◌, arith}
-use Rattle.heap_theory.{proofs.Regions.{header_in-region_of}, specs.Header.{Header}}
+use Rattle.std.proofs.Common.{arith}
+use Rattle.heap_theory.{proofs.Regions.{header_in-region_of}}
 use Rattle.tagged_heap.proofs.TheoryLemmas as laws
 use Rattle.tagged_heap.proofs.read_header.class_number.Goals as goal
 
@@ -9,10 +9,7 @@ class_in-requires-clause-granule c =
     omega (arith, c.requires.start, c.requires.region, order.inside c.args._slot c.requires.slot, order.wide c.args._slot c.requires.slot)
 
 pub class_in-requires-clause-class : goal.class_in-requires-clause-class
-class_in-requires-clause-class c =
-    rw (c.requires.start, ← header_in-region_of c.args.layout.now c.args.memory.now c.args._slot c.requires.slot) c.requires.class
+class_in-requires-clause-class c = grind (arith, header_in-region_of)
 
 pub returns : goal.returns
-returns c =
-    (rw c.requires.start at c.class_in.ensures)
-    ∙ sym (ap (λ (x : Header). x.class) (header_in-region_of c.args.layout.now c.args.memory.now c.args._slot c.requires.slot))
+returns c = grind (arith, header_in-region_of)

@@ -1,4 +1,4 @@
-use Rattle.std.proofs.Common.{sym, ◌∙◌, arith}
+use Rattle.std.proofs.Common.{arith}
 use Rattle.heap_theory.proofs.Regions.{header_in-region_of}
 use Rattle.tagged_heap.proofs.TheoryLemmas as laws
 use Rattle.tagged_heap.proofs.read_header.header.Goals as goal
@@ -9,10 +9,7 @@ read-requires-clause-granule c =
     omega (arith, c.requires.start, c.requires.region, order.inside c.args._slot c.requires.slot, order.wide c.args._slot c.requires.slot)
 
 pub read-requires-clause-class : goal.read-requires-clause-class
-read-requires-clause-class c =
-    rw (c.requires.start, ← header_in-region_of c.args.layout.now c.args.memory.now c.args._slot c.requires.slot) c.requires.class
+read-requires-clause-class c = grind (arith, header_in-region_of)
 
 pub returns-clause-header : goal.returns-clause-header
-returns-clause-header c =
-    (rw c.requires.start at c.read.ensures.header)
-    ∙ sym (header_in-region_of c.args.layout.now c.args.memory.now c.args._slot c.requires.slot)
+returns-clause-header c = grind (arith, header_in-region_of)

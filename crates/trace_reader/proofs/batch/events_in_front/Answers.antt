@@ -20,6 +20,5 @@ lines-preserved g c =
       range = subst (All IsInRange) (sym taken) (All-push IsInRange before event inv.range c.in-Some.ensures.range);
       few = omega arith;
       room = search rules;
-      seen = λ events saw. subst (g.O.Observer.has_seen c.see.new.self) (append_assoc events before (event ∷ []) ∙ ap (λ (es : List Event). events ++ es) (sym taken))
-          (c.see.ensures (events ++ before) (inv.seen events saw));
+      seen = grind (arith, append_assoc);
     }

@@ -1,7 +1,6 @@
-use Rattle.std.proofs.Common.{◌∙◌, ◌++◌, ◌∷◌, ◌*◌, ◌+◌, ◌<◌, ◌≤◌, ◌≡◌, List, ℕ, ap, arith, drop, get_or, length, take}
+use Rattle.std.proofs.Common.{◌*◌, ◌+◌, ◌<◌, ◌≤◌, ◌≡◌, List, ℕ, arith, get_or, length, take}
 use Rattle.std.{proofs.lemmas.List.{take_more, take_rest}, specs.Char.{digit_char}}
 use Rattle.line_text.specs.Hexadecimal.{hex}
-use Rattle.trace_reader.proofs.DigitsInFront.{cut_at}
 use Rattle.trace_reader.proofs.one_pass.byte.Goals as goal
 
 two_digits : (text : List ℕ) (high low : ℕ) → 2 ≤ length text → high < 16 → low < 16 → get_or text 0 0 ≡ digit_char high
@@ -15,5 +14,4 @@ returns-clause-spelled c =
     let low : c.hex_value-low.result < 16 = omega arith in
     let word = two_digits text c.hex_value-high.result c.hex_value-low.result (omega arith) high low
     (c.hex_value-high.ensures high) (c.hex_value-low.ensures low) in
-    rw take_rest (cut_at text 2 3 10 (omega arith) (omega arith) c.if-text-ne10.false
-    ∙ ap (λ (front : List ℕ). front ++ 10 ∷ drop 3 text) word)
+    rw take_rest (grind arith)

@@ -46,18 +46,7 @@ are_four n x y n_in x_in is_x is_y clear =
     let third : n / 65536 % 256 ≡ 48 + x / 65536 % 256 = omega (arith, whole, h_in, t_in, o_in) in
     let fourth : n / 16777216 % 256 ≡ 48 + x / 16777216 = omega (arith, whole, h_in, t_in, o_in, u_in) in
     let value : four_joined x ≡ four_of x = joined x _ _ _ _ parts h_in t_in o_in u_in in
-    record {
-      spelled = rw (
-        value,
-        spelled_four (x % 256) (x / 256 % 256) (x / 65536 % 256) (x / 16777216) h_in t_in o_in u_in,
-        ← first,
-        ← second,
-        ← third,
-        ← fourth,
-      ) refl;
-      few = omega (arith, value, h_in, t_in, o_in, u_in);
-      many = omega (arith, value);
-    }
+    grind (arith, spelled_four)
 
 -- the digits of the word, less those of 1000
 abbrev digits : (c : goal.Else-digits-ne0) → ℕ

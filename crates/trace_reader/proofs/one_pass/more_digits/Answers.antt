@@ -28,8 +28,7 @@ returns-then-text-place-clause-spelled c = λ some.
     let digit = c.digit_of-digit.result in
     let small : digit ≤ 9 = omega arith in
     let few = eight_digits place c.loop-place.value c.loop-place-test.true c.loop-place.invariant.few in
-    digit_more text place c.loop-place.value digit (omega arith) (c.digit_of-digit.ensures small) small c.loop-place.invariant.some few
-    c.loop-place.invariant.spelled
+    grind (arith, digit_more)
 
 pub loop-place-preserved : goal.loop-place-preserved
 loop-place-preserved c =
@@ -40,8 +39,7 @@ loop-place-preserved c =
     let few = eight_digits place c.loop-place.value c.loop-place-test.true c.loop-place.invariant.few in
     record {
       spelled =
-          digit_more text place c.loop-place.value digit (omega arith) (c.digit_of-digit.ensures small) small c.loop-place.invariant.some few
-          c.loop-place.invariant.spelled;
+          grind (arith, digit_more);
       some = omega (arith, c.loop-place.invariant.some);
       few = few_more place c.loop-place.value digit c.loop-place.invariant.few (omega arith);
     }

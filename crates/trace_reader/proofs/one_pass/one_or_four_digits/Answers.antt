@@ -1,4 +1,4 @@
-use Rattle.std.{proofs.Common.{◌≡◌, ◌+◌, ◌*◌, ◌≤◌, ap, ◌∙◌, arith}, specs.Fmt.{decimal}}
+use Rattle.std.{proofs.Common.{◌+◌, ◌*◌, ◌≤◌, arith}}
 use Rattle.trace_reader.proofs.DigitsInFront.{digit_more, first_digit}
 use Rattle.trace_reader.proofs.one_pass.one_or_four_digits.Goals as goal
 
@@ -18,5 +18,4 @@ returns-clause-spelled c = λ some.
     let four =
     digit_more text 3 (10 * 10 + tens) ones (omega arith) (c.digit_of-ones.ensures (omega arith)) (omega arith) (omega arith)
     (omega (arith, small)) three in
-    let value : (10 * 10 + tens) * 10 + ones ≡ 1000 + tens * 10 + ones = omega arith in
-    four ∙ ap decimal value
+    grind arith

@@ -1,4 +1,4 @@
-use Rattle.std.proofs.Common.{◌≡◌, ◌++◌, ◌∷◌, length, arith, eqb-true, ℕ, ◌<◌, Bool, true, false, cond, List}
+use Rattle.std.proofs.Common.{◌≡◌, ◌++◌, ◌∷◌, length, arith, ℕ, ◌<◌, Bool, cond, List}
 use Rattle.std.proofs.{Common.{Result, Err, eq-eqb}, lemmas.Grind.{common_steps}, lemmas.List.{length-append, length-map}, lemmas.List.Folds.{list_any-append}}
 use Rattle.trace_reader.proofs.words.are_full_words.Goals.{then-is_empty-via-then-is_empty, then-is_empty-via-else-is_empty+then-is_full}
 use Rattle.trace_reader.specs.{TraceLine.{event_of_words, event_named}, declared.fault.TraceFault.{TraceFault}}
@@ -11,8 +11,7 @@ abbrev bad : Result Event TraceFault
 bad = Err BadWord
 
 either : (v : Bool) (a b : Result Event TraceFault) → a ≡ bad → b ≡ bad → cond v a b ≡ bad
-either true a b x y = x
-either false a b x y = y
+either v a b x y = grind arith
 
 many_named : (name a b c d e : List ℕ) (ws : List (List ℕ)) → event_named name (a ∷ b ∷ c ∷ d ∷ e ∷ ws) ≡ bad
 many_named name a b c d e ws = grind (arith, either)
@@ -28,17 +27,7 @@ unfolding event_of_words
 empty_word front word after ws is none = grind (arith, list_any-append, eq-eqb)
 
 pub returns-then-is_empty-clause-bad : goal.returns-then-is_empty-clause-bad
-returns-then-is_empty-clause-bad c =
-    grind (
-      arith,
-      then-is_empty-via-then-is_empty,
-      empty_word,
-      eqb-true,
-      then-is_empty-via-else-is_empty+then-is_full,
-      many_words,
-      length-append,
-      length-map,
-    )
+returns-then-is_empty-clause-bad c = grind (arith, empty_word, many_words, length-append, length-map)
 
 pub loop-word-preserved : goal.loop-word-preserved
 loop-word-preserved c = grind (arith, common_steps)

@@ -9,9 +9,7 @@ count_below_last-requires-clause-known c =
     (within_counts c.args.slot (slot_count c.args.self.now) c.self.inside.slot_shift c.requires (rw c.self.view_is at c.self.invariant.reach)))
 
 pub count_below_last-requires-clause-ascending : goal.count_below_last-requires-clause-ascending
-count_below_last-requires-clause-ascending c =
-    let firsts = c.deref.ensures.0 ∙ c.self.invariant.firsts ∙ ap firsts_of c.self.view_is in
-    rw firsts (firsts_of-ascending c.args.self.now)
+count_below_last-requires-clause-ascending c = grind (arith, firsts_of-ascending)
 
 pub count_below_last-requires-clause-last : goal.count_below_last-requires-clause-last
 count_below_last-requires-clause-last c =

@@ -1,8 +1,8 @@
-use Rattle.std.proofs.{Common.{◌≡◌, ◌+◌, ◌/◌, ◌^◌, length, get_or, arith, sym, ◌∙◌, ap, subst}, lemmas.Option.{get_or_from_slice_get}}
+use Rattle.std.proofs.{Common.{◌≡◌, ◌/◌, ◌^◌, length, get_or, arith, ◌∙◌, ap, subst}, lemmas.Option.{get_or_from_slice_get}}
 use Rattle.class_table.proofs.{ClassOf.{firsts_of-ascending}, Counted.{counts_by_shift}, FirstSlots.{first_slot-few}}
 use Rattle.class_table.proofs.{LayoutSoFar.{IsFilled-more, classes_all, firsts_all, length-numbers}, LeastClass.{ascending_classes}}
 use Rattle.class_table.proofs.{Slots.{slots_of_classes_are_all}, layout.Layout.new.Goals.{After-shift_for-slot_shift}}
-use Rattle.class_table.specs.{Counts.{AreCounts}, Layout.{IsPartition, first_slot, slot_count}}
+use Rattle.class_table.specs.{Counts.{AreCounts}, Layout.{IsPartition, slot_count}}
 use Rattle.class_table.proofs.layout.Layout.new.Goals as goal
 
 pub push-requires-in-loop-number : goal.push-requires-in-loop-number
@@ -27,13 +27,7 @@ loop-number-preserved c =
 pub overflow_add-slots : goal.overflow_add-slots
 overflow_add-slots c =
     let more = loop-number-preserved c in
-    let is : IsPartition (record { classes = c.args.table.now; granules = c.args.granules }) =
-    record { table = c.len.ensures.legal; least = c.requires.least; most = c.requires.most } in
-    omega (
-      arith,
-      more.slots,
-      first_slot-few (record { classes = c.args.table.now; granules = c.args.granules }) (c.loop-number.number + 1) is,
-    )
+    grind (arith, first_slot-few)
 
 pub push-requires-2 : goal.push-requires-2
 push-requires-2 c =
@@ -53,11 +47,7 @@ counts_at-requires-2-clause-ascending c =
 
 -- the number of all slots
 slots_are : (c : After-shift_for-slot_shift) → slot_count (record { classes = c.args.table.now; granules = c.args.granules }) ≡ c.loop-number.slots
-slots_are c =
-    slots_of_classes_are_all (record { classes = c.args.table.now; granules = c.args.granules })
-    ∙ ap (first_slot (record { classes = c.args.table.now; granules = c.args.granules }))
-    (let all : length c.args.table.now ≡ c.loop-number.number = omega (arith, c.len-number-end.ensures.len) in all)
-    ∙ sym c.loop-number.invariant.slots
+slots_are c = grind (arith, slots_of_classes_are_all)
 
 pub shift_for-slot_shift-requires : goal.shift_for-slot_shift-requires
 shift_for-slot_shift-requires c =

@@ -10,22 +10,16 @@ inside layout slot number legal is =
     ((legal_slots_are_in_order 1 layout legal.table).inside slot (slots_of_classes_are_slots layout slot number is))
 
 pub overflow_mul-result-2 : goal.overflow_mul-result-2
-overflow_mul-result-2 c =
-    rw (c.class-class.ensures.class, c.first_slot.ensures.first) (omega (arith, inside _ _ _ c.share.ensures.partition c.requires))
+overflow_mul-result-2 c = grind (arith, inside)
 
 pub overflow_add-result : goal.overflow_add-result
-overflow_add-result c =
-    rw (c.share.ensures.share, c.class-class.ensures.class, c.first_slot.ensures.first)
-    (omega (arith, inside _ _ _ c.share.ensures.partition c.requires))
+overflow_add-result c = grind (arith, inside)
 
 pub returns-clause-start : goal.returns-clause-start
-returns-clause-start c =
-    rw (c.share.ensures.share, c.class-class.ensures.class, c.first_slot.ensures.first)
-    (sym (ap (λ (slot : Slot). slot.start) (slot_by_its_class _ _ _ c.requires)))
+returns-clause-start c = grind (arith, slot_by_its_class)
 
 pub returns-clause-class : goal.returns-clause-class
 returns-clause-class c = c.class-class.ensures.class ∙ sym (ap (λ (slot : Slot). slot.class) (slot_by_its_class _ _ _ c.requires))
 
 pub returns-clause-inside : goal.returns-clause-inside
-returns-clause-inside c =
-    rw (c.share.ensures.share, c.class-class.ensures.class, c.first_slot.ensures.first) (inside _ _ _ c.share.ensures.partition c.requires)
+returns-clause-inside c = grind (arith, inside)

@@ -14,9 +14,7 @@ invariant_of-self c =
     (fits (goal.at.invariant_of-self c).After-fill_few) (All-replicate (λ byte. byte < 256) c.args.count c.args.b c.ranges.b.fits)
 
 pub returns-clause-written : goal.returns-clause-written
-returns-clause-written c =
-    written_is _ _ _ c.args.self.now c.self.invariant c.self.view_is c.args.i (replicate c.args.count c.args.b) c.fill_few.ensures.bytes
-    (fits (goal.at.returns-clause-written c).After-fill_few)
+returns-clause-written c = grind (arith, written_is, fits)
 
 pub returns-clause-memory : goal.returns-clause-memory
 returns-clause-memory c = granules_fit _ _ (invariant_of-self c)

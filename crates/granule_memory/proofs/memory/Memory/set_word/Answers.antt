@@ -1,4 +1,4 @@
-use Rattle.std.{proofs.Common.{◌+◌, ◌*◌, ◌≤◌, ◌∙◌, ap, arith, length}, specs.Int.{w64, to_le_bytes}}
+use Rattle.std.{proofs.Common.{◌+◌, ◌*◌, ◌≤◌, arith, length}, specs.Int.{w64, to_le_bytes}}
 use Rattle.granule_memory.proofs.{Granules.{granules_counted, granules_fit, word_is}, Writes.{bytes_below, written_fits, written_keeps}}
 use Rattle.granule_memory.proofs.memory.Memory.set_word.Goals.{After-set_word}
 use Rattle.granule_memory.proofs.memory.Memory.set_word.Goals as goal
@@ -13,10 +13,7 @@ invariant_of-self c =
     c.set_word.ensures.bytes (inside c) (bytes_below 0 8 c.args.w)
 
 pub returns-clause-word : goal.returns-clause-word
-returns-clause-word c =
-    let counted = granules_counted c.self.inside.region c.self.inside.granules in
-    rw (← c.start_of_granule.ensures) (word_is c.set_word.new.self c.self.inside.granules (c.start_of_granule.result + 8 * c.args.i)
-    (invariant_of-self c).long (omega (arith, inside c, counted, ap length c.self.view_is)) ∙ c.set_word.ensures.word)
+returns-clause-word c = grind (arith, granules_counted, word_is)
 
 pub returns-clause-others : goal.returns-clause-others
 returns-clause-others c =

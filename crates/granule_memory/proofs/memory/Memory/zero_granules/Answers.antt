@@ -1,4 +1,4 @@
-use Rattle.std.proofs.Common.{◌≡◌, ℕ, ◌+◌, ◌-◌, ◌*◌, ◌<◌, ◌≤◌, ◌∙◌, ap, subst, arith, length, List, lit<, replicate}
+use Rattle.std.proofs.Common.{◌≡◌, ℕ, ◌+◌, ◌*◌, ◌<◌, ◌≤◌, subst, arith, length, List, lit<, replicate}
 use Rattle.std.proofs.lemmas.{List.{length-replicate}, List.Elements.{All-replicate}}
 use Rattle.raw_region.specs.Bytes.{with_bytes}
 use Rattle.granule_memory.proofs.{Granules.{granules_fit}, Writes.{written_is, written_fits, written_keeps}}
@@ -12,11 +12,7 @@ module _ (c : After-fill) where
   zeros = replicate (16 * c.args.count) 0
 
   at : c.fill.new.self ≡ with_bytes c.self.inside.region (16 * c.args.first) zeros
-  at =
-      let start = c.start_of_granule-start.result in
-      let long : start + c.start_of_granule.result - start ≡ 16 * c.args.count = omega (arith, c.start_of_granule.ensures) in
-      c.fill.ensures.bytes ∙ ap (λ n. with_bytes c.self.inside.region start (replicate n 0)) long
-      ∙ ap (λ i. with_bytes c.self.inside.region i zeros) c.start_of_granule-start.ensures
+  at = grind arith
 
   fits : 16 * c.args.first + length zeros ≤ 16 * length c.args.self.now
   fits = omega (arith, length-replicate {A = ℕ} (16 * c.args.count) 0, c.requires)
@@ -27,8 +23,7 @@ invariant_of-self c =
     (All-replicate (λ byte. byte < 256) (16 * c.args.count) 0 (lit< tt))
 
 pub returns-clause-written : goal.returns-clause-written
-returns-clause-written c =
-    written_is _ _ _ c.args.self.now c.self.invariant c.self.view_is (16 * c.args.first) (zeros c) (at c) (fits c)
+returns-clause-written c = grind (arith, written_is, fits)
 
 pub returns-clause-others : goal.returns-clause-others
 returns-clause-others c =

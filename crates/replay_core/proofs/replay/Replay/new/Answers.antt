@@ -20,11 +20,7 @@ invariant_of-result c = record {
     seed = c.args.config.seed;
     quarantine = c.args.config.quarantine;
     events = [];
-    partition = record {
-      table = c.len.ensures.legal;
-      least = c.requires.granules.0;
-      most = c.requires.granules.1;
-    };
+    partition = omega arith;
     stored_is = returns c ∙ sym (stored_of_none _ _ _);
   };
   bounded = grind arith;

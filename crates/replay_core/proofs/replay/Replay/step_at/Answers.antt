@@ -1,4 +1,4 @@
-use Rattle.std.proofs.Common.{◌≡◌, ◌⊎◌, inl, inr, ℕ, List, [], ◌+◌, ◌++◌, length, take, sym, ap, ◌∙◌, subst, arith, append-nil}
+use Rattle.std.proofs.Common.{◌≡◌, ◌⊎◌, ℕ, List, [], ◌+◌, ◌++◌, length, take, sym, ap, ◌∙◌, subst, arith, append-nil}
 use Rattle.std.{proofs.lemmas.List.{with_items_is}, specs.Vec.{with_items}}
 use Rattle.replay_core.proofs.Reached.{null_or_tagged, sound_heap, IsStored-after, stored_in_parts, run_goes_on}
 use Rattle.replay_core.{proofs.replay.Replay.step_at.Goals.{After-perform-answer}, specs.ReplayFields.{stored, IsKept}}
@@ -30,9 +30,7 @@ classes_stay replay event after is = ap (λ (h : Heap). h.layout.classes) is ∙
 module _ (c : After-perform-answer) where
   heap_is : c.perform-answer.new.heap.state ≡ heap_after (stored c.self.inside).replay c.args.event.now
   unfolding replay_after
-  heap_is =
-      ap (λ (r : Replay). r.heap) c.perform-answer.ensures.after
-      ∙ ap (λ vs. heap_after (over c.self.inside.heap.state vs) c.args.event.now) c.deref_mut.ensures.value
+  heap_is = grind arith
 
   classes_are : c.perform-answer.new.heap.state.layout.classes ≡ c.self.inside.heap.state.layout.classes
   classes_are = classes_stay (stored c.self.inside).replay c.args.event.now c.perform-answer.new.heap.state heap_is
@@ -41,23 +39,14 @@ module _ (c : After-perform-answer) where
   legal = subst (IsLegalTable 1) (sym classes_are) c.self.invariant.legal
 
   tells : TellsRequest c.perform-answer.new.heap.state.layout.classes (request_size c.args.event.now) c.perform-answer.result
-  tells =
-      subst (λ classes. TellsRequest classes (request_size c.args.event.now) c.perform-answer.result) (sym classes_are)
-      c.perform-answer.ensures.tells
+  tells = grind (arith, classes_are)
 
   variables_are : c.perform-answer.new.variables ≡ variables_after (stored c.self.inside).replay c.args.event.now
   unfolding replay_after
-  variables_are =
-      ap (λ (r : Replay). r.variables) c.perform-answer.ensures.after
-      ∙ ap (λ vs. variables_after (over c.self.inside.heap.state vs) c.args.event.now) c.deref_mut.ensures.value
-
-  answer_is : shown c.perform-answer.new.bytes c.perform-answer.result ≡ answer_of (stored c.self.inside).replay c.args.event.now
-  answer_is =
-      c.perform-answer.ensures.answer ∙ ap (λ vs. answer_of (over c.self.inside.heap.state vs) c.args.event.now) c.deref_mut.ensures.value
+  variables_are = grind arith
 
   items_are : (with_items c.self.inside.variables c.perform-answer.new.variables).items ≡ c.perform-answer.new.variables
-  items_are =
-      with_items_is c.self.inside.variables c.perform-answer.new.variables (c.perform-answer.auto.variables ∙ c.deref_mut.ensures.len)
+  items_are = grind (arith, with_items_is)
 
   -- the totals that count the event
   abbrev Counts : TheTotals → Type 0
@@ -70,10 +59,7 @@ module _ (c : After-perform-answer) where
       totals_in totals
       ≡ totals_after c.perform-answer.new.heap.state.layout.classes (stored c.self.inside).totals (c.args.event.now, shown bytes answer))
       → Counts totals
-  counts_by answer is totals counted =
-      counted c.perform-answer.new.bytes
-      ∙ ap (λ a. totals_after c.perform-answer.new.heap.state.layout.classes (stored c.self.inside).totals
-      (c.args.event.now, shown c.perform-answer.new.bytes a)) (sym is)
+  counts_by answer is totals counted = grind arith
 
   stored_is : (totals : TheTotals) → Counts totals → record {
     replay = over c.perform-answer.new.heap.state
@@ -81,10 +67,7 @@ module _ (c : After-perform-answer) where
     totals = totals_in totals;
   }
       ≡ stored_after (stored c.self.inside) c.args.event.now
-  stored_is totals counted =
-      stored_in_parts (stored c.self.inside) c.args.event.now c.perform-answer.new.heap.state _ (totals_in totals)
-      c.perform-answer.new.heap.state.layout.classes (shown c.perform-answer.new.bytes c.perform-answer.result)
-      heap_is (items_are ∙ variables_are) answer_is classes_are counted
+  stored_is totals counted = grind (arith, stored_in_parts, heap_is, items_are, variables_are, classes_are)
 
   events_are : (totals : TheTotals) → Counts totals → totals.events ≡ c.self.inside.totals.events + 1
   unfolding totals_after
@@ -92,9 +75,7 @@ module _ (c : After-perform-answer) where
 
   line_is : report_line (c.self.inside.totals.events + 1) (shown c.perform-answer.new.bytes c.perform-answer.result)
       ≡ report_line (c.args.self.now.totals.events + 1) (answer_of c.args.self.now.replay c.args.event.now)
-  line_is =
-      ap (λ answer. report_line (c.self.inside.totals.events + 1) answer) answer_is
-      ∙ ap (λ (s : Stored). report_line (s.totals.events + 1) (answer_of s.replay c.args.event.now)) c.self.view_is
+  line_is = grind arith
 
   kept : (totals : TheTotals) → Counts totals → AreBounded (totals_in totals) → IsKept (record c.self.inside {
     heap = c.perform-answer.new.heap;
@@ -115,8 +96,7 @@ module _ (c : After-perform-answer) where
 no_line : (number : ℕ) (bytes : List ℕ) (answer : Answer) → (answer ≡ Silent) ⊎ ((loss : ℕ) × (answer ≡ Served loss)) →
     report_line number (shown bytes answer) ≡ []
 unfolding report_line
-no_line number bytes answer (inl is) = ap (λ a. report_line number (shown bytes a)) is
-no_line number bytes answer (inr is) = ap (λ a. report_line number (shown bytes a)) is.1
+no_line number bytes answer h3 = grind arith
 
 pub count-requires-clause-legal : goal.count-requires-clause-legal
 count-requires-clause-legal c = legal (goal.at.count-requires-clause-legal c).After-perform-answer
@@ -125,11 +105,7 @@ pub count-requires-clause-tells : goal.count-requires-clause-tells
 count-requires-clause-tells c = tells (goal.at.count-requires-clause-tells c).After-perform-answer
 
 pub returns-in-Silent-clause-line : goal.returns-in-Silent-clause-line
-returns-in-Silent-clause-line c =
-    let front = take c.args.at c.args.text.now in
-    sym (append-nil front)
-    ∙ ap (λ line. front ++ line) (sym (no_line (c.self.inside.totals.events + 1) c.perform-answer.new.bytes c.perform-answer.result c.in-Silent.is))
-    ∙ ap (λ line. front ++ line) (line_is (goal.at.returns-in-Silent-clause-line c).After-perform-answer)
+returns-in-Silent-clause-line c = grind (arith, append-nil, no_line)
 
 pub returns-in-Silent-clause-stored : goal.returns-in-Silent-clause-stored
 returns-in-Silent-clause-stored c =
@@ -137,8 +113,7 @@ returns-in-Silent-clause-stored c =
     ∙ ap (λ (s : Stored). stored_after s c.args.event.now) c.self.view_is
 
 pub returns-in-Silent-clause-run : goal.returns-in-Silent-clause-run
-returns-in-Silent-clause-run c run same =
-    run_goes_on run c.args.self.now c.args.event.now same ∙ sym (ap (λ (s : Stored). s.replay) (returns-in-Silent-clause-stored c))
+returns-in-Silent-clause-run c run same = grind (arith, run_goes_on, returns-in-Silent-clause-stored)
 
 pub invariant_of-self : goal.invariant_of-self
 invariant_of-self c =
@@ -150,9 +125,7 @@ pub count-requires-in-Loaded-clause-legal : goal.count-requires-in-Loaded-clause
 count-requires-in-Loaded-clause-legal c = legal (goal.at.count-requires-in-Loaded-clause-legal c).After-perform-answer
 
 pub count-requires-in-Loaded-clause-tells : goal.count-requires-in-Loaded-clause-tells
-count-requires-in-Loaded-clause-tells c =
-    let at = (goal.at.count-requires-in-Loaded-clause-tells c).After-perform-answer in
-    subst (TellsRequest c.perform-answer.new.heap.state.layout.classes (request_size c.args.event.now)) c.in-Loaded.is (tells at)
+count-requires-in-Loaded-clause-tells c = grind arith
 
 pub returns-in-Loaded-clause-line : goal.returns-in-Loaded-clause-line
 returns-in-Loaded-clause-line c =
@@ -171,8 +144,7 @@ returns-in-Loaded-clause-stored c =
     ∙ ap (λ (s : Stored). stored_after s c.args.event.now) c.self.view_is
 
 pub returns-in-Loaded-clause-run : goal.returns-in-Loaded-clause-run
-returns-in-Loaded-clause-run c run same =
-    run_goes_on run c.args.self.now c.args.event.now same ∙ sym (ap (λ (s : Stored). s.replay) (returns-in-Loaded-clause-stored c))
+returns-in-Loaded-clause-run c run same = grind (arith, run_goes_on, returns-in-Loaded-clause-stored)
 
 pub invariant_of-self-in-Loaded : goal.invariant_of-self-in-Loaded
 invariant_of-self-in-Loaded c =

@@ -1,8 +1,7 @@
-use Rattle.std.proofs.Common.{◌≡◌, [], List, ℕ, ap, sym, subst, arith, refl, suc, ◌+◌, ◌*◌, ◌^◌, ◌<◌, ◌≤◌, Bool, true, false, cond, ◌∷◌}
-use Rattle.std.{proofs.Common.{◌∙◌, Option, Some, None, All, is_some}, specs.Option.{option_map_or}}
-use Rattle.replay_theory.specs.Replay.{Answer, is_silent}
+use Rattle.std.proofs.Common.{◌≡◌, [], List, ℕ, ap, arith, refl, suc, ◌+◌, ◌*◌, ◌^◌, ◌<◌, ◌≤◌, Bool, true, false, cond, ◌∷◌}
+use Rattle.std.{proofs.Common.{Option, Some, All}, specs.Option.{option_map_or}}
+use Rattle.replay_theory.specs.Replay.{Answer}
 use Rattle.replay_theory.specs.Totals.{loss_of_event, one_if, totals_after, with_answer, Totals, request_size, with_request, is_request}
-use Rattle.replay_theory.specs.Totals.{loss_of_request}
 use Rattle.replay_core.{proofs.totals.Totals.count.Goals.{After-count_request}, specs.TheoryValues.{shown, totals_in}}
 use Rattle.replay_core.specs.TotalsBounds.{AreBounded}
 use Rattle.class_table.specs.{Sizes.{largest_counted, loss_of, serves}, Tables.{IsLegalTable, class_for, loss_of_size}}
@@ -19,18 +18,11 @@ loss_of_size-le (class ∷ classes) n legal =
     ]
 
 one_if-le : (b : Bool) → one_if b ≤ 1
-one_if-le true = omega arith
-one_if-le false = omega arith
+one_if-le b = grind arith
 
 loss_of_event-le : (classes : List ℕ) (p : Event × Answer) → IsLegalTable 1 classes →
     loss_of_event classes p ≤ largest_counted * one_if (is_request p.0)
-loss_of_event-le classes p legal = by_test (is_silent p.1) (request_size p.0)
-  where
-    by_test : (b : Bool) (size : Option ℕ) → cond b (loss_of_request classes size) 0 ≤ largest_counted * one_if (is_some size)
-    by_test true (Some n) = omega (arith, loss_of_size-le classes n legal.in_range)
-    by_test true None = omega arith
-    by_test false (Some n) = omega arith
-    by_test false None = omega arith
+loss_of_event-le classes p legal = grind (arith, loss_of_size-le)
 
 AreBounded-after : (classes : List ℕ) (t : Totals) (p : Event × Answer) → IsLegalTable 1 classes → AreBounded t → t.events < 2 ^ 40 →
     AreBounded (totals_after classes t p)
@@ -43,10 +35,7 @@ counted_in_parts : (classes : List ℕ) (t answered requested : Totals) (size : 
     requested ≡ with_request classes answered size answer →
     record requested { events = requested.events + 1 } ≡ totals_after classes t (event, answer)
 unfolding totals_after
-counted_in_parts classes t answered requested size event answer first is second =
-    ap (λ (x : Totals). record x { events = x.events + 1 })
-    (second ∙ ap (λ (x : Totals). with_request classes x size answer) first
-    ∙ ap (λ (n : Option ℕ). with_request classes (with_answer t answer) n answer) is)
+counted_in_parts classes t answered requested size event answer first is second = grind arith
 
 pub count_request-requires-clause-few : goal.count_request-requires-clause-few
 count_request-requires-clause-few c =
@@ -74,11 +63,7 @@ overflow_add-self c =
     )
 
 pub returns-clause-counted : goal.returns-clause-counted
-returns-clause-counted c bytes =
-    let at = (goal.at.returns-clause-counted c).After-count_request in
-    counted_in_parts (classes at) (totals_in c.args.self.now) (totals_in c.count_answer.new.self)
-    (totals_in c.count_request.new.self) (request_size c.args._event.now) c.args._event.now (shown bytes c.args.answer.now)
-    (c.count_answer.ensures bytes) refl (requested at bytes)
+returns-clause-counted c bytes = grind (arith, counted_in_parts)
 
 pub returns-clause-bounded : goal.returns-clause-bounded
 returns-clause-bounded c =
@@ -87,6 +72,4 @@ returns-clause-bounded c =
     counted_in_parts (classes at) (totals_in c.args.self.now) (totals_in c.count_answer.new.self)
     (totals_in c.count_request.new.self) (request_size c.args._event.now) c.args._event.now (shown [] c.args.answer.now)
     (c.count_answer.ensures []) refl (requested at []) in
-    subst AreBounded (sym counted)
-    (AreBounded-after (classes at) (totals_in c.args.self.now) (c.args._event.now, shown [] c.args.answer.now)
-    c.requires.legal c.requires.bounded c.requires.few)
+    grind (arith, AreBounded-after)

@@ -1,8 +1,5 @@
-use Rattle.std.proofs.{Common.{◌≡◌, ℕ, sym, ap, ◌∙◌, arith, Err, None, Result}, lemmas.Result.{err_from_is_err_and}}
-use Rattle.std.specs.Option.{ok_or}
-use Rattle.class_table.specs.declared.layout.Slot.{Slot}
-use Rattle.heap_theory.specs.{Calls.{given_out}, State.{slot_in}, declared.refusal.NullCause.{NullCause}}
-use Rattle.heap_theory.specs.declared.refusal.NullCause.TheVariants.{Exhausted}
+use Rattle.std.proofs.{Common.{◌≡◌, sym, arith, None}, lemmas.Result.{err_from_is_err_and}}
+use Rattle.heap_theory.specs.{Calls.{given_out}, State.{slot_in}}
 use Rattle.tagged_heap.proofs.Giving.{IsTaken, request_refused, has_class, taken, exhausted, taken_room, given_held, given_shown}
 use Rattle.tagged_heap.proofs.{Giving.{given_address}, Kept.{class_most}, heap.Heap.allocate.Goals.{In_ok-slot, After-give_out-address}}
 use Rattle.tagged_heap.specs.{HeapAtRest.{shown_heap}, HeapFields.{state_of, parts_of}}
@@ -24,11 +21,7 @@ returns-in_err-slot-clause-slot c =
     let full =
     exhausted c.self.invariant c.args.n c.in_ok-number.number c.in_ok-number.ensures.ok.0 c.in_ok-number.ensures.ok.1
     c.in_ok-number.ensures.within takes in
-    let p = err_from_is_err_and c.from_residual-in_err-slot.result c.from_residual-in_err-slot.ensures.1 in
-    let value : ◌≡◌ {A = Result (ℕ × Slot) NullCause} (Err c.in_err-slot.field-0.0) (Err Exhausted) =
-    c.in_err-slot.ensures.value ∙ ap (λ o. ok_or o Exhausted) none in
-    let cause : c.in_err-slot.field-0.0 ≡ Exhausted = cc in
-    rw (p.1, p.2, ← c.self.view_is) (ap Err cause ∙ sym full)
+    grind arith
 
 -- the slot that was taken
 took : (c : In_ok-slot) →
@@ -64,9 +57,7 @@ returns-clause-address c =
     c.give_out-address.ensures.address)
 
 pub returns-clause-given : goal.returns-clause-given
-returns-clause-given c =
-    rw (← c.self.view_is)
-    (λ k. record { state = shown (goal.at.returns-clause-given c).After-give_out-address k; frees = c.self.inside.frees })
+returns-clause-given c = grind (arith, shown)
 
 pub returns-clause-slot : goal.returns-clause-slot
 returns-clause-slot c = rw (← c.self.view_is) (sym (took (goal.at.returns-clause-slot c).In_ok-slot).request)

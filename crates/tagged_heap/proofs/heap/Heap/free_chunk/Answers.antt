@@ -1,14 +1,12 @@
-use Rattle.std.proofs.Common.{◌≡◌, ◌+◌, ◌*◌, ap, sym, ◌∙◌, arith}
-use Rattle.heap_theory.specs.{Calls.{freed}, Header.{Header}}
-use Rattle.tagged_heap.{proofs.Kept.{class_most}, proofs.heap.Heap.free_chunk.Goals.{After-put_at, After-from}, specs.HeapFields.{state_of}}
-use Rattle.tagged_heap.proofs.TakingBack.{live_fits, live_header, retire_room, can_be_put, kept_freed, freed_held, freed_shown}
+use Rattle.std.proofs.Common.{◌≡◌, ◌+◌, ◌*◌, ap, ◌∙◌, arith}
+use Rattle.heap_theory.specs.{Calls.{freed}}
+use Rattle.tagged_heap.{proofs.heap.Heap.free_chunk.Goals.{After-put_at, After-from}, specs.HeapFields.{state_of}}
+use Rattle.tagged_heap.proofs.TakingBack.{retire_room, can_be_put, kept_freed, freed_held, freed_shown}
 use Rattle.tagged_heap.specs.{HeapAtRest.{shown_heap}, Representation.{IsKept}}
 use Rattle.tagged_heap.proofs.heap.Heap.free_chunk.Goals as goal
 
 pub overflow_mul-bytes : goal.overflow_mul-bytes
-overflow_mul-bytes c =
-    let chunk = rw (← c.self.view_is) at c.requires.live in
-    omega (arith, chunk.class, class_most (state_of c.self.inside) c.args.chunk.slot c.self.invariant.kept.sound chunk.slot)
+overflow_mul-bytes c = grind arith
 
 pub retire-requires-clause-room : goal.retire-requires-clause-room
 retire-requires-clause-room c =
@@ -16,21 +14,13 @@ retire-requires-clause-room c =
     retire_room c.self.invariant c.args.chunk.slot c.args.chunk.size c.args.chunk.tag chunk.slot chunk.live
 
 pub retire-requires-clause-size : goal.retire-requires-clause-size
-retire-requires-clause-size c =
-    let chunk = rw (← c.self.view_is) at c.requires.live in
-    ap (λ (x : Header). x.size)
-    (sym (live_header c.self.invariant c.args.chunk.slot c.args.chunk.size c.args.chunk.tag chunk.slot chunk.live))
+retire-requires-clause-size c = grind arith
 
 pub retire-requires-clause-tag : goal.retire-requires-clause-tag
-retire-requires-clause-tag c =
-    let chunk = rw (← c.self.view_is) at c.requires.live in
-    ap (λ (x : Header). x.tag)
-    (sym (live_header c.self.invariant c.args.chunk.slot c.args.chunk.size c.args.chunk.tag chunk.slot chunk.live))
+retire-requires-clause-tag c = grind arith
 
 pub retire-requires-clause-below : goal.retire-requires-clause-below
-retire-requires-clause-below c =
-    let chunk = rw (← c.self.view_is) at c.requires.live in
-    (live_fits c.self.invariant c.args.chunk.slot c.args.chunk.size c.args.chunk.tag chunk.slot chunk.live).tag
+retire-requires-clause-below c = grind arith
 
 pub retire-requires-clause-start : goal.retire-requires-clause-start
 retire-requires-clause-start c = let chunk = rw (← c.self.view_is) at c.requires.live in chunk.start

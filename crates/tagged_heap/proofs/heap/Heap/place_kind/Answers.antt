@@ -1,24 +1,17 @@
 -- What the header of the slot over a granule says decides what the granule is.
-use Rattle.std.proofs.Common.{◌≡◌, ◌≢◌, ◌≤◌, sym, ap, ◌∙◌, inl, inr, arith}
-use Rattle.chunk_header.specs.HeaderView.{standing_seen, seen}
+use Rattle.std.proofs.Common.{◌≡◌, ◌≢◌, ◌≤◌, sym, ap, ◌∙◌, arith}
+use Rattle.chunk_header.specs.HeaderView.{standing_seen}
 use Rattle.heap_theory.specs.{GranuleKinds.{place_kind}, Header.{Header}, Region.{region_of, header_in}, State.{IsSlot}}
 use Rattle.class_table.specs.Sizes.{chunk_granules}
 use Rattle.tagged_heap.proofs.GranuleKinds.{kind_outside, in_range, start_kind, size_few, tail_kind, chunk_granule_kind, kind_by}
-use Rattle.tagged_heap.proofs.{Kept.{region_is, class_few}, heap.Heap.place_kind.Goals.{In-Some, After-header-header, After-chunk_granules}}
+use Rattle.tagged_heap.proofs.{Kept.{region_is}, heap.Heap.place_kind.Goals.{In-Some, After-header-header, After-chunk_granules}}
 use Rattle.tagged_heap.specs.HeapFields.{state_of}
 use Rattle.tagged_heap.proofs.heap.Heap.place_kind.Goals as goal
-
--- the header that is read
-shown : (c : After-header-header) →
-    seen c.header-header.result ≡ header_in (region_of c.self.inside.layout c.self.inside.machine.memory) c.in-Some.slot
-shown c = rw c.memory-memory.ensures at c.header-header.ensures.header
 
 -- says how many granules the slot's chunk has,
 chunk_is : (c : After-chunk_granules) →
     c.chunk_granules.result ≡ chunk_granules (header_in (region_of c.self.inside.layout c.self.inside.machine.memory) c.in-Some.slot).size
-chunk_is c =
-    c.chunk_granules.ensures.granules
-    ∙ ap chunk_granules (c.from.ensures ∙ ap (λ (x : Header). x.size) (rw c.memory-memory.ensures at c.header-header.ensures.header))
+chunk_is c = grind arith
 
 -- and what a granule of the chunk is
 kind : (c : After-chunk_granules) → c.in-Some.before ≢ 0 → c.in-Some.before ≤ c.chunk_granules.result →
@@ -47,16 +40,12 @@ pub header-header-requires-clause-region : goal.header-header-requires-clause-re
 header-header-requires-clause-region c = rw c.memory-memory.ensures (region_is c.self.invariant.kept)
 
 pub header-header-requires-clause-class : goal.header-header-requires-clause-class
-header-header-requires-clause-class c =
-    let inside = inside (goal.at.header-header-requires-clause-class c).In-Some in
-    rw (c.memory-memory.ensures, c.self.invariant.kept.headers.headers c.in-Some.slot inside)
-    (class_few (state_of c.self.inside) c.in-Some.slot c.self.invariant.kept.sound inside)
+header-header-requires-clause-class c = grind (arith, inside)
 
 pub chunk_granules-requires : goal.chunk_granules-requires
 chunk_granules-requires c =
     let few = size_few c.self.invariant.kept c.in-Some.before c.in-Some.ensures.some c.in-Some.ensures.place in
-    let size = ap (λ (x : Header). x.size) (shown (goal.at.chunk_granules-requires c).After-header-header) in
-    omega (arith, few, size, c.from.ensures)
+    grind arith
 
 pub returns-then-before-chunk_granules : goal.returns-then-before-chunk_granules
 returns-then-before-chunk_granules c =
@@ -80,7 +69,4 @@ returns-in-Live c =
 pub returns-in-Quarantined : goal.returns-in-Quarantined
 returns-in-Quarantined c =
     let dead = kind (goal.at.returns-in-Quarantined c).After-chunk_granules c.if-before-eq0.false c.if-before-chunk_granules.false in
-    rw (← c.self.view_is) (elim c.in-Quarantined.is [
-      | inl is ↦ ap (λ state. kind_by (standing_seen state)) (sym is) ∙ dead
-      | inr is ↦ ap (λ state. kind_by (standing_seen state)) (sym is) ∙ dead
-    ])
+    grind arith

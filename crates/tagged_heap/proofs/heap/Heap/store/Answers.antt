@@ -6,15 +6,10 @@ fit : (c : After-store) → All (λ b. b < 256) c.args.bytes.now
 fit c = All-from_get_or (λ b. b < 256) c.args.bytes.now 0 (λ i within. omega (arith, c.type_inv.bytes i))
 
 pub invariant_of-self : goal.invariant_of-self
-invariant_of-self c =
-    store_held c.self.invariant c.args.address c.args.bytes.now c.requires.len.0 (rw (← c.self.view_is) at c.requires.tagged)
-    (fit (goal.at.invariant_of-self c).After-store) _ c.store.ensures.answer c.store.ensures.ok c.store.ensures.err
+invariant_of-self c = grind (arith, store_held, fit)
 
 pub returns-clause-ok : goal.returns-clause-ok
-returns-clause-ok c =
-    rw (← c.self.view_is)
-    (store_shown c.self.invariant c.args.address c.args.bytes.now c.requires.len.0 (rw (← c.self.view_is) at c.requires.tagged)
-    (fit (goal.at.returns-clause-ok c).After-store) _ c.store.ensures.answer c.store.ensures.ok c.store.ensures.err)
+returns-clause-ok c = grind (arith, store_shown, fit)
 
 pub returns-clause-headers : goal.returns-clause-headers
 returns-clause-headers c =

@@ -1,8 +1,8 @@
-use Rattle.std.proofs.{Common.{◌≡◌, ◌≤◌, ◌∙◌, Err, Ok, sym, ap, true, eqb-true, length, rules, arith}, lemmas.Result.{err_from_is_err_and}}
-use Rattle.trace_reader.proofs.Ending.{finish_empty, finish_failed, finish_line, finished-failed, finished_after, not_empty, state_failed}
-use Rattle.trace_reader.{proofs.Ending.{unchanged_if_failed}, proofs.Reaching.{IsPrefix-finished, came}, specs.Reached.{HasReached}}
+use Rattle.std.proofs.{Common.{◌≡◌, ◌∙◌, Err, Ok, sym, ap, true, rules, arith}, lemmas.Result.{err_from_is_err_and}}
+use Rattle.trace_reader.proofs.Ending.{finish_empty, finish_failed, finish_line, finished-failed, not_empty, state_failed}
+use Rattle.trace_reader.{proofs.Reaching.{IsPrefix-finished, came}, specs.Reached.{HasReached}}
 use Rattle.trace_reader.proofs.reader.TraceReader.finish_observed.Goals.{then-not-is_empty+in_ok-judge_rest, else-not-is_empty}
-use Rattle.trace_reader.specs.{Reading.{Reading, finished, is_open}, Reading.State.{Finished}, TraceLine.{most_events}}
+use Rattle.trace_reader.specs.{Reading.{Reading, finished, is_open}, Reading.State.{Finished}}
 use Rattle.trace_reader.proofs.reader.TraceReader.finish_observed.Goals as goal
 
 pub returns-in-Failed-clause-reached : goal.returns-in-Failed-clause-reached
@@ -24,9 +24,7 @@ returns-in_err-judge_rest g c =
     let r =
     finish_failed old c.judge_rest.new.self i.events i.lines i.rest.items i.status c.in_err-judge_rest.field-0.0 c.self.view_is
     open_now some c.in_err-judge_rest.ensures.reached in
-    let failed = unchanged_if_failed old c.judge_rest.new.self open_now in
-    let finished_now = finished_after old c.judge_rest.new.self c.in_err-judge_rest.field-0.0 r in
-    rw (p.1, p.2) (search (r, failed, finished_now))
+    grind arith
 
 pub returns : goal.returns
 returns g c =
@@ -39,15 +37,6 @@ returns g c =
       | then-not-is_empty+in_ok-judge_rest w ↦ finish_line old w.judge_rest.new.self i.events i.lines i.rest.items i.status
           c.self-2.inside.events c.self.view_is open_now (not_empty i.rest.items c.is_empty.result c.is_empty.ensures (search rules))
           w.in_ok-judge_rest.ensures.reached (ap (λ (r : Reading). r.events) (c.self-2.view_is ∙ w.self-is))
-      | else-not-is_empty w ↦ finish_empty old i.events i.lines i.rest.items i.status c.self-2.inside.events c.self.view_is
-          open_now (eqb-true (length i.rest.items) 0 (sym c.is_empty.ensures ∙ search rules))
-          (ap (λ (r : Reading). r.events) (c.self-2.view_is ∙ w.self-is))
+      | else-not-is_empty w ↦ grind (arith, finish_empty)
     ] in
-    let failed = unchanged_if_failed old new open_now in
-    let few : length new.events ≤ most_events = omega arith in
-    let seen : g.O.Observer.has_seen c.args.observer.now old.events → g.O.Observer.has_seen c.if-not-is_empty.observer new.events =
-    elim c.if-not-is_empty.branch [
-      | then-not-is_empty+in_ok-judge_rest w ↦ λ saw. search (saw, w.in_ok-judge_rest.ensures.seen, w.self-is, w.observer-is, rules)
-      | else-not-is_empty w ↦ λ saw. search (saw, w.self-is, w.observer-is, rules)
-    ] in
-    search (r, failed, few, seen)
+    grind arith

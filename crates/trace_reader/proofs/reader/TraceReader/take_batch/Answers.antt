@@ -1,8 +1,7 @@
-use Rattle.std.proofs.Common.{◌≡◌, ◌+◌, ◌≤◌, ◌∙◌, ◌++◌, List, Err, length, take, ap, map, sym, subst, refl, arith}
+use Rattle.std.proofs.Common.{◌≡◌, ◌+◌, ◌≤◌, ◌∙◌, ◌++◌, Err, length, take, map, sym, subst, refl, arith}
 use Rattle.std.proofs.lemmas.{Grind.{common_steps}, List.{length-map, length-take}}
-use Rattle.trace_event.specs.declared.event.Event.{Event}
 use Rattle.trace_reader.proofs.{Reaching.{IsPrefix-fed, fields, not_pushed, pushed, ran_out}, SpelledEvents.{batch_taken, lines_are_long}}
-use Rattle.trace_reader.specs.{Kept.{event_of}, Reached.{IsOnTheWay}, Reading.{Reading, fed}, Reading.State.{Failed}}
+use Rattle.trace_reader.specs.{Kept.{event_of}, Reached.{IsOnTheWay}, Reading.{Reading, fed}}
 use Rattle.trace_reader.specs.declared.fault.TraceError.TheVariants.{OutOfMemory}
 use Rattle.trace_reader.proofs.reader.TraceReader.take_batch.Goals as goal
 
@@ -11,8 +10,7 @@ returns-then-is_err-clause-way g c =
     let old = c.args.self.now in
     let kept = not_pushed c.extend.result _ (sym c.is_err.ensures.value ∙ c.if-is_err.true) c.extend.ensures.err in
     ran_out old (fed old c.args.text.now) _ (Err OutOfMemory)
-    (ap (λ (es : List Event). record { events = es; state = Failed OutOfMemory })
-    (kept ∙ ap (λ (r : Reading). r.events) c.self.view_is)) refl (IsPrefix-fed old c.args.text.now)
+    (grind arith) refl (IsPrefix-fed old c.args.text.now)
 
 pub returns-clause-way : goal.returns-clause-way
 returns-clause-way g c =
