@@ -41,10 +41,6 @@ pub no_class : (n number : ℕ) (classes : List ℕ) → number ≡ position_or_
     class_for classes n ≡ None
 no_class n number classes e past = class_there n number classes e ∙ slice_get_past classes number past
 
-pub serving_there : (n number : ℕ) (classes : List ℕ) → number ≡ position_or_len (serves n) classes → number < length classes →
-    serves n (get_or classes number 0) ≡ true
-serving_there n number classes e within = grind (arith, cases_Bool, passed)
-
 -- a class that serves n there is
 pub some_class : (n i : ℕ) (classes : List ℕ) → i < length classes → serves n (get_or classes i 0) ≡ true → IsSome (class_for classes n)
 some_class n i classes within serving =

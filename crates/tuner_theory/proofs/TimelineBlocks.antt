@@ -110,6 +110,3 @@ most_to-above f events k m le =
 pub most_to-all : (f : List ℕ → ℕ) (events : List SizeEvent) → most_to f events (length events) ≡ most f (moments events)
 unfolding moments
 most_to-all f events = refl
-
-pub most_to-none : (f : List ℕ → ℕ) (events : List SizeEvent) → most_to f events 0 ≡ f (snapshot_at events 0)
-most_to-none f events = omega arith

@@ -1,7 +1,6 @@
 use Rattle.std.proofs.{Common.{arith}, lemmas.Grind.{common_steps}}
 use Rattle.std.{proofs.lemmas.List.Sums.{prefix_len-le-length}}
 use Rattle.line_text.proofs.LeadingDigits.{are_digits, no_number, a_number}
-use Rattle.line_text.proofs.leading_number.leading_number.Goals.{then-end-eq0-via-then-end-eq0, then-end-eq0-via-else-end-eq0+then-end-gt1}
 use Rattle.line_text.proofs.leading_number.leading_number.Goals as goal
 
 pub returns-then-end-eq0-clause-number : goal.returns-then-end-eq0-clause-number

@@ -10,9 +10,6 @@ pub record ReadSoFar (all rest : List (List ℕ)) (next : ℕ) (numbers : List �
   pub read : moments_from 0 all ≡ option_map (λ ns. numbers ++ ns) (moments_from next rest)
   pub size : length all ≡ length numbers + length rest
 
-pub read-none : (all : List (List ℕ)) → ReadSoFar all all 0 []
-read-none all = grind arith
-
 pub read-more : (all rest new : List (List ℕ)) (next : ℕ) (numbers word : List ℕ) (n : ℕ) → ReadSoFar all rest next numbers
     → rest ≡ word ∷ new → Some n ≡ moment_of next (number_of word) → ReadSoFar all new (n + 1) (numbers ++ n ∷ [])
 unfolding moments_from

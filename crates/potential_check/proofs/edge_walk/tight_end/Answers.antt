@@ -1,6 +1,5 @@
 use Rattle.std.proofs.{Common.{◌<◌, ◌≤◌, slice_index, arith}}
-use Rattle.potential_check.proofs.{TightEnds.{exceeding}, edge_walk.tight_end.Goals.{else-next-end-via-then-next-end+else-exceeds_edge}}
-use Rattle.potential_check.{proofs.edge_walk.tight_end.Goals.{else-next-end-via-else-next-end}, specs.RowConditions.{edge_bound}}
+use Rattle.potential_check.{proofs.TightEnds.{exceeding}, specs.RowConditions.{edge_bound}}
 use Rattle.potential_check.proofs.edge_walk.tight_end.Goals as goal
 
 pub end-preserved : goal.end-preserved

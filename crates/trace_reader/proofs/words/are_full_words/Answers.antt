@@ -1,6 +1,5 @@
 use Rattle.std.proofs.Common.{◌≡◌, ◌++◌, ◌∷◌, length, arith, ℕ, ◌<◌, Bool, cond, List}
 use Rattle.std.proofs.{Common.{Result, Err, eq-eqb}, lemmas.Grind.{common_steps}, lemmas.List.{length-append, length-map}, lemmas.List.Folds.{list_any-append}}
-use Rattle.trace_reader.proofs.words.are_full_words.Goals.{then-is_empty-via-then-is_empty, then-is_empty-via-else-is_empty+then-is_full}
 use Rattle.trace_reader.specs.{TraceLine.{event_of_words, event_named}, declared.fault.TraceFault.{TraceFault}}
 use Rattle.trace_reader.specs.declared.fault.TraceFault.TheVariants.{BadWord}
 use Rattle.trace_event.specs.declared.event.Event.{Event}

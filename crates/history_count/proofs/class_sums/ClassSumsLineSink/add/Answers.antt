@@ -2,7 +2,6 @@ use Rattle.std.proofs.Common.{arith}
 use Rattle.std.proofs.lemmas.List.{with_items_is}
 use Rattle.history_count.proofs.{Peaks.{greatest-small}, SumsOfClasses.{blocks-small, holds-line}}
 use Rattle.history_count.proofs.class_sums.ClassSumsLineSink.add.Goals as goal
-use Rattle.history_count.proofs.class_sums.ClassSumsLineSink.add.Goals.{then-self-len, else-self-len}
 
 pub add_row-requires-clause-few : goal.add_row-requires-clause-few
 add_row-requires-clause-few c = grind (arith, blocks-small)

@@ -4,7 +4,7 @@ use Rattle.chunk_header.specs.HeaderView.{standing_seen}
 use Rattle.heap_theory.specs.{GranuleKinds.{place_kind}, Header.{Header}, Region.{region_of, header_in}, State.{IsSlot}}
 use Rattle.class_table.specs.Sizes.{chunk_granules}
 use Rattle.tagged_heap.proofs.GranuleKinds.{kind_outside, in_range, start_kind, size_few, tail_kind, chunk_granule_kind, kind_by}
-use Rattle.tagged_heap.proofs.{Kept.{region_is}, heap.Heap.place_kind.Goals.{In-Some, After-header-header, After-chunk_granules}}
+use Rattle.tagged_heap.proofs.{Kept.{region_is}, heap.Heap.place_kind.Goals.{In-Some, After-chunk_granules}}
 use Rattle.tagged_heap.specs.HeapFields.{state_of}
 use Rattle.tagged_heap.proofs.heap.Heap.place_kind.Goals as goal
 

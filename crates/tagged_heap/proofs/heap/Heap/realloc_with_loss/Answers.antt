@@ -3,7 +3,7 @@ use Rattle.std.{proofs.Common.{◌≡◌, arith, Err}, proofs.lemmas.Bool.{ne_eq
 use Rattle.heap_theory.specs.{Calls.{realloc_step}, Lookups.{chunk_at}, declared.refusal.FreeError.{FreeError}}
 use Rattle.heap_theory.specs.declared.refusal.ReallocError.TheVariants.{Refused}
 use Rattle.tagged_heap.proofs.{CallSteps.{realloc_accepted}, Kept.{class_most}}
-use Rattle.tagged_heap.{proofs.heap.Heap.realloc_with_loss.Goals.{In_ok-chunk, In_err-chunk, After-move_chunk}, specs.Chunks.{IsChunk}}
+use Rattle.tagged_heap.{proofs.heap.Heap.realloc_with_loss.Goals.{In_ok-chunk, In_err-chunk}, specs.Chunks.{IsChunk}}
 use Rattle.tagged_heap.specs.{Frees.{frees_of_realloc}}
 use Rattle.tagged_heap.proofs.heap.Heap.realloc_with_loss.Goals as goal
 

@@ -2,8 +2,6 @@ use Rattle.std.proofs.{Common.{◌<◌, ◌≤◌, ℕ, List, length, slice_inde
 use Rattle.std.proofs.lemmas.{List.{get_or_default}, List.Kept.{AllPairs-from_increasing}}
 use Rattle.std.specs.List.Sorted.{IsStrictlyIncreasing}
 use Rattle.class_tuner.proofs.FitLemmas.TimelineLemmas.{Ascending.{insert-ascends}, Unions.{insert-union}}
-use Rattle.class_tuner.proofs.fits.timelines.moments.add_moment.Goals.{else-place-len-via-then-place-len+else-index-moment}
-use Rattle.class_tuner.proofs.fits.timelines.moments.add_moment.Goals.{else-place-len-via-else-place-len}
 use Rattle.class_tuner.proofs.fits.timelines.moments.add_moment.Goals as goal
 
 pub returns-clause-union : goal.returns-clause-union
