@@ -23,14 +23,16 @@ pub(crate) fn leading_row<'a>(text: &'a [u8], numbers: &mut [u32]) -> Option<(u6
 {
     let (first, mut rest) = leading_number(text)?;
     let mut place = 0;
-    // most numbers are short
+    // most numbers are short, and about as long as the one before
+    let mut is_tiny = true;
     while place < numbers.len() {
-        let Some((number, after)) = short_in_place(rest) else {
+        let Some((number, after)) = short_in_place(rest, is_tiny) else {
             break;
         };
         numbers[place] = number;
         rest = after;
         place += 1;
+        is_tiny = number < 1000;
     }
     if place == numbers.len() {
         return ended_row(first, rest);
@@ -101,16 +103,17 @@ fn next_in_place(text: &[u8]) -> Option<(u32, &[u8])>
         (λ pair. option_map (λ n. min n (2 ^ 32 - 1)) (leading_number_of (drop 1 text.now)) ≡ Some pair.0) }
     ensures after { IfSome result (λ pair. drop 1 text.now ≡ leading_digits (drop 1 text.now) ++ pair.1.now) }
 {
-    if let Some(short) = short_in_place(text) {
+    if let Some(short) = short_in_place(text, false) {
         return Some(short);
     }
     let (number, after) = leading_number(after_byte(b' ', text)?)?;
     Some((number.min(u64::from(u32::MAX)) as u32, after))
 }
 
-// The same of a number of at most seven digits in a text of at least nine bytes; `None` of any other text.
+// The same of a number of at most seven digits in a text of at least nine bytes; `None` of any other text. If it is likely to have at most
+// three digits, it is first read as such a one.
 #[inline(always)]
-fn short_in_place(text: &[u8]) -> Option<(u32, &[u8])>
+fn short_in_place(text: &[u8], is_tiny: bool) -> Option<(u32, &[u8])>
     ensures space { IfSome result (λ _. text.now ≡ 32 ∷ drop 1 text.now) }
     ensures number { IfSome result
         (λ pair. option_map (λ n. min n (2 ^ 32 - 1)) (leading_number_of (drop 1 text.now)) ≡ Some pair.0) }
@@ -121,8 +124,10 @@ fn short_in_place(text: &[u8]) -> Option<(u32, &[u8])>
         return None;
     }
     let digits = &text[1..];
-    if let Some(tiny) = tiny_leading_number(digits) {
-        return Some(tiny);
+    if is_tiny {
+        if let Some(tiny) = tiny_leading_number(digits) {
+            return Some(tiny);
+        }
     }
     short_leading_number(digits)
 }
