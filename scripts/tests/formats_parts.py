@@ -600,7 +600,7 @@ def of_each_total(line, totals=TOTALS):
 def tests_of_totals():
     """The import of the tests in the definitions, in lines of at most 140 columns."""
     head, lines = "use Rattle.replay_theory.specs.Replay.{", [["Answer"]]
-    for test in [*(it.test for it in COUNTED.values()), "is_silent"]:
+    for test in dict.fromkeys([*(it.test for it in COUNTED.values()), "is_silent"]):
         if len(head) + len(", ".join([*lines[-1], test])) + 1 > 140:
             lines.append([])
         lines[-1].append(test)
