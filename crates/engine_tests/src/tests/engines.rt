@@ -13,3 +13,4 @@ mod timeline_texts;
 mod trace_faults;
 mod tune_texts;
 mod two_texts;
+pub mod worked_replays;

@@ -1,6 +1,6 @@
 //! Traces of a million events.
+use super::worked_replays::MILLION_FREES;
 use crate::tests::calls::{answers, call};
-use crate::tests::totals::totals;
 use mte_engine::Call;
 use std::alloc::{AllocError, Global};
 use std::test::Fail;
@@ -39,6 +39,5 @@ fn a_million_events_and_one_more(rt: HostRuntime) -> Result<(), Fail> {
 fn a_run_of_a_million_events(rt: HostRuntime) -> Result<(), Fail> {
     let trace = million_frees(rt.alloc())?;
     let call = call!(Run, limit: 1);
-    let written = totals!("classes\nlimit 1\nwaste 0\nrow\n", events: 1000000);
-    answers(&rt, call, &trace, written, "done")
+    answers(&rt, call, &trace, MILLION_FREES, "done")
 }

@@ -1,51 +1,23 @@
 //! `run` from text to text.
 use self::Answer::{Done, Fault};
 use super::pieces::{Case, check};
+use super::worked_replays::{
+    AFTER_FIVE, AFTER_FOUR, AFTER_ONE, AFTER_ONE_OF_15, AFTER_SIX, AFTER_THREE, AFTER_TWO,
+    NO_EVENTS, NO_REQUESTS, TRACE, TUNED, TUNED_BY_FOURS,
+};
 use crate::tests::calls::{answers, call};
-use crate::tests::totals::totals;
 use mte_engine::Call;
 use std::process::Abort;
 use std::test::Fail;
-
-const TRACE: &str = "malloc 1 16\nstore 1 16 1 aa\nmalloc 2 0\nload 1 32 1\nfree 1\nload 1 0 1\n";
 
 const fn tuned(limit: u8, step: u8) -> Call {
     call!(Run, limit: limit, step: step, quarantine: 64)
 }
 
-const A_TUNED_TABLE_AND_ITS_REPLAY: &[Case] = &[Case(
-    TRACE,
-    totals!(
-        "classes 2\nlimit 2\nwaste 16\nrow 16\nrow 16\n2 fault tag granule 2 memory 0 pointer 1 in header\n\
-             4 fault tag granule 3 memory 2 pointer 1 in other\n6 fault tag granule 1 memory 3 pointer 1 in dead\n",
-        events: 6, requests: 2, faults_tag: 3, loss: 16
-    ),
-    "done",
-)];
-
-const A_STEP_OF_FOUR: &[Case] = &[Case(
-    TRACE,
-    totals!(
-        "classes 4\nlimit 2\nstep 4\nwaste 80\nrow 80\nrow 80\n2 fault tag granule 2 memory 0 pointer 1 in tail\n\
-             4 fault tag granule 3 memory 0 pointer 1 in tail\n6 fault tag granule 1 memory 3 pointer 1 in dead\n",
-        events: 6, requests: 2, faults_tag: 3, loss: 80
-    ),
-    "done",
-)];
-
-const NO_REQUESTS: &[Case] = &[
-    Case("", totals!("classes\nlimit 1\nwaste 0\nrow\n"), "done"),
-    Case(
-        "free 0",
-        totals!("classes\nlimit 1\nwaste 0\nrow\n", events: 1),
-        "done",
-    ),
-];
-
 #[test]
 fn runs(rt: HostRuntime) -> Result<(), Fail> {
-    check(&rt, tuned(2, 1), A_TUNED_TABLE_AND_ITS_REPLAY)?;
-    check(&rt, tuned(2, 4), A_STEP_OF_FOUR)?;
+    check(&rt, tuned(2, 1), &[Case(TRACE, TUNED, "done")])?;
+    check(&rt, tuned(2, 4), &[Case(TRACE, TUNED_BY_FOURS, "done")])?;
     check(&rt, tuned(1, 1), NO_REQUESTS)
 }
 
@@ -71,26 +43,9 @@ const OF_16: &str = "classes 2\nlimit 2\nwaste 0\nrow 0\nrow 0\n";
 
 const OF_16_AND_0: &str = "classes 2\nlimit 2\nwaste 16\nrow 16\nrow 16\n";
 
-// the totals after so many events
-const AFTER_NONE: &str = totals!("");
-
-const AFTER_ONE_OF_15: &str = totals!("", events: 1, requests: 1, loss: 15);
-
-const AFTER_ONE: &str = totals!("", events: 1, requests: 1);
-
-const AFTER_TWO: &str = totals!("", events: 2, requests: 1, faults_tag: 1);
-
-const AFTER_THREE: &str = totals!("", events: 3, requests: 2, faults_tag: 1, loss: 16);
-
-const AFTER_FOUR: &str = totals!("", events: 4, requests: 2, faults_tag: 2, loss: 16);
-
-const AFTER_FIVE: &str = totals!("", events: 5, requests: 2, faults_tag: 2, loss: 16);
-
-const AFTER_SIX: &str = totals!("", events: 6, requests: 2, faults_tag: 3, loss: 16);
-
 // The answers below these lengths of the prefix, from the one before on; worked out by hand.
 const ANSWERS: &[(usize, Answer)] = &[
-    (1, Done(EMPTY, 0, AFTER_NONE)),
+    (1, Done(EMPTY, 0, NO_EVENTS)),
     (10, Fault("error 70 BadWord line 1")),
     (11, Done(OF_15, 0, AFTER_ONE_OF_15)),
     (13, Done(OF_16, 0, AFTER_ONE)),

@@ -1,10 +1,10 @@
 //! Reads and writes that fail, or move a byte at a time, or never end.
 use super::score_texts::SCORE;
 use super::support::Repeated;
+use super::worked_replays::{NO_CLASS, NO_CLASS_REPORT, REPORT, TRACE, TUNED};
 use crate::tests::calls::{call, call_on};
 use crate::tests::streams::{sink, source};
 use crate::tests::support::{ended, same};
-use crate::tests::totals::totals;
 use mte_engine::{Call, History, StreamSink, StreamSource};
 use std::io::{ErrorKind, Read, Write};
 use std::process::Abort;
@@ -50,29 +50,13 @@ const CASES: &[Case] = &[
         "malloc 1 40\ncalloc 2 16369\n",
         "40 1\nlarge 1\n",
     ),
-    Case(
-        call!(Replay),
-        "classes\nmalloc 1 16\n",
-        totals!("1 null no-class\n", events: 1, requests: 1, null_no_class: 1),
-    ),
+    Case(call!(Replay), NO_CLASS, NO_CLASS_REPORT),
     Case(
         call!(Replay, quarantine: 64),
         "classes 2 4\nmalloc 1 16\nstore 1 16 1 aa\nmalloc 2 0\nload 1 32 1\nfree 1\nload 1 0 1\n",
-        totals!(
-            "2 fault tag granule 2 memory 0 pointer 1 in header\n4 fault tag granule 3 memory 2 pointer 1 in other\n\
-             6 fault tag granule 1 memory 3 pointer 1 in dead\n",
-            events: 6, requests: 2, faults_tag: 3, loss: 16
-        ),
+        REPORT,
     ),
-    Case(
-        call!(Run, limit: 2, quarantine: 64),
-        "malloc 1 16\nstore 1 16 1 aa\nmalloc 2 0\nload 1 32 1\nfree 1\nload 1 0 1\n",
-        totals!(
-            "classes 2\nlimit 2\nwaste 16\nrow 16\nrow 16\n2 fault tag granule 2 memory 0 pointer 1 in header\n\
-             4 fault tag granule 3 memory 2 pointer 1 in other\n6 fault tag granule 1 memory 3 pointer 1 in dead\n",
-            events: 6, requests: 2, faults_tag: 3, loss: 16
-        ),
-    ),
+    Case(call!(Run, limit: 2, quarantine: 64), TRACE, TUNED),
 ];
 
 // A function that names a long constant takes seconds to prove for it, so this one alone does.

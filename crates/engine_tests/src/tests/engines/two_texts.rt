@@ -1,6 +1,6 @@
 //! The calls over two texts: what each answers, and the faults of the first text, and those of the second by its own lines.
+use super::worked_replays::NO_EVENTS;
 use crate::tests::calls::{answers_on, call};
-use crate::tests::totals::totals;
 use mte_engine::Call;
 use std::process::Abort;
 use std::test::Fail;
@@ -182,7 +182,7 @@ const REPLAYS: &[Case] = &[
         "",
         "error 72 OutOfRange line 2",
     ),
-    (b"classes 2 4", b"", totals!(""), "done"),
+    (b"classes 2 4", b"", NO_EVENTS, "done"),
 ];
 
 #[test]

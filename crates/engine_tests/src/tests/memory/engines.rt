@@ -2,20 +2,12 @@
 use super::support::{PROFILE, SHEET, refused_twice};
 use crate::tests::calls::{call, call_on};
 use crate::tests::engines::score_texts::SCORE;
+use crate::tests::engines::worked_replays::{REPORT, TRACE};
 use crate::tests::streams::{sink, source};
 use crate::tests::support::same;
-use crate::tests::totals::totals;
 use mte_engine::{Call, MemorySink, Status, ToolFault};
 use std::process::Abort;
 use std::test::Fail;
-
-const TRACE: &str = "malloc 1 16\nstore 1 16 1 aa\nmalloc 2 0\nload 1 32 1\nfree 1\nload 1 0 1\n";
-
-const REPORT: &str = totals!(
-    "2 fault tag granule 2 memory 0 pointer 1 in header\n4 fault tag granule 3 memory 2 pointer 1 in other\n\
-    6 fault tag granule 1 memory 3 pointer 1 in dead\n",
-    events: 6, requests: 2, faults_tag: 3, loss: 16
-);
 
 const HISTORY: &str = "snapshots 2\n16 3 0\n40 0 1\n";
 
