@@ -3,7 +3,8 @@
 scripts/tests/formats compares it with the laws that the crates prove of their numbers, with the texts of the codes that contracts cite, and
 with what the program and the documents say. It writes the options of crates/tool_call and command_words, and the parts of include/, library/,
 python/, rust/, web/, bench/plain and scripts/shims that have numbers, sentences, options or a call for each command. Of the totals it writes
-the fields and lines in the definitions and in the crates, what the tests expect of them, and the numbers 0 of new ones in README.md.
+the fields, bounds and lines in the definitions and in the crates, their rows in FORMATS.md, and three texts with numbers that the plain program
+counts: README.md's session, crates/mte_tool/stdout and TOTALS of crates/heap_tests. Last it writes how much `scripts/statement run` prints.
 """
 
 import re

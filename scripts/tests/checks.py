@@ -29,7 +29,6 @@ import unittest
 from collections.abc import Callable
 from typing import Optional
 
-from mte_scripts.formats import TOTALS, in_code
 from mte_scripts.places import ROOT
 
 SHOWN = 900  # characters of each thing that was seen
@@ -66,11 +65,6 @@ def least(measure: "Callable[[], float]", most: float, rounds: int = 5) -> float
     if options.times:
         print(f"          {found:.3f} of at most {most}", flush=True)
     return found
-
-
-def totals(**counted: int) -> str:
-    """The lines of totals of a report: of these counts, as null_no_class=1, and else 0."""
-    return "".join(f"{name} {counted.get(in_code(name), 0)}\n" for name in TOTALS)
 
 
 def fail(text: str) -> None:
@@ -150,10 +144,10 @@ def any_program(place: str) -> Optional[str]:
     return compiled_plain(place)
 
 
-def compiled_plain(place: str) -> str:
-    """The plain program of bench, compiled in PLACE."""
+def compiled_plain(place: str, fast: bool = True) -> str:
+    """The plain program of bench, compiled in PLACE: for speed, or in a third of the time."""
     plain = os.path.join(place, "plain")
-    subprocess.run(["rustc", "-O", "--edition", "2021", os.path.join(ROOT, "bench/plain/main.rs"), "-o", plain], check=True)
+    subprocess.run(["rustc", *["-O"] * fast, "--edition", "2021", os.path.join(ROOT, "bench/plain/main.rs"), "-o", plain], check=True)
     return plain
 
 

@@ -1,14 +1,26 @@
-"""What scripts/tests/formats writes of the table of the formats: the parts of other files, each found by a pattern."""
+"""What scripts/tests/formats writes of the table of the formats: the parts of other files, each found by a pattern. A part that is a function
+is made when it is written or compared, of what then stands in other files."""
 
+import functools
 import os
 import re
+import shutil
+import subprocess
+import tempfile
 import textwrap
 
+import checks
 from mte_scripts import formats
 from mte_scripts.formats import CODES, COMMANDS, ENDS, OPTIONS, TOTALS, in_code
+from mte_scripts.gate import statements
 from mte_scripts.places import ROOT
 
 WRITTEN = "Written by scripts/tests/formats from scripts/mte_scripts/formats.py."
+
+
+def read(name):
+    with open(os.path.join(ROOT, name), encoding="utf-8") as file:
+        return file.read()
 
 
 # ---- words
@@ -539,9 +551,7 @@ LIMIT = 8  # with which the page's heap begins; its tables begin with as many as
 def inputs_of_page():
     """The ranges of the page's inputs, each of which has the name of its option, and perhaps `heap-` before it."""
     made = []
-    with open(os.path.join(ROOT, "web/page.html"), encoding="utf-8") as page:
-        names = re.findall(r'id="([\w-]+)" min="', page.read())
-    for name in names:
+    for name in re.findall(r'id="([\w-]+)" min="', read("web/page.html")):
         it = OPTIONS.get(name.removeprefix("heap-"))
         if it is None:
             continue  # of the page's own
@@ -590,6 +600,7 @@ def kebab(name):
 # ---- the totals
 
 COUNTED = {name: it for name, it in TOTALS.items() if it.test}
+COUNTS_OF_EVENTS = {name: it for name, it in TOTALS.items() if it.test or it.value.startswith("count_by")}
 
 
 def of_each_total(line, totals=TOTALS):
@@ -644,28 +655,47 @@ def totals_of_tests():
     )
 
 
+def rows_of_totals():
+    return of_each_total(lambda code, name, it: f"| `{name} N` | {grouped(it.words)} |\n")
+
+
+# ---- what the plain program counts, and how much is to be read
+
+@functools.lru_cache(maxsize=None)
+def counted():
+    """The lines of totals of the run of crates/mte_tool, and those of README.md's session, as the plain program counts them. Without rustc they
+    are those that stand there, and a new one is 0."""
+    if not shutil.which("rustc"):
+        checks.skip("without rustc: the numbers of the totals in crates/mte_tool/stdout, crates/heap_tests and README.md")
+        return standing("crates/mte_tool/stdout", TOTALS_IN_TEXT), standing("README.md", TOTALS_IN_README)
+    words, trace = re.search(r"\$ scripts/mte_tool (run .*) < (examples/\S+)", read("README.md")).groups()
+    runs = ((read("crates/mte_tool/args").split(), "crates/mte_tool/stdin"), (words.split(), trace))
+    with tempfile.TemporaryDirectory() as place:
+        plain = checks.compiled_plain(place, fast=False)
+        outs = [subprocess.run([plain, *words], input=read(path), stdout=subprocess.PIPE, text=True, check=True).stdout for words, path in runs]
+    return [out.splitlines()[-len(TOTALS) :] for out in outs]
+
+
 def standing(path, pattern):
-    """The totals with their numbers where they stand in a file: a new one has the number 0."""
-    with open(os.path.join(ROOT, path), encoding="utf-8") as file:
-        text = re.search(pattern, file.read())[0]
+    text = re.search(pattern, read(path))[0]
     numbers = {name: re.search(rf"(?<![a-z] ){name} (\d+)", text) for name in TOTALS}
     return [f"{name} {found[1] if found else 0}" for name, found in numbers.items()]
 
 
-def totals_in_readme():
-    return "\n".join(f"    {line}" for line in standing("README.md", TOTALS_IN_README))
-
-
-def totals_in_literal(path):
-    """The same as a literal in lines of at most 140 columns."""
-    lines = textwrap.wrap(" ".join(f"{line}\\n".replace(" ", "\0") for line in standing(path, TOTALS_CONSTANT)), 120, break_on_hyphens=False)
+def totals_in_literal():
+    """The totals of the run of crates/mte_tool as a literal in lines of at most 140 columns."""
+    lines = textwrap.wrap(" ".join(f"{line}\\n".replace(" ", "\0") for line in counted()[0]), 120, break_on_hyphens=False)
     text = "\\\n    ".join(line.replace(" ", "").replace("\0", " ") for line in lines)
     return f'const TOTALS: &str =\n    "{text}";'
 
 
+def definitions_to_read():
+    """How much `scripts/statement run` prints."""
+    return "{} definitions of {} lines in {} modules".format(*statements.statement("run").counts)
+
+
 TOTALS_IN_README = r"(?m)^    events \d+\n(?:    [a-z -]+ \d+\n)*    [a-z -]+ \d+$"
 TOTALS_IN_TEXT = r"(?m)^events \d+\n(?:[a-z -]+ \d+\n)*"
-TOTALS_CONSTANT = r'(?s)const TOTALS: &str =\s*".*?";'
 
 PARTS_OF_TOTALS = {
     "crates/replay_theory/specs/Totals.antt": [
@@ -683,8 +713,7 @@ PARTS_OF_TOTALS = {
     ],
     "crates/replay_core/specs/TheoryValues.antt": [(r"(  \w+ = t\.\w+;\n)+", of_each_total(lambda code, *_: f"  {code} = t.{code};\n"))],
     "crates/replay_core/specs/TotalsBounds.antt": [
-        (r"(?<=requests ≤ t\.events\n)(  pub \w+ : t\.\w+ ≤ t\.events\n)+",
-         of_each_total(lambda code, *_: f"  pub {code} : t.{code} ≤ t.events\n", COUNTED)),
+        (r"(  pub \w+ : t\.\w+ ≤ t\.events\n)+", of_each_total(lambda code, *_: f"  pub {code} : t.{code} ≤ t.events\n", COUNTS_OF_EVENTS)),
     ],
     "crates/replay_core/src/totals.rt": [
         (r"(    /// .*\n    pub \w+: u64,\n)+", of_each_total(lambda code, name, it: f"    /// {rust_words(it.words)}\n    pub {code}: u64,\n")),
@@ -694,12 +723,22 @@ PARTS_OF_TOTALS = {
     "crates/replay_core/proofs/totals/Totals/write/Answers.antt": [(r"    sym .*\n(    ∙ c\.append_total.*\n)+", lines_written())],
     "crates/command_words/src/commands/replay.rt": [(r"(?s)and then \w+ totals: .*?\.(?=\n\n)", totals_in_help())],
     "crates/engine_tests/src/tests/totals.rt": [(r"(?s).*", totals_of_tests())],
-    "crates/heap_tests/src/tests/replays.rt": [(TOTALS_CONSTANT, totals_in_literal("crates/heap_tests/src/tests/replays.rt"))],
-    "crates/mte_tool/stdout": [(TOTALS_IN_TEXT, "".join(f"{line}\n" for line in standing("crates/mte_tool/stdout", TOTALS_IN_TEXT)))],
-    "README.md": [(TOTALS_IN_README, totals_in_readme()), (r"tail -n \d+ sqlite\.run", f"tail -n {len(TOTALS)} sqlite.run")],
+    "docs/FORMATS.md": [(r"(?<=\| Line of totals \| What it counts \|\n\|---\|---\|\n)(\|.*\n)+", rows_of_totals())],
     "bench/plain/replay.rs": [
         (r"(    \w+: u64,\n)+", of_each_total(lambda code, *_: f"    {code}: u64,\n")),
         (r'(            \(".* ", t\.\w+\),\n)+', of_each_total(lambda code, name, _: f'            ("{name} ", t.{code}),\n')),
+    ],
+}
+
+
+# Made of other parts, and so written after them.
+PARTS_OF_RUNS = {
+    "crates/heap_tests/src/tests/replays.rt": [(r'(?s)const TOTALS: &str =\s*".*?";', totals_in_literal)],
+    "crates/mte_tool/stdout": [(TOTALS_IN_TEXT, lambda: "".join(f"{line}\n" for line in counted()[0]))],
+    "README.md": [
+        (TOTALS_IN_README, lambda: "\n".join(f"    {line}" for line in counted()[1])),
+        (r"tail -n \d+ sqlite\.run", f"tail -n {len(TOTALS)} sqlite.run"),
+        (r"\d+ definitions of \d+ lines in \d+ modules", definitions_to_read),
     ],
 }
 
@@ -741,4 +780,5 @@ PARTS = {
     "web/formats.js": [(r"(?s).*", script_of_page())],
     "web/page.html": inputs_of_page(),
     "scripts/shims/formats.h": [(r"(?s).*", header_of_recorders())],
+    **PARTS_OF_RUNS,
 }

@@ -1,4 +1,4 @@
-//! The replay: each public call once. `crates/engine_tests/src/tests/engines/replay_texts.rt` has worked traces
+//! The replay: each public call once. `crates/engine_tests/src/tests/engines/worked_replays.rt` has worked traces
 //! with their reports.
 use crate::tests::support::{config, same};
 use arrayvec::ArrayVec;
@@ -58,6 +58,7 @@ const STEPS: &[(Event, &str)] = &[
     ),
 ];
 
+// of these steps, which are those of crates/mte_tool/stdin: scripts/tests/formats writes what the plain program counts
 const TOTALS: &str =
     "events 6\nrequests 2\nnull large 0\nnull no-class 0\nnull exhausted 0\nfaults tag 3\nfaults unmapped 0\n\
     refused frees 0\nloss 16\n";
