@@ -10,6 +10,7 @@ it with status 3 and one line on standard error: no traceback, and no status 1, 
 for a test that imports this."""
 
 import _signal  # the module signal alone takes longer to import than this one
+import errno
 import os
 import sys
 from _collections_abc import Callable
@@ -51,6 +52,8 @@ def fail(name: str, error: BaseException) -> int:
         say(name, "standard output can't be written: Broken pipe")
     elif isinstance(error, MemoryError):
         say(name, "there is not enough memory for this input")
+    elif isinstance(error, OSError) and error.errno in (errno.EMFILE, errno.ENFILE):
+        say(name, f"too few files may be open at once (ulimit -n): {error.strerror}")
     else:
         place = error.__traceback__
         while place and place.tb_next:

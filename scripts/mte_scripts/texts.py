@@ -92,6 +92,14 @@ def path_word(path: str) -> str:
     return quoted(f"./{path}" if path.startswith("-") else path)
 
 
+def script_word(name: str) -> str:
+    """A script as a word of a command for the folder in which this script was called: found as this one was."""
+    if IS_PACKAGED:
+        return called(name)
+    folder = os.path.dirname(sys.argv[0]) or "."
+    return path_word(os.path.join(folder if os.path.realpath(folder) == os.path.realpath(SCRIPTS) else SCRIPTS, name))
+
+
 def help_text(text: str) -> str:
     """A help, so that its examples can be run as they stand, and the documents that it names are found."""
     if IS_PACKAGED:

@@ -165,6 +165,11 @@ def test_array_faults(package):
             "check-fit": lambda: package.check_fit_history(wrong, {1: [0]}, 1, 2),
         }.items():
             expect(f"arrays: {name} of the classes {classes}", error_of(call) == (REFUSED, code, 0), error_of(call))
+    array_options(package, table)
+
+
+def array_options(package, table):
+    """Numbers of snapshots and moments, limits and steps out of their ranges."""
     for snapshots in (0, 1025, 2**32, 2**63):
         history = {} if snapshots > 2000 else {16: [1] * snapshots}
         for call in (lambda: package.footprint_history([2], history, snapshots), lambda: package.fit_history(history, snapshots, limit=2)):

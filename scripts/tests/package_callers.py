@@ -95,12 +95,7 @@ def test_wheel(wheel, work, is_proved):
     expect("its manifest", done.returncode == (not is_proved), done)
     done = run("bash", "-c", "yes 16 1 | head -n 100000 | mte_merge_profiles | cat | head -c 1; exit ${PIPESTATUS[2]}")
     expect("a command that is cut off ends quietly", not done.stderr, done)
-    names = {f"mte_{name}" for name in os.listdir(f"{ROOT}/scripts") if os.path.isfile(f"{ROOT}/scripts/{name}")}
-    commands = [name for name in sorted(os.listdir(f"{work}/venv/bin")) if name in names]
-    for name in commands:
-        done = run(name, "--help")
-        expect(f"{name} --help of the wheel", done.returncode == 0 and b"Usage: mte_" in done.stdout and not done.stderr, done)
-    expect("the wheel has the commands", len(commands) > 10, commands)
+    has_all_commands(work, run)
     done = run("mte_tool", "tune", "--limit", "8", **{})
     expect("the program reads standard input", done.returncode == 0 and done.stdout.startswith(b"classes"), done)
     program = "import sys, mte_tool; print(mte_tool.version()); print(mte_tool.tune(open(sys.argv[1], 'rb').read(), limit=8).decode())"
@@ -111,6 +106,15 @@ def test_wheel(wheel, work, is_proved):
     done = run("pip", "uninstall", "-y", "-q", "mte-tool")
     left = files_below(f"{work}/venv") ^ before
     expect("pip removes all of it", done.returncode == 0 and not left, done.stderr, left)
+
+
+def has_all_commands(work, run):
+    names = {f"mte_{name}" for name in os.listdir(f"{ROOT}/scripts") if os.path.isfile(f"{ROOT}/scripts/{name}")}
+    commands = [name for name in sorted(os.listdir(f"{work}/venv/bin")) if name in names]
+    for name in commands:
+        done = run(name, "--help")
+        expect(f"{name} --help of the wheel", done.returncode == 0 and b"Usage: mte_" in done.stdout and not done.stderr, done)
+    expect("the wheel has the commands", len(commands) > 10, commands)
 
 
 # ---- Rust

@@ -233,7 +233,7 @@ def write_certificates(folder: str, own: Iterable[bounds.Bound], table: Table, s
         names = [f"{name}.{'sheet' if is_sheet else 'fit'}", f"{name}.{of_counts}"]
         files[names[0]], files[names[1]] = certificate.encode(), counts
         shell = " ".join(texts.path_word(os.path.join(folder, each)) for each in names)
-        lines.append(f"{said[at]}\n\n    cat {shell} | {texts.as_called('scripts/mte_tool')} {'check' if is_sheet else 'check-fit'}\n\n")
+        lines.append(f"{said[at]}\n\n    cat {shell} | {texts.script_word('mte_tool')} {'check' if is_sheet else 'check-fit'}\n\n")
     each = ", ".join(map(str, table.numbers))
     lines.append(f"Joined: the loads in their order, times {each}, added up, divided by {table.divisor:,} and rounded down.\n")
     files["claims.txt"] = "".join(lines).encode(errors="surrogateescape")

@@ -168,8 +168,12 @@ def is_to_try(crate: str) -> bool:
     return any(not re.match(r"law_|fmt$", it) for it in names) and not re.search(r"_(tests|trials)$", crate)
 
 
+def sums(rows: "list[list[int]]") -> "list[int]":
+    return [sum(column) for column in zip(*rows)]
+
+
 def text() -> str:
-    """The table of the crates that have wrong bodies, and a line for each that is open."""
+    """The table of the crates of which a wrong body is let through, and of all others, and a line for each that is open."""
     its, open_ones = known(), []
     rows: list[tuple[str, list[int]]] = []
     for crate in sorted(CrateList(ROOT).stands_on):
@@ -185,7 +189,9 @@ def text() -> str:
         elif count:
             rows.append((f"`{crate}`", [count, count - alike - left, alike, left]))
         open_ones += [f"- `{crate}`, {body.replace('|', '&#124;')}: {why}.\n" for kind, body, why in let if kind in ("memory", "open")]
-    rows.append(("all", [sum(column) for column in zip(*(counts for _, counts in rows))]))
+    whole = [counts for _, counts in rows if counts[0] and counts[0] == counts[1]]
+    rows = [row for row in rows if row[1] not in whole] + [(f"the {len(whole)} others", sums(whole))]
+    rows.append(("all", sums([counts for _, counts in rows])))
     table = "".join(f"| {name} | " + " | ".join(f"{it:,}" for it in counts) + " |\n" for name, counts in rows)
     return f"{HEAD}{table}\nOpen:\n\n{''.join(open_ones)}" if open_ones else f"{HEAD}{table}"
 

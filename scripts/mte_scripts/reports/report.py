@@ -52,5 +52,5 @@ def report(words: list[str]) -> int:
 def check_command(profile: str, sheet: str) -> str:
     """The shell's words that check the sheet again. merge_profiles brings the lines of any profile into their order."""
     names = ["PROFILE" if profile == "-" else texts.path_word(profile), "SHEET" if sheet == "-" else texts.path_word(sheet)]
-    merged = f"{texts.as_called('scripts/merge_profiles')} -- {names[0]}"
-    return f"{merged} | cat {names[1]} - | {texts.as_called('scripts/mte_tool')} check"
+    merged = f"{texts.script_word('merge_profiles')} -- {names[0]}"
+    return f"{merged} | cat {names[1]} - | {texts.script_word('mte_tool')} check"

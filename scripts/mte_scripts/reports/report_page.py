@@ -154,11 +154,10 @@ def classes_section(figures: Figures) -> str:
 
 def check_section(figures: Figures, checks: list[str]) -> str:
     """Each table, and the command that checks its certificate."""
-    where = "" if texts.IS_PACKAGED else " at the top of the repository of <code>mte_tool</code>"
     return f"""<h2>Check it again</h2>
 <p>This is the table of {figures.first.name} as a class line, in granules of 16 bytes:</p>
 <pre id="class-line">{class_text(figures.first.classes)}</pre>
-<p>Its certificate is checked by this{where}:</p>
+<p>Its certificate is checked by this, in the folder in which the page was made:</p>
 <pre id="check">{escape(checks[0])}</pre>
 {lines(other_section(*each) for each in zip(figures.made()[1:], checks[1:]))}"""
 

@@ -349,7 +349,7 @@ def fitted(options: Options, folder: Folder, timed: "figures.OverTime | None") -
 
 
 def check_command(folder: Folder, command: str, *names: str) -> str:
-    return f"cat {' '.join(texts.path_word(folder.file(name)) for name in names)} | {texts.as_called('scripts/mte_tool')} {command}"
+    return f"cat {' '.join(texts.path_word(folder.file(name)) for name in names)} | {texts.script_word('mte_tool')} {command}"
 
 
 def tables(options: Options, folder: Folder, engines: dict[str, bytes]) -> str:

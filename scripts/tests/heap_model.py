@@ -1,4 +1,5 @@
-"""The machine and the heap as docs/MACHINE.md and docs/HEAP.md state them, written from these two pages alone and in their order."""
+"""The machine and the heap as docs/MACHINE.md and docs/HEAP.md state them, written from these two pages alone and in their order. Every test
+that needs a second opinion on slots or tags asks this model: the tests of QEMU, of the page, of `find_faults` and of the documents."""
 
 BASE = 1 << 36  # the region's first place
 MASK = (1 << 64) - 1
@@ -121,6 +122,7 @@ class Slot:
     def __init__(self, first, number, kind):
         self.first, self.number, self.kind = first, number, kind  # the header's granule; `kind` counts the classes of the table
         self.state, self.size, self.tag, self.mark = FRESH, 0, None, 0
+        self.generation = 0  # how often it was given out
 
     def chunk(self):
         """How many granules the chunk has."""
@@ -134,16 +136,14 @@ class Heap:
     def __init__(self, machine, table, granules, quarantine):
         self.machine, self.table, self.quarantine, self.total = machine, table, quarantine, 0
         self.slots, self.covering = [], {}
-        self.fresh = [[] for _ in table]  # of each class its slots that were never given out, the lowest last
+        self.fresh = []  # of each class its slots that were never given out, the lowest last
         self.dead = [[] for _ in table]  # of each class its dead slots, by their marks
         for kind, size in enumerate(table):
             share = granules // len(table)
-            for k in range(share // size):
-                slot = Slot(kind * share + k * size, len(self.slots), kind)
-                self.slots.append(slot)
-                self.fresh[kind].insert(0, slot)
-                for granule in range(slot.first, slot.first + size):
-                    self.covering[granule] = slot
+            slots = [Slot(kind * share + k * size, len(self.slots) + k, kind) for k in range(share // size)]
+            self.slots += slots
+            self.fresh.append(slots[::-1])
+            self.covering.update((granule, slot) for slot in slots for granule in range(slot.first, slot.first + size))
 
     def class_of(self, n):
         return next((kind for kind, size in enumerate(self.table) if 16 * size - 16 >= n), None)
@@ -152,10 +152,14 @@ class Heap:
         """Why no class serves n, or None."""
         return "null large" if n > 16 * 1024 - 16 else "null no-class" if self.class_of(n) is None else None
 
+    def is_released(self, slot):
+        """Whether a dead slot is not quarantined."""
+        return self.total - slot.mark > self.quarantine
+
     def next_slot(self, kind):
         """The slot that is given out next, and the list that it is in."""
         for slot in reversed(self.dead[kind]):
-            if self.total - slot.mark > self.quarantine:
+            if self.is_released(slot):
                 return slot, self.dead[kind]
         return (self.fresh[kind][-1], self.fresh[kind]) if self.fresh[kind] else (None, None)
 
@@ -179,7 +183,7 @@ class Heap:
             return "null exhausted", 0
         where.remove(slot)
         pointer = self.draw(slot)
-        slot.state, slot.size, slot.tag = LIVE, n, tag_of(pointer)
+        slot.state, slot.size, slot.tag, slot.generation = LIVE, n, tag_of(pointer), slot.generation + 1
         self.tag_payload(slot)
         return None, pointer
 
@@ -190,11 +194,16 @@ class Heap:
             self.machine.zero(slot.first + 1, slot.chunk(), slot.tag)
         return refused, pointer
 
-    def owned(self, pointer):
-        """Why a pointer names no live chunk, or None, and the slot."""
+    def slot_of(self, pointer):
+        """The slot whose payload begins at a pointer, or None."""
         at = place_of(pointer) - BASE
         slot = self.covering.get(at // 16)
-        if pointer >> 60 or at % 16 or slot is None or at // 16 != slot.first + 1:
+        return slot if slot and not pointer >> 60 and at % 16 == 0 and at // 16 == slot.first + 1 else None
+
+    def owned(self, pointer):
+        """Why a pointer names no live chunk, or None, and the slot."""
+        slot = self.slot_of(pointer)
+        if slot is None:
             return "refused misplaced", None
         if slot.state != LIVE:
             return "refused not-live", None
@@ -243,3 +252,57 @@ class Heap:
         if slot.state == FRESH or granule > slot.first + slot.chunk():
             return "tail"
         return "other" if slot.state == LIVE else "dead"
+
+
+class Memory:
+    """What a heap does to a machine: tags and bytes."""
+
+    def __init__(self, granules, seed=1):
+        self.machine = Machine(granules, seed)
+
+    def irg(self, xn, xm):
+        return self.machine.irg(xn, xm)[1]
+
+    def tags(self, first, count, tag):
+        self.machine.tags[first : first + count] = bytes([tag]) * count
+
+    def zero(self, first, count, tag):
+        self.machine.bytes[16 * first : 16 * (first + count)] = bytes(16 * count)
+
+    def copy(self, to, source, n):
+        at, start = place_of(to) - BASE, place_of(source) - BASE
+        self.machine.bytes[at : at + n] = self.machine.bytes[start : start + n]
+
+
+class Replay:
+    """The events of a trace on a heap, one after the other."""
+
+    def __init__(self, table, granules, seed, quarantine):
+        self.memory = Memory(granules, seed)
+        self.machine = self.memory.machine
+        self.heap = Heap(self.memory, table, granules, quarantine)
+        self.variables, self.events = [0] * 1024, 0
+
+    def perform(self, line):
+        """Performs an event: what its line in the report says after the number, or None; a load that succeeds has no bytes here."""
+        self.events += 1
+        word, *rest = line.split(" ")
+        v, numbers = int(rest[0]), [int(each) for each in rest[1:3]]
+        if word in ("malloc", "calloc"):
+            said, self.variables[v] = getattr(self.heap, word)(*numbers)
+        elif word == "realloc":
+            said, self.variables[v] = self.heap.realloc(self.variables[v], *numbers)
+        elif word == "free":
+            said = self.heap.free(self.variables[v])
+        elif word in ("addg", "subg"):
+            w, u6, u4 = map(int, rest[1:])
+            said, self.variables[v] = None, getattr(self.machine, word)(self.variables[w], u6, u4)[1]
+        else:
+            said = self.access(self.variables[v] + numbers[0] & MASK, numbers[1], bytes.fromhex("".join(rest[3:])))
+        return said
+
+    def access(self, address, length, byte):
+        fault, what = self.machine.store(address, byte * length) if byte else self.machine.load(address, length)
+        if fault == TAG_CHECK:
+            return "fault tag granule %d memory %d pointer %d in %s" % (*what, self.heap.kind(what[0]))
+        return "fault unmapped" if fault == UNMAPPED else None
