@@ -27,6 +27,15 @@ impl Model for ClassTable {
 }
 
 impl ClassTable {
+    /// The table that has no class.
+    pub fn empty() -> ClassTable
+        ensures { result ≡ [] }
+    {
+        ClassTable {
+            classes: ArrayVec::new(),
+        }
+    }
+
     /// The table of these classes, in granules.
     /// Errors, in the order of the tests: `TooMany` if there are more than 32; then for the first faulty class `OutOfRange` if it is not
     /// from 2 to 1024, otherwise `NotAscending`, since it is not above the class before it. Never `BadLine`.

@@ -1,5 +1,5 @@
 //! One reader of lines for all formats.
-ghost use Rattle.std.specs.Prelude.{◌≡◌, ◌<◌, ◌+◌, ◌^◌, ℕ, [], ◌∷◌, List, IfSome, IfNone, OnOk};
+ghost use Rattle.std.specs.Prelude.{◌≡◌, ◌<◌, ◌+◌, ◌^◌, ℕ, [], ◌∷◌, List, drop, length, IfSome, IfNone, IfOk, OnOk};
 ghost use Rattle.line_text.specs.LineSteps.{read_lines};
 ghost use Rattle.line_text.specs.Stops.{GivesLines};
 
@@ -27,29 +27,34 @@ pub trait LineReader {
 
     ghost steps: { LineSteps Self Self.Value Self.Fault };
 
+    // the lines that are its own: all of these, or the first of them
+    ghost own: { Self → List (List ℕ) → List (List ℕ) };
+
     // so many lines may come at most
     ghost may_come: { Self → ℕ };
 
-    /// Takes the next line. `None` if no line is left.
+    /// Takes the next line. `None` if no line of its own is left.
     fn take(&mut self, lines: &mut Lines<'_>) -> Option<Result<(), Stop<Self::Fault>>>
-        ensures line { IfSome result
-            (λ read. (line : List ℕ) × (lines.old ≡ line ∷ lines.new) × Takes steps self.old line self.new read) }
+        ensures line { IfSome result (λ read. (line : List ℕ) × (lines.old ≡ line ∷ lines.new)
+            × Takes steps own self.old line self.new lines.new read) }
         ensures fewer { IfSome result (λ read. OnOk read (may_come self.new < may_come self.old)) }
-        ensures end { IfNone result ((lines.old ≡ []) × (lines.new ≡ []) × (self.new ≡ self.old)) };
+        ensures end { IfNone result ((own self.old lines.old ≡ []) × (lines.new ≡ lines.old) × (self.new ≡ self.old)) };
 
     /// What was read in the end.
     fn finish(self) -> Result<Self::Value, Self::Fault>
         ensures { result ≡ steps.finish self };
 }
 
-/// Reads lines, the first of which has this number. Errors, with the number of the line: the first faulty line's fault, or `OutOfMemory`.
+/// What the lines that are a reader's own spell, the first of which has this number, and the lines after them. Errors, with the number of
+/// the line: the first faulty line's fault, or `OutOfMemory`.
 pub fn read_lines<R: LineReader + Drop>(
     reader: R,
     first: u32,
     lines: Lines<'_>,
-) -> Result<R::Value, (Stop<R::Fault>, u32)>
+) -> Result<(R::Value, Lines<'_>), (Stop<R::Fault>, u32)>
     requires { first + R.may_come reader < 2 ^ 32 }
-    ensures { GivesLines result (read_lines R.steps first reader lines.entry) }
+    ensures read { GivesLines result (read_lines R.steps first reader (R.own reader lines.entry)) }
+    ensures left { IfOk result (λ read. read.1 ≡ drop (length (R.own reader lines.entry)) lines.entry) }
 {
     let mut reader = reader;
     let mut lines = lines;
@@ -61,7 +66,7 @@ pub fn read_lines<R: LineReader + Drop>(
         number += 1;
     }
     match reader.finish() {
-        Ok(value) => Ok(value),
+        Ok(value) => Ok((value, lines)),
         Err(fault) => Err((Stop::Fault(fault), number)),
     }
 }

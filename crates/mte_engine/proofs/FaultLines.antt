@@ -13,12 +13,12 @@ use Rattle.profile_count.proofs.LawLemmas.{first_fault_is_refused as profile_fau
 use Rattle.profile_count.{proofs.LawLemmas.{refused_line_is_there, spelled_profile_is_read}, specs.Counts.{nothing_counted}}
 use Rattle.profile_count.specs.{FaultText.{shown_profile_fault}, declared.fault.ProfileFault.{ProfileFault}}
 use Rattle.profile_count.specs.ProfileText.{IsRefusedAt, SpellsProfile, profile_of, profile_of_lines}
-use Rattle.potential_check.{proofs.LawLemmas.{read_is_spelled}, specs.Leading.{leading_lines, lines_after}}
+use Rattle.potential_check.proofs.LawLemmas.{leading_lines-cut, leading_lines-lines, leading_lines-settled, read_is_spelled}
+use Rattle.potential_check.specs.Leading.{leading_lines, lines_after}
 use Rattle.potential_check.specs.SheetText.{SpellsSheet, sheet_of_lines}
 use Rattle.heap_theory.specs.declared.config.Config.{Config}
 use Rattle.trace_reader.specs.{FaultText.{shown_trace_fault}}
 use Rattle.tuner_theory.specs.{Profiles.{Profile as Counted}, Sheets.{Sheet}}
-use Rattle.mte_engine.proofs.SheetLinesSettled.{after_alike, leading_lines-cut, leading_lines-lines, leading_lines-settled}
 use Rattle.mte_engine.specs.{Check.{CheckAnswers}, FaultText.{in_line, shown_input_fault}, Outcome.{Answer}}
 use Rattle.mte_engine.specs.FaultLines.{IsAtFirstFault, SpellsLeadingAnd, SpellsSheetAndProfile, SpellsTableAnd, line_of_fault}
 use Rattle.mte_engine.specs.{Parts.{class_part, profile_part}, Replay.{replay_answer}}
@@ -185,6 +185,10 @@ profile_is_part = record {
 
 -- ---- a part in front of another part
 
+-- what is alike after lines that are alike
+after_alike : {A : Type 0} (n m : ℕ) (xs ys : List A) → take (n + m) xs ≡ take (n + m) ys → take m (drop n xs) ≡ take m (drop n ys)
+after_alike n m xs ys e = sym (drop-take n m xs) ∙ ap (drop n) e ∙ drop-take n m ys
+
 -- No text with the same leading lines and the lines after them up to their first fault spells both parts.
 pub none_later : {A B : Type 0} (First : List ℕ → A → Type 0) (Rest : List ℕ → B → Type 0) (text next : List ℕ) (m : ℕ) (parts : A × B)
     → IsFirstFault Rest (text_of (lines_after (lines text))) m → leading_lines (lines next) ≡ leading_lines (lines text)
@@ -220,7 +224,7 @@ after_leading First Rest text x y m is_first there is_rest first =
     let other = text_of kept in
     let kept_lines : lines other ≡ kept = written_lines_are_read kept (All-take IsLine (k + (m - 1)) ls all) in
     let same_front : leading_lines kept ≡ front =
-    leading_lines-cut (k + (m - 1)) ls (omega arith) (omega (arith, within, first.some)) in
+    leading_lines-cut (k + (m - 1)) ls (omega arith) in
     let same_rest : drop k kept ≡ take (m - 1) rest = drop-take k (m - 1) ls in
     record {
       some = omega (arith, first.some);

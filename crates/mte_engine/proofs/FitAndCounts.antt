@@ -10,7 +10,8 @@ use Rattle.potential_check.specs.{Certificates.SheetView.{sheet_of}, Leading.{le
 use Rattle.potential_check.specs.{Footprints.Timelines.MomentsLine.{moments_name, moments_of_words, names_moments}}
 use Rattle.potential_check.specs.declared.cost.Cost.TheVariants.{Footprint}
 use Rattle.tuner_theory.specs.{Sheets.{Sheet}, declared.size_event.SizeEvent.{SizeEvent}}
-use Rattle.mte_engine.proofs.{SheetLinesSettled.{leading_lines-settled}, TwoParts.{one_answers, then_answered}}
+use Rattle.potential_check.proofs.LawLemmas.{leading_lines-settled}
+use Rattle.mte_engine.proofs.TwoParts.{one_answers, then_answered}
 use Rattle.mte_engine.specs.CheckFitOver.{CheckFitEitherAnswers, CheckFitOverAnswers, IsCheckedOver, begins_moments, whole_moments_part}
 use Rattle.mte_engine.specs.{CheckFit.{CheckFitAnswers}, FitAndCounts.{IsCutAfterLine, IsFitBeforeEvents, KeepsFitOr}}
 use Rattle.mte_engine.specs.{Outcome.{GivesAnswer}, Parts.{AnswersPart, both_parts, sheet_part, timeline_part}}

@@ -12,7 +12,6 @@ pub mod LineAndTrace
 pub mod OneAnswer
 pub mod Reporting
 pub mod RowLines
-pub mod SheetLinesSettled
 pub mod TableParts
 pub mod TracePieces
 pub mod TwoParts

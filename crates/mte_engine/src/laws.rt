@@ -83,11 +83,10 @@ pub fn law_fault_lines()
     ensures footprint { (text : List ℕ) (fault : InputFault) → FootprintAnswers text (Err fault)
         → IsAtFirstFault SpellsTableAndHistory text fault }
     ensures fit { (limit step : ℕ) (forced : Bool) (text : List ℕ) (fault : InputFault)
-        → FitAnswers limit step forced text (Err fault) → IsAtFirstFault SpellsHistory text fault }
+        → (FitAnswers limit step forced text (Err fault) → IsAtFirstFault SpellsHistory text fault)
+        × (FitOverAnswers limit step forced text (Err fault) → IsAtFirstFault SpellsTimeline text fault) }
     ensures footprint_over { (text : List ℕ) (fault : InputFault) → FootprintOverAnswers text (Err fault)
         → IsAtFirstFault SpellsTableAndTimeline text fault }
-    ensures fit_over { (limit step : ℕ) (forced : Bool) (text : List ℕ) (fault : InputFault)
-        → FitOverAnswers limit step forced text (Err fault) → IsAtFirstFault SpellsTimeline text fault }
     ensures check_fit { (text : List ℕ) (n : ℕ) (fault : HistoryFault) → CheckFitAnswers text (Err (History n fault))
         → IsFirstFault SpellsFitAndHistory text n }
 {}

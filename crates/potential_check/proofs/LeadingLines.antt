@@ -1,183 +1,117 @@
 -- Lines that are read as a sheet or a fit in front of others, and what is read where there are no others.
-use Rattle.std.proofs.Common.{◌≡◌, ℕ, zero, suc, ◌+◌, ◌≤◌, add-one, Bool, true, false, List, [], ◌∷◌, length, drop, Some, None, Result, Ok}
-use Rattle.std.{proofs.Common.{Err, refl, ◌∙◌, arith, codes}, proofs.lemmas.List.Sums.{take_while-cons}, specs.List.{take_while}}
-use Rattle.line_text.specs.{FirstFault.{◌>>=◌}, Lines.{lines}}
-use Rattle.potential_check.{proofs.ReadIsSpelled.{head_and}, proofs.SheetLines.{line-forced_in}, specs.Certificates.SheetView.{sheet_of}}
-use Rattle.potential_check.specs.{Leading.{GivesLeading, IsLeadingOf, is_row_line, leading_lines, lines_after}, declared.cost.Cost.{Cost}}
-use Rattle.potential_check.specs.SheetText.{Gives, cost_number, forced_in, forced_number, head_of_lines, is_named, read_by, row_in}
-use Rattle.potential_check.specs.{SheetText.{rows_from, step_in, with_rows}, declared.fault.Fault.{Fault}, declared.reading.Head.{Head}}
-use Rattle.potential_check.specs.declared.certificates.certificate.Certificate.{Certificate as Held}
-use Rattle.potential_check.specs.declared.{leading_sheet.LeadingSheet.{LeadingSheet}}
+use Rattle.std.proofs.Common.{◌≡◌, ℕ, ◌+◌, ◌≤◌, Bool, true, false, List, [], ◌∷◌, length, take, drop, Option, Some, None, Result, Ok}
+use Rattle.std.{proofs.Common.{Err, refl, ◌∙◌, ap, arith, length-append}, proofs.lemmas.List.{length-map}}
 use Rattle.class_table.specs.declared.table.TheConstants.{MOST_CLASSES}
+use Rattle.line_text.specs.{Lines.{lines}, LineSteps.{read_lines}, Stops.{Takes}, declared.line_reader.Stop.{Stop}}
+use Rattle.line_text.specs.declared.line_reader.Stop.TheVariants.{OutOfMemory, Fault}
+use Rattle.potential_check.{proofs.ReadIsSpelled.{lines_read}, specs.Certificates.SheetView.{sheet_of}}
+use Rattle.potential_check.specs.Leading.{GivesLeadingBy, IsLeadingOf, leading_lines, lines_after, lines_from}
+use Rattle.potential_check.specs.SheetText.{GivesBy, IsTaken, Reading, bad_line, is_left, lines_by, most_head_lines}
+use Rattle.potential_check.specs.SheetText.{nothing_read, part_after, part_of, read_by, sheet_steps, with_part}
+use Rattle.potential_check.specs.declared.{cost.Cost.{Cost}, cost.Cost.TheVariants.{Waste, Footprint}, fault.SheetError.{SheetError}}
+use Rattle.potential_check.specs.declared.{part.Part.{Part}, part.Part.TheVariants.{Table}}
+use Rattle.potential_check.specs.declared.certificates.certificate.Certificate.{Certificate as Held}
 use Rattle.tuner_theory.specs.Sheets.{Sheet}
 
--- ---- rows
+-- ---- the next line
 
-abbrev pub rows_of : List (List ℕ) → List (List ℕ)
-rows_of ls = take_while is_row_line ls
+pub own_line : (next : Part) (line : List ℕ) (rest : List (List ℕ)) → is_left next line ≡ false
+    → lines_from next (line ∷ rest) ≡ line ∷ lines_from (part_after (part_of next line)) rest
+unfolding lines_from
+own_line next line rest own = rw own refl
 
-abbrev pub rest_of : List (List ℕ) → List (List ℕ)
-rest_of ls = drop (length (rows_of ls)) ls
+pub left_line : (next : Part) (line : List ℕ) (rest : List (List ℕ)) → is_left next line ≡ true → lines_from next (line ∷ rest) ≡ []
+unfolding lines_from
+left_line next line rest left = rw left refl
 
-pub rows_of-row : (ls new : List (List ℕ)) (line : List ℕ) → ls ≡ line ∷ new → is_row_line line ≡ true → rows_of ls ≡ line ∷ rows_of new
-rows_of-row ls new line parts e = rw parts (take_while-cons is_row_line line new ∙ rw e refl)
+pub no_line_left : (next : Part) → lines_from next [] ≡ []
+unfolding lines_from
+no_line_left next = refl
 
--- one line more is passed over
-pub drop-line : (all ls new : List (List ℕ)) (line : List ℕ) (n : ℕ) → ls ≡ drop n all → ls ≡ line ∷ new → new ≡ drop (suc n) all
-drop-line all ls new line zero e parts = rw (← e, parts) refl
-drop-line [] ls new line (suc n) e parts = absurd cc
-drop-line (first ∷ all) ls new line (suc n) e parts = drop-line all ls new line n e parts
+-- What is made of a line that is not left
+pub takes_line : (r : Reading) (line : List ℕ) (rest : List (List ℕ)) (new : Sheet) (read : Result (Unit {0}) (Stop (Unit {0})))
+    → is_left r.next line ≡ false → IsTaken (with_part r.cost (part_of r.next line) r.sheet line) new read
+    → Takes sheet_steps (λ r ls. lines_from r.next ls) r line
+    (record { cost = r.cost; next = part_after (part_of r.next line); sheet = new }) rest read
+takes_line r line rest new (Ok done) own is = (rw is refl, own_line r.next line rest own)
+takes_line r line rest new (Err OutOfMemory) own is = tt
+takes_line r line rest new (Err (Fault fault)) own is = (rw is refl, ap (take 1) (own_line r.next line rest own))
 
-no_row : (line : List ℕ) → is_row_line line ≡ false → row_in line ≡ None
-no_row line e = grind arith
+-- ---- what is read
 
--- a line after the rows is faulty
-abbrev unless_more : List (List ℕ) → ℕ → Result (List (List ℕ)) ℕ → Result (List (List ℕ)) ℕ
-unless_more [] number read = read
-unless_more (line ∷ ls) number (Ok rows) = Err (number + length rows)
-unless_more (line ∷ ls) number (Err fault) = Err fault
+few_lines : (cost : Cost) (s : Sheet) → length s.rows ≤ MOST_CLASSES → length (lines_by cost s) ≤ most_head_lines + MOST_CLASSES
+few_lines cost s few = grind (arith, length-append, length-map)
 
-one_row_more : (rest : List (List ℕ)) (number : ℕ) (row : List ℕ) (read : Result (List (List ℕ)) ℕ)
-    → (unless_more rest (suc number) read >>= λ rows. Ok (row ∷ rows)) ≡ unless_more rest number (read >>= λ rows. Ok (row ∷ rows))
-one_row_more rest number row read = grind arith
+pub leading_read : (cost : Cost) (ls : List (List ℕ)) (s : Sheet) (count : ℕ) (after : List ℕ)
+    → read_lines sheet_steps 1 (nothing_read cost) (lines_from Table ls) ≡ Ok s → count ≡ length (lines_by cost s)
+    → lines after ≡ drop (length (lines_from Table ls)) ls → IsLeadingOf (read_by cost) ls s count after
+unfolding read_by leading_lines lines_after
+leading_read cost ls s count after read size is =
+    let all = lines_read cost (lines_from Table ls) s (rw read refl) in
+    record { read = rw read refl; size = size ∙ ap length all.1; few = rw size (few_lines cost s all.0.few); after = is }
 
-rows_from-all : (ls : List (List ℕ)) (number most : ℕ) →
-    rows_from number most ls ≡ unless_more (rest_of ls) number (rows_from number most (rows_of ls))
-unfolding rows_from
-rows_from-all [] number most = refl
-rows_from-all (line ∷ ls) number zero = grind (arith, take_while-cons is_row_line line ls)
-rows_from-all (line ∷ ls) number (suc most) =
-    grind (arith, take_while-cons is_row_line line ls, no_row, one_row_more, rows_from-all ls (suc number) most)
-
--- each line is a row
-pub rows_from-length : (ls : List (List ℕ)) (number most : ℕ) (rows : List (List ℕ)) → rows_from number most ls ≡ Ok rows →
-    (length rows ≡ length ls) × (length rows ≤ most)
-unfolding rows_from
-rows_from-length [] number most rows e = grind arith
-rows_from-length (line ∷ ls) number zero rows e = absurd cc
-rows_from-length (line ∷ ls) number (suc most) rows e = grind (arith, rows_from-length ls (suc number) most)
-
--- ---- the head
-
--- The head of the sheet's lines is the head of all lines, and the rows are after it.
-pub record HeadIsFound (cost : Cost) (ls : List (List ℕ)) (head : Head) (after : List (List ℕ)) : Type 0 where
-  pub leading : head_of_lines cost (leading_lines ls) ≡ Ok (head, rows_of after)
-  pub size : length (leading_lines ls) ≡ cost_number head.step head.forced + length (rows_of after)
-  pub rest : lines_after ls ≡ rest_of after
-
--- a step that is written is not 1, so the next line comes after its line
-pub forced_number-written : (line : List ℕ) (step : ℕ) → step_in line ≡ Some step → forced_number step ≡ 4
-forced_number-written line step e = grind arith
-
--- and what is written of a forced class is that it is forced
-pub forced-written : (line : List ℕ) (forced : Bool) → forced_in line ≡ Some forced → forced ≡ true
-forced-written line forced e = (line-forced_in line forced e).1
-
--- ---- all that is read
-
-abbrev head_fault : ℕ → Result (Head × List (List ℕ)) ℕ
-head_fault number = Err number
-
-pub leading-faulty : (cost : Cost) (ls : List (List ℕ)) (number : ℕ) → head_of_lines cost ls ≡ head_fault number →
-    read_by cost (leading_lines ls) ≡ Err number
-unfolding head_of_lines leading_lines read_by
-leading-faulty cost (a ∷ b ∷ c ∷ d ∷ f ∷ ls) number e = grind (arith, forced_number-written, forced-written)
-leading-faulty cost ls number e = grind arith
-
--- by the optional lines that are there
-found-neither : (cost : Cost) (a b c : List ℕ) (ls : List (List ℕ)) (head : Head) (after : List (List ℕ))
-    → is_named (codes "step") c ≡ false → is_named (codes "forced") c ≡ false
-    → head_of_lines cost (a ∷ b ∷ c ∷ ls) ≡ head_and head after → HeadIsFound cost (a ∷ b ∷ c ∷ ls) head after
-unfolding head_of_lines leading_lines lines_after
-found-neither cost a b c ls head after no_step no_forced e = grind arith
-
-found-forced : (cost : Cost) (a b c : List ℕ) (ls : List (List ℕ)) (head : Head) (after : List (List ℕ))
-    → is_named (codes "step") c ≡ false → is_named (codes "forced") c ≡ true
-    → head_of_lines cost (a ∷ b ∷ c ∷ ls) ≡ head_and head after → HeadIsFound cost (a ∷ b ∷ c ∷ ls) head after
-unfolding head_of_lines leading_lines lines_after
-found-forced cost a b c ls head after no_step is_forced e = grind (arith, forced-written)
-
-found-step : (cost : Cost) (a b c d : List ℕ) (ls : List (List ℕ)) (head : Head) (after : List (List ℕ))
-    → is_named (codes "step") c ≡ true → is_named (codes "forced") d ≡ false
-    → head_of_lines cost (a ∷ b ∷ c ∷ d ∷ ls) ≡ head_and head after → HeadIsFound cost (a ∷ b ∷ c ∷ d ∷ ls) head after
-unfolding head_of_lines leading_lines lines_after
-found-step cost a b c d ls head after is_step no_forced e = grind (arith, forced_number-written)
-
-found-both : (cost : Cost) (a b c d : List ℕ) (ls : List (List ℕ)) (head : Head) (after : List (List ℕ))
-    → is_named (codes "step") c ≡ true → is_named (codes "forced") d ≡ true
-    → head_of_lines cost (a ∷ b ∷ c ∷ d ∷ ls) ≡ head_and head after → HeadIsFound cost (a ∷ b ∷ c ∷ d ∷ ls) head after
-unfolding head_of_lines leading_lines lines_after
-found-both cost a b c d [] head after is_step is_forced e = grind arith
-found-both cost a b c d (f ∷ ls) head after is_step is_forced e = grind (arith, forced_number-written, forced-written)
-
-pub head-is_found : (cost : Cost) (ls : List (List ℕ)) (head : Head) (after : List (List ℕ)) → head_of_lines cost ls ≡ head_and head after →
-    HeadIsFound cost ls head after
-unfolding head_of_lines
-head-is_found cost (a ∷ b ∷ c ∷ d ∷ ls) head after e =
-    go (is_named (codes "step") c) (is_named (codes "forced") c) (is_named (codes "forced") d) refl refl refl
-  where
-    go : (step forced later : Bool) → is_named (codes "step") c ≡ step → is_named (codes "forced") c ≡ forced
-        → is_named (codes "forced") d ≡ later → HeadIsFound cost (a ∷ b ∷ c ∷ d ∷ ls) head after
-    go false false later is_step is_forced is_later = found-neither cost a b c (d ∷ ls) head after is_step is_forced e
-    go false true later is_step is_forced is_later = found-forced cost a b c (d ∷ ls) head after is_step is_forced e
-    go true forced false is_step is_forced is_later = found-step cost a b c d ls head after is_step is_later e
-    go true forced true is_step is_forced is_later = found-both cost a b c d ls head after is_step is_later e
-head-is_found cost (a ∷ b ∷ c ∷ []) head after e =
-    go (is_named (codes "step") c) (is_named (codes "forced") c) refl refl
-  where
-    go : (step forced : Bool) → is_named (codes "step") c ≡ step → is_named (codes "forced") c ≡ forced
-        → HeadIsFound cost (a ∷ b ∷ c ∷ []) head after
-    go false false is_step is_forced = found-neither cost a b c [] head after is_step is_forced e
-    go false true is_step is_forced = found-forced cost a b c [] head after is_step is_forced e
-    go true forced is_step is_forced = grind arith
-head-is_found cost ls head after e = grind arith
-
-module _ (cost : Cost) (ls : List (List ℕ)) (head : Head) (after : List (List ℕ)) (found : HeadIsFound cost ls head after) where
-  pub leading-read : (rows : List (List ℕ)) → rows_from (cost_number head.step head.forced + 1) MOST_CLASSES (rows_of after) ≡ Ok rows →
-      read_by cost (leading_lines ls) ≡ Ok (with_rows head rows)
-  unfolding read_by
-  leading-read rows e = rw (found.leading, ← add-one (cost_number head.step head.forced), e) refl
-
-  pub leading-row_fault : (number : ℕ) → rows_from (cost_number head.step head.forced + 1) MOST_CLASSES (rows_of after) ≡ Err number →
-      read_by cost (leading_lines ls) ≡ Err number
-  unfolding read_by
-  leading-row_fault number e = rw (found.leading, ← add-one (cost_number head.step head.forced), e) refl
-
--- ---- faults
-
-pub head_fault_given : {A C : Type 0} (cost : Cost) (view : A → Head × List (List ℕ)) (ls : List (List ℕ)) (result : Result (LeadingSheet C) Fault)
-    (y e : Fault) → result ≡ Err y → y ≡ e
-    → Gives view (Err e) (head_of_lines cost ls) → GivesLeading cost ls result
-head_fault_given cost view ls result y e is also too = grind (arith, leading-faulty)
-
-pub row_fault_given : {C : Type 0} (cost : Cost) (ls : List (List ℕ)) (head : Head) (after : List (List ℕ)) (result : Result (LeadingSheet C) Fault)
-    (y e : Fault) → HeadIsFound cost ls head after
-    → result ≡ Err y → y ≡ e
-    → Gives (λ (rows : List (List ℕ)). rows) (Err e) (rows_from (cost_number head.step head.forced + 1) MOST_CLASSES (rows_of after)) →
-    GivesLeading cost ls result
-row_fault_given cost ls head after result y e found is same given = grind (arith, leading-row_fault)
+pub leading_fault : (C : Type 0) (cost : Cost) (ls : List (List ℕ)) (number : ℕ) (fault : Unit {0})
+    → read_lines sheet_steps 1 (nothing_read cost) (lines_from Table ls) ≡ Err (number, fault)
+    → GivesLeadingBy {C = C} cost ls (Err (bad_line cost number))
+unfolding read_by leading_lines
+leading_fault C Waste ls number fault read = (refl, rw read refl)
+leading_fault C Footprint ls number fault read = (refl, rw read refl)
 
 -- ---- all lines
 
 -- the sheet in front, unless there is a line after it
-abbrev pub unless_line : List (List ℕ) → ℕ → Result Sheet ℕ → Result Sheet ℕ
-unless_line [] size read = read
-unless_line (line ∷ ls) size (Ok s) = Err (size + 1)
-unless_line (line ∷ ls) size (Err number) = Err number
+abbrev unless_line : List (List ℕ) → ℕ → Result Sheet (ℕ × Unit {0}) → Result Sheet (ℕ × Unit {0})
+unless_line [] number read = read
+unless_line (line ∷ ls) number (Ok s) = Err (number, tt)
+unless_line (line ∷ ls) number (Err fault) = Err fault
 
--- What is read of all lines is the sheet in front of them, where it is all of them.
+-- a line that is left comes after a whole sheet, and would be faulty in it
+left_is_faulty : (r : Reading) (line : List ℕ) → is_left r.next line ≡ true
+    → (sheet_steps.step r line ≡ Err tt) × (sheet_steps.finish r ≡ Ok r.sheet)
+left_is_faulty r line left = go r.next refl
+  where
+    go : (next : Part) → r.next ≡ next → (sheet_steps.step r line ≡ Err tt) × (sheet_steps.finish r ≡ Ok r.sheet)
+    go next is = grind arith
+
+-- What is read of all lines is what is read of the first of them, where these are all.
+all_by_own : (ls : List (List ℕ)) (n : ℕ) (r : Reading) → read_lines sheet_steps n r ls
+    ≡ unless_line (drop (length (lines_from r.next ls)) ls) (n + length (lines_from r.next ls)) (read_lines sheet_steps n r (lines_from r.next ls))
+unfolding read_lines lines_from
+all_by_own [] n r = refl
+all_by_own (line ∷ ls) n r = go (all_by_own ls) (is_left r.next line) refl (with_part r.cost (part_of r.next line) r.sheet line) refl
+  where
+    go : ((n : ℕ) (r : Reading) → read_lines sheet_steps n r ls ≡ unless_line (drop (length (lines_from r.next ls)) ls)
+        (n + length (lines_from r.next ls)) (read_lines sheet_steps n r (lines_from r.next ls)))
+        → (left : Bool) → is_left r.next line ≡ left → (read : Option Sheet) → with_part r.cost (part_of r.next line) r.sheet line ≡ read
+        → read_lines sheet_steps n r (line ∷ ls)
+        ≡ unless_line (drop (length (lines_from r.next (line ∷ ls))) (line ∷ ls)) (n + length (lines_from r.next (line ∷ ls)))
+        (read_lines sheet_steps n r (lines_from r.next (line ∷ ls)))
+    go others true left read is = grind (arith, left_is_faulty)
+    go others false left None is = grind arith
+    go others false left (Some s) is = grind (arith, others)
+
+abbrev pub unless_more : List (List ℕ) → ℕ → Result Sheet ℕ → Result Sheet ℕ
+unless_more [] number read = read
+unless_more (line ∷ ls) number (Ok s) = Err number
+unless_more (line ∷ ls) number (Err fault) = Err fault
+
 pub all_by_leading : (cost : Cost) (ls : List (List ℕ)) →
-    read_by cost ls ≡ unless_line (lines_after ls) (length (leading_lines ls)) (read_by cost (leading_lines ls))
-unfolding read_by
-all_by_leading cost ls = grind (arith, leading-faulty, head-is_found, rows_from-all, rows_from-length)
+    read_by cost ls ≡ unless_more (lines_after ls) (length (leading_lines ls) + 1) (read_by cost (leading_lines ls))
+unfolding read_by leading_lines lines_after
+all_by_leading cost ls = grind (arith, all_by_own ls 1 (nothing_read cost))
 
-pub all_fault_given : {C : Type 0} (cost : Cost) (ls : List (List ℕ)) (result : Result (Held C) Fault) (y e : Fault) → result ≡ Err y → y ≡ e →
-    GivesLeading {C = C} cost ls (Err e) → Gives sheet_of result (read_by cost ls)
+pub all_fault_given : {C : Type 0} (cost : Cost) (ls : List (List ℕ)) (result : Result (Held C) SheetError) (y e : SheetError)
+    → result ≡ Err y → y ≡ e → GivesLeadingBy {C = C} cost ls (Err e) → GivesBy cost sheet_of result (read_by cost ls)
 all_fault_given cost ls result y e is also too = grind (arith, all_by_leading)
 
 module _ (cost : Cost) (ls : List (List ℕ)) (s : Sheet) (count : ℕ) (after : List ℕ) (is : IsLeadingOf (read_by cost) ls s count after) where
   pub all_read : lines after ≡ [] → read_by cost ls ≡ Ok s
   all_read none = grind (arith, all_by_leading)
 
-  pub line_after : (new : List (List ℕ)) (line : List ℕ) → lines after ≡ line ∷ new → read_by cost ls ≡ Err (count + 1)
-  line_after new line some = grind (arith, all_by_leading)
+  pub line_after : {A : Type 0} (view : A → Sheet) (new : List (List ℕ)) (line : List ℕ) → lines after ≡ line ∷ new
+      → GivesBy cost view (Err (bad_line cost (count + 1))) (read_by cost ls)
+  line_after view new line some = by_cost cost (grind (arith, all_by_leading))
+    where
+      by_cost : (kind : Cost) → read_by cost ls ≡ Err (count + 1) → GivesBy kind view (Err (bad_line kind (count + 1))) (read_by cost ls)
+      by_cost Waste e = (refl, e)
+      by_cost Footprint e = (refl, e)

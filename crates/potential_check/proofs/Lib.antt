@@ -1,11 +1,10 @@
 pub mod Appended
-pub mod HeadLines
 pub mod LawLemmas
 pub mod LeadingLines
 pub mod ReadIsSpelled
 pub mod RowConditions
-pub mod RowLines
 pub mod RowNumbers
+pub mod SettledLines
 pub mod SheetFaults
 pub mod SheetLines
 pub mod SpelledIsRead

@@ -1,118 +1,168 @@
 -- What is read as a sheet or a fit is its text, line by line.
-use Rattle.std.proofs.Common.{◌≡◌, ℕ, zero, suc, ◌≤◌, Bool, List, [], ◌∷◌, ◌++◌, length, map, Option, Some, Result, Ok, subst, arith}
-use Rattle.std.{proofs.Common.{codes, ne_eqb, All}, proofs.lemmas.Option.{some_pair_parts}, specs.Option.{ok_or}}
-use Rattle.line_text.{proofs.LawLemmas.{text_laws as laws}, specs.FirstFault.{◌>>=◌}, specs.Lines.{IsTextOf, lines}}
-use Rattle.class_table.specs.{NamedLines.{named_line}, Steps.{IsStep}, declared.table.TheConstants.{MOST_CLASSES}}
-use Rattle.potential_check.proofs.SheetLines.{forced_line-is, line-cost_in, line-forced_in, line-limit_in, line-row_in, line-step_in}
-use Rattle.potential_check.{proofs.SheetLines.{line-table_in}, specs.declared.cost.Cost.{Cost}, specs.declared.reading.Head.{Head}}
-use Rattle.potential_check.specs.SheetText.{with_rows, IsRow, IsWithinLimits, SpellsBy, cost_in, cost_number, forced_at, forced_lines}
-use Rattle.potential_check.specs.SheetText.{forced_number, head_of_lines, limit_in, line_at, lines_by, read_by, rows_from, step_at}
-use Rattle.potential_check.specs.SheetText.{step_lines, table_in}
+use Rattle.std.proofs.Common.{◌≡◌, ◌≤◌, ℕ, Bool, true, false, List, [], ◌∷◌, ◌++◌, length, map, Option, Some, None, Ok, refl, sym, subst}
+use Rattle.std.{proofs.Common.{◌∙◌, ap, append-nil, append_assoc, arith, codes, if◌then◌else◌, length-append, nat_lt, ne_eqb}, specs.Option.{option_map}}
+use Rattle.std.proofs.lemmas.{Bool.{ltb-true}, List.{map-append}, List.Elements.{All-append, All-cons, All-nil}}
+use Rattle.line_text.{proofs.LawLemmas.{read_has, text_laws as laws}, specs.Lines.{IsTextOf, lines}}
+use Rattle.class_table.specs.{ClassLine.{class_line}, NamedLines.{named_line}, declared.table.TheConstants.{MOST_CLASSES}}
+use Rattle.potential_check.proofs.SheetLines.{forced_line, forced_line-is, line-cost_in, line-forced_in, line-limit_in, line-row_in, line-step_in}
+use Rattle.potential_check.proofs.SheetLines.{line-table_in}
+use Rattle.potential_check.specs.SheetText.{IsRow, IsWithinLimits, Reading, SpellsBy, cost_in, forced_in, forced_lines, is_named, limit_in}
+use Rattle.potential_check.specs.SheetText.{lines_by, nothing_read, part_after, part_of, read_by, row_in, sheet_steps, step_in, step_lines}
+use Rattle.potential_check.specs.{SheetText.{table_in, with_part, with_row, word_of}, declared.{cost.Cost.{Cost}, part.Part.{Part}}}
+use Rattle.potential_check.specs.declared.part.Part.TheVariants.{Table, Limit, Step, Forced, Stated, Row}
 use Rattle.tuner_theory.specs.Sheets.{Sheet}
 
--- ---- what a step of the reading gave
+-- The lines of a sheet before a part.
+abbrev lines_before : Cost → Part → Sheet → List (List ℕ)
+lines_before cost Table s = []
+lines_before cost Limit s = class_line s.table ∷ []
+lines_before cost Step s = class_line s.table ∷ named_line (codes "limit") (s.limit ∷ []) ∷ []
+lines_before cost Forced s = class_line s.table ∷ named_line (codes "limit") (s.limit ∷ []) ∷ step_lines s.step
+lines_before cost Stated s = class_line s.table ∷ named_line (codes "limit") (s.limit ∷ []) ∷ step_lines s.step ++ forced_lines s.forced
+lines_before cost Row s = lines_by cost s
 
--- what went on had been read
-went_on : {A B P : Type 0} (read : Result A ℕ) (more : A → Result B ℕ) (y : B) → (read >>= more) ≡ Ok y →
-    ((x : A) → read ≡ Ok x → more x ≡ Ok y → P) → P
-went_on read more y is also = grind arith
+-- Nothing was read of the parts from one on.
+abbrev IsUnread : Part → Sheet → Type 0
+IsUnread Row s = Unit {0}
+IsUnread Stated s = s.rows ≡ []
+IsUnread Forced s = (s.forced ≡ false) × (s.rows ≡ [])
+IsUnread part s = (s.step ≡ 1) × (s.forced ≡ false) × (s.rows ≡ [])
 
-abbrev ok_pair : {A B : Type 0} → A → B → Result (A × B) ℕ
-ok_pair a b = Ok (a, b)
+record IsReadBefore (part : Part) (s : Sheet) : Type 0 where
+  limits : IsWithinLimits s
+  unread : IsUnread part s
 
-ok_pair_parts : {A B : Type 0} (a c : A) (b d : B) → ok_pair a b ≡ ok_pair c d → (a ≡ c) × (b ≡ d)
-ok_pair_parts {A = A} {B = B} a c b d e = grind arith
+-- a part that is passed over has no line
+part_passed : (cost : Cost) (next : Part) (s : Sheet) (line : List ℕ) → IsReadBefore next s
+    → IsReadBefore (part_of next line) s × (lines_before cost (part_of next line) s ≡ lines_before cost next s)
+part_passed cost Step s line is = go (is_named (codes "step") line) refl (is_named (codes "forced") line) refl
+  where
+    go : (a : Bool) → is_named (codes "step") line ≡ a → (b : Bool) → is_named (codes "forced") line ≡ b
+        → IsReadBefore (part_of Step line) s × (lines_before cost (part_of Step line) s ≡ lines_before cost Step s)
+    go a is_a b is_b = grind (arith, append-nil)
+part_passed cost Forced s line is = grind (arith, append-nil)
+part_passed cost Table s line is = (is, refl)
+part_passed cost Limit s line is = (is, refl)
+part_passed cost Stated s line is = (is, refl)
+part_passed cost Row s line is = (is, refl)
 
--- a line that was read
-record WasRead {A : Type 0} (reading : List ℕ → Option A) (ls after : List (List ℕ)) (x : A) : Type 0 where
-  line : List ℕ
-  first : ls ≡ line ∷ after
-  read : reading line ≡ Some x
+-- what is made of what was read
+mapped : {A B : Type 0} (make : A → B) (read : Option A) (y : B) → option_map make read ≡ Some y → (x : A) × (read ≡ Some x) × (make x ≡ y)
+mapped make None y e = absurd cc
+mapped make (Some x) y e = (x, refl, cc)
 
-was_read : {A : Type 0} (number : ℕ) (reading : List ℕ → Option A) (ls after : List (List ℕ)) (x : A) →
-    line_at number reading ls ≡ Ok (x, after) → WasRead reading ls after x
-was_read number reading ls after x is = grind arith
+row_parts : (room : Bool) (read : Option (List ℕ)) (s next : Sheet) → (if room then option_map (with_row s) read else None) ≡ Some next
+    → (room ≡ true) × (row : List ℕ) × (read ≡ Some row) × (with_row s row ≡ next)
+row_parts true None s next e = absurd cc
+row_parts true (Some row) s next e = (refl, row, refl, cc)
+row_parts false read s next e = absurd cc
 
--- ---- the lines
+-- the line of each part is the last
+last_forced : (line : List ℕ) (forced : Bool) → line ≡ forced_line → forced ≡ true → forced_lines forced ≡ line ∷ []
+last_forced line forced is too = rw (is, too) forced_line-is
 
--- a step that was read, and whose line is there where it is not 1
-step_read : (ls after : List (List ℕ)) (step : ℕ) → step_at ls ≡ Some (step, after) → (ls ≡ step_lines step ++ after) × IsStep step
-step_read ls after step is = grind (arith, some_pair_parts, line-step_in, ne_eqb)
+last_cost : (front more : List (List ℕ)) (line stated : List ℕ) (rows : List (List ℕ)) → line ≡ stated → rows ≡ []
+    → front ++ (more ++ stated ∷ map (named_line (codes "row")) rows) ≡ (front ++ more) ++ line ∷ []
+last_cost front more line stated rows is none = rw (is, none) (sym (append_assoc front more (stated ∷ [])))
 
--- a forced class that was read, and whose line is there
-forced_read : (ls after : List (List ℕ)) (forced : Bool) → forced_at ls ≡ Some (forced, after) → ls ≡ forced_lines forced ++ after
-forced_read ls after forced is = grind (arith, some_pair_parts, line-forced_in, forced_line-is)
+last_row : (front more : List (List ℕ)) (line stated row : List ℕ) (rows : List (List ℕ)) → line ≡ named_line (codes "row") row
+    → front ++ (more ++ stated ∷ map (named_line (codes "row")) (rows ++ row ∷ []))
+    ≡ (front ++ (more ++ stated ∷ map (named_line (codes "row")) rows)) ++ line ∷ []
+last_row front more line stated row rows is = rw (is, map-append) (grind (arith, append_assoc))
 
--- rows that were read
-rows_read : (ls : List (List ℕ)) (number most : ℕ) (rows : List (List ℕ)) → rows_from number most ls ≡ Ok rows
-    → (ls ≡ map (named_line (codes "row")) rows) × (length rows ≤ most) × All IsRow rows
-unfolding rows_from
-rows_read [] number most rows e = grind (arith, line-row_in, went_on)
-rows_read (line ∷ ls) number zero rows e = absurd cc
-rows_read (line ∷ ls) number (suc most) rows e = grind (arith, line-row_in, went_on, rows_read ls (suc number) most)
+-- a part that is read has its line
+abbrev IsReadBy : Cost → Part → Sheet → List ℕ → Sheet → Type 0
+IsReadBy cost part s line next =
+    IsReadBefore (part_after part) next × (lines_before cost (part_after part) next ≡ lines_before cost part s ++ line ∷ [])
 
--- all that was read
-whole_read : (cost : Cost) (ls after_table after_limit after_step after_forced after_cost : List (List ℕ)) (s : Sheet) →
-    line_at 1 table_in ls ≡ Ok (s.table, after_table)
-    → line_at 2 limit_in after_table ≡ Ok (s.limit, after_limit) → step_at after_limit ≡ Some (s.step, after_step)
-    → forced_at after_step ≡ Some (s.forced, after_forced)
-    → line_at (cost_number s.step s.forced) (cost_in cost) after_forced ≡ Ok (s.cost, after_cost) →
-    rows_from (suc (cost_number s.step s.forced)) MOST_CLASSES after_cost ≡ Ok s.rows
-    → (ls ≡ lines_by cost s) × IsWithinLimits s
-whole_read cost ls after_table after_limit after_step after_forced after_cost s is_table is_limit is_step is_forced is_cost is_rows =
-    let first = was_read 1 table_in ls after_table s.table is_table in
-    let table = line-table_in first.line s.table first.read in
-    let second = was_read 2 limit_in after_table after_limit s.limit is_limit in
-    let limit = line-limit_in second.line s.limit second.read in
-    let step = step_read after_limit after_step s.step is_step in
-    let forced = forced_read after_step after_forced s.forced is_forced in
-    let next = was_read (cost_number s.step s.forced) (cost_in cost) after_forced after_cost s.cost is_cost in
-    let stated = line-cost_in cost next.line s.cost next.read in
-    let rows = rows_read after_cost (suc (cost_number s.step s.forced)) MOST_CLASSES s.rows is_rows in grind arith
+part_read : (cost : Cost) (part : Part) (s next : Sheet) (line : List ℕ) → IsReadBefore part s → with_part cost part s line ≡ Some next
+    → IsReadBy cost part s line next
+part_read cost Table s next line is read =
+    let old = is.limits in
+    let table = mapped _ (table_in line) next read in
+    let spelled = line-table_in line table.0 table.1 in
+    subst (IsReadBy cost Table s line) table.2
+    (record { limits = record { table = spelled.1; limit = old.limit; step = old.step; cost = old.cost; few = old.few; rows = old.rows }; unread = is.unread }, ap (λ last. last ∷ []) (sym spelled.0))
+part_read cost Limit s next line is read =
+    let old = is.limits in
+    let limit = mapped _ (limit_in line) next read in
+    let spelled = line-limit_in line limit.0 limit.1 in
+    subst (IsReadBy cost Limit s line) limit.2
+    (record { limits = record { table = old.table; limit = (spelled.1, spelled.2); step = old.step; cost = old.cost; few = old.few; rows = old.rows }; unread = is.unread }, ap (λ last. class_line s.table ∷ last ∷ []) (sym spelled.0))
+part_read cost Step s next line is read =
+    let old = is.limits in
+    let step = mapped _ (step_in line) next read in
+    let spelled = line-step_in line step.0 step.1 in
+    subst (IsReadBy cost Step s line) step.2 (
+      record { limits = record { table = old.table; limit = old.limit; step = spelled.1; cost = old.cost; few = old.few; rows = old.rows }; unread = (is.unread.1, is.unread.2) },
+      rw (ne_eqb step.0 1 spelled.2) (ap (λ last. class_line s.table ∷ named_line (codes "limit") (s.limit ∷ []) ∷ last ∷ []) (sym spelled.0)),
+    )
+part_read cost Forced s next line is read =
+    let old = is.limits in
+    let forced = mapped _ (forced_in line) next read in
+    let spelled = line-forced_in line forced.0 forced.1 in
+    subst (IsReadBy cost Forced s line) forced.2 (
+      record { limits = record { table = old.table; limit = old.limit; step = old.step; cost = old.cost; few = old.few; rows = old.rows }; unread = is.unread.1 },
+      ap (λ last. class_line s.table ∷ named_line (codes "limit") (s.limit ∷ []) ∷ step_lines s.step ++ last)
+          (last_forced line forced.0 spelled.0 spelled.1),
+    )
+part_read cost Stated s next line is read =
+    let old = is.limits in
+    let stated = mapped _ (cost_in cost line) next read in
+    let spelled = line-cost_in cost line stated.0 stated.1 in
+    subst (IsReadBy cost Stated s line) stated.2 (
+      record { limits = record { table = old.table; limit = old.limit; step = old.step; cost = spelled.1; few = old.few; rows = old.rows }; unread = tt },
+      ap (λ ls. class_line s.table ∷ named_line (codes "limit") (s.limit ∷ []) ∷ ls)
+          (last_cost (step_lines s.step) (forced_lines s.forced) line (named_line (word_of cost) (stated.0 ∷ [])) s.rows spelled.0 is.unread),
+    )
+part_read cost Row s next line is read =
+    let old = is.limits in
+    let row = row_parts (nat_lt (length s.rows) MOST_CLASSES) (row_in line) s next read in
+    let spelled = line-row_in line row.1 row.2 in
+    let few : length (s.rows ++ row.1 ∷ []) ≤ MOST_CLASSES = omega (arith, ltb-true (length s.rows) MOST_CLASSES row.0, length-append s.rows (row.1 ∷ [])) in
+    let rows = All-append IsRow s.rows (row.1 ∷ []) old.rows (All-cons IsRow row.1 [] spelled.1 (All-nil IsRow)) in
+    subst (IsReadBy cost Row s line) row.3 (
+      record { limits = record { table = old.table; limit = old.limit; step = old.step; cost = old.cost; few = few; rows = rows }; unread = tt },
+      ap (λ ls. class_line s.table ∷ named_line (codes "limit") (s.limit ∷ []) ∷ ls)
+          (last_row (step_lines s.step) (forced_lines s.forced) line (named_line (word_of cost) (s.cost ∷ [])) row.1 s.rows spelled.0),
+    )
 
--- the lines in front of the rows
-record HeadParts (cost : Cost) (ls after : List (List ℕ)) (head : Head) : Type 0 where
-  after_table : List (List ℕ)
-  after_limit : List (List ℕ)
-  after_step : List (List ℕ)
-  after_forced : List (List ℕ)
-  table : line_at 1 table_in ls ≡ Ok (head.table, after_table)
-  limit : line_at 2 limit_in after_table ≡ Ok (head.limit, after_limit)
-  step : step_at after_limit ≡ Some (head.step, after_step)
-  forced : forced_at after_step ≡ Some (head.forced, after_forced)
-  stated : line_at (cost_number head.step head.forced) (cost_in cost) after_forced ≡ Ok (head.cost, after)
+-- ---- all lines
 
-abbrev pub head_and : Head → List (List ℕ) → Result (Head × List (List ℕ)) ℕ
-head_and head after = Ok (head, after)
+-- What is read of lines is spelled by these, after those that were read before them.
+abbrev IsSpelled : Reading → List (List ℕ) → Sheet → Type 0
+IsSpelled r ls s = IsReadBefore r.next r.sheet → IsWithinLimits s × (lines_by r.cost s ≡ lines_before r.cost r.next r.sheet ++ ls)
 
-head_read : (cost : Cost) (ls after : List (List ℕ)) (head : Head) → head_of_lines cost ls ≡ head_and head after
-    → HeadParts cost ls after head
-unfolding head_of_lines
-head_read cost ls after head e =
-    went_on (line_at 1 table_in ls) _ (head, after) e (λ table is_table e.
-    went_on (line_at 2 limit_in table.1) _ (head, after) e (λ limit is_limit e.
-    went_on (ok_or (step_at limit.1) 3) _ (head, after) e (λ step is_step e.
-    went_on (ok_or (forced_at step.1) (forced_number step.0)) _ (head, after) e (λ forced is_forced e.
-    went_on (line_at (cost_number step.0 forced.0) (cost_in cost) forced.1) _ (head, after) e (λ stated is_cost e.
-    let read : Head = record { table = table.0; limit = limit.0; step = step.0; forced = forced.0; cost = stated.0 } in
-    let parts = ok_pair_parts read head stated.1 after e in
-    rw (← parts.0, ← parts.1)
-    (grind arith))))))
+end_spelled : (r : Reading) (s : Sheet) → sheet_steps.finish r ≡ Ok s → IsSpelled r [] s
+end_spelled r s is before = go r.next refl
+  where
+    go : (next : Part) → r.next ≡ next → IsWithinLimits s × (lines_by r.cost s ≡ lines_before r.cost r.next r.sheet ++ [])
+    go next e = grind (arith, append-nil)
+
+abbrev reading_after : Reading → List ℕ → Sheet → Reading
+reading_after r line s = record { cost = r.cost; next = part_after (part_of r.next line); sheet = s }
+
+line_spelled : (r next : Reading) (line : List ℕ) (ls : List (List ℕ)) (s : Sheet) → sheet_steps.step r line ≡ Ok next → IsSpelled next ls s
+    → IsSpelled r (line ∷ ls) s
+line_spelled r next line ls s is rest before = go (with_part r.cost (part_of r.next line) r.sheet line) refl
+  where
+    go : (read : Option Sheet) → with_part r.cost (part_of r.next line) r.sheet line ≡ read
+        → IsWithinLimits s × (lines_by r.cost s ≡ lines_before r.cost r.next r.sheet ++ line ∷ ls)
+    go None e = let none = rw e at is in absurd cc
+    go (Some sheet) e =
+        let passed = part_passed r.cost r.next r.sheet line before in
+        let read = part_read r.cost (part_of r.next line) r.sheet sheet line passed.0 e in
+        let same : reading_after r line sheet ≡ next = (let both = rw e at is in cc) in
+        let after = (rw (← same) at rest) read.0 in
+        (after.0, after.1 ∙ rw (read.1, passed.1) (append_assoc (lines_before r.cost r.next r.sheet) (line ∷ []) ls))
 
 -- Lines of which something is read are its lines, and it is within the limits.
-lines_read : (cost : Cost) (ls : List (List ℕ)) (s : Sheet) → read_by cost ls ≡ Ok s → (ls ≡ lines_by cost s) × IsWithinLimits s
+pub lines_read : (cost : Cost) (ls : List (List ℕ)) (s : Sheet) → read_by cost ls ≡ Ok s → IsWithinLimits s × (lines_by cost s ≡ ls)
 unfolding read_by
-lines_read cost ls s e =
-    went_on (head_of_lines cost ls) _ s e (λ head is_head e.
-    went_on (rows_from (suc (cost_number head.0.step head.0.forced)) MOST_CLASSES head.1) _ s e (λ rows is_rows e.
-    let parts = head_read cost ls head.1 head.0 is_head in
-    let read =
-    whole_read cost ls parts.after_table parts.after_limit parts.after_step parts.after_forced head.1 (with_rows head.0 rows) parts.table parts.limit
-    parts.step parts.forced parts.stated is_rows in
-    grind arith))
+lines_read cost ls s e = grind (arith, read_has sheet_steps IsSpelled end_spelled line_spelled ls 1 (nothing_read cost) s)
 
 -- What is read is spelled by the text, and is within the limits.
 pub read_is_spelled : (cost : Cost) (text : List ℕ) (s : Sheet) → read_by cost (lines text) ≡ Ok s → SpellsBy cost text s
 read_is_spelled cost text s e =
     let read = lines_read cost (lines text) s e in
-    record { limits = read.1; spelled = subst (IsTextOf text) read.0 (laws.text text) }
+    record { limits = read.0; spelled = subst (IsTextOf text) (sym read.1) (laws.text text) }

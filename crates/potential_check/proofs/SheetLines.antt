@@ -111,7 +111,7 @@ cost-not_forced Footprint n small =
     rw (words_of_named_line (codes "footprint") (n ∷ []) (names.cost Footprint) (one_small n small)) refl
 
 -- the line of a forced class, which is no step line
-pub forced_line : List ℕ
+unfoldable pub forced_line : List ℕ
 forced_line = named_line (codes "forced") (LARGEST_CLASS ∷ [])
 
 pub forced_line-is : forced_lines true ≡ forced_line ∷ []
@@ -123,14 +123,9 @@ unfolding forced_line
 forced-named =
     rw (words_of_named_line (codes "forced") (LARGEST_CLASS ∷ []) names.forced (one_small LARGEST_CLASS (omega arith))) (refl, refl)
 
-forced_in-number : (line : List ℕ) → forced_in line ≡ option_map (λ class. true) (number_in (codes "forced") is_forced line)
-forced_in-number line = grind arith
-
 pub forced_in-line : forced_in forced_line ≡ Some true
 unfolding forced_line
-forced_in-line =
-    forced_in-number (named_line (codes "forced") (LARGEST_CLASS ∷ []))
-    ∙ rw (number_in-named_line (codes "forced") is_forced LARGEST_CLASS names.forced (omega arith) refl) refl
+forced_in-line = rw (number_in-named_line (codes "forced") is_forced LARGEST_CLASS names.forced (omega arith) refl) refl
 
 -- a row, by the line's numbers
 row_in-numbers : (line : List ℕ) → row_in line ≡ passing is_row (numbers_in (codes "row") line)
@@ -162,7 +157,7 @@ forced_number_there o forced is = grind arith
 pub line-forced_in : (line : List ℕ) (forced : Bool) → forced_in line ≡ Some forced → (line ≡ forced_line) × (forced ≡ true)
 unfolding forced_line
 line-forced_in line forced e =
-    let there = forced_number_there (number_in (codes "forced") is_forced line) forced (sym (forced_in-number line) ∙ e) in
+    let there = forced_number_there (number_in (codes "forced") is_forced line) forced e in
     let read = line-number_in (codes "forced") is_forced line there.1.0 there.1.1
     (λ m f. let same : m ≡ LARGEST_CLASS = eqb-true m LARGEST_CLASS f in omega (arith, same)) in
     (read.0 ∙ ap (λ class. named_line (codes "forced") (class ∷ [])) (eqb-true there.1.0 LARGEST_CLASS read.1), there.0)

@@ -1,16 +1,18 @@
 -- The text of a sheet or a fit is read as that, line by line.
-use Rattle.std.proofs.Common.{◌≡◌, ℕ, zero, suc, ◌<◌, ◌≤◌, ◌^◌, Bool, true, false, List, [], ◌∷◌, ◌++◌, length, map, Some, Ok, refl, sym}
-use Rattle.std.proofs.{Common.{subst, arith, codes, ne_eqb, inl, inr, All}, lemmas.Bool.{cases_eq}}
+use Rattle.std.proofs.Common.{◌≡◌, ℕ, ◌+◌, ◌≤◌, Bool, true, false, List, [], ◌∷◌, ◌++◌, length, map, Some, Result, Ok, refl, ◌∙◌}
+use Rattle.std.proofs.{Common.{ap, append-nil, length-append, append_assoc, arith, codes, ne_eqb, inl, inr, All}, lemmas.Bool.{cases_eq, lt-ltb}}
 use Rattle.std.proofs.lemmas.List.Elements.{All-nil, All-cons, All-head, All-tail, All-append}
+use Rattle.std.specs.Result.{result_map_both}
 use Rattle.class_table.{proofs.LawLemmas.{class_line_is_full, named_line_is_full, words_of_named_line}, specs.ClassLine.{class_line}}
 use Rattle.class_table.specs.{NamedLines.{named_line}, Steps.{IsStep}, declared.sizes.TheConstants.{LARGEST_CLASS}}
 use Rattle.class_table.specs.declared.table.TheConstants.{MOST_CLASSES}
-use Rattle.line_text.{proofs.LawLemmas.{text_laws as laws}, specs.Lines.{IsFullLine, lines}}
+use Rattle.line_text.{proofs.LawLemmas.{line_read, no_line, text_laws as laws}, specs.{Lines.{IsFullLine, lines}, LineSteps.{read_lines}}}
 use Rattle.potential_check.proofs.SheetLines.{cost-not_forced, cost-not_step, cost_in-line, forced-named, forced_in-line, forced_line}
-use Rattle.potential_check.proofs.SheetLines.{forced_line-is, limit_in-line, names, one_small, row_in-line, step_in-line, step_small}
-use Rattle.potential_check.{proofs.SheetLines.{table_in-line}, specs.declared.cost.Cost.{Cost}}
-use Rattle.potential_check.specs.SheetText.{lines_by, read_by, rows_from, step_at, step_lines, word_of, IsRow, IsWithinLimits, SpellsBy}
-use Rattle.potential_check.specs.SheetText.{cost_number, forced_at, forced_lines, head_of_lines, is_named}
+use Rattle.potential_check.proofs.SheetLines.{limit_in-line, names, one_small, row_in-line, step_in-line, step_small}
+use Rattle.potential_check.{proofs.SheetLines.{table_in-line}, specs.declared.{cost.Cost.{Cost}, part.Part.{Part}}}
+use Rattle.potential_check.specs.SheetText.{IsRow, IsWithinLimits, Reading, SpellsBy, forced_lines, lines_by, part_after, part_of}
+use Rattle.potential_check.specs.SheetText.{nothing_stated, read_by, sheet_steps, step_lines, with_part, with_row, word_of}
+use Rattle.potential_check.specs.declared.part.Part.TheVariants.{Table, Limit, Step, Forced, Stated, Row}
 use Rattle.tuner_theory.specs.Sheets.{Sheet}
 
 -- ---- the lines are lines, and not empty
@@ -53,36 +55,90 @@ lines-full cost s within =
 
 -- ---- they are read one after the other
 
-forced_at-lines : (cost : Cost) (forced : Bool) (stated : ℕ) (ls : List (List ℕ)) → stated < 2 ^ 64
-    → forced_at (forced_lines forced ++ named_line (word_of cost) (stated ∷ []) ∷ ls)
-    ≡ Some (forced, named_line (word_of cost) (stated ∷ []) ∷ ls)
-forced_at-lines cost forced stated ls small = grind (arith, cost-not_forced, forced_line-is, forced_in-line)
+abbrev at : Cost → Part → Sheet → Reading
+at cost next s = record { cost = cost; next = next; sheet = s }
 
--- lines whose first is no line of a step
-abbrev no_step : List (List ℕ) → Type 0
-no_step ls = (line : List ℕ) × (after : List (List ℕ)) × (ls ≡ line ∷ after) × (is_named (codes "step") line ≡ false)
+abbrev read_at : Cost → ℕ → Part → Sheet → List (List ℕ) → Result Sheet (ℕ × Unit {0})
+read_at cost n next s ls = read_lines sheet_steps n (at cost next s) ls
 
-forced-no_step : (cost : Cost) (forced : Bool) (stated : ℕ) (ls : List (List ℕ)) → stated < 2 ^ 64
-    → no_step (forced_lines forced ++ named_line (word_of cost) (stated ∷ []) ∷ ls)
-forced-no_step cost false stated ls small = (_, _, refl, cost-not_step cost stated small)
-forced-no_step cost true stated ls small =
-    subst (λ (front : List (List ℕ)). no_step (front ++ named_line (word_of cost) (stated ∷ []) ∷ ls)) (sym forced_line-is)
-    (forced_line, _, refl, forced-named.0)
+-- the line of a part
+pub part_line : (cost : Cost) (n : ℕ) (next part : Part) (s t : Sheet) (line : List ℕ) (ls : List (List ℕ)) → part_of next line ≡ part
+    → with_part cost part s line ≡ Some t → read_at cost n next s (line ∷ ls) ≡ read_at cost (n + 1) (part_after part) t ls
+part_line cost n next part s t line ls is read =
+    line_read sheet_steps n (at cost next s) (at cost (part_after part) t) line ls (rw (is, read) refl)
 
-step_at-lines : (step : ℕ) (ls : List (List ℕ)) → IsStep step → no_step ls → step_at (step_lines step ++ ls) ≡ Some (step, ls)
-step_at-lines step ls is_step none = grind (arith, cases_eq, ne_eqb, step_in-line, words_of_named_line, names, one_small, step_small)
+abbrev with_rows : Sheet → List (List ℕ) → Sheet
+with_rows s rows = record { table = s.table; limit = s.limit; step = s.step; forced = s.forced; cost = s.cost; rows = rows }
 
-rows_from-lines : (rows : List (List ℕ)) (number most : ℕ) → length rows ≤ most → All IsRow rows →
-    rows_from number most (map (named_line (codes "row")) rows) ≡ Ok rows
-unfolding rows_from
-rows_from-lines [] number most few all = refl
-rows_from-lines (row ∷ rows) number zero few all = absurd (omega arith)
-rows_from-lines (row ∷ rows) number (suc most) few all = grind (arith, row_in-line, All-head IsRow row rows all, rows_from-lines rows (suc number) most (omega arith) (All-tail IsRow row rows all))
+row_lines : (cost : Cost) (rows : List (List ℕ)) (n : ℕ) (s : Sheet) → length s.rows + length rows ≤ MOST_CLASSES → All IsRow rows
+    → read_at cost n Row s (map (named_line (codes "row")) rows) ≡ Ok (with_rows s (s.rows ++ rows))
+row_lines cost [] n s few all = no_line sheet_steps n (at cost Row s) _ (rw (append-nil s.rows) refl)
+row_lines cost (row ∷ rows) n s few all =
+    let room = lt-ltb (length s.rows) MOST_CLASSES (omega arith) in
+    part_line cost n Row Row s (with_row s row) (named_line (codes "row") row) _ refl
+    (rw (room, row_in-line row (All-head IsRow row rows all)) refl)
+    ∙ row_lines cost rows (n + 1) (with_row s row) (omega (arith, length-append s.rows (row ∷ []))) (All-tail IsRow row rows all)
+    ∙ rw (append_assoc s.rows (row ∷ []) rows) refl
+
+module _ (cost : Cost) (s : Sheet) (within : IsWithinLimits s) where
+  abbrev row_lines_of : List (List ℕ)
+  row_lines_of = map (named_line (codes "row")) s.rows
+
+  abbrev cost_line : List ℕ
+  cost_line = named_line (word_of cost) (s.cost ∷ [])
+
+  -- what was read before the cost, and the whole
+  abbrev headed : List ℕ → ℕ → ℕ → Bool → Sheet
+  headed table limit step forced = record { table = table; limit = limit; step = step; forced = forced; cost = 0; rows = [] }
+
+  abbrev whole_with : List ℕ → ℕ → ℕ → Bool → Sheet
+  whole_with table limit step forced =
+      record { table = table; limit = limit; step = step; forced = forced; cost = s.cost; rows = s.rows }
+
+  from_cost : (n : ℕ) (next : Part) (table : List ℕ) (limit step : ℕ) (forced : Bool) → part_of next cost_line ≡ Stated
+      → read_at cost n next (headed table limit step forced) (cost_line ∷ row_lines_of) ≡ Ok (whole_with table limit step forced)
+  from_cost n next table limit step forced is =
+      part_line cost n next Stated _ (with_rows (whole_with table limit step forced) []) cost_line row_lines_of is
+      (rw (cost_in-line cost s.cost within.cost) refl)
+      ∙ row_lines cost s.rows (n + 1) (with_rows (whole_with table limit step forced) []) (omega (arith, within.few)) within.rows
+
+  from_forced : (n : ℕ) (next : Part) (table : List ℕ) (limit step : ℕ) (forced : Bool) → part_of next cost_line ≡ Stated
+      → part_of next forced_line ≡ Forced
+      → read_at cost n next (headed table limit step false) (forced_lines forced ++ cost_line ∷ row_lines_of)
+      ≡ Ok (whole_with table limit step forced)
+  unfolding forced_line
+  from_forced n next table limit step false is too = from_cost n next table limit step false is
+  from_forced n next table limit step true is too =
+      part_line cost n next Forced _ (headed table limit step true) forced_line _ too (rw forced_in-line refl)
+      ∙ from_cost (n + 1) Stated table limit step true refl
+
+  from_step : (n : ℕ) (table : List ℕ) (limit step : ℕ) (forced : Bool) → IsStep step
+      → read_at cost n Step (headed table limit 1 false) (step_lines step ++ (forced_lines forced ++ cost_line ∷ row_lines_of))
+      ≡ Ok (whole_with table limit step forced)
+  from_step n table limit step forced is_step = elim (cases_eq step 1) [
+    | inl one ↦
+        rw one (from_forced n Step table limit 1 forced (rw (cost-not_step cost s.cost within.cost, cost-not_forced cost s.cost within.cost) refl)
+        (rw (forced-named.0, forced-named.1) refl))
+    | inr other ↦
+        let line = named_line (codes "step") (step ∷ []) in
+        rw (ne_eqb step 1 other)
+        (part_line cost n Step Step _ (headed table limit step false) line _
+        (rw (words_of_named_line (codes "step") (step ∷ []) names.step (one_small step (step_small step is_step))) refl)
+        (rw (step_in-line step is_step other) refl)
+        ∙ from_forced (n + 1) Forced table limit step forced (rw (cost-not_forced cost s.cost within.cost) refl) (rw forced-named.1 refl))
+  ]
+
+  lines_are_read : read_by cost (lines_by cost s) ≡ Ok s
+  unfolding read_by
+  lines_are_read =
+      ap (result_map_both (λ s. s) (λ fault. fault.0))
+      (part_line cost 1 Table Table nothing_stated (headed s.table 1 1 false) (class_line s.table) _ refl
+      (rw (table_in-line s.table within.table) refl)
+      ∙ part_line cost 2 Limit Limit _ (headed s.table s.limit 1 false) (named_line (codes "limit") (s.limit ∷ [])) _ refl
+      (rw (limit_in-line s.limit within.limit) refl)
+      ∙ from_step 3 s.table s.limit s.step s.forced within.step)
 
 -- The text of what is within the limits is read as that.
 pub spelled_is_read : (cost : Cost) (text : List ℕ) (s : Sheet) → SpellsBy cost text s → read_by cost (lines text) ≡ Ok s
-unfolding read_by head_of_lines
 spelled_is_read cost text s spells =
-    let within = spells.limits in
-    rw (laws.full_lines (lines_by cost s) text (lines-full cost s within) spells.spelled)
-    (rw (table_in-line s.table within.table, limit_in-line s.limit within.limit, step_at-lines s.step (forced_lines s.forced ++ named_line (word_of cost) (s.cost ∷ []) ∷ map (named_line (codes "row")) s.rows) within.step (forced-no_step cost s.forced s.cost (map (named_line (codes "row")) s.rows) within.cost), forced_at-lines cost s.forced s.cost (map (named_line (codes "row")) s.rows) within.cost, cost_in-line cost s.cost within.cost, rows_from-lines s.rows (suc (cost_number s.step s.forced)) MOST_CLASSES within.few within.rows) refl)
+    rw (laws.full_lines (lines_by cost s) text (lines-full cost s spells.limits) spells.spelled) (lines_are_read cost s spells.limits)

@@ -1,16 +1,18 @@
 -- A sheet's text: a class line, `limit K`, `step S` where the step is not 1, `forced 1024` where the largest class is forced, `waste W`, and a
 -- line `row ..` for each row.
 -- A fit has `footprint F` in place of `waste W`. What is below names the cost.
-use Rattle.std.specs.{List.{list_all}, Option.{ok_or, option_map}, Result.{result_ok}}
-use Rattle.std.specs.Prelude.{◌≡◌, ℕ, zero, suc, ◌<◌, ◌+◌, ◌≤◌, ◌^◌, Bool, true, false, ◌||◌, ◌&&◌, List, [], ◌∷◌, ◌++◌, length, map, All}
+use Rattle.std.specs.{List.{list_all}, Option.{ok_or, option_map}, Result.{result_map_both, result_ok}}
+use Rattle.std.specs.Prelude.{◌≡◌, ℕ, ◌<◌, ◌+◌, ◌-◌, ◌≤◌, ◌^◌, Bool, true, false, ◌||◌, ◌&&◌, not, List, [], ◌∷◌, ◌++◌, length, map, All}
 use Rattle.std.specs.Prelude.{codes, Option, Some, None, is_some, option_and_then, Result, Ok, Err, nat_lt, nat_le, ◌==◌, if◌then◌else◌}
-use Rattle.line_text.specs.{FirstFault.{◌>>=◌}, Lines.{IsTextOf, lines, words, text_of}}
+use Rattle.line_text.specs.{Lines.{IsTextOf, lines, words, text_of}, LineSteps.{LineSteps, read_lines}, declared.line_reader.Stop.{Stop}}
+use Rattle.line_text.specs.declared.line_reader.Stop.TheVariants.{OutOfMemory, Fault}
 use Rattle.class_table.specs.{ClassLine.{class_line, table_of_line}, NamedLines.{named_line, numbers_of, words_after}, Steps.{IsStep}}
 use Rattle.class_table.specs.{Tables.{IsLegalTable}, declared.sizes.TheConstants.{LARGEST_CLASS, MOST_NEEDS}}
 use Rattle.class_table.specs.declared.table.TheConstants.{MOST_CLASSES}
-use Rattle.potential_check.specs.declared.{cost.Cost.{Cost}, cost.Cost.TheVariants.{Waste, Footprint}, fault.Fault.{Fault}}
-use Rattle.potential_check.specs.declared.{fault.Fault.TheVariants.{OutOfMemory, Line}, fault.SheetError.{SheetError}, reading.Head.{Head}}
+use Rattle.potential_check.specs.declared.{cost.Cost.{Cost}, cost.Cost.TheVariants.{Waste, Footprint}, fault.SheetError.{SheetError}}
+use Rattle.potential_check.specs.declared.{part.Part.{Part}, part.Part.TheVariants.{Table, Limit, Step, Forced, Stated, Row}}
 use Rattle.potential_check.specs.declared.fault.SheetError.TheVariants.{OutOfMemory as NoMemory, BadSheet, BadFit}
+pub use Rattle.potential_check.specs.declared.reading.Reading.{Reading}
 use Rattle.tuner_theory.specs.Sheets.{Sheet}
 
 -- ---- the spelling
@@ -83,12 +85,6 @@ abbrev pub passing : {A : Type 0} → (A → Bool) → Option A → Option A
 passing test None = None
 passing test (Some x) = if test x then Some x else None
 
--- The first of these lines has this name and then these words. The other lines come after it.
-pub record IsNextNamed (name : List ℕ) (before after : List (List ℕ)) (rest : List (List ℕ)) : Type 0 where
-  pub line : List ℕ
-  pub first : before ≡ line ∷ after
-  pub named : words_after name (words line) ≡ Some rest
-
 abbrev pub only_one : List ℕ → Option ℕ
 only_one (n ∷ []) = Some n
 only_one numbers = None
@@ -125,19 +121,12 @@ table_in line = result_ok (table_of_line line)
 abbrev pub limit_in : List ℕ → Option ℕ
 limit_in line = number_in (codes "limit") is_limit line
 
--- The step that the words after a line's name spell.
-abbrev pub step_of_words : List (List ℕ) → Option ℕ
-step_of_words ws = number_of_words is_written_step ws
-
 abbrev pub step_in : List ℕ → Option ℕ
-step_in line = option_and_then step_of_words (words_after (codes "step") (words line))
+step_in line = number_in (codes "step") is_written_step line
 
--- That a class is forced, which the words after a line's name spell.
-abbrev pub forced_of_words : List (List ℕ) → Option Bool
-forced_of_words ws = option_map (λ class. true) (number_of_words is_forced ws)
-
+-- That a class is forced.
 abbrev pub forced_in : List ℕ → Option Bool
-forced_in line = option_and_then forced_of_words (words_after (codes "forced") (words line))
+forced_in line = option_map (λ class. true) (number_in (codes "forced") is_forced line)
 
 abbrev pub cost_in : Cost → List ℕ → Option ℕ
 cost_in cost line = number_in (word_of cost) fits line
@@ -153,70 +142,99 @@ row_in line = option_and_then row_of_words (words_after (codes "row") (words lin
 abbrev pub is_named : List ℕ → List ℕ → Bool
 is_named name line = is_some (words_after name (words line))
 
--- ---- reading line by line; a fault is the number of the first faulty line
+-- ---- reading line by line
 
--- What is read from the first of the lines, which has this number, and the lines after it. A missing line is faulty too.
-abbrev pub line_at : {A : Type 0} → ℕ → (List ℕ → Option A) → List (List ℕ) → Result (A × List (List ℕ)) ℕ
-line_at number reading [] = Err number
-line_at number reading (line ∷ ls) = ok_or (option_map (λ x. (x, ls)) (reading line)) number
+-- The part that a line states, where this one comes next. The lines of a step and of a forced class may be missing.
+abbrev pub part_of : Part → List ℕ → Part
+part_of Step line = if is_named (codes "step") line then Step else if is_named (codes "forced") line then Forced else Stated
+part_of Forced line = if is_named (codes "forced") line then Forced else Stated
+part_of next line = next
 
--- The step on the first of the lines, and the lines after it; 1, and all of them, if its first word is not `step`.
-abbrev pub step_at : List (List ℕ) → Option (ℕ × List (List ℕ))
-step_at [] = Some (1, [])
-step_at (line ∷ ls) = if is_named (codes "step") line then option_map (λ step. (step, ls)) (step_in line) else Some (1, line ∷ ls)
+-- The part that comes after one.
+abbrev pub part_after : Part → Part
+part_after Table = Limit
+part_after Limit = Step
+part_after Step = Forced
+part_after Forced = Stated
+part_after Stated = Row
+part_after Row = Row
 
--- Whether a class is forced, by the first of the lines, and the lines after it; not, and all of them, if its first word is not `forced`.
-abbrev pub forced_at : List (List ℕ) → Option (Bool × List (List ℕ))
-forced_at [] = Some (false, [])
-forced_at (line ∷ ls) =
-    if is_named (codes "forced") line then option_map (λ forced. (forced, ls)) (forced_in line) else Some (false, line ∷ ls)
+-- Whether the next line is left to others: one after the cost's that is no row.
+abbrev pub is_left : Part → List ℕ → Bool
+is_left Row line = not (is_named (codes "row") line)
+is_left next line = false
 
--- The number of the line after that of the step. A step line never says 1.
-abbrev pub forced_number : ℕ → ℕ
-forced_number step = if step == 1 then 3 else 4
+abbrev pub with_row : Sheet → List ℕ → Sheet
+with_row s row = record {
+  table = s.table;
+  limit = s.limit;
+  step = s.step;
+  forced = s.forced;
+  cost = s.cost;
+  rows = s.rows ++ row ∷ [];
+}
 
--- The number of the cost's line, the last before the rows: one more where there is a line of the forced class.
-abbrev pub cost_number : ℕ → Bool → ℕ
-cost_number step forced = if forced then forced_number step + 1 else forced_number step
+-- No row comes after as many as are allowed.
+abbrev pub with_row_of : Sheet → List ℕ → Option Sheet
+with_row_of s line = if nat_lt (length s.rows) MOST_CLASSES then option_map (with_row s) (row_in line) else None
 
--- So there are at most so many lines before the rows.
+-- What the line of a part makes of the sheet that was read before it, by the cost.
+abbrev pub with_part : Cost → Part → Sheet → List ℕ → Option Sheet
+with_part cost Table s line =
+    option_map (λ table. record { table = table; limit = s.limit; step = s.step; forced = s.forced; cost = s.cost; rows = s.rows })
+    (table_in line)
+with_part cost Limit s line =
+    option_map (λ limit. record { table = s.table; limit = limit; step = s.step; forced = s.forced; cost = s.cost; rows = s.rows })
+    (limit_in line)
+with_part cost Step s line =
+    option_map (λ step. record { table = s.table; limit = s.limit; step = step; forced = s.forced; cost = s.cost; rows = s.rows })
+    (step_in line)
+with_part cost Forced s line =
+    option_map (λ forced. record { table = s.table; limit = s.limit; step = s.step; forced = forced; cost = s.cost; rows = s.rows })
+    (forced_in line)
+with_part cost Stated s line =
+    option_map (λ stated. record { table = s.table; limit = s.limit; step = s.step; forced = s.forced; cost = stated; rows = s.rows })
+    (cost_in cost line)
+with_part cost Row s line = with_row_of s line
+
+-- The sheet is whole where only rows are left to come.
+abbrev pub whole : Part → Sheet → Option Sheet
+whole Row s = Some s
+whole next s = None
+
+abbrev pub sheet_steps : LineSteps Reading Sheet (Unit {0})
+sheet_steps = record {
+  step = λ r line. ok_or (option_map (λ s. record { cost = r.cost; next = part_after (part_of r.next line); sheet = s })
+      (with_part r.cost (part_of r.next line) r.sheet line)) tt;
+  finish = λ r. ok_or (whole r.next r.sheet) tt;
+}
+
+-- Nothing was read: the parts whose lines may be missing stand as they are without these.
+abbrev pub nothing_stated : Sheet
+nothing_stated = record { table = []; limit = 1; step = 1; forced = false; cost = 0; rows = [] }
+
+abbrev pub nothing_read : Cost → Reading
+nothing_read cost = record { cost = cost; next = Table; sheet = nothing_stated }
+
+-- There are at most so many lines before the rows.
 abbrev pub most_head_lines : ℕ
 most_head_lines = 5
 
--- The rows of the lines, the first of which has this number. A line after the last one allowed is faulty, whatever it says.
-unfoldable pub rows_from : ℕ → ℕ → List (List ℕ) → Result (List (List ℕ)) ℕ
-rows_from number most [] = Ok []
-rows_from number zero (line ∷ ls) = Err number
-rows_from number (suc most) (line ∷ ls) = do
-  row ← ok_or (row_in line) number
-  rows ← rows_from (suc number) most ls
-  Ok (row ∷ rows)
+-- How many of them may come from a part on.
+abbrev pub before_rows : Part → ℕ
+before_rows Table = most_head_lines
+before_rows Limit = 4
+before_rows Step = 3
+before_rows Forced = 2
+before_rows Stated = 1
+before_rows Row = 0
 
--- The head of a sheet, which comes before its rows, and the lines after it.
-unfoldable pub head_of_lines : Cost → List (List ℕ) → Result (Head × List (List ℕ)) ℕ
-head_of_lines cost ls = do
-  (table, ls) ← line_at 1 table_in ls
-  (limit, ls) ← line_at 2 limit_in ls
-  (step, ls) ← ok_or (step_at ls) 3
-  (forced, ls) ← ok_or (forced_at ls) (forced_number step)
-  (stated, ls) ← line_at (cost_number step forced) (cost_in cost) ls
-  Ok (record { table = table; limit = limit; step = step; forced = forced; cost = stated }, ls)
+abbrev pub may_come : Reading → ℕ
+may_come r = before_rows r.next + (MOST_CLASSES - length r.sheet.rows)
 
-abbrev pub with_rows : Head → List (List ℕ) → Sheet
-with_rows head rows = record {
-  table = head.table;
-  limit = head.limit;
-  step = head.step;
-  forced = head.forced;
-  cost = head.cost;
-  rows = rows;
-}
-
+-- What is read of lines, or the number of the first faulty one. A missing line is faulty too.
 unfoldable pub read_by : Cost → List (List ℕ) → Result Sheet ℕ
-read_by cost ls = do
-  (head, ls) ← head_of_lines cost ls
-  rows ← rows_from (suc (cost_number head.step head.forced)) MOST_CLASSES ls
-  Ok (with_rows head rows)
+read_by cost ls = result_map_both (λ s. s) (λ fault. fault.0) (read_lines sheet_steps 1 (nothing_read cost) ls)
 
 abbrev pub sheet_of_lines : List (List ℕ) → Result Sheet ℕ
 sheet_of_lines ls = read_by Waste ls
@@ -228,17 +246,16 @@ fit_of_lines ls = read_by Footprint ls
 abbrev pub read_in : Cost → List ℕ → Result Sheet ℕ
 read_in cost text = read_by cost (lines text)
 
--- What a reader returned is what the definition says, unless memory ran out.
-abbrev pub Gives : {A B : Type 0} → (A → B) → Result A Fault → Result B ℕ → Type 0
-Gives view (Ok x) read = read ≡ Ok (view x)
-Gives view (Err OutOfMemory) read = Unit {0}
-Gives view (Err (Line number)) read = read ≡ Err number
+-- What was made of a line, unless memory ran out.
+abbrev pub IsTaken : Option Sheet → Sheet → Result (Unit {0}) (Stop (Unit {0})) → Type 0
+IsTaken read new (Ok done) = read ≡ Some new
+IsTaken read new (Err OutOfMemory) = Unit {0}
+IsTaken read new (Err (Fault fault)) = read ≡ None
 
--- A fault as the error for a certificate of a cost.
-abbrev pub error_by : Cost → Fault → SheetError
-error_by cost OutOfMemory = NoMemory
-error_by Waste (Line number) = BadSheet number
-error_by Footprint (Line number) = BadFit number
+-- That the line of this number is faulty or missing, by the cost.
+abbrev pub bad_line : Cost → ℕ → SheetError
+bad_line Waste number = BadSheet number
+bad_line Footprint number = BadFit number
 
 -- What a reader of a cost returned is what the definition says, unless memory ran out.
 abbrev pub GivesBy : {A B : Type 0} → Cost → (A → B) → Result A SheetError → Result B ℕ → Type 0

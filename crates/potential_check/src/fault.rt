@@ -1,9 +1,7 @@
 ghost use Rattle.std.specs.Prelude.{◌≡◌};
-ghost use Rattle.potential_check.specs.SheetText.{error_by};
-ghost use Rattle.potential_check.specs.declared.fault.Fault.TheVariants.{OutOfMemory};
+ghost use Rattle.potential_check.specs.SheetText.{bad_line};
 
 use crate::cost::Cost;
-use std::alloc::AllocError;
 use thiserror::Error;
 
 /// Why no certificate was read. Each is shown as its code, its name and, if it has one, its line.
@@ -20,32 +18,14 @@ pub enum SheetError {
     BadFit(u64),
 }
 
-/// The same, of a certificate of any cost.
-#[derive(Debug, Clone, Copy)]
-pub(crate) enum Fault {
-    /// The allocator refused memory.
-    OutOfMemory,
-    /// The first line that is faulty or missing has this number, counted from 1.
-    Line(u64),
-}
-
-impl Fault {
-    /// It as the error for a certificate of this cost.
-    pub(crate) fn by(self, cost: Cost) -> SheetError
-        ensures { result ≡ error_by cost self }
+impl SheetError {
+    /// That the line of this number is faulty or missing in a certificate of this cost.
+    pub(crate) fn at_line(cost: Cost, number: u64) -> SheetError
+        ensures { result ≡ bad_line cost number }
     {
-        match (self, cost) {
-            (Fault::OutOfMemory, _) => SheetError::OutOfMemory,
-            (Fault::Line(number), Cost::Waste) => SheetError::BadSheet(number),
-            (Fault::Line(number), Cost::Footprint) => SheetError::BadFit(number),
+        match cost {
+            Cost::Waste => SheetError::BadSheet(number),
+            Cost::Footprint => SheetError::BadFit(number),
         }
-    }
-}
-
-impl From<AllocError> for Fault {
-    ghost from_gives = { λ _ e. e ≡ OutOfMemory };
-
-    fn from(_error: AllocError) -> Fault {
-        Fault::OutOfMemory
     }
 }

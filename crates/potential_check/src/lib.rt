@@ -5,6 +5,7 @@
 mod certificates;
 mod checker;
 mod cost;
+mod draft;
 mod edge_walk;
 mod fault;
 mod footprints;
@@ -12,6 +13,7 @@ pub mod laws;
 mod leading_sheet;
 mod measured;
 mod on_profile;
+mod part;
 mod reading;
 mod row_conditions;
 mod sheet_line;

@@ -3,7 +3,7 @@ ghost use Rattle.std.specs.Prelude.{◌≡◌, IfOk};
 ghost use Rattle.std.specs.Option.{option_map};
 ghost use Rattle.line_text.specs.Lines.{words};
 ghost use Rattle.class_table.specs.NamedLines.{words_after};
-ghost use Rattle.potential_check.specs.SheetText.{cost_in, fits, forced_of_words, limit_in, number_of_words, row_of_words, step_of_words, table_in};
+ghost use Rattle.potential_check.specs.SheetText.{cost_in, fits, forced_in, is_named, limit_in, number_of_words, row_of_words, step_in, table_in};
 
 use crate::cost::Cost;
 use class_table::{ClassTable, LARGEST_CLASS, MOST_CLASSES, MOST_NEEDS, is_step};
@@ -45,21 +45,21 @@ pub(crate) fn limit_in(line: &[u8]) -> Option<u8>
     }
 }
 
-/// The step that the words after the name spell, which is never 1.
-pub(crate) fn step_of_words(words: Words<'_>) -> Option<u8>
-    ensures { result ≡ step_of_words words.entry }
+/// The step that a line spells, which is never 1.
+pub(crate) fn step_in(line: &[u8]) -> Option<u8>
+    ensures { result ≡ step_in line.now }
 {
-    match u8::try_from(only_number(words)?) {
+    match u8::try_from(only_number(words_after(STEP, line)?)?) {
         Ok(step) if step != 1 && is_step(step) => Some(step),
         _ => None,
     }
 }
 
-/// That the largest class is forced, which the words after the name spell.
-pub(crate) fn forced_of_words(words: Words<'_>) -> Option<bool>
-    ensures { result ≡ forced_of_words words.entry }
+/// That the largest class is forced, which a line spells.
+pub(crate) fn forced_in(line: &[u8]) -> Option<bool>
+    ensures { result ≡ forced_in line.now }
 {
-    match only_number(words)? {
+    match only_number(words_after(FORCED, line)?)? {
         FORCED_CLASS => Some(true),
         _ => None,
     }
@@ -91,6 +91,13 @@ pub(crate) fn row_of_words(
         row.push(number)?;
     }
     Ok(Some(row))
+}
+
+/// Whether a line's first word is this name.
+pub(crate) fn is_named(name: &[u8], line: &[u8]) -> bool
+    ensures { result ≡ is_named name.now line.now }
+{
+    words_after(name, line).is_some()
 }
 
 /// The words of a line after this name, if it is the first word.

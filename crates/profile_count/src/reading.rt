@@ -23,6 +23,8 @@ impl LineReader for Reading {
 
     ghost steps = { profile_steps };
 
+    ghost own = { λ _ ls. ls };
+
     ghost may_come = { may_come };
 
     #[inline(always)]
@@ -51,7 +53,7 @@ impl Profile {
     {
         let profile = Profile::new(alloc)?;
         match read_lines(Reading { profile, next: 0 }, 1, lines_in(text)) {
-            Ok(profile) => Ok(profile),
+            Ok((profile, _rest)) => Ok(profile),
             Err((Stop::OutOfMemory, _number)) => Err(ProfileError::OutOfMemory),
             Err((Stop::Fault(fault), number)) => Err(ProfileError::Line(number, fault)),
         }

@@ -47,13 +47,13 @@ pub returns-clause-footprint : goal.returns-clause-footprint
 returns-clause-footprint c = after_table_at_first SpellsHistory history_of_lines history_part history_is_part
 
 pub returns-clause-fit : goal.returns-clause-fit
-returns-clause-fit c = λ limit step forced. alone_at_first SpellsHistory history_of_lines history_part history_is_part
+returns-clause-fit c = λ limit step forced text fault. (
+  alone_at_first SpellsHistory history_of_lines history_part history_is_part text fault,
+  alone_at_first SpellsTimeline timeline_of_lines timeline_part timeline_is_part text fault,
+)
 
 pub returns-clause-footprint_over : goal.returns-clause-footprint_over
 returns-clause-footprint_over c = after_table_at_first SpellsTimeline timeline_of_lines timeline_part timeline_is_part
-
-pub returns-clause-fit_over : goal.returns-clause-fit_over
-returns-clause-fit_over c = λ limit step forced. alone_at_first SpellsTimeline timeline_of_lines timeline_part timeline_is_part
 
 pub returns-clause-check_fit : goal.returns-clause-check_fit
 returns-clause-check_fit c = check_fit_history_at_first
