@@ -54,10 +54,9 @@ ending mte_c_call(uint8_t, narrow_options, const uint8_t *, size_t, held_text *)
 uint32_t mte_c_append(const uint8_t *, size_t, held_text *);
 size_t mte_c_read(held_text *, size_t, uint8_t *, size_t);
 void mte_c_free(held_text *);
-numbers mte_arrays_score(const uint16_t *, size_t, const uint32_t *, size_t, const uint32_t *, size_t);
-numbers mte_arrays_tune(uint8_t, uint8_t, uint8_t, const uint32_t *, size_t, const uint32_t *, size_t, uint16_t *, size_t, uint64_t *,
-                        size_t);
-numbers mte_arrays_check(uint8_t, uint8_t, uint8_t, uint64_t, const uint16_t *, size_t, const uint64_t *, size_t, const uint32_t *, size_t,
+numbers mte_arrays_score(narrow_options, const uint16_t *, size_t, const uint32_t *, size_t, const uint32_t *, size_t);
+numbers mte_arrays_tune(narrow_options, const uint32_t *, size_t, const uint32_t *, size_t, uint16_t *, size_t, uint64_t *, size_t);
+numbers mte_arrays_check(narrow_options, uint64_t, const uint16_t *, size_t, const uint64_t *, size_t, const uint32_t *, size_t,
                          const uint32_t *, size_t);
 heap_outcome mte_heap_new(heap_settings, const uint16_t *, size_t, mte_tool_heap *);
 heap_outcome mte_heap_malloc(mte_tool_heap *, uint32_t);

@@ -235,7 +235,7 @@ mte_tool_end mte_tool_score_profile(const mte_tool_options *options, const uint1
     mte_tool_end end = layer_options(options, &narrow);
     if (is_missing(classes, class_count) || !is_whole(profile) || layer_is_wrong(result)) return MTE_TOOL_MISUSE;
     if (end != MTE_TOOL_DONE) return refuse_options(end, result);
-    return give_numbers(mte_arrays_score(classes_or_none(classes), class_count, SLICES(profile)), result);
+    return give_numbers(mte_arrays_score(narrow, classes_or_none(classes), class_count, SLICES(profile)), result);
 }
 
 mte_tool_end mte_tool_tune_profile(const mte_tool_options *options, const mte_tool_profile_arrays *profile, uint16_t *classes,
@@ -246,9 +246,7 @@ mte_tool_end mte_tool_tune_profile(const mte_tool_options *options, const mte_to
     if (!classes || is_missing(rows, row_room) || !is_whole(profile) || layer_is_wrong(result)) return MTE_TOOL_MISUSE;
     if (end != MTE_TOOL_DONE) return refuse_options(end, result);
     if (!rows) rows = &no_row;
-    return give_numbers(mte_arrays_tune(narrow.limit, narrow.step, narrow.largest_class, SLICES(profile), classes, class_room, rows,
-                                        row_room),
-                        result);
+    return give_numbers(mte_arrays_tune(narrow, SLICES(profile), classes, class_room, rows, row_room), result);
 }
 
 mte_tool_end mte_tool_check_profile(const mte_tool_options *options, const uint16_t *classes, size_t class_count, uint64_t waste,
@@ -259,8 +257,8 @@ mte_tool_end mte_tool_check_profile(const mte_tool_options *options, const uint1
     if (is_missing(classes, class_count) || is_missing(rows, row_count) || !is_whole(profile) || layer_is_wrong(result))
         return MTE_TOOL_MISUSE;
     if (end != MTE_TOOL_DONE) return refuse_options(end, result);
-    return give_numbers(mte_arrays_check(narrow.limit, narrow.step, narrow.largest_class, waste, classes_or_none(classes), class_count,
-                                         rows ? rows : &layer_no_numbers, row_count, SLICES(profile)),
+    return give_numbers(mte_arrays_check(narrow, waste, classes_or_none(classes), class_count, rows ? rows : &layer_no_numbers, row_count,
+                                         SLICES(profile)),
                         result);
 }
 

@@ -11,6 +11,6 @@ mod tuning;
 
 pub use checking::check;
 pub use fault::ArrayError;
-pub use scoring::{Scored, score};
+pub use scoring::score;
 pub use shown::Numbers;
 pub use tuning::{TunedNumbers, tune};

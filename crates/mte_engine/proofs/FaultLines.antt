@@ -19,10 +19,11 @@ use Rattle.potential_check.specs.SheetText.{SpellsSheet, sheet_of_lines}
 use Rattle.heap_theory.specs.declared.config.Config.{Config}
 use Rattle.trace_reader.specs.{FaultText.{shown_trace_fault}}
 use Rattle.tuner_theory.specs.{Profiles.{Profile as Counted}, Sheets.{Sheet}}
-use Rattle.mte_engine.specs.{Check.{CheckAnswers}, FaultText.{in_line, shown_input_fault}, Outcome.{Answer}}
+use Rattle.mte_engine.specs.{Check.{check_answers}, FaultText.{in_line, shown_input_fault}, Outcome.{Answer}}
 use Rattle.mte_engine.specs.FaultLines.{IsAtFirstFault, SpellsLeadingAnd, SpellsSheetAndProfile, SpellsTableAnd, line_of_fault}
 use Rattle.mte_engine.specs.{Parts.{class_part, profile_part}, Replay.{replay_answer}}
 use Rattle.mte_engine.specs.declared.{fault.InputFault.{InputFault}}
+use Rattle.tool_call.specs.declared.options.Options.{Options}
 use Rattle.mte_engine.specs.declared.fault.InputFault.TheVariants.{TooLong, Table, BadSheet, BadFit, Profile, History, Timeline, Trace}
 use Rattle.history_count.specs.{FaultText.{shown_history_fault}, Timelines.FaultText.{shown_timeline_fault}}
 
@@ -260,10 +261,10 @@ after_sheet text sheet m read refused =
     let is_profile : SpellsProfile (text_of (take (m - 1) rest)) before.0 = rw rest_lines at before.1 in
     after_leading SpellsSheet SpellsProfile text sheet before.0 m is_sheet there is_profile first
 
-pub check_profile_at_first : (text : List ℕ) (n : ℕ) (fault : ProfileFault) → CheckAnswers text (Err (Profile n fault))
+pub check_profile_at_first : (options : Options) (text : List ℕ) (n : ℕ) (fault : ProfileFault) → check_answers options text (Err (Profile n fault))
     → IsFirstFault SpellsSheetAndProfile text n
 unfolding lines_after
-check_profile_at_first text n fault e = go (sheet_of_lines (leading_lines (lines text))) refl
+check_profile_at_first options text n fault e = go (sheet_of_lines (leading_lines (lines text))) refl
   where
     with_sheet : (sheet : Sheet) (read : Result Counted (ℕ × ProfileFault)) → sheet_of_lines (leading_lines (lines text)) ≡ Ok sheet
         → profile_of_lines (lines_after (lines text)) ≡ read → IsFirstFault SpellsSheetAndProfile text n

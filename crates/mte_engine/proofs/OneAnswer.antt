@@ -13,8 +13,9 @@ use Rattle.tuner_theory.specs.{Profiles.{Profile as Counted}, Sheets.{Sheet}, de
 use Rattle.mte_engine.specs.{Fit.{FitAnswers, IsFitText}, FitOver.{FitEitherAnswers, FitOverAnswers, IsFoundText}, Outcome.{Answer}}
 use Rattle.mte_engine.specs.{Parts.{AnswersPart, history_part, profile_part, timeline_part}, Replay.{report_on}}
 use Rattle.mte_engine.specs.{Run.{IsTunedRun, RunAnswers}, Timelines.{begins_timeline}, Traces.{profile_of_events, trace_part}}
-use Rattle.mte_engine.specs.{Tune.{IsTunedText, TuneAnswers}, declared.engine.Status.TheVariants.{Done}}
+use Rattle.mte_engine.specs.{Tune.{IsTunedText, tune_answers}, declared.engine.Status.TheVariants.{Done}}
 use Rattle.mte_engine.specs.declared.fault.InputFault.{InputFault}
+use Rattle.tool_call.specs.declared.options.Options.{Options}
 
 -- what is read is one, and what is said of it is one
 one_answer : {A : Type 0} (part : Result A InputFault) (says : A → Answer → Type 0) → ((x : A) (a b : Answer) → says x a → says x b → a ≡ b)
@@ -26,15 +27,16 @@ one_answer part says one (Ok a) (Err fault) first second = let read = sym first.
 one_answer part says one (Err fault) (Ok b) first second = let read = sym first ∙ second.1 in cc
 one_answer part says one (Err fault) (Err other) first second = let read = sym first ∙ second in cc
 
-module _ (limit step : ℕ) (forced : Bool) (text : List ℕ) where
-  tune_written : (p : Counted) (a b : Answer) → IsTunedText limit step forced p a → IsTunedText limit step forced p b → a ≡ b
+module _ (options : Options) (text : List ℕ) where
+  tune_written : (p : Counted) (a b : Answer) → IsTunedText options p a → IsTunedText options p b → a ≡ b
   tune_written p a b first second =
-      let same = one_sheet p.counts step limit forced first.sheet second.sheet first.tuned second.tuned in
+      let same = one_sheet p.counts _ _ _ first.sheet second.sheet first.tuned second.tuned in
       first.written ∙ ap (λ (s : Sheet). record { text = sheet_text s; status = Done }) same ∙ sym second.written
 
-  pub one_tune : (a b : Result Answer InputFault) → TuneAnswers limit step forced text a → TuneAnswers limit step forced text b → a ≡ b
-  one_tune = one_answer (profile_part 0 (profile_of text)) (IsTunedText limit step forced) tune_written
+  pub one_tune : (a b : Result Answer InputFault) → tune_answers options text a → tune_answers options text b → a ≡ b
+  one_tune = one_answer (profile_part 0 (profile_of text)) (IsTunedText options) tune_written
 
+module _ (limit step : ℕ) (forced : Bool) (text : List ℕ) where
   fit_written : (h : History) (a b : Answer) → IsFitText limit step forced h a → IsFitText limit step forced h b → a ≡ b
   fit_written h a b first second =
       let same = one_fit h.snapshots step limit forced first.fit second.fit first.fitted second.fitted in

@@ -19,32 +19,27 @@ verdict_text_by shown (Refused refusal) = record { text = ended (codes "refused 
 abbrev pub verdict_text : Verdict → Answer
 verdict_text verdict = verdict_text_by shown_refusal verdict
 
--- The verdict on a sheet for a profile. `optimal` is written only where the sheet's table is a best one.
-pub record IsChecked (sheet : Sheet) (profile : Counted) (answer : Answer) : Type 0 where
-  pub verdict : Verdict
+-- The verdict on a sheet for a profile. It is `Optimal` only where the sheet's table is a best one.
+pub record IsJudged (options : Options) (sheet : Sheet) (profile : Counted) (verdict : Verdict) : Type 0 where
   pub is_verdict : IsVerdict profile.counts sheet verdict
   pub best : verdict ≡ Optimal → IsBest (served sheet.forced profile.counts) sheet.step sheet.limit sheet.table
-  pub written : answer ≡ verdict_text verdict
 
--- What is said of a sheet and a profile, by the options.
-abbrev pub check_says : Options → Sheet × Counted → Answer → Type 0
-check_says options parts answer = IsChecked parts.0 parts.1 answer
+-- Its text.
+abbrev pub IsChecked : Options → Sheet × Counted → Answer → Type 0
+IsChecked options parts answer = (verdict : Verdict) × IsJudged options parts.0 parts.1 verdict × (answer ≡ verdict_text verdict)
 
 -- The lines of a sheet and those that are left of its text, and the lines of a profile, which come after this many of their input. The
 -- answer is the verdict, or the first fault of the two.
-abbrev pub ChecksParts : (sheet others : List (List ℕ)) → ℕ → List (List ℕ) → Result Answer InputFault → Type 0
-ChecksParts sheet others before ls answer =
-    AnswersPart (both_parts (whole_sheet_part Waste sheet others) (profile_part before (profile_of_lines ls)))
-    (λ parts text. IsChecked parts.0 parts.1 text) answer
+abbrev pub ChecksParts : Options → (sheet others : List (List ℕ)) → ℕ → List (List ℕ) → Result Answer InputFault → Type 0
+ChecksParts options sheet others before ls answer =
+    AnswersPart (both_parts (whole_sheet_part Waste sheet others) (profile_part before (profile_of_lines ls))) (IsChecked options) answer
 
 -- One text: a sheet, which is its leading lines, and then a profile.
-abbrev pub CheckAnswers : List ℕ → Result Answer InputFault → Type 0
-CheckAnswers text answer =
-    ChecksParts (leading_lines (lines text)) [] (length (leading_lines (lines text))) (lines_after (lines text)) answer
-
--- By the options: one text; and two, of which the first is a sheet and nothing else.
 abbrev pub check_answers : Options → List ℕ → Result Answer InputFault → Type 0
-check_answers options = CheckAnswers
+check_answers options text answer =
+    ChecksParts options (leading_lines (lines text)) [] (length (leading_lines (lines text))) (lines_after (lines text)) answer
 
+-- Two, of which the first is a sheet and nothing else.
 abbrev pub check_on_answers : Options → List ℕ → List ℕ → Result Answer InputFault → Type 0
-check_on_answers options first text = ChecksParts (leading_lines (lines first)) (lines_after (lines first)) 0 (lines text)
+check_on_answers options first text answer =
+    ChecksParts options (leading_lines (lines first)) (lines_after (lines first)) 0 (lines text) answer

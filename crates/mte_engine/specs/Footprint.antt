@@ -1,14 +1,15 @@
 -- The answers of `footprint`: what a table takes over a history, or the least counted size that the table doesn't serve.
-use Rattle.std.specs.Prelude.{◌≡◌, ℕ, List, codes, Result}
+use Rattle.std.specs.{Option.{option_map_or}, Prelude.{◌≡◌, ℕ, List, codes, Result}}
 use Rattle.history_count.specs.{Histories.{History}, HistoryText.{history_of_lines}}
 use Rattle.profile_count.specs.Counts.{unserved_of}
 use Rattle.tuner_theory.specs.{Footprint.{footprint_of}, Histories.{peaks}}
-use Rattle.mte_engine.specs.{Outcome.{Answer}, Parts.{AfterLine, AnswersPart, history_part}, Score.{named_or_unserved}}
+use Rattle.mte_engine.specs.{Outcome.{Answer}, Parts.{AfterLine, AnswersPart, history_part}, Score.{number_text, unserved_text}}
 use Rattle.mte_engine.specs.declared.fault.InputFault.{InputFault}
 
 abbrev pub measured : List ℕ → History → Answer
 measured table history =
-    named_or_unserved (codes "footprint") (unserved_of (peaks history.snapshots) table) (footprint_of history.snapshots table)
+    option_map_or unserved_text (unserved_of (peaks history.snapshots) table)
+    (number_text (codes "footprint") (footprint_of history.snapshots table))
 
 -- The answers to a table, for the lines of a history, which come after this many of their input.
 abbrev pub MeasuresHistory : List ℕ → ℕ → List (List ℕ) → Result Answer InputFault → Type 0

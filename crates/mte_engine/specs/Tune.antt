@@ -1,5 +1,5 @@
 -- The options and the answers of `tune`: the sheet that is tuned for a profile.
-use Rattle.std.specs.Prelude.{◌≡◌, ◌==◌, ℕ, Bool, List, Result}
+use Rattle.std.specs.Prelude.{◌≡◌, ◌==◌, ℕ, List, Result}
 use Rattle.class_tuner.specs.Tuned.{IsTuned}
 use Rattle.potential_check.specs.SheetText.{sheet_text}
 use Rattle.profile_count.specs.ProfileText.{profile_of}
@@ -9,16 +9,16 @@ use Rattle.mte_engine.specs.declared.fault.InputFault.{InputFault}
 pub use Rattle.tool_call.specs.Options.{AreTuneOptions}
 use Rattle.tool_call.specs.declared.options.Options.{Options}
 
--- The text of the sheet that is tuned for a profile, a limit and a step, and whether the largest class is forced.
-pub record IsTunedText (limit step : ℕ) (forced : Bool) (profile : Counted) (answer : Answer) : Type 0 where
+-- The sheet that is tuned for a profile by the options.
+abbrev pub IsTunedBy : Options → Counted → Sheet → Type 0
+IsTunedBy options profile sheet = IsTuned profile.counts options.step options.limit (options.largest_class == 1) sheet
+
+-- Its text.
+pub record IsTunedText (options : Options) (profile : Counted) (answer : Answer) : Type 0 where
   pub sheet : Sheet
-  pub tuned : IsTuned profile.counts step limit forced sheet
+  pub tuned : IsTunedBy options profile sheet
   pub written : answer ≡ record { text = sheet_text sheet; status = Done }
 
 -- The whole text is a profile. The answer is the tuned sheet's text, or the profile's first fault.
-abbrev pub TuneAnswers : ℕ → ℕ → Bool → List ℕ → Result Answer InputFault → Type 0
-TuneAnswers limit step forced text answer = AnswersPart (profile_part 0 (profile_of text)) (IsTunedText limit step forced) answer
-
--- The same by the options.
 abbrev pub tune_answers : Options → List ℕ → Result Answer InputFault → Type 0
-tune_answers options = TuneAnswers options.limit options.step (options.largest_class == 1)
+tune_answers options text answer = AnswersPart (profile_part 0 (profile_of text)) (IsTunedText options) answer

@@ -1,6 +1,6 @@
 //! `check`: the verdict on a sheet, whoever wrote it.
 ghost use Rattle.std.specs.Prelude.{◌≡◌, IfOk};
-ghost use Rattle.mte_engine.specs.Check.{check_answers, check_on_answers, check_says, verdict_text};
+ghost use Rattle.mte_engine.specs.Check.{IsChecked, IsJudged, check_answers, check_on_answers, verdict_text};
 ghost use Rattle.mte_engine.specs.Outcome.{GivesAnswer, Runs};
 ghost use Rattle.mte_engine.specs.Parts.{AnswersPart, AreFewLines, profile_part};
 ghost use Rattle.potential_check.specs.Certificates.SheetView.{sheet_of};
@@ -12,6 +12,7 @@ use crate::fault::{AnswerError, InputFault, ToolFault};
 use crate::input_parts::{end_text, read_leading, read_profile};
 use byte_streams::{ByteSink, ByteSource, Text, WholeText};
 use potential_check::{Sheet, Verdict, check as verdict_on};
+use profile_count::Profile;
 use std::alloc::{AllocError, Global};
 use tool_call::Options;
 
@@ -87,11 +88,23 @@ fn check_profile(
 ) -> Result<(Text, Status), AnswerError>
     requires { AreFewLines before }
     ensures { GivesAnswer text_left (AnswersPart (profile_part before (profile_of text.now))
-        (λ profile answer. check_says options (sheet_of sheet.now, profile) answer)) result }
+        (λ profile answer. IsChecked options (sheet_of sheet.now, profile) answer)) result }
 {
     let profile = read_profile(alloc, text, before)?;
-    let verdict = verdict_on(alloc, &profile, sheet)?;
+    let verdict = verdict_of(alloc, options, sheet, &profile)?;
     Ok(answer_for(alloc, verdict)?)
+}
+
+/// The verdict on a sheet, whoever made it, for a profile. The only error is that the allocator refuses memory.
+pub fn verdict_of(
+    alloc: Global,
+    options: Options,
+    sheet: &Sheet,
+    profile: &Profile,
+) -> Result<Verdict, AllocError>
+    ensures { IfOk result (IsJudged options (sheet_of sheet.now) profile.now) }
+{
+    verdict_on(alloc, profile, sheet)
 }
 
 // the text and the status of a verdict

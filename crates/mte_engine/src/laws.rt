@@ -39,7 +39,7 @@ ghost use Rattle.mte_engine.specs.Outcome.{Answer};
 ghost use Rattle.mte_engine.specs.Replay.{ReplayAnswers, report_on};
 ghost use Rattle.mte_engine.specs.Run.{IsTunedRun, RunAnswers};
 ghost use Rattle.mte_engine.specs.Traces.{profile_of_events};
-ghost use Rattle.mte_engine.specs.Tune.{TuneAnswers};
+ghost use Rattle.mte_engine.specs.Tune.{tune_answers};
 ghost use Rattle.mte_engine.specs.declared.engine.Status.TheVariants.{Done};
 ghost use Rattle.mte_engine.specs.declared.fault.InputFault.{InputFault};
 ghost use Rattle.mte_engine.specs.declared.fault.InputFault.TheVariants.{History, Profile, Table};
@@ -54,8 +54,8 @@ pub fn law_headline()
 
 /// What `tune`, `fit` and `run` write is one function of their input and options; so is that of `fit` over a timeline.
 pub fn law_one_answer()
-    ensures tune { (limit step : ℕ) (forced : Bool) (text : List ℕ) (a b : Result Answer InputFault)
-        → TuneAnswers limit step forced text a → TuneAnswers limit step forced text b → a ≡ b }
+    ensures tune { (options : Options) (text : List ℕ) (a b : Result Answer InputFault)
+        → tune_answers options text a → tune_answers options text b → a ≡ b }
     ensures fit { (limit step : ℕ) (forced : Bool) (text : List ℕ) (a b : Result Answer InputFault)
         → FitAnswers limit step forced text a → FitAnswers limit step forced text b → a ≡ b }
     ensures fit_either { (limit step : ℕ) (forced : Bool) (text : List ℕ) (a b : Result Answer InputFault)
@@ -73,8 +73,8 @@ pub fn law_fault_lines()
     ensures score { (options : Options) (text : List ℕ) (fault : InputFault)
         → answers_of (record { command = Score; options = options }) text (Err fault)
         → IsAtFirstFault SpellsTableAndProfile text fault }
-    ensures tune { (limit step : ℕ) (forced : Bool) (text : List ℕ) (fault : InputFault)
-        → TuneAnswers limit step forced text (Err fault) → IsAtFirstFault SpellsProfile text fault }
+    ensures tune { (options : Options) (text : List ℕ) (fault : InputFault)
+        → tune_answers options text (Err fault) → IsAtFirstFault SpellsProfile text fault }
     ensures check { (options : Options) (text : List ℕ) (n : ℕ) (fault : ProfileFault)
         → answers_of (record { command = Check; options = options }) text (Err (Profile n fault))
         → IsFirstFault SpellsSheetAndProfile text n }

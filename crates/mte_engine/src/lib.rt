@@ -41,7 +41,7 @@ pub use byte_streams::{
     StreamSource,
 };
 pub use call::{run_call, run_call_on};
-pub use checking::check;
+pub use checking::{check, verdict_of};
 pub use engine::Status;
 pub use fault::{InputFault, ToolFault};
 pub use fit_checking::check_fit;
@@ -51,6 +51,6 @@ pub use peaking::peaks;
 pub use profiling::profile;
 pub use replaying::replay;
 pub use running::run;
-pub use scoring::score;
+pub use scoring::{Scored, score, score_of};
 pub use tool_call::{Call, CommandName, Options};
-pub use tuning::tune;
+pub use tuning::{tune, tune_of};

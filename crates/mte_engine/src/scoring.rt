@@ -4,7 +4,7 @@ ghost use Rattle.std.specs.Fmt.{decimal};
 ghost use Rattle.line_text.specs.Lines.{lines};
 ghost use Rattle.mte_engine.specs.Outcome.{GivesAnswer, Runs};
 ghost use Rattle.mte_engine.specs.Parts.{AfterText, AreFewLines};
-ghost use Rattle.mte_engine.specs.Score.{score_after, score_answers, scored};
+ghost use Rattle.mte_engine.specs.Score.{score_after, score_answers, score_of, score_text};
 ghost use Rattle.byte_streams.specs.TextLeft.{text_left};
 
 use crate::engine::{Engine, Status, run_engine};
@@ -17,6 +17,15 @@ use line_text::lines_in;
 use profile_count::Profile;
 use std::alloc::{AllocError, Global};
 use tool_call::Options;
+
+/// What a table is worth for a profile.
+#[derive(Debug, Clone, Copy, PartialEq, Eq)]
+pub enum Scored {
+    /// The bytes that it loses by rounding the requests up.
+    Waste(u64),
+    /// The least counted size that has no class, in bytes.
+    NotServing(u16),
+}
 
 /// Reads a class line and then a profile, and writes `waste W`, the bytes that the table loses by rounding the requests up,
 /// or `not serving N` with the status of a no, where N is the least counted size that has no class.
@@ -97,27 +106,30 @@ fn score_of_counts(
     ensures { GivesAnswer text_left (score_after options table.now before (lines text.now)) result }
 {
     let profile = read_profile(alloc, text, before)?;
-    Ok(score_of_profile(alloc, table, &profile)?)
+    Ok(answer_for(alloc, score_of(options, table, &profile))?)
 }
 
-// the answer to a table and a profile
-fn score_of_profile(
-    alloc: Global,
-    table: &ClassTable,
-    profile: &Profile,
-) -> Result<(Text, Status), AllocError>
-    ensures { IfOk result
-        (λ answered. record { text = text_left answered.0; status = answered.1 } ≡ scored table.now profile.now) }
+/// What a table is worth for a profile.
+pub fn score_of(options: Options, table: &ClassTable, profile: &Profile) -> Scored
+    ensures { result ≡ score_of options table.now profile.now }
 {
     match profile.unserved(table) {
-        Some(size) => Ok((
+        Some(size) => Scored::NotServing(size),
+        None => Scored::Waste(profile.waste(table)),
+    }
+}
+
+// the text and the status of a score
+fn answer_for(alloc: Global, scored: Scored) -> Result<(Text, Status), AllocError>
+    ensures { IfOk result
+        (λ answered. record { text = text_left answered.0; status = answered.1 } ≡ score_text scored) }
+{
+    match scored {
+        Scored::NotServing(size) => Ok((
             numbered_line(alloc, b"not serving ", u64::from(size))?,
             Status::No,
         )),
-        None => Ok((
-            numbered_line(alloc, b"waste ", profile.waste(table))?,
-            Status::Done,
-        )),
+        Scored::Waste(waste) => Ok((numbered_line(alloc, b"waste ", waste)?, Status::Done)),
     }
 }
 

@@ -1,7 +1,9 @@
 //! `tune`: the class table of least waste for a profile, with its certificate.
+ghost use Rattle.std.specs.Prelude.{IfOk};
 ghost use Rattle.mte_engine.specs.Outcome.{GivesAnswer, Runs};
+ghost use Rattle.potential_check.specs.Certificates.SheetView.{sheet_of};
 ghost use Rattle.mte_engine.specs.SheetLeft.{sheet_left};
-ghost use Rattle.mte_engine.specs.Tune.{AreTuneOptions, TuneAnswers, tune_answers};
+ghost use Rattle.mte_engine.specs.Tune.{AreTuneOptions, IsTunedBy, tune_answers};
 ghost use Rattle.tool_call.specs.Options.{AreValid};
 ghost use Rattle.tool_call.specs.declared.call.CommandName.TheVariants.{Tune};
 
@@ -10,6 +12,8 @@ use crate::fault::{AnswerError, ToolFault};
 use crate::input_parts::read_profile;
 use crate::sheet_writing::SheetText;
 use byte_streams::{ByteSink, ByteSource, WholeText};
+use potential_check::Sheet;
+use profile_count::Profile;
 use std::alloc::{AllocError, Global};
 use tool_call::Options;
 
@@ -30,21 +34,14 @@ pub fn tune<R: ByteSource, W: ByteSink>(
     requires { AreValid Tune options }
     ensures { Runs (tune_answers options) (R.state source.old) (R.state source.new) W.state sink.old sink.new result }
 {
-    let engine = TuneEngine {
-        limit: options.limit,
-        step: options.step,
-        forced: options.largest_class == 1,
-    };
-    run_engine(alloc, &engine, source, sink)
+    run_engine(alloc, &TuneEngine { options }, source, sink)
 }
 
 // the options of `tune`
 #[derive(Drop)]
 struct TuneEngine {
-    limit: u8,
-    step: u8,
-    forced: bool,
-    ghost options: { AreTuneOptions limit step },
+    options: Options,
+    ghost valid: { AreTuneOptions options.limit options.step },
 }
 
 impl Engine for TuneEngine {
@@ -52,30 +49,39 @@ impl Engine for TuneEngine {
 
     type Output = SheetText;
 
-    ghost answers = { λ e. TuneAnswers e.limit e.step e.forced };
+    ghost answers = { λ e. tune_answers e.options };
 
     fn input(&self, alloc: Global) -> Result<WholeText, AllocError> {
         Ok(WholeText::new(alloc))
     }
 
     fn answer(&self, alloc: Global, input: WholeText) -> Result<(SheetText, Status), AnswerError> {
-        tune_text(alloc, self.limit, self.step, self.forced, &input.text)
+        tune_text(alloc, self.options, &input.text)
     }
 }
 
 // the answer to a text
 fn tune_text(
     alloc: Global,
-    limit: u8,
-    step: u8,
-    forced: bool,
+    options: Options,
     text: &[u8],
 ) -> Result<(SheetText, Status), AnswerError>
-    requires options { AreTuneOptions limit step }
-    ensures { GivesAnswer sheet_left (TuneAnswers limit step forced text.now) result }
+    requires { AreTuneOptions options.limit options.step }
+    ensures { GivesAnswer sheet_left (tune_answers options text.now) result }
 {
     let profile = read_profile(alloc, text, 0)?;
-    let tuned = class_tuner::tune(alloc, &profile, limit, step, forced)?;
-    let output = SheetText::of_sheet(alloc, tuned.into_sheet())?;
+    let sheet = tune_of(alloc, options, &profile)?;
+    let output = SheetText::of_sheet(alloc, sheet)?;
     Ok((output, Status::Done))
+}
+
+/// The sheet of a profile's table of least waste, for a limit and a step in their ranges. The only error is that the allocator refuses
+/// memory.
+pub fn tune_of(alloc: Global, options: Options, profile: &Profile) -> Result<Sheet, AllocError>
+    requires { AreTuneOptions options.limit options.step }
+    ensures { IfOk result (λ sheet. IsTunedBy options profile.now (sheet_of sheet)) }
+{
+    let forced = options.largest_class == 1;
+    let tuned = class_tuner::tune(alloc, profile, options.limit, options.step, forced)?;
+    Ok(tuned.into_sheet())
 }

@@ -5,7 +5,7 @@ use Rattle.byte_streams.specs.{Streams.{SinkState, SourceState}, Transfer.{most_
 use Rattle.clap.specs.{Kinds.{IsAmong}, Words.{Text, fault_of}, declared.error.kind.ErrorKind.{ErrorKind}}
 use Rattle.command_words.specs.{AcceptedWords.{program}, Words.{AreRefused, Mean}, declared.refusal.Refusal.{Refusal}}
 use Rattle.line_text.specs.Lines.{ended, lines}
-use Rattle.mte_engine.specs.{Calls.{answers_by, answers_of}, Check.{CheckAnswers}, CheckFit.{CheckFitAnswers}}
+use Rattle.mte_engine.specs.{Calls.{answers_by, answers_of}, Check.{check_answers}, CheckFit.{CheckFitAnswers}}
 use Rattle.mte_engine.specs.{CheckFitOver.{CheckFitEitherAnswers, CheckFitOverAnswers, begins_moments}, Outcome.{Answer}}
 use Rattle.mte_engine.specs.declared.{engine.Status.{Status}, engine.Status.TheVariants.{Done}, fault.InputFault.{InputFault}}
 use Rattle.mte_engine.specs.declared.fault.InputFault.TheVariants.{TooLong}
@@ -15,6 +15,7 @@ use Rattle.mte_tool.specs.ExitLaw.{AnswerLaw, CheckFitLaw, CheckLaw, IsLeastInHi
 use Rattle.mte_tool.specs.ExitLaw.{Ran, ShownLaw}
 use Rattle.mte_tool.specs.declared.end.{End.{End}, End.TheVariants.{Shown, Refused, Ended}}
 use Rattle.tool_call.specs.declared.call.{Call.{Call}, CommandName.{CommandName}, CommandName.TheVariants.{Check, CheckFit}}
+use Rattle.tool_call.specs.declared.options.Options.{Options}
 use Rattle.potential_check.specs.{Leading.{lines_after}}
 
 -- an answer is to an input of at most so many bytes
@@ -53,14 +54,14 @@ at_end_of_short : (A : Type 0) (n : ℕ) (at_end : Bool) (result : Result Answer
     → MatchBool (nat_lt most_input n) (result ≡ Err TooLong) A → (n ≤ most_input → at_end ≡ true) → at_end ≡ true
 at_end_of_short A n at_end result answer same is ends = grind arith
 
-the_check : (source : SourceState) (sink : SinkState) (end : End) → status_of end ≡ 0
+the_check : (options : Options) (source : SourceState) (sink : SinkState) (end : End) → status_of end ≡ 0
     → ((status : Status) × (end ≡ Ended (Ok status))
-    × AnswersAll CheckAnswers source (Ok (record { text = sink.written; status = status }))) → IsOptimal source sink
-the_check source sink end h3 h4 = grind arith
+    × AnswersAll (check_answers options) source (Ok (record { text = sink.written; status = status }))) → IsOptimal source sink
+the_check options source sink end h3 h4 = grind arith
 
 pub check_law : CheckLaw
 check_law words source sink errors end ran means zero =
-    the_check source sink end zero (answer_by words Check source sink errors end ran means (omega (arith, zero)))
+    the_check means.0.options source sink end zero (answer_by words Check source sink errors end ran means (omega (arith, zero)))
 
 -- the same of `check-fit`, by what follows the fit
 least_in : (named : Bool) (input text : List ℕ)

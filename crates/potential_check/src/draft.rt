@@ -1,3 +1,4 @@
+//! A certificate, as far as it was read.
 ghost use Rattle.std.specs.Prelude.{◌≡◌, length};
 ghost use Rattle.std.specs.Option.{option_map};
 ghost use Rattle.potential_check.specs.Certificates.SheetView.{sheet_of};

@@ -8,4 +8,3 @@ mod ranges;
 
 pub use call::{COMMANDS, Call, CommandName};
 pub use options::{OptionName, Options, options_of};
-pub use ranges::Limits;

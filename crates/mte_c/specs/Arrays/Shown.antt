@@ -1,5 +1,5 @@
 -- What C is told of the answer of a call over arrays.
-use Rattle.std.specs.Prelude.{◌≡◌, ℕ, ◌==◌, List, ◌++◌, length, Some, Result, Ok, Err, OnErr}
+use Rattle.std.specs.Prelude.{◌≡◌, ℕ, List, ◌++◌, length, Some, Result, Ok, Err, OnErr}
 use Rattle.class_table.specs.FaultText.{shown_table_error}
 use Rattle.handed_text.specs.declared.ends.TheConstants.{DONE, NO, REFUSED, OUT_OF_MEMORY, BAD_OPTION, MISUSE}
 use Rattle.line_text.specs.Numbers.{leading_number_of}
@@ -8,8 +8,9 @@ use Rattle.tuner_theory.specs.{Sheets.{code_of}, declared.verdict.Verdict.{Verdi
 use Rattle.tuner_theory.specs.declared.verdict.Verdict.TheVariants.{Optimal, Refused}
 use Rattle.mte_c.specs.{Arrays.Calls.{IsChecked, IsScored, IsTunedInto, IsTunedOr}, declared.arrays.fault.ArrayError.{ArrayError}}
 use Rattle.mte_c.specs.declared.arrays.fault.ArrayError.TheVariants.{OutOfMemory, Table, Entry, BadOption, Misuse}
-use Rattle.mte_c.specs.declared.arrays.{scoring.Scored.{Scored}, scoring.Scored.TheVariants.{Waste, NotServing}, shown.Numbers.{Numbers}}
-use Rattle.mte_c.specs.declared.arrays.tuning.TunedNumbers.{TunedNumbers}
+use Rattle.mte_c.specs.declared.arrays.{shown.Numbers.{Numbers}, tuning.TunedNumbers.{TunedNumbers}}
+use Rattle.mte_engine.specs.declared.scoring.{Scored.{Scored}, Scored.TheVariants.{Waste, NotServing}}
+use Rattle.tool_call.specs.declared.options.Options.{Options}
 
 -- An end and no number.
 abbrev pub plain : ℕ → Numbers
@@ -44,20 +45,19 @@ ShowsVerdict (Err error) numbers = ShowsError error numbers
 
 -- ---- the functions for C
 
-pub record Scores (classes sizes counts : List ℕ) (numbers : Numbers) : Type 0 where
+pub record Scores (options : Options) (classes sizes counts : List ℕ) (numbers : Numbers) : Type 0 where
   pub scored : Result Scored ArrayError
-  pub is_scored : IsScored classes sizes counts scored
+  pub is_scored : IsScored options classes sizes counts scored
   pub shown : ShowsScore scored numbers
 
-pub record Tunes (limit step largest_class : ℕ) (sizes counts classes rows classes' rows' : List ℕ) (numbers : Numbers) : Type 0 where
+pub record Tunes (options : Options) (sizes counts classes rows classes' rows' : List ℕ) (numbers : Numbers) : Type 0 where
   pub tuned : Result TunedNumbers ArrayError
-  pub is_tuned : IsTunedOr limit step largest_class sizes counts (length classes) tuned
-      (IsTunedInto limit step (largest_class == 1) sizes counts classes rows classes' rows')
+  pub is_tuned : IsTunedOr options sizes counts (length classes) tuned (IsTunedInto options sizes counts classes rows classes' rows')
   pub classes_kept : OnErr tuned (classes' ≡ classes)
   pub rows_kept : OnErr tuned (rows' ≡ rows)
   pub shown : ShowsTuned tuned numbers
 
-pub record Checks (limit step largest_class waste : ℕ) (classes rows sizes counts : List ℕ) (numbers : Numbers) : Type 0 where
+pub record Checks (options : Options) (waste : ℕ) (classes rows sizes counts : List ℕ) (numbers : Numbers) : Type 0 where
   pub checked : Result Verdict ArrayError
-  pub is_checked : IsChecked limit step largest_class waste classes rows sizes counts checked
+  pub is_checked : IsChecked options waste classes rows sizes counts checked
   pub shown : ShowsVerdict checked numbers

@@ -15,7 +15,7 @@ pub enum ArrayError {
     /// The entry of this index, counted from 0, is the first faulty one of the profile: its size is above `LARGEST_COUNTED` (`BadLine`) or not above
     /// the size before it, or its count is not from 1 to 1,000,000,000.
     Entry(u64, ProfileFault),
-    /// The limit is not from 1 to 32, or the step is not 1, 2, 4 or 8.
+    /// An option is out of its range.
     BadOption,
     /// The room for the classes is for fewer than the limit, or the numbers can't be cut in so many rows of one length.
     Misuse,

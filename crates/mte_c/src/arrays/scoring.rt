@@ -5,33 +5,28 @@ ghost use Rattle.class_table.specs.Faults.{table_of_classes};
 use crate::arrays::counting::count;
 use crate::arrays::fault::ArrayError;
 use class_table::ClassTable;
+use mte_engine::{Scored, score_of};
 use std::alloc::Global;
-
-/// What a table is worth for a profile.
-#[derive(Debug, Clone, Copy, PartialEq, Eq)]
-pub enum Scored {
-    /// The bytes that it loses by rounding the requests up.
-    Waste(u64),
-    /// The least counted size that has no class, in bytes.
-    NotServing(u16),
-}
+use tool_call::{Call, CommandName, Options};
 
 /// What the table of these classes (in granules) wastes on the profile of these sizes with these counts. Errors, in the order of the tests:
-/// `Table`, `Entry`. `OutOfMemory` may come at any time.
+/// `BadOption`, `Table`, `Entry`. `OutOfMemory` may come at any time.
 pub fn score(
     alloc: Global,
+    options: Options,
     classes: &[u16],
     sizes: &[u32],
     counts: &[u32],
 ) -> Result<Scored, ArrayError>
-    ensures { IsScored classes.now sizes.now counts.now result }
+    ensures { IsScored options classes.now sizes.now counts.now result }
 {
+    let command = CommandName::Score;
+    if !(Call { command, options }).is_valid() {
+        return Err(ArrayError::BadOption);
+    }
     let table = table_of(classes)?;
     let profile = count(alloc, sizes, counts)?;
-    match profile.unserved(&table) {
-        Some(size) => Ok(Scored::NotServing(size)),
-        None => Ok(Scored::Waste(profile.waste(&table))),
-    }
+    Ok(score_of(options, &table, &profile))
 }
 
 /// The table of these classes.

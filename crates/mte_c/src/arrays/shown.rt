@@ -4,9 +4,9 @@ ghost use Rattle.mte_c.specs.Arrays.Shown.{ShowsError, ShowsScore, ShowsTuned, S
 
 use crate::arrays::codes::code_of_refusal;
 use crate::arrays::fault::ArrayError;
-use crate::arrays::scoring::Scored;
 use crate::arrays::tuning::TunedNumbers;
 use handed_text::{BAD_OPTION, DONE, MISUSE, NO, OUT_OF_MEMORY, REFUSED};
+use mte_engine::Scored;
 use potential_check::Verdict;
 
 /// The answer of a call as numbers. What a call has not is 0.

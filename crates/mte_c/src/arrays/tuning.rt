@@ -1,19 +1,18 @@
 //! `tune`: the table of least waste for a profile, with its certificate.
-ghost use Rattle.std.specs.Prelude.{◌≡◌, ◌==◌, ◌<◌, ◌≤◌, ◌++◌, All, OnErr, drop, length};
-ghost use Rattle.mte_c.specs.Arrays.Calls.{IsTunedInto, IsTunedOr};
+ghost use Rattle.std.specs.Prelude.{◌≡◌, ◌<◌, ◌≤◌, ◌++◌, All, OnErr, drop, length};
+ghost use Rattle.mte_c.specs.Arrays.Calls.{IsTunedInto, IsTunedOr, places_by};
 ghost use Rattle.tuner_theory.specs.Profiles.{AreCounts};
-ghost use Rattle.tuner_theory.specs.Served.{served};
-ghost use Rattle.tuner_theory.specs.Spans.{places};
 ghost use Rattle.class_table.specs.Steps.{IsStep};
 
 use crate::arrays::counting::count;
 use crate::arrays::fault::ArrayError;
 use crate::arrays::rows::put_rows;
 use class_table::ClassTable;
+use mte_engine::tune_of;
 use potential_check::Rows;
 use profile_count::Profile;
 use std::alloc::Global;
-use tool_call::Limits;
+use tool_call::{Call, CommandName, Options};
 
 /// What `tune` found, beside the classes and the rows.
 #[derive(Debug, Clone, Copy, PartialEq, Eq)]
@@ -26,40 +25,38 @@ pub struct TunedNumbers {
     pub places: u32,
 }
 
-/// The table of least waste for the profile of these sizes with these counts, of at most `limit` (1 to 32) classes that are multiples of
-/// `step` (1, 2, 4 or 8 granules), and of those with the largest class if `largest_class` is 1 and not 0. Its classes, in granules, are put at the start of `classes`, which needs room for `limit` of them; the
-/// rows of its certificate at the start of `rows`, one after the other, if all of them fit. What comes after stays.
+/// The table of least waste for the profile of these sizes with these counts, by the options of `tune`. Its classes, in granules, are put at
+/// the start of `classes`, which needs room for `limit` of them; the rows of its certificate at the start of `rows`, one after the other, if
+/// all of them fit. What comes after stays.
 ///
 /// Errors, in the order of the tests: `BadOption`, `Misuse`, `Entry`. `OutOfMemory` may come at any time. After an error both arrays are as
 /// they were.
 pub fn tune(
     alloc: Global,
-    limit: u8,
-    step: u8,
-    largest_class: u8,
+    options: Options,
     sizes: &[u32],
     counts: &[u32],
     classes: &mut [u16],
     rows: &mut [u64],
 ) -> Result<TunedNumbers, ArrayError>
-    ensures tuned { IsTunedOr limit step largest_class sizes.now counts.now (length classes.old) result
-        (IsTunedInto limit step (largest_class == 1) sizes.now counts.now classes.old rows.old classes.new rows.new) }
+    ensures tuned { IsTunedOr options sizes.now counts.now (length classes.old) result
+        (IsTunedInto options sizes.now counts.now classes.old rows.old classes.new rows.new) }
     ensures classes { OnErr result (classes.new ≡ classes.old) }
     ensures rows { OnErr result (rows.new ≡ rows.old) }
 {
-    if !(Limits { limit, step }).are_valid() || largest_class > 1 {
+    let command = CommandName::Tune;
+    if !(Call { command, options }).is_valid() {
         return Err(ArrayError::BadOption);
     }
-    if classes.len() < usize::from(limit) {
+    let limit = usize::from(options.limit);
+    if classes.len() < limit {
         return Err(ArrayError::Misuse);
     }
     let profile = count(alloc, sizes, counts)?;
-    let forced = largest_class == 1;
-    let tuned = class_tuner::tune(alloc, &profile, limit, step, forced)?;
-    let sheet = tuned.sheet();
-    let places = row_length(&profile, step, forced, &sheet.rows);
+    let sheet = tune_of(alloc, options, &profile)?;
+    let places = row_length(&profile, options, &sheet.rows);
     put_classes(&sheet.table, classes);
-    put_rows(&sheet.rows, usize::from(limit), places, rows);
+    put_rows(&sheet.rows, limit, places, rows);
     Ok(TunedNumbers {
         classes: sheet.table.len() as u32,
         waste: sheet.cost,
@@ -67,13 +64,13 @@ pub fn tune(
     })
 }
 
-// the length of each row of a certificate for a profile and a step, and whether the largest class is forced
-fn row_length(profile: &Profile, step: u8, forced: bool, rows: &Rows) -> usize
+// the length of each row of a certificate for a profile
+fn row_length(profile: &Profile, options: Options, rows: &Rows) -> usize
     requires some { 0 < length rows.now }
-    requires step { IsStep step }
+    requires step { IsStep options.step }
     requires counts { AreCounts profile.now.counts }
-    requires shape { All (λ row. length row ≡ places (served forced profile.now.counts) step) rows.now }
-    ensures length { result ≡ places (served forced profile.now.counts) step }
+    requires shape { All (λ row. length row ≡ places_by options profile.now) rows.now }
+    ensures length { result ≡ places_by options profile.now }
     ensures few { result ≤ 1024 }
 {
     rows.row(0).len()

@@ -35,10 +35,10 @@ pub returns-clause-score : goal.returns-clause-score
 returns-clause-score c = λ options. after_table_at_first SpellsProfile profile_of_lines profile_part profile_is_part
 
 pub returns-clause-tune : goal.returns-clause-tune
-returns-clause-tune c = λ limit step forced. alone_at_first SpellsProfile profile_of_lines profile_part profile_is_part
+returns-clause-tune c = λ options. alone_at_first SpellsProfile profile_of_lines profile_part profile_is_part
 
 pub returns-clause-check : goal.returns-clause-check
-returns-clause-check c = λ options. check_profile_at_first
+returns-clause-check c = check_profile_at_first
 
 pub returns-clause-replay : goal.returns-clause-replay
 returns-clause-replay c = replay_at_first
