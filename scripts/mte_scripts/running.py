@@ -13,6 +13,7 @@ import _signal  # the module signal alone takes longer to import than this one
 import errno
 import os
 import sys
+import types
 from _collections_abc import Callable
 
 FAILED, INTERRUPTED = 3, 130
@@ -82,6 +83,12 @@ def named(path: str) -> "Callable[[list[str]], int | None]":
     """The function of a module of this package."""
     module, _, function = path.rpartition(".")
     return getattr(__import__(f"mte_scripts.{module}", fromlist=[function]), function)
+
+
+def part(module: str) -> "types.ModuleType | None":
+    """A module of this package whose folder a copy may be without, by its name from there on; None where it is."""
+    folder = os.path.join(os.path.dirname(os.path.realpath(__file__)), *module.split(".")[:-1])
+    return __import__(f"mte_scripts.{module}", fromlist=["__name__"]) if os.path.isfile(os.path.join(folder, "__init__.py")) else None
 
 
 def run(name: str, main: "str | Callable[[list[str]], int | None]", prints: bool = True) -> None:

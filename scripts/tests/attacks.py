@@ -191,7 +191,7 @@ def spoiled_file(draw: random.Random, folder: str, name: str, text: bytes) -> st
 
 
 def forms(draw: random.Random, folder: str) -> "list[list[str]]":
-    """A script and its words, which name files that may have any text."""
+    """A script and its words, which name files that may have any text; of the scripts that this copy has (parts_alone.py)."""
     profile = drawn_inputs.profile(draw)
     counts = draw.choice((drawn_inputs.profile, drawn_inputs.history, drawn_inputs.timeline))(draw)
     sheet = oracle.answer("tune", profile, limit=3)[1].encode()
@@ -202,9 +202,10 @@ def forms(draw: random.Random, folder: str) -> "list[list[str]]":
     log = os.path.join(folder, "kept")
     os.makedirs(log, exist_ok=True)
     spoiled_file(draw, log, "log", draw.choice((profile, draw.randbytes(500))))
-    return [["check_sheet", b, a], ["draw_waste", a], ["merge_profiles", a, c], ["report", a, b], ["scudo_classes", b], ["pools", c],
-            ["scudo_classes", "--config", b], ["tune_program", "--output", os.path.join(folder, "tuned"), "--read", c], ["fleet_profiles", d],
-            ["find_faults", "--read", log]]
+    every = [["check_sheet", b, a], ["draw_waste", a], ["merge_profiles", a, c], ["report", a, b], ["scudo_classes", b], ["pools", c],
+             ["scudo_classes", "--config", b], ["tune_program", "--output", os.path.join(folder, "tuned"), "--read", c], ["fleet_profiles", d],
+             ["find_faults", "--read", log]]
+    return [words for words in every if not checks.without(f"scripts/{words[0]}")]
 
 
 def expect_end(seed: str, words: "list[str]", ends: "tuple[int, ...]", done: "tuple[int, bytes, bytes]") -> None:

@@ -29,6 +29,7 @@ import unittest
 from collections.abc import Callable
 from typing import Optional
 
+import parts_alone
 from mte_scripts.places import ROOT
 
 SHOWN = 900  # characters of each thing that was seen
@@ -93,19 +94,28 @@ def skip(text: str) -> bool:
     return True
 
 
+def is_missing(tool: str) -> bool:
+    """Whether a command is missing, or a path of the repository that belongs to a part which this copy is without (parts_alone.py)."""
+    if "/" not in tool:
+        return not shutil.which(tool)
+    if not (is_gone := parts_alone.is_gone(tool)) and not os.path.exists(os.path.join(ROOT, tool)):
+        raise FileNotFoundError(f"the repository has no {tool}")
+    return is_gone
+
+
 def without(tools: str) -> str:
-    """Which of these commands are missing, as words; empty if none is."""
-    missing = [tool for tool in tools.split() if not shutil.which(tool)]
+    """Which of these commands, or paths of parts that stand alone, are missing, as words; empty if none is."""
+    missing = [tool for tool in tools.split() if is_missing(tool)]
     return f"without {' and '.join(missing)}" if missing else ""
 
 
 def skipped(tools: str, what: str) -> bool:
-    """Whether one of these commands is missing; then it says what is not tested."""
+    """Whether one of these is missing (see `without`); then it says what is not tested."""
     return bool(without(tools)) and skip(f"{without(tools)}: {what}")
 
 
 def need(tools: str, what: str) -> None:
-    """Ends a test, or all of a class, where one of these commands is missing."""
+    """Ends a test, or all of a class, where one of these is missing (see `without`)."""
     if without(tools):
         raise unittest.SkipTest(f"{without(tools)}: {what}")
 
@@ -120,9 +130,10 @@ def built() -> str:
 def with_heap() -> str:
     """The program that is tested, where the library is there too that find_faults asks. It is built where no crate below it has to be proved
     for that."""
+    from mte_scripts import running
     from mte_scripts.builds import static_libraries
-    from mte_scripts.faults import heap_reader
 
+    heap_reader = running.part("faults.heap_reader")
     if not os.environ.get("MTE_LIBRARY"):
         before = os.environ.get("MTE_TOOL_BUILD", "")
         if static_libraries.is_cheap("mte_c"):

@@ -10,9 +10,8 @@ import shutil
 from pathlib import Path
 from typing import NamedTuple
 
-from mte_scripts import helps, manifest, texts
+from mte_scripts import helps, manifest, running, texts
 from mte_scripts.builds import library, web_page
-from mte_scripts.faults import heap_reader
 from mte_scripts.packaging import completions, library_page, manual
 from mte_scripts.packaging.tree import Tree, run, source, tracked
 from mte_scripts.recording.recording import ENDINGS, FLAGS
@@ -103,6 +102,8 @@ def modules_of_commands() -> "list[str]":
                 module, names = node.module, [each.name for each in node.names]
             elif isinstance(node, ast.Call) and ast.unparse(node.func) == "running.run" and len(node.args) > 1:
                 module = f"mte_scripts.{ast.literal_eval(node.args[1]).rpartition('.')[0]}"
+            elif isinstance(node, ast.Call) and ast.unparse(node.func) == "running.part":
+                module = f"mte_scripts.{ast.literal_eval(node.args[0])}"
             if module.split(".")[0] == "mte_scripts":
                 place = f"scripts/{module.replace('.', '/')}"
                 files = {f"{place}.py", f"{place}/__init__.py", "scripts/mte_scripts/__init__.py", *(f"{place}/{name}.py" for name in names)}
@@ -112,9 +113,16 @@ def modules_of_commands() -> "list[str]":
     return sorted(found)
 
 
+def beside(modules: "list[str]") -> "list[str]":
+    """What is no Python in the folders of these modules."""
+    folders = {os.path.dirname(name) for name in modules}
+    return [name for name in tracked("scripts/mte_scripts") if os.path.dirname(name) in folders and not name.endswith(".py")]
+
+
 def put_scripts(tree: Tree) -> None:
     """The scripts with what they use. Each is called by a name of its own."""
-    for name in [*modules_of_commands(), *tracked("scripts/shims"), "scripts/mte_scripts/faults/recipe.sh"]:
+    modules = modules_of_commands()
+    for name in [*modules, *beside(modules), *tracked("scripts/shims")]:
         tree.copy(source(name), f"{PRIVATE}/{name}")
     for name in ["mte_tool", *COMMANDS]:
         first, rest = Path(source(f"scripts/{name}")).read_text(encoding="utf-8").split("\n", 1)
@@ -141,8 +149,13 @@ def put_recorders(tree: Tree) -> "str | None":
     return None
 
 
-def put_reader(tree: Tree, folder: str) -> "str | None":
+def put_reader(tree: Tree, folder: "str | None") -> "str | None":
     """The program by which find_faults asks the heap, compiled with the library that scripts/library laid out."""
+    heap_reader = running.part("faults.heap_reader")
+    if heap_reader is None:
+        return None  # there is no find_faults
+    if not folder:
+        return "the reader of find_faults, which asks the heap of the library"
     compiler = os.environ.get("CC", "cc")
     if not shutil.which(compiler):
         return f"the reader of find_faults: the C compiler {compiler} is missing"
@@ -303,11 +316,7 @@ def stage(folder: str, parts: Parts) -> Tree:
     tree = Tree(folder)
     put_program(tree, parts)
     put_scripts(tree)
-    if parts.library:
-        reader = put_reader(tree, parts.library)
-    else:
-        reader = "the reader of find_faults, which asks the heap of the library"
-    for missing in filter(None, (put_recorders(tree), reader)):
+    for missing in filter(None, (put_recorders(tree), put_reader(tree, parts.library))):
         texts.say("package", f"left out: {missing}")
         parts.left_out.append(missing)
     if parts.library:

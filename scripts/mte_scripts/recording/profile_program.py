@@ -9,16 +9,17 @@ import stat
 import struct
 import time
 
-from mte_scripts import private_folder, texts
+from mte_scripts import private_folder, running, texts
 from mte_scripts.private_folder import NotPrivate
 from mte_scripts.recording import SNAPSHOTS, TABLES, WINDOWS, recording, timelines
-from mte_scripts.recording.imports import found, importing
 from mte_scripts.recording.notes import Notes, Texts
 from mte_scripts.running import Refused
 from mte_scripts.texts import MOST_SNAPSHOTS
 from mte_scripts.words import ProgramWords, between, named, some
 
 USUAL_WINDOWS = 64
+importing = running.part("recording.imports.importing")
+FORMATS = importing.HELP if importing else "  none: what reads them, scripts/mte_scripts/recording/imports, is not here"
 
 HELP = f"""\
 Run a program, and print how often it requested each size: a profile, the input of `mte_tool tune`.
@@ -104,7 +105,7 @@ STREAM is a new file in /run or /dev/shm, where it takes 1 MB for each process; 
 set to the path that --library DIR prints, and MTE_STREAM to STREAM's. Meanwhile --read STREAM prints what is there.
 
 --import takes these formats, packed by gzip or zstd or not:
-{importing.HELP}
+{FORMATS}
 Without an option all requests are counted, where the file has them; with --live the blocks that were live: at the peak in files of
 heaptrack and DHAT, in others when the file was written. heaptrack alone has the order of requests and frees, for --timeline and
 --history. Where a file has only the sum of several blocks, each counts at their average; where it has only size classes, at the
@@ -137,7 +138,7 @@ class Options(argparse.Namespace):
         kinds: dict = {"history": {"type": between(1, SNAPSHOTS), "nargs": "?", "const": 32}, "live": {"action": "store_const", "const": "--live"}}
         kinds["windows"] = {"type": between(1, WINDOWS), "nargs": "?", "const": USUAL_WINDOWS}
         kinds["classes"] = {"action": "append", "type": some, "default": []}
-        ProgramWords(HELP, as_=named(*importing.NAMES), **kinds).take(words, into=self)
+        ProgramWords(HELP, as_=named(*importing.NAMES) if importing else some, **kinds).take(words, into=self)
         written = [(f"--{name}", getattr(self, name)) for name in ("follow", "said", "measured", "peak", "upper", "stacks", "processes")]
         texts.refuse_over(written, [self.import_, self.again, self.read, *self.classes], [*self.words, *["-"] * bool(self.words)])
         self.tables = [texts.class_line(path) for path in self.classes]
@@ -198,35 +199,35 @@ class Options(argparse.Namespace):
 def moments_in(path: str) -> "list[int]":
     """The moments that a file of --measured names."""
     lines = texts.read(path).decode(errors="replace").splitlines()
-    found_ = [line.removeprefix("moment ") for line in lines if line.startswith("moment ")]
-    if not 0 < len(found_) <= MOST_SNAPSHOTS or not all(re.fullmatch("[1-9][0-9]{0,17}", each) for each in found_):
+    found = [line.removeprefix("moment ") for line in lines if line.startswith("moment ")]
+    if not 0 < len(found) <= MOST_SNAPSHOTS or not all(re.fullmatch("[1-9][0-9]{0,17}", each) for each in found):
         raise Refused(2, f"{texts.named(path)} does not name 1 to {MOST_SNAPSHOTS:,} moments: --measured of --windows does")
-    return sorted({int(each) for each in found_})
+    return sorted({int(each) for each in found})
 
 
 # ---- what was found
 
-def print_found(options: Options, speaker: recording.Speaker, notes: Notes, found_: Texts) -> bool:
+def print_found(options: Options, speaker: recording.Speaker, notes: Notes, found: Texts) -> bool:
     """Prints what was counted. False where that is nothing."""
-    write_beside(options.measured, "".join(f"{line}\n" for line in measured(options, notes, found_.moments)))
+    write_beside(options.measured, "".join(f"{line}\n" for line in measured(options, notes, found.moments)))
     if notes.is_cut:
         instead = f"a history of {notes.snapshots} of its moments is made in its place"
         speaker.say(f"the timeline of {notes.events:,} events would have more than {timelines.MOST_TEXT:,} bytes: {instead}")
-    profile = texts.profile_text(texts.parse_profile(found_.profile, "the profile"))  # its counts may be above what a text may have
-    if found_.wanted:
-        recording.write("the history" if notes.snapshots else "the timeline", found_.wanted)
+    profile = texts.profile_text(texts.parse_profile(found.profile, "the profile"))  # its counts may be above what a text may have
+    if found.wanted:
+        recording.write("the history" if notes.snapshots else "the timeline", found.wanted)
         write_beside(options.peak, profile)
     elif profile:
         recording.write("the profile", profile)
-    if found_.upper:
-        write_beside(options.upper, found_.upper)
-    return bool(found_.wanted or profile)
+    if found.upper:
+        write_beside(options.upper, found.upper)
+    return bool(found.wanted or profile)
 
 
 def measured(options: Options, notes: Notes, moments: bytes) -> "list[str]":
     """What was measured of the run. The footprints are counted where there is a history."""
-    found_ = {"large": notes.large, "resident": notes.resident, "events": notes.events}
-    lines = [f"{name} {value}" for name, value in found_.items() if value]
+    found = {"large": notes.large, "resident": notes.resident, "events": notes.events}
+    lines = [f"{name} {value}" for name, value in found.items() if value]
     taken = notes.taken[: len(options.tables)] if notes.snapshots else []
     return [*lines, *(f"footprint {'none' if each < 0 else each}" for each in taken), *(f"moment {each}" for each in moments.decode().split())]
 
@@ -248,12 +249,12 @@ def say_uncounted(speaker: recording.Speaker, notes: Notes, live: str, program: 
         speaker.say(f"{live} counted one process. Others requested too, and are not counted {others}: {remedy}")
 
 
-def print_run(options: Options, speaker: recording.Speaker, notes: Notes, found_: Texts, program: str) -> bool:
+def print_run(options: Options, speaker: recording.Speaker, notes: Notes, found: Texts, program: str) -> bool:
     """Prints what was counted, and says what that is not of. False where nothing was."""
     recording.refuse_spoiled(notes, program)
     say_uncounted(speaker, notes, options.live or "--live", program)
     recording.say_lost(speaker, notes)
-    return print_found(options, speaker, notes, found_)
+    return print_found(options, speaker, notes, found)
 
 
 # ---- a service
@@ -317,7 +318,9 @@ def import_file(options: Options, speaker: recording.Speaker) -> int:
         if print_found(options, speaker, *of_reader):
             return 0
         raise Refused(3, f"{texts.named(options.import_)}: it counts nothing")
-    wanted = options.live.removeprefix("--") if options.live else found.ALL
+    if not importing:
+        raise Refused(3, f"{options.import_} can't be read: the files of other tools want scripts/mte_scripts/recording/imports, which is not here")
+    wanted = options.live.removeprefix("--") if options.live else importing.found.ALL
     got = importing.imported(options.import_, options.as_, wanted, options.history)
     for line in got.told:
         speaker.say(line)
@@ -388,14 +391,14 @@ def say_left(speaker: recording.Speaker, options: Options, notes: Notes) -> None
 def run_program(options: Options, speaker: recording.Speaker, path: str, work: private_folder.Folder) -> int:
     program = options.words[0]
     with recording.Run(speaker, work, options.wanted(), options.only, options.table_words(), bool(options.stacks)) as run:
-        notes, found_ = run.run(options.words, path), run.found.texts()
-        write_beside(options.stacks, found_.sites)
+        notes, found = run.run(options.words, path), run.found.texts()
+        write_beside(options.stacks, found.sites)
         write_beside(options.processes, "".join(f"{line}\n" for line in notes.programs()))
         if notes.left:
             say_left(speaker, options, notes)
             run.library.keep()
         whose = options.only or program
-        if not print_run(options, speaker, notes, found_, whose):
+        if not print_run(options, speaker, notes, found, whose):
             recording.refuse_nothing(whose, notes, "counted")
         if notes.untouched:
             last = f"the last one in {notes.allocator}"

@@ -5,10 +5,9 @@ import os
 from collections.abc import Callable
 from typing import Any
 
-from mte_scripts import private_folder, texts
+from mte_scripts import private_folder, running, texts
 from mte_scripts.builds import web_page
 from mte_scripts.recording import sites, timelines
-from mte_scripts.recording.imports import heaptrack_stacks
 from mte_scripts.reports import report_page, who_section
 from mte_scripts.reports.pictures import escape
 from mte_scripts.tables import draw_waste, figures, long_runs, processes, scudo_map, summary, who
@@ -172,8 +171,8 @@ def read_given(options: Options) -> "dict[str, str | bytes]":
 def tune(words: list[str]) -> int:
     options = Options(words)
     others = figures.other_tables(options.against)
-    record = heaptrack_stacks.read(options.read) if options.who and options.read is not None else None
-    given = read_stacks(options, record) if record else None if options.read is None or is_long(options) else read_given(options)
+    run = recorded_stacks(options.read) if options.who and options.read is not None else None
+    given = read_stacks(options, run) if run else None if options.read is None or is_long(options) else read_given(options)
     scudo = None
     if options.verify is not None:
         from mte_scripts.tables import hardening  # it takes its time, which other runs are spared
@@ -183,7 +182,7 @@ def tune(words: list[str]) -> int:
         need_program(options)
     folder = Folder(options.output or options.name() + ".tuned")
     with private_folder.temporary_folder() as work:
-        return tuned_in(options, folder, others, given, scudo, work, record and who.of_heaptrack(record))
+        return tuned_in(options, folder, others, given, scudo, work, run)
 
 
 def need_program(options: Options) -> None:
@@ -252,9 +251,17 @@ def count(options: Options, folder: Folder, runs: long_runs.Runs, others: list) 
     return recorded, who.of_sites(sites.parsed(stacks))
 
 
-def read_stacks(options: Options, record: heaptrack_stacks.Record) -> "dict[str, str | bytes]":
-    """The files of heaptrack's record."""
-    text = who.timeline_of(who.of_heaptrack(record), {})
+def recorded_stacks(path: str) -> who.Run:
+    """The run of a record of heaptrack."""
+    if not (heaptrack_stacks := running.part("recording.imports.heaptrack_stacks")):
+        raise texts.Refused(3, "--who with --read wants scripts/mte_scripts/recording/imports, which is not here: run the program itself")
+    record = heaptrack_stacks.read(path)
+    return who.Run(record.events, record.sizes, record.stacks)
+
+
+def read_stacks(options: Options, run: who.Run) -> "dict[str, str | bytes]":
+    """The files of a record with stacks."""
+    text = who.timeline_of(run, {})
     options.agree_on(text)
     peak = timelines.history_at(text, [timelines.peak_of(text)[1]])
     return {"program.profile": texts.profile_text({size: counts[0] for size, counts in peak.counts.items()}), "program.timeline": text}

@@ -12,7 +12,6 @@ from typing import NamedTuple, Optional
 from mte_scripts import claims, texts
 from mte_scripts.recording import timelines
 from mte_scripts.recording.calls import Frame, Names
-from mte_scripts.recording.imports import heaptrack_stacks
 from mte_scripts.recording.sites import Sites
 from mte_scripts.reports import flames
 from mte_scripts.tables import figures
@@ -49,10 +48,6 @@ def of_sites(record: Sites) -> Run:
         return {site: tuple(frame for each in stack for frame in names.frames[each]) for site, stack in stacks.items()}
 
     return Run(record.events, record.sizes, frames, names.unsure)
-
-
-def of_heaptrack(record: heaptrack_stacks.Record) -> Run:
-    return Run(record.events, record.sizes, lambda sites: {site: tuple(record.frames(site)) for site in sites})
 
 
 def timeline_of(run: Run, letters: "dict[int, bytes]") -> bytes:

@@ -2,6 +2,7 @@
 a stack."""
 
 from array import array
+from collections.abc import Iterable
 from typing import NamedTuple
 
 from mte_scripts import texts
@@ -28,6 +29,9 @@ class Record(NamedTuple):
             place, trace = self.parents[trace]
             found += self.places[place]
         return found
+
+    def stacks(self, sites: Iterable[int]) -> dict[int, tuple[Frame, ...]]:
+        return {site: tuple(self.frames(site)) for site in sites}
 
 
 class Lines(dict):
