@@ -103,7 +103,8 @@ def modules_of_commands() -> "list[str]":
             elif isinstance(node, ast.Call) and ast.unparse(node.func) == "running.run" and len(node.args) > 1:
                 module = f"mte_scripts.{ast.literal_eval(node.args[1]).rpartition('.')[0]}"
             elif isinstance(node, ast.Call) and ast.unparse(node.func) == "running.part":
-                module = f"mte_scripts.{ast.literal_eval(node.args[0])}"
+                module, _, name = f"mte_scripts.{ast.literal_eval(node.args[0])}".rpartition(".")
+                names = [name]
             if module.split(".")[0] == "mte_scripts":
                 place = f"scripts/{module.replace('.', '/')}"
                 files = {f"{place}.py", f"{place}/__init__.py", "scripts/mte_scripts/__init__.py", *(f"{place}/{name}.py" for name in names)}

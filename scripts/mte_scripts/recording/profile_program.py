@@ -19,7 +19,7 @@ from mte_scripts.words import ProgramWords, between, named, some
 
 USUAL_WINDOWS = 64
 importing = running.part("recording.imports.importing")
-FORMATS = importing.HELP if importing else "  none: what reads them, scripts/mte_scripts/recording/imports, is not here"
+FORMATS = importing.HELP if importing else "  none: what reads them is not here"
 
 HELP = f"""\
 Run a program, and print how often it requested each size: a profile, the input of `mte_tool tune`.
