@@ -1,5 +1,5 @@
 -- What a source and a sink show of themselves.
-use Rattle.std.specs.Prelude.{ℕ, zero, suc, Bool, List, Option, Some, None}
+use Rattle.std.specs.Prelude.{◌≡◌, ℕ, zero, suc, Bool, List, Option, Some, None, Result, IfOk, IsErr}
 use Rattle.byte_streams.specs.declared.history.History.{History}
 
 pub record SourceState : Type 0 where
@@ -28,3 +28,9 @@ abbrev pub one_call_fewer : Option ℕ → Option ℕ
 one_call_fewer None = None
 one_call_fewer (Some zero) = None
 one_call_fewer (Some (suc n)) = Some n
+
+-- A call of a stream over memory fails where it is set to, with one call fewer until then; one that does not fail moves exactly so many bytes.
+pub record MovesInMemory {E : Type 0} (until until' : Option ℕ) (bytes : ℕ) (result : Result ℕ E) : Type 0 where
+  pub failing : until ≡ Some 0 → IsErr result
+  pub next : until' ≡ one_call_fewer until
+  pub moved : IfOk result (λ n. n ≡ bytes)

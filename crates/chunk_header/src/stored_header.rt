@@ -7,7 +7,7 @@ ghost use Rattle.std.specs.Prelude.{◌≡◌, ◌↔◌, ◌<◌, ◌^◌, leng
 
 use crate::header::Header;
 use crate::words::{
-    class_of, first_word, freed_with_next, header_of, next_of, quarantined, with_next_in,
+    class_of, first_word, header_of, next_of, with_next_in, word_of_freed, word_of_quarantined,
 };
 use class_table::MOST_CLASSES;
 use granule_memory::Memory;
@@ -66,7 +66,7 @@ pub fn set_freed(memory: &mut Memory, granule: u32, next: u32)
     ensures { let before = header_at memory.old granule in
         WritesHeader memory.old memory.new granule 8 (record before { standing = Freed; next = next }) }
 {
-    let word = freed_with_next(memory.word(granule, 0), next);
+    let word = word_of_freed(memory.word(granule, 0), next);
     memory.set_word(granule, 0, word);
 }
 
@@ -79,7 +79,7 @@ pub fn set_quarantined(memory: &mut Memory, granule: u32, mark: u64)
         WritesHeader memory.old memory.new granule GRANULE_BYTES
         (record before { standing = Quarantined; next = 0; mark = mark }) }
 {
-    let word = quarantined(memory.word(granule, 0));
+    let word = word_of_quarantined(memory.word(granule, 0));
     memory.set_word(granule, 0, word);
     memory.set_word(granule, 1, mark);
 }

@@ -83,7 +83,7 @@ pub(crate) fn with_next_in(first: u64, next: u32) -> u64
 }
 
 /// The first word with the state `Freed`, whose code has both bits set, and with this link.
-pub(crate) fn freed_with_next(first: u64, next: u32) -> u64
+pub(crate) fn word_of_freed(first: u64, next: u32) -> u64
     ensures { (second : ℕ) → result ≡ first_word (record (header_of first second) { standing = Freed; next = next }) }
 {
     ((first & BELOW_NEXT_MASK) >> SIZE_SHIFT << SIZE_SHIFT)
@@ -92,7 +92,7 @@ pub(crate) fn freed_with_next(first: u64, next: u32) -> u64
 }
 
 /// The first word with the state `Quarantined` and the link 0.
-pub(crate) fn quarantined(first: u64) -> u64
+pub(crate) fn word_of_quarantined(first: u64) -> u64
     ensures { (second : ℕ)
         → result ≡ first_word (record (header_of first second) { standing = Quarantined; next = 0 }) }
 {

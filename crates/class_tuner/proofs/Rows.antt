@@ -2,7 +2,7 @@
 use Rattle.std.proofs.Common.{◌≡◌, ℕ, zero, suc, ◌-◌, ◌<◌, ◌≤◌, List, [], ◌∷◌, ◌++◌, length, slice_index, arith, ap, subst, ◌∙◌}
 use Rattle.std.proofs.{Common.{Vec, slice_index_or}, lemmas.Grind.{common_steps}}
 use Rattle.std.{proofs.lemmas.List.{get_or_append_left, get_or_past}, specs.declared.alloc.Global.{Global}}
-use Rattle.class_tuner.specs.{Filling.{IsFilledWithin, IsFirstRow, IsLeastAt, IsNextRow}, declared.filling.Row.{Row}}
+use Rattle.class_tuner.specs.{Filling.{IsFilledWithin, IsFirstRow, IsLeastAt, IsNextRow}, declared.row_filling.Row.{Row}}
 use Rattle.tuner_theory.{proofs.Lists.{lists-length, row-read_at}, proofs.Sheets.{rows-end}, specs.Lists.{lists_of}}
 use Rattle.tuner_theory.specs.Rows.{HasShape, IsFilled, number_at}
 

@@ -1,6 +1,6 @@
 -- Rows that are filled in part, place by place.
 use Rattle.std.specs.{Prelude.{◌≡◌, ℕ, ◌+◌, ◌^◌, ◌<◌, ◌≤◌, ◌⊎◌, List, length, slice_index}, declared.ops.Range.{Range}}
-use Rattle.class_tuner.specs.declared.{filling.Row.{Row}, halving.Window.{Window}}
+use Rattle.class_tuner.specs.declared.{row_filling.Row.{Row}, halving.Window.{Window}}
 use Rattle.tuner_theory.specs.Rows.{IsLeastEnd}
 use Rattle.class_table.specs.declared.sizes.TheConstants.{MOST_NEEDS}
 

@@ -5,17 +5,17 @@
 
 mod cost_source;
 mod costs;
-mod filling;
 mod fits;
 mod halving;
 pub mod laws;
-mod made;
 mod read_off;
+mod row_filling;
+mod tuner_result;
 mod tuning;
 
 pub use cost_source::CostSource;
 pub use costs::Costs;
-pub use filling::{Filled, fill_rows};
-pub use fits::{Fitted, FittedOver, Found, MOST_ROUNDS, fill_places, fit, fit_over};
-pub use made::Made;
-pub use tuning::{Tuned, tune};
+pub use fits::{FitOutcome, FitResult, MOST_ROUNDS, TimelineFitResult, fill_places, fit, fit_over};
+pub use row_filling::{FilledRows, fill_rows};
+pub use tuner_result::TunerResult;
+pub use tuning::{TuneResult, tune};

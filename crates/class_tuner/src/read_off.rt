@@ -7,7 +7,7 @@ ghost use Rattle.tuner_theory.specs.Rows.{AreLaterEnds, number_at};
 ghost use Rattle.tuner_theory.specs.Spans.{places};
 ghost use Rattle.tuner_theory.specs.Tuned.{tuned_table};
 
-use crate::filling::Filled;
+use crate::row_filling::FilledRows;
 use arrayvec::ArrayVec;
 use class_table::{ClassTable, MOST_CLASSES};
 use potential_check::{Certificate, Rows, Spans};
@@ -17,7 +17,7 @@ use std::marker::PhantomData;
 /// `forced` is whether the largest class is.
 pub(crate) fn certificate_of_rows<C>(
     spans: &Spans<'_>,
-    filled: Filled,
+    filled: FilledRows,
     limit: u8,
     forced: bool,
 ) -> Certificate<C>

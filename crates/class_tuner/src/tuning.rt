@@ -8,16 +8,16 @@ ghost use Rattle.class_table.specs.Steps.{IsStep};
 
 use crate::cost_source::CostSource;
 use crate::costs::Costs;
-use crate::filling::fill_rows;
-use crate::made::Made;
 use crate::read_off::certificate_of_rows;
+use crate::row_filling::fill_rows;
+use crate::tuner_result::TunerResult;
 use class_table::MOST_CLASSES;
 use potential_check::{OfWaste, Spans};
 use profile_count::Profile;
 use std::alloc::{AllocError, Global};
 
 /// The result of `tune`.
-pub type Tuned = Made<OfWaste>;
+pub type TuneResult = TunerResult<OfWaste>;
 
 /// The class table of least waste for a profile, of at most `limit` (1 to 32) classes that are multiples of `step` (1, 2, 4 or 8 granules),
 /// with its certificate. If `forced`, it is one of those that have the largest class, and so serve each size that any table can. Of the best
@@ -28,7 +28,7 @@ pub fn tune(
     limit: u8,
     step: u8,
     forced: bool,
-) -> Result<Tuned, AllocError>
+) -> Result<TuneResult, AllocError>
     requires some { 1 ≤ limit }
     requires few { limit ≤ MOST_CLASSES }
     requires step { IsStep step }
@@ -55,7 +55,7 @@ fn tune_over(
     limit: u8,
     step: u8,
     forced: bool,
-) -> Result<Tuned, AllocError>
+) -> Result<TuneResult, AllocError>
     requires some { 1 ≤ limit }
     requires few { limit ≤ MOST_CLASSES }
     requires step { IsStep step }
@@ -70,5 +70,5 @@ fn tune_over(
     let filled = fill_rows(alloc, &mut costs, limit)?;
     let evaluations = costs.calls();
     let sheet = certificate_of_rows(costs.spans(), filled, limit, forced);
-    Ok(Made::new(sheet, evaluations))
+    Ok(TunerResult::new(sheet, evaluations))
 }

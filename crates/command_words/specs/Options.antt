@@ -1,5 +1,6 @@
 -- The options: how clap reads one, and what it is that words give those of a command their numbers.
-use Rattle.std.specs.Prelude.{◌≡◌, ℕ, All, List, [], ◌∷◌, Option, Some, None, Result, Ok, Err, fold, option_map, pos, true, false}
+use Rattle.std.specs.Prelude.{◌≡◌, ◌==◌, if◌then◌else◌, ℕ, All, List, [], ◌∷◌, Option, Some, None, Result, Ok, Err, codes, fold, option_map, pos}
+use Rattle.std.specs.Prelude.{true, false}
 use Rattle.std.specs.Str.Parse.{IsNumeral, without_leading_plus, digits_value}
 use Rattle.clap.specs.{Words.{App, Row, Rule, Text, new_rule, one_of, rule_of, with_rule}, declared.builder.arg.Arg.{Arg}}
 use Rattle.clap.specs.declared.builder.value_parser.ValueParser.TheVariants.{Signed}
@@ -10,12 +11,20 @@ use Rattle.tool_call.specs.declared.{call.CommandName.{CommandName}, options.Opt
 -- ---- for clap
 
 -- The option for clap: its value is a number within the bounds.
-abbrev pub number_rule : OptionFacts → Rule
-number_rule it = record (new_rule it.name) {
+abbrev pub bounded_rule : OptionFacts → Rule
+bounded_rule it = record (new_rule it.name) {
   long = Some it.name;
   value_names = 1;
   parser = Some (Signed (pos it.least) (pos it.most));
 }
+
+-- It may stand without its value, which is 1 then.
+abbrev pub without_number : Rule → Rule
+without_number rule = record rule { range = Some (record { start_inclusive = 0; end_inclusive = 1 }); missing = codes "1" ∷ [] }
+
+-- An option of 0 or 1 may do so.
+abbrev pub number_rule : OptionFacts → Rule
+number_rule it = if it.most == 1 then without_number (bounded_rule it) else bounded_rule it
 
 abbrev pub with_default : Option Text → Rule → Rule
 with_default None rule = record rule { required = true }

@@ -2,7 +2,7 @@
 ghost use Rattle.std.specs.Prelude.{◌≡◌, ℕ, ◌<◌, ◌^◌, MatchOption};
 ghost use Rattle.clap.specs.Words.{found_of, rows_of};
 ghost use Rattle.command_words.specs.Options.{AreRead, Has, HasNumber, IsOption, IsRead};
-ghost use Rattle.command_words.specs.Options.{facts_of, number_rule, option_rule};
+ghost use Rattle.command_words.specs.Options.{bounded_rule, facts_of, number_rule, option_rule};
 
 use crate::option_table::number_option;
 use crate::refusal::OptionFault;
@@ -69,10 +69,23 @@ impl NumberOption {
         }
     }
 
-    // an option for clap, which refuses numbers outside the bounds
+    // an option for clap; one of 0 or 1 may stand without its number, and is 1 then
     #[inline(always)]
     fn number_arg<'a>(&self, alloc: Global) -> Arg<'a>
         ensures { IsOption result (number_rule (facts_of self.now)) }
+    {
+        let option = self.bounded_arg(alloc);
+        if self.most == 1 {
+            option.num_args(0..=1).default_missing_value("1")
+        } else {
+            option
+        }
+    }
+
+    // an option for clap, which refuses numbers outside the bounds
+    #[inline(always)]
+    fn bounded_arg<'a>(&self, alloc: Global) -> Arg<'a>
+        ensures { IsOption result (bounded_rule (facts_of self.now)) }
     {
         Arg::new(alloc, self.name)
             .long(self.name)

@@ -2,8 +2,8 @@
 use mathlib.Core.Path.{refl}
 use Rattle.handed_text.proofs.LawLemmas.Handles.{HandleOf}
 use Rattle.handed_text.specs.contracts.handle.Handle as Handle
-use Rattle.handed_text.specs.contracts.held.Held as Held
-use Rattle.handed_text.proofs.held.Held.TheLaws as held
+use Rattle.handed_text.specs.contracts.held_text.HeldText as Held
+use Rattle.handed_text.proofs.held_text.HeldText.TheLaws as held
 
 abbrev pub K : HandleOf
 K = record {

@@ -1,15 +1,15 @@
 -- The bytes of a text that C holds, and whether they are an answer.
 use Rattle.std.specs.Prelude.{◌≡◌, ◌⊎◌, ℕ, Bool, true, false, List, ◌++◌, [], Option, Some, None, take, drop, length}
-use Rattle.handed_text.specs.declared.{held.Held.{Held}, text.HandedText.{HandedText}}
+use Rattle.handed_text.specs.declared.{held_text.HeldText.{HeldText}, text.HandedText.{HandedText}}
 
-abbrev pub held_bytes : Option Held → List ℕ
+abbrev pub held_bytes : Option HeldText → List ℕ
 held_bytes None = []
 held_bytes (Some held) = held.text.items
 
 abbrev pub bytes_of : HandedText → List ℕ
 bytes_of text = held_bytes text.handle.held
 
-abbrev pub is_held_answer : Option Held → Bool
+abbrev pub is_held_answer : Option HeldText → Bool
 is_held_answer None = false
 is_held_answer (Some held) = held.is_answer
 

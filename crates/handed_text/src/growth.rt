@@ -1,12 +1,12 @@
 //! Growths of memory, and the witness of one that was refused.
 ghost use Rattle.std.specs.Prelude.{◌≡◌, ◌+◌, ◌≤◌, ℕ, IfErr, IfOk, OnOk, vec_capacity, vec_len};
 
-use crate::held::Held;
+use crate::held_text::HeldText;
 use std::alloc::{AllocError, Global};
 use std::marker::Model;
 use std::mem::size_of;
 
-/// The bytes of a block for a `Held`.
+/// The bytes of a block for a `HeldText`.
 pub const HELD_BYTES: usize = 32;
 
 /// A growth that the allocator refused. Contracts see it as the number of bytes that it asked for. No contract says when an allocator
@@ -42,14 +42,14 @@ pub(crate) fn reserve(text: &mut Vec<u8>, more: usize) -> Result<(), OutOfMemory
 }
 
 /// A block with this value.
-pub(crate) fn boxed(alloc: Global, held: Held) -> Result<Box<Held>, OutOfMemory>
+pub(crate) fn box_text(alloc: Global, held: HeldText) -> Result<Box<HeldText>, OutOfMemory>
     ensures value { IfOk result (λ block. block.value ≡ held) }
     ensures asked { IfErr result (λ bytes. bytes ≡ HELD_BYTES) }
 {
     match Box::new(alloc, held) {
         Ok(block) => Ok(block),
         Err(_) => Err(OutOfMemory {
-            bytes: size_of::<Held>(),
+            bytes: size_of::<HeldText>(),
         }),
     }
 }

@@ -8,7 +8,7 @@ mod ends;
 mod filling;
 mod growth;
 mod handle;
-mod held;
+mod held_text;
 pub mod laws;
 mod parts;
 mod text;

@@ -3,9 +3,9 @@ ghost use Rattle.std.specs.Prelude.{◌≡◌, ◌++◌, ◌<◌, IfErr, OnErr, 
 ghost use Rattle.std.specs.Option.{ForNone, ForSome};
 
 use crate::filling::fill;
-use crate::growth::{OutOfMemory, boxed, reserve};
+use crate::growth::{OutOfMemory, box_text, reserve};
 use crate::handle::Handle;
-use crate::held::Held;
+use crate::held_text::HeldText;
 use crate::parts::BoxParts;
 use std::alloc::Global;
 
@@ -58,7 +58,7 @@ impl HandedText {
         if self.length == 0 {
             return Vec::new(alloc);
         }
-        let Held { text, is_answer: _ } = Box::into_inner(self.open(alloc));
+        let HeldText { text, is_answer: _ } = Box::into_inner(self.open(alloc));
         text
     }
 
@@ -71,11 +71,11 @@ impl HandedText {
     {
         self.clear(alloc);
         if !text.is_empty() {
-            let answer = Held {
+            let answer = HeldText {
                 text,
                 is_answer: true,
             };
-            self.close(boxed(alloc, answer)?);
+            self.close(box_text(alloc, answer)?);
         }
         Ok(())
     }
@@ -132,17 +132,17 @@ impl HandedText {
         ensures input { is_answer_of self.new ≡ false }
     {
         if !text.is_empty() {
-            let held = Held {
+            let held = HeldText {
                 text,
                 is_answer: false,
             };
-            self.close(boxed(alloc, held)?);
+            self.close(box_text(alloc, held)?);
         }
         Ok(())
     }
 
     // the box of a text that is not empty; the empty text is left
-    fn open(&mut self, alloc: Global) -> Box<Held>
+    fn open(&mut self, alloc: Global) -> Box<HeldText>
         requires { 0 < self.old.length }
         ensures bytes { result.value.text.items ≡ bytes_of self.old }
         ensures answer { result.value.is_answer ≡ is_answer_of self.old }
@@ -154,7 +154,7 @@ impl HandedText {
     }
 
     // puts a box into the empty text
-    fn close(&mut self, held: Box<Held>)
+    fn close(&mut self, held: Box<HeldText>)
         requires empty { self.old.handle.held ≡ None }
         requires some { 0 < vec_len held.value.text }
         ensures bytes { bytes_of self.new ≡ held.value.text.items }

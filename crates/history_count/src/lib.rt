@@ -7,20 +7,20 @@ mod counted_lines;
 mod fault;
 mod footprint;
 mod history;
+mod history_reading;
 pub mod laws;
 mod line;
 mod line_sink;
 mod of_rows;
-mod reading;
 mod timelines;
 
 pub use class_sums::TableFootprint;
 pub use fault::{HistoryError, HistoryFault};
 pub use footprint::{blocks_between, line_from};
 pub use history::{History, Lines};
-pub use reading::footprint_of_text;
+pub use history_reading::footprint_of_text;
 pub use timelines::{
-    Footprint, Measured, TIMELINE, TablePeaks, Timeline, TimelineError, TimelineFault,
+    Footprint, MeasuredTable, TIMELINE, TablePeaks, Timeline, TimelineError, TimelineFault,
     TimelineIndex, TimelineReader, measure_over, table_peaks,
 };
 pub use tuner_theory::MOST_SNAPSHOTS;

@@ -88,7 +88,7 @@ fn row_entry(next: u32, size: u64, counts: &[u32]) -> Result<Subject, HistoryFau
     if size > u64::from(LARGEST_COUNTED) {
         return Err(HistoryFault::Counted(ProfileFault::BadLine));
     }
-    tested(next, Subject::Size(size as u32), counts)
+    check_entry(next, Subject::Size(size as u32), counts)
 }
 
 // what a line counts, by its text
@@ -138,11 +138,11 @@ fn entry_after(
         return Err(HistoryFault::Counted(ProfileFault::BadLine));
     };
     fill(words, counts)?;
-    tested(next, subject, counts)
+    check_entry(next, subject, counts)
 }
 
 // the subject of a line that has a count for each snapshot, if its size is in order and its counts are in range
-fn tested(next: u32, subject: Subject, counts: &[u32]) -> Result<Subject, HistoryFault>
+fn check_entry(next: u32, subject: Subject, counts: &[u32]) -> Result<Subject, HistoryFault>
     ensures { (numbers : List ℕ) → counts.now ≡ map capped numbers
         → GivesEntry result counts.now (entry_with (length numbers) next subject numbers) }
 {
@@ -163,7 +163,7 @@ fn fill(mut words: Words<'_>, counts: &mut [u32]) -> Result<(), HistoryFault>
         let Some(read) = words.next_as_number() else {
             return Err(HistoryFault::WrongLength);
         };
-        let Some(number) = capped(read) else {
+        let Some(number) = capped_number(read) else {
             return Err(HistoryFault::Counted(ProfileFault::BadLine));
         };
         counts[place] = number;
@@ -177,7 +177,7 @@ fn end(mut words: Words<'_>) -> Result<(), HistoryFault>
 {
     let mut is_too_long = false;
     while let Some(read) = words.next_as_number() {
-        let Some(_) = capped(read) else {
+        let Some(_) = capped_number(read) else {
             return Err(HistoryFault::Counted(ProfileFault::BadLine));
         };
         is_too_long = true;
@@ -189,7 +189,7 @@ fn end(mut words: Words<'_>) -> Result<(), HistoryFault>
 }
 
 // the number that was read, as 32 bits hold it; `None` if there is none
-fn capped(read: Number) -> Option<u32>
+fn capped_number(read: Number) -> Option<u32>
     ensures { (spelled : Option ℕ) → read ≡ classified spelled → result ≡ option_map capped spelled }
 {
     match read {

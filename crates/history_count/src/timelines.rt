@@ -9,15 +9,15 @@ mod line;
 mod live;
 mod peaks;
 mod reader;
-mod reading;
-mod requested;
+mod requested_sizes;
 mod stretches;
 mod sums;
 mod taking;
 mod timeline;
+mod timeline_reading;
 
 pub use fault::{TimelineError, TimelineFault};
-pub use footprint::{Footprint, Measured, measure_over};
+pub use footprint::{Footprint, MeasuredTable, measure_over};
 pub use index::TimelineIndex;
 pub use line::TIMELINE;
 pub use reader::TimelineReader;

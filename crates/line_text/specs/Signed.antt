@@ -2,8 +2,8 @@
 use Rattle.std.specs.Option.{option_map}
 use Rattle.std.specs.Prelude.{◌==◌, nat_lt, if◌then◌else◌, ℤ, pos, negsuc, ℕ, zero, suc, ◌^◌, Bool, List, [], ◌∷◌, Option, Some, None}
 use Rattle.std.specs.Prelude.{option_and_then}
-use Rattle.line_text.specs.{Numbers.{number_of}, declared.signed.SignedNumber.{SignedNumber}}
-use Rattle.line_text.specs.declared.signed.SignedNumber.TheVariants.{NoNumber, TooLarge, Value}
+use Rattle.line_text.specs.{Numbers.{number_of}, declared.signed_number.SignedNumber.{SignedNumber}}
+use Rattle.line_text.specs.declared.signed_number.SignedNumber.TheVariants.{NoNumber, TooLarge, Value}
 
 -- The number after a `-`, if it is not 0: `negsuc n` is -(n + 1).
 abbrev pub negated : ℕ → Option ℤ

@@ -72,7 +72,7 @@ pub(crate) fn value_of(bytes: &[u8; 8], count: usize) -> u64
 {
     let digits = u64::from_le_bytes(*bytes).wrapping_sub(ZEROS);
     // the digits go to the upper bytes, with zeros in front of them
-    joined(digits << (64 - 8 * count))
+    join_digits(digits << (64 - 8 * count))
 }
 
 // for each byte a bit, set where the byte is no digit
@@ -122,7 +122,7 @@ fn digits_in_four(bytes: &[u8; 4]) -> Option<u32>
 
 // The number whose eight digits these bytes are, the lowest byte first.
 #[inline(always)]
-fn joined(digits: u64) -> u64
+fn join_digits(digits: u64) -> u64
     ensures { (ds : List ℕ) → length ds ≡ 8 → All (λ d. d < 10) ds → digits ≡ word_of ds
         → result ≡ number_from_digits 10 ds }
 {

@@ -12,7 +12,7 @@ mod number;
 mod pair;
 mod row;
 mod search;
-mod signed;
+mod signed_number;
 mod words;
 
 pub use hexadecimal::hex_byte_in;
@@ -20,5 +20,5 @@ pub use line_reader::{LineReader, Stop, read_lines};
 pub use lines::{Lines, first_line, lines_in};
 pub use number::{Number, capped_number_in, number_in};
 pub use row::short_line;
-pub use signed::{SignedNumber, signed_in};
+pub use signed_number::{SignedNumber, signed_number_in};
 pub use words::{Words, words_in};

@@ -1,4 +1,4 @@
-//! Runs a list of operations on the machine, for comparison with other machines: `scripts/tests/qemu` gives QEMU the same list.
+//! Runs a list of operations on the machine, for comparison with other machines: `scripts/tests/test_qemu.py` gives QEMU the same list.
 //!
 //! Each line of standard input is an operation: its word, and its numbers in hexadecimal. For each the program writes a line: the answer,
 //! and the register afterwards. `answer` has the operations. A line that is none ends the program.

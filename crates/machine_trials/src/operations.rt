@@ -59,15 +59,15 @@ fn answer(
             Ok(xt) => Answer::Value(xt),
             Err(fault) => Answer::Refused(fault),
         },
-        ("stg", [xt, xn]) => done(machine.stg(*xt, *xn)),
-        ("st2g", [xt, xn]) => done(machine.st2g(*xt, *xn)),
-        ("stzg", [xt, xn]) => done(machine.stzg(*xt, *xn)),
-        ("load", [address, length]) if is_length(*length) => loaded(
+        ("stg", [xt, xn]) => answer_of_outcome(machine.stg(*xt, *xn)),
+        ("st2g", [xt, xn]) => answer_of_outcome(machine.st2g(*xt, *xn)),
+        ("stzg", [xt, xn]) => answer_of_outcome(machine.stzg(*xt, *xn)),
+        ("load", [address, length]) if is_length(*length) => load_bytes(
             machine,
             *address,
             *length as usize,
         ),
-        ("store", [address, length, first]) if is_length(*length) => stored(
+        ("store", [address, length, first]) if is_length(*length) => store_bytes(
             machine,
             *address,
             *length as usize,
@@ -113,14 +113,14 @@ fn is_length(n: u64) -> bool
     1 <= n && n <= u64::from(LONGEST_ACCESS)
 }
 
-fn done(outcome: Result<(), Fault>) -> Answer {
+fn answer_of_outcome(outcome: Result<(), Fault>) -> Answer {
     match outcome {
         Ok(()) => Answer::Done,
         Err(fault) => Answer::Refused(fault),
     }
 }
 
-fn loaded(machine: &Machine, address: u64, length: usize) -> Answer
+fn load_bytes(machine: &Machine, address: u64, length: usize) -> Answer
     requires { (1 ≤ length) × (length ≤ LONGEST_ACCESS) }
 {
     let mut bytes = [0; LONGEST];
@@ -130,7 +130,7 @@ fn loaded(machine: &Machine, address: u64, length: usize) -> Answer
     }
 }
 
-fn stored(machine: &mut Machine, address: u64, length: usize, first: u8) -> Answer
+fn store_bytes(machine: &mut Machine, address: u64, length: usize, first: u8) -> Answer
     requires { (1 ≤ length) × (length ≤ LONGEST_ACCESS) }
 {
     let mut bytes = [0; LONGEST];
@@ -139,5 +139,5 @@ fn stored(machine: &mut Machine, address: u64, length: usize, first: u8) -> Answ
         *byte = next;
         next = next.wrapping_add(STEP_OF_STORED);
     }
-    done(machine.store(address, &bytes[..length]))
+    answer_of_outcome(machine.store(address, &bytes[..length]))
 }

@@ -4,13 +4,13 @@ mod checking;
 mod codes;
 mod counting;
 mod fault;
+mod numbers;
 mod rows;
 mod scoring;
-mod shown;
 mod tuning;
 
 pub use checking::check;
 pub use fault::ArrayError;
+pub use numbers::Numbers;
 pub use scoring::score;
-pub use shown::Numbers;
 pub use tuning::{TunedNumbers, tune};

@@ -10,7 +10,7 @@ ghost use Rattle.mte_c.specs.Commands.Settings.{call_numbered};
 mod arrays;
 mod heap;
 
-use crate::commands::{Ended, Ending, command_numbered};
+use crate::commands::{CallEnd, Ending, command_numbered};
 use handed_text::{DONE, HandedText, MISUSE, OUT_OF_MEMORY};
 use std::alloc::Global;
 use tool_call::{Call, Options};
@@ -36,7 +36,7 @@ pub extern "C" fn mte_c_call(
             input,
             text,
         )),
-        None => Ending::of(Ended::Misuse),
+        None => Ending::of(CallEnd::Misuse),
     }
 }
 

@@ -6,7 +6,7 @@ mod freeing;
 mod granules;
 mod handed_heap;
 mod handle;
-mod held;
+mod held_heap;
 mod outcome;
 mod settings;
 

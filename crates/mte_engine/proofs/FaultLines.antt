@@ -19,7 +19,7 @@ use Rattle.potential_check.specs.SheetText.{SpellsSheet, sheet_of_lines}
 use Rattle.heap_theory.specs.declared.config.Config.{Config}
 use Rattle.trace_reader.specs.{FaultText.{shown_trace_fault}}
 use Rattle.tuner_theory.specs.{Profiles.{Profile as Counted}, Sheets.{Sheet}}
-use Rattle.mte_engine.specs.{Check.{check_answers}, FaultText.{in_line, shown_input_fault}, Outcome.{Answer}}
+use Rattle.mte_engine.specs.{Check.{leading_sheet}, FaultText.{in_line, shown_input_fault}, Outcome.{Answer}}
 use Rattle.mte_engine.specs.FaultLines.{IsAtFirstFault, SpellsLeadingAnd, SpellsSheetAndProfile, SpellsTableAnd, line_of_fault}
 use Rattle.mte_engine.specs.{Parts.{class_part, profile_part}, Replay.{replay_answer}}
 use Rattle.mte_engine.specs.declared.{fault.InputFault.{InputFault}}
@@ -261,8 +261,8 @@ after_sheet text sheet m read refused =
     let is_profile : SpellsProfile (text_of (take (m - 1) rest)) before.0 = rw rest_lines at before.1 in
     after_leading SpellsSheet SpellsProfile text sheet before.0 m is_sheet there is_profile first
 
-pub check_profile_at_first : (options : Options) (text : List ℕ) (n : ℕ) (fault : ProfileFault) → check_answers options text (Err (Profile n fault))
-    → IsFirstFault SpellsSheetAndProfile text n
+pub check_profile_at_first : (options : Options) (text : List ℕ) (n : ℕ) (fault : ProfileFault)
+    → leading_sheet (lines text) ≡ Err (Profile n fault) → IsFirstFault SpellsSheetAndProfile text n
 unfolding lines_after
 check_profile_at_first options text n fault e = go (sheet_of_lines (leading_lines (lines text))) refl
   where

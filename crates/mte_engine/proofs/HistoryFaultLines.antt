@@ -15,6 +15,7 @@ use Rattle.potential_check.specs.declared.cost.Cost.TheVariants.{Footprint}
 use Rattle.tuner_theory.specs.Sheets.{Sheet}
 use Rattle.mte_engine.{proofs.FaultLines.{IsPart, after_leading, none_later, whole_lines}, specs.CheckFit.{CheckFitAnswers}}
 use Rattle.mte_engine.specs.{FaultLines.{SpellsFitAndHistory}, Parts.{history_part}, declared.fault.InputFault.TheVariants.{History}}
+use Rattle.tool_call.specs.declared.options.Options.{Options}
 
 -- the history of one snapshot that counts nothing
 shortest : List ℕ
@@ -112,10 +113,10 @@ after_fit text fit m read refused =
           grind (arith, first_after_fit)
     ]
 
-pub check_fit_history_at_first : (text : List ℕ) (n : ℕ) (fault : HistoryFault) → CheckFitAnswers text (Err (History n fault))
-    → IsFirstFault SpellsFitAndHistory text n
+pub check_fit_history_at_first : (options : Options) (text : List ℕ) (n : ℕ) (fault : HistoryFault)
+    → CheckFitAnswers options text (Err (History n fault)) → IsFirstFault SpellsFitAndHistory text n
 unfolding lines_after
-check_fit_history_at_first text n fault e = go (fit_of_lines (leading_lines (lines text))) refl
+check_fit_history_at_first options text n fault e = go (fit_of_lines (leading_lines (lines text))) refl
   where
     with_fit : (fit : Sheet) (read : Result CountedHistory (ℕ × HistoryFault)) → fit_of_lines (leading_lines (lines text)) ≡ Ok fit
         → history_of_lines (lines_after (lines text)) ≡ read → IsFirstFault SpellsFitAndHistory text n

@@ -6,8 +6,9 @@ use Rattle.history_count.specs.{Histories.{History as CountedHistory}, HistoryTe
 use Rattle.potential_check.specs.{Leading.{leading_lines, lines_after}, SheetText.{SpellsFit, SpellsSheet}}
 use Rattle.profile_count.specs.ProfileText.{SpellsProfile}
 use Rattle.tuner_theory.specs.{Profiles.{Profile as Counted}, Sheets.{Sheet}, declared.size_event.SizeEvent.{SizeEvent}}
-use Rattle.mte_engine.specs.declared.fault.InputFault.{InputFault}
+use Rattle.mte_engine.specs.declared.fault.{InputFault.{InputFault}, ToolFault.{ToolFault}}
 use Rattle.mte_engine.specs.declared.fault.InputFault.TheVariants.{TooLong, Table, BadSheet, BadFit, Profile, History, Timeline, Trace}
+use Rattle.mte_engine.specs.declared.fault.ToolFault.TheVariants.{OutOfMemory, Input, ReadFault, WriteFault}
 
 -- The line of a fault; none where the input is too long, which no line is to blame for.
 abbrev pub line_of_fault : InputFault → Option ℕ
@@ -19,6 +20,12 @@ line_of_fault (Profile line fault) = Some line
 line_of_fault (History line fault) = Some line
 line_of_fault (Timeline line fault) = Some line
 line_of_fault (Trace line fault) = Some line
+
+abbrev pub line_of_tool_fault : ToolFault → Option ℕ
+line_of_tool_fault OutOfMemory = None
+line_of_tool_fault (Input fault) = line_of_fault fault
+line_of_tool_fault ReadFault = None
+line_of_tool_fault WriteFault = None
 
 -- The fault is in the line of the first fault of the text.
 abbrev pub IsAtFirstFault : {A : Type 0} → (List ℕ → A → Type 0) → List ℕ → InputFault → Type 0

@@ -7,7 +7,7 @@ use Rattle.history_count.specs.Timelines.{Requests.{IsLeastUnserved}, TimelineTe
 use Rattle.tuner_theory.specs.{Histories.{peaks}, Timelines.{footprint_over, moments}, Waste.{Serves}}
 use Rattle.tuner_theory.specs.declared.size_event.SizeEvent.{SizeEvent}
 use Rattle.mte_engine.specs.{Footprint.{MeasuresHistory}, Outcome.{Answer}, Timelines.{begins_timeline}}
-use Rattle.mte_engine.specs.Parts.{AfterLine, AnswersPart, timeline_part}
+use Rattle.mte_engine.specs.Parts.{AfterLine, AnswersPart, AtBorder, timeline_part}
 use Rattle.mte_engine.specs.declared.{engine.Status.TheVariants.{Done, No}, fault.InputFault.{InputFault}}
 use Rattle.tool_call.specs.declared.options.Options.{Options}
 
@@ -37,13 +37,9 @@ MeasuresCounts table before ls answer =
 abbrev pub FootprintOverAnswers : List ℕ → Result Answer InputFault → Type 0
 FootprintOverAnswers text answer = AfterLine MeasuresTimeline text answer
 
--- One text: a class line, and then a timeline, or else a history.
-abbrev pub FootprintEitherAnswers : List ℕ → Result Answer InputFault → Type 0
-FootprintEitherAnswers text answer = AfterLine MeasuresCounts text answer
-
--- By the options: what comes after the table, and one text.
+-- By the options: what comes after the table, and one text, a class line and then a timeline or else a history.
 abbrev pub footprint_after : Options → List ℕ → ℕ → List (List ℕ) → Result Answer InputFault → Type 0
 footprint_after options = MeasuresCounts
 
 abbrev pub footprint_answers : Options → List ℕ → Result Answer InputFault → Type 0
-footprint_answers options = FootprintEitherAnswers
+footprint_answers options text answer = AtBorder options.first_lines (footprint_after options) text answer

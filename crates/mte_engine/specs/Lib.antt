@@ -1,3 +1,4 @@
+pub mod Border
 pub mod Calls
 pub mod Check
 pub mod CheckFit
@@ -6,12 +7,13 @@ pub mod CountsInput
 pub mod FaultLines
 pub mod FaultText
 pub mod Fit
-pub mod FitAndCounts
+pub mod LeadingFitInput
 pub mod FitOver
 pub mod Footprint
 pub mod FootprintOver
 pub mod Outcome
 pub mod Parts
+pub mod PeakLaws
 pub mod Peaks
 pub mod Profile
 pub mod Replay

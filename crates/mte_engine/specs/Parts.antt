@@ -1,5 +1,6 @@
 -- The parts of an input but a trace, which Traces.antt has. A fault has the number of its line in the whole input, counted from 1.
-use Rattle.std.specs.Prelude.{◌≡◌, ◌≢◌, ℕ, ◌+◌, ◌<◌, ◌^◌, List, [], ◌∷◌, drop, length, take, MatchResult, Result, Ok, Err, ⊤}
+use Rattle.std.specs.Prelude.{◌≡◌, ◌≢◌, ℕ, ◌+◌, ◌<◌, ◌^◌, List, [], ◌∷◌, ◌++◌, drop, length, nat_lt, take, if◌then◌else◌}
+use Rattle.std.specs.Prelude.{MatchBool, MatchResult, Result, Ok, Err, ⊤}
 use Rattle.line_text.specs.{FirstFault.{◌>>=◌}, Lines.{lines}}
 use Rattle.class_table.specs.{ClassLine.{table_of_line}, declared.fault.TableError.{TableError}}
 use Rattle.class_table.specs.declared.fault.TableError.TheVariants.{BadLine}
@@ -79,6 +80,17 @@ AfterTable after class before ls answer =
 -- The same of one text.
 abbrev pub AfterLine : (List ℕ → ℕ → List (List ℕ) → Result Answer InputFault → Type 0) → List ℕ → Result Answer InputFault → Type 0
 AfterLine after text answer = AfterTable after (take 1 (lines text)) 1 (drop 1 (lines text)) answer
+
+-- Of the lines of an input one that lacks, where there are fewer than the border of its first text says. No first text has an empty line.
+abbrev pub lacking : ℕ → List (List ℕ) → List (List ℕ)
+lacking border ls = if nat_lt (length ls) border then [] ∷ [] else []
+
+-- The same of one text, of which so many lines are the class line's; for 0 it is the first line.
+abbrev pub AtBorder : ℕ → (List ℕ → ℕ → List (List ℕ) → Result Answer InputFault → Type 0) → List ℕ → Result Answer InputFault → Type 0
+AtBorder border after text answer =
+    MatchBool (nat_lt 1 border)
+    (AfterTable after (take border (lines text) ++ lacking border (lines text)) border (drop border (lines text)) answer)
+    (AfterLine after text answer)
 
 -- The same of two.
 abbrev pub AfterText : (List ℕ → ℕ → List (List ℕ) → Result Answer InputFault → Type 0) → List ℕ → List ℕ →

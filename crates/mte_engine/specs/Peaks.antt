@@ -5,7 +5,7 @@ use Rattle.line_text.specs.Lines.{text_of}
 use Rattle.history_count.specs.Timelines.{LiveBlocks.{AreFirsts, most_blocks}, TablePeaks.{live_bytes, most_freed}}
 use Rattle.history_count.specs.Timelines.TimelineText.{timeline_of_lines}
 use Rattle.tuner_theory.specs.{Histories.{most, peaks}, Timelines.{moments}, Waste.{Serves}, declared.size_event.SizeEvent.{SizeEvent}}
-use Rattle.mte_engine.specs.{FootprintOver.{IsUnservedText}, Outcome.{Answer}, Parts.{AfterLine, AnswersPart, timeline_part}}
+use Rattle.mte_engine.specs.{FootprintOver.{IsUnservedText}, Outcome.{Answer}, Parts.{AnswersPart, AtBorder, timeline_part}}
 use Rattle.mte_engine.specs.declared.{engine.Status.TheVariants.{Done}, fault.InputFault.{InputFault}}
 use Rattle.tool_call.specs.declared.options.Options.{Options}
 
@@ -32,13 +32,9 @@ ArePeaks table events answer = IsPeaksText table events answer ⊎ IsUnservedTex
 abbrev pub PeaksCounts : List ℕ → ℕ → List (List ℕ) → Result Answer InputFault → Type 0
 PeaksCounts table before ls answer = AnswersPart (timeline_part before (timeline_of_lines ls)) (ArePeaks table) answer
 
--- One text: a class line, and then a timeline.
-abbrev pub PeaksAnswers : List ℕ → Result Answer InputFault → Type 0
-PeaksAnswers text answer = AfterLine PeaksCounts text answer
-
 -- By the options: what comes after the table, and one text.
 abbrev pub peaks_after : Options → List ℕ → ℕ → List (List ℕ) → Result Answer InputFault → Type 0
 peaks_after options = PeaksCounts
 
 abbrev pub peaks_answers : Options → List ℕ → Result Answer InputFault → Type 0
-peaks_answers options = PeaksAnswers
+peaks_answers options text answer = AtBorder options.first_lines (peaks_after options) text answer

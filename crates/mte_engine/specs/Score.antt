@@ -4,9 +4,9 @@ use Rattle.line_text.specs.Lines.{ended}
 use Rattle.class_table.specs.NamedLines.{named_line}
 use Rattle.profile_count.specs.{Counts.{unserved_of}, ProfileText.{profile_of_lines}}
 use Rattle.tuner_theory.specs.{Profiles.{Profile as Counted}, Waste.{waste_of}}
-use Rattle.mte_engine.specs.{Outcome.{Answer}, Parts.{AfterLine, AnswersPart, profile_part}}
+use Rattle.mte_engine.specs.{Outcome.{Answer}, Parts.{AnswersPart, AtBorder, profile_part}}
 use Rattle.mte_engine.specs.declared.{engine.Status.TheVariants.{Done, No}, fault.InputFault.{InputFault}}
-use Rattle.mte_engine.specs.declared.scoring.{Scored.{Scored}, Scored.TheVariants.{Waste, NotServing}}
+use Rattle.mte_engine.specs.declared.scoring.{TableScore.{TableScore}, TableScore.TheVariants.{Waste, NotServing}}
 use Rattle.tool_call.specs.declared.options.Options.{Options}
 
 -- The line of a name and a number; or `not serving N` with the status of a no, where N is the least counted size without a class.
@@ -17,11 +17,11 @@ abbrev pub unserved_text : ℕ → Answer
 unserved_text size = record { text = ended (named_line (codes "not serving") (size ∷ [])); status = No }
 
 -- What a table is worth for a profile: its waste, or that size.
-abbrev pub score_of : Options → List ℕ → Counted → Scored
+abbrev pub score_of : Options → List ℕ → Counted → TableScore
 score_of options table profile = option_map_or NotServing (unserved_of profile.counts table) (Waste (waste_of profile.counts table))
 
 -- `waste W`, or `not serving N`.
-abbrev pub score_text : Scored → Answer
+abbrev pub score_text : TableScore → Answer
 score_text (Waste waste) = number_text (codes "waste") waste
 score_text (NotServing size) = unserved_text size
 
@@ -32,4 +32,4 @@ score_after options table before ls answer =
 
 -- One text: a class line, and then a profile.
 abbrev pub score_answers : Options → List ℕ → Result Answer InputFault → Type 0
-score_answers options text answer = AfterLine (score_after options) text answer
+score_answers options text answer = AtBorder options.first_lines (score_after options) text answer

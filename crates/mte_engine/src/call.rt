@@ -11,7 +11,7 @@ use crate::checking::check;
 use crate::engine::{Status, run_engine};
 use crate::fault::ToolFault;
 use crate::fit_checking::check_fit;
-use crate::fitting::fit;
+use crate::fit_engine::fit;
 use crate::measuring::footprint;
 use crate::peaking::peaks;
 use crate::profiling::profile;

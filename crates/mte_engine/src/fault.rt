@@ -1,13 +1,21 @@
 //! What can go wrong in an engine, and how it is shown.
-ghost use Rattle.std.specs.Prelude.{◌≡◌, Some};
+ghost use Rattle.std.specs.Prelude.{◌≡◌, ◌≤◌, ◌+◌, ◌++◌, Some, length};
+ghost use Rattle.history_count.specs.FaultText.{shown_history_fault};
+ghost use Rattle.history_count.specs.Timelines.FaultText.{shown_timeline_fault};
+ghost use Rattle.class_table.specs.FaultText.{shown_table_error};
+ghost use Rattle.profile_count.specs.FaultText.{shown_profile_fault};
+ghost use Rattle.trace_reader.specs.FaultText.{shown_trace_fault};
+ghost use Rattle.mte_engine.specs.FaultLines.{line_of_fault, line_of_tool_fault};
 ghost use Rattle.mte_engine.specs.Outcome.{fault_of_answer, fault_of_read};
-ghost use Rattle.mte_engine.specs.FaultText.{shown_fault, shown_input_fault};
+ghost use Rattle.mte_engine.specs.FaultText.{fault_line, fault_name, input_fault_name, line_text, shown_fault, shown_input_fault};
 ghost use Rattle.mte_engine.specs.declared.fault.AnswerError.TheVariants.{OutOfMemory as NoMemoryToAnswer};
 ghost use Rattle.mte_engine.specs.declared.fault.ToolFault.TheVariants.{OutOfMemory, WriteFault};
 
+use arrayvec::ArrayString;
 use byte_streams::{Failure, ReadError};
 use class_table::TableError;
 use history_count::{HistoryFault, TimelineFault};
+use itoa::Buffer;
 use profile_count::ProfileFault;
 use std::alloc::{AllocError, AllocFailed};
 use std::fmt;
@@ -148,5 +156,140 @@ impl<T: Drop> From<AllocFailed<T>> for AnswerError {
 
     fn from(_error: AllocFailed<T>) -> AnswerError {
         AnswerError::OutOfMemory
+    }
+}
+
+/// The line that tells a fault: `error`, its code, its name and, if it has one, its line. It takes no memory, so each fault can be told.
+pub fn fault_line(fault: ToolFault) -> ArrayString<80>
+    ensures { result.bytes ≡ fault_line fault }
+{
+    let mut text = ArrayString::new();
+    text.push_str("error ");
+    text.push_str(name_of(fault));
+    push_line(&mut text, line_of(fault));
+    text.push_str("\n");
+    text
+}
+
+// adds the line of a fault to its name
+fn push_line(text: &mut ArrayString<80>, line: Option<u64>)
+    requires { length text.old.bytes ≤ 26 }
+    ensures text { text.new.bytes ≡ text.old.bytes ++ line_text line }
+    ensures short { length text.new.bytes ≤ length text.old.bytes + 46 }
+{
+    if let Some(line) = line {
+        text.push_str(" line ");
+        text.push_str(Buffer::new().format(line));
+    }
+}
+
+// the code and the name of a fault
+fn name_of(fault: ToolFault) -> &'static str
+    ensures name { result.now ≡ fault_name fault }
+    ensures short { length result.now ≤ 20 }
+{
+    match fault {
+        ToolFault::OutOfMemory => "1 OutOfMemory",
+        ToolFault::Input(fault) => name_of_input(fault),
+        ToolFault::ReadFault => "81 ReadFault",
+        ToolFault::WriteFault => "82 WriteFault",
+    }
+}
+
+fn name_of_input(fault: InputFault) -> &'static str
+    ensures name { result.now ≡ input_fault_name fault }
+    ensures short { length result.now ≤ 20 }
+{
+    match fault {
+        InputFault::TooLong => "80 InputTooLong",
+        InputFault::Table(fault) => name_of_table(fault),
+        InputFault::BadSheet(_) => "48 BadSheet",
+        InputFault::BadFit(_) => "36 BadFit",
+        InputFault::Profile(_, fault) => name_of_profile(fault),
+        InputFault::History(_, fault) => name_of_history(fault),
+        InputFault::Timeline(_, fault) => name_of_timeline(fault),
+        InputFault::Trace(_, fault) => name_of_trace(fault),
+    }
+}
+
+fn name_of_table(fault: TableError) -> &'static str
+    ensures name { result.now ≡ shown_table_error fault }
+    ensures short { length result.now ≤ 20 }
+{
+    match fault {
+        TableError::BadLine => "23 BadLine",
+        TableError::TooMany => "20 TooMany",
+        TableError::OutOfRange => "21 OutOfRange",
+        TableError::NotAscending => "22 NotAscending",
+    }
+}
+
+fn name_of_profile(fault: ProfileFault) -> &'static str
+    ensures name { result.now ≡ shown_profile_fault fault }
+    ensures short { length result.now ≤ 20 }
+{
+    match fault {
+        ProfileFault::BadLine => "30 BadLine",
+        ProfileFault::NotAscending => "31 NotAscending",
+        ProfileFault::CountOutOfRange => "32 CountOutOfRange",
+    }
+}
+
+fn name_of_history(fault: HistoryFault) -> &'static str
+    ensures name { result.now ≡ shown_history_fault fault }
+    ensures short { length result.now ≤ 20 }
+{
+    match fault {
+        HistoryFault::BadSnapshots => "34 BadSnapshots",
+        HistoryFault::WrongLength => "35 WrongLength",
+        HistoryFault::Counted(fault) => name_of_profile(fault),
+    }
+}
+
+fn name_of_timeline(fault: TimelineFault) -> &'static str
+    ensures name { result.now ≡ shown_timeline_fault fault }
+    ensures short { length result.now ≤ 20 }
+{
+    match fault {
+        TimelineFault::BadTimeline => "37 BadTimeline",
+        TimelineFault::NotLive => "38 NotLive",
+    }
+}
+
+fn name_of_trace(fault: TraceFault) -> &'static str
+    ensures name { result.now ≡ shown_trace_fault fault }
+    ensures short { length result.now ≤ 20 }
+{
+    match fault {
+        TraceFault::BadWord => "70 BadWord",
+        TraceFault::BadNumber => "71 BadNumber",
+        TraceFault::OutOfRange => "72 OutOfRange",
+        TraceFault::LineTooLong => "73 LineTooLong",
+        TraceFault::TooManyEvents => "74 TooManyEvents",
+    }
+}
+
+// the line of a fault, counted from 1, if it has one
+fn line_of(fault: ToolFault) -> Option<u64>
+    ensures { result ≡ line_of_tool_fault fault }
+{
+    match fault {
+        ToolFault::Input(fault) => line_of_input(fault),
+        ToolFault::OutOfMemory | ToolFault::ReadFault | ToolFault::WriteFault => None,
+    }
+}
+
+fn line_of_input(fault: InputFault) -> Option<u64>
+    ensures { result ≡ line_of_fault fault }
+{
+    match fault {
+        InputFault::TooLong => None,
+        InputFault::Table(_) => Some(1),
+        InputFault::BadSheet(line)
+        | InputFault::BadFit(line)
+        | InputFault::Profile(line, _)
+        | InputFault::History(line, _)
+        | InputFault::Timeline(line, _)
+        | InputFault::Trace(line, _) => Some(line),
     }
 }

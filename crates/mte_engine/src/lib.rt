@@ -6,22 +6,21 @@
 //! sink is unchanged.
 #![tactic(auto)]
 
+mod border;
 mod call;
 mod checking;
 mod counts_input;
 mod engine;
 mod fault;
-mod fit_and_counts;
 mod fit_checking;
 mod fit_checking_over;
-mod fit_with_moments;
-mod fitting;
-mod fitting_over;
+mod fit_engine;
 mod input_parts;
 pub mod laws;
+mod leading_fit;
+mod leading_fit_input;
 mod line_and_counts;
 mod measuring;
-mod measuring_over;
 mod peaking;
 mod profiling;
 mod replaying;
@@ -30,11 +29,14 @@ mod running;
 mod scoring;
 mod sheet_writing;
 mod table_command;
+mod timeline_fit_text;
+mod timeline_footprint;
 mod timeline_search;
 mod trace_counting;
 mod trace_feeding;
 mod tuning;
 mod two_texts;
+mod verdict_text;
 
 pub use byte_streams::{
     ByteSink, ByteSource, Failure, History, MOST_INPUT, MemorySink, MemorySource, StreamSink,
@@ -43,14 +45,14 @@ pub use byte_streams::{
 pub use call::{run_call, run_call_on};
 pub use checking::{check, verdict_of};
 pub use engine::Status;
-pub use fault::{InputFault, ToolFault};
+pub use fault::{InputFault, ToolFault, fault_line};
 pub use fit_checking::check_fit;
-pub use fitting::fit;
+pub use fit_engine::fit;
 pub use measuring::footprint;
 pub use peaking::peaks;
 pub use profiling::profile;
 pub use replaying::replay;
 pub use running::run;
-pub use scoring::{Scored, score, score_of};
+pub use scoring::{TableScore, score, score_of};
 pub use tool_call::{Call, CommandName, Options};
 pub use tuning::{tune, tune_of};

@@ -14,9 +14,9 @@ use crate::counts_input::{Counts, CountsInput, read_counts};
 use crate::engine::{Status, run_engine};
 use crate::fault::{AnswerError, ToolFault};
 use crate::input_parts::measure_history;
-use crate::measuring_over::footprint_of_timeline;
 use crate::scoring::numbered_line;
 use crate::table_command::{OverLine, TableCommand};
+use crate::timeline_footprint::footprint_of_timeline;
 use byte_streams::{ByteSink, ByteSource, Text};
 use class_table::ClassTable;
 use history_count::TableFootprint;
@@ -25,7 +25,7 @@ use tool_call::Options;
 
 /// Reads a class line and then a history or a timeline, and writes `footprint F`, the bytes that the table's classes take when most blocks of
 /// each are live, or `not serving N` with the status of a no, where N is the least counted size that has no class.
-/// No text of a timeline is kept.
+/// A class line is one line: if `first_lines` says more, it is refused. No text of a timeline is kept.
 ///
 /// Faults of the input (`Input`), in this order: that it is too long; the fault of the class line; that of the history or the timeline.
 /// `ToolFault` has the other faults, and what the sink took when one comes.

@@ -10,9 +10,9 @@ ghost use Rattle.byte_streams.specs.TextLeft.{text_left};
 use crate::counts_input::{CountsInput, read_as_timeline};
 use crate::engine::{Status, run_engine};
 use crate::fault::{AnswerError, ToolFault};
-use crate::fitting_over::wide;
 use crate::scoring::numbered_line;
 use crate::table_command::{OverLine, TableCommand};
+use crate::timeline_fit_text::wide;
 use byte_streams::{ByteSink, ByteSource, Text};
 use class_table::ClassTable;
 use history_count::{TablePeaks, Timeline, table_peaks};
@@ -23,7 +23,8 @@ use tool_call::Options;
 /// Reads a class line and then a timeline, and writes four lines: `peaks` with the most live blocks of each class, `moments` with the first
 /// moment of so many, each as the number of events before it, `live B` with the most bytes of all live blocks together, and `freed N` with the
 /// most blocks that are freed and not given out again; or `not serving N` with the status of a no, where N is the least counted size that has
-/// no class. No text of the timeline is kept.
+/// no class. A class line is one line: if `first_lines` says more, it is refused. No text of the
+/// timeline is kept.
 ///
 /// Faults of the input (`Input`), in this order: that it is too long; the fault of the class line; that of the timeline. `ToolFault` has the
 /// other faults, and what the sink took when one comes.

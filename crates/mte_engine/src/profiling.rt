@@ -15,7 +15,7 @@ use line_text::first_line;
 use profile_count::Profile;
 use std::alloc::{AllocError, Global};
 use tool_call::Options;
-use trace_reader::{TraceReader, Unobserved};
+use trace_reader::{NoObserver, TraceReader};
 
 /// Reads a trace, and writes the profile of its requests: how often each size was requested by a malloc, a calloc or a realloc, also where
 /// a replay would refuse it. Of the trace it keeps no more than the events of one piece and the unfinished line.
@@ -95,7 +95,7 @@ fn profile_of_trace(
         mut reader,
         mut profile,
     } = input;
-    end(&mut reader, 0, &mut Unobserved)?;
+    end(&mut reader, 0, &mut NoObserver)?;
     count_out(&mut reader, &mut profile);
     let mut text = Vec::new(alloc);
     profile.write(&mut text)?;

@@ -22,7 +22,7 @@ use line_text::first_line;
 use replay_core::Config;
 use std::alloc::{AllocError, Global};
 use tool_call::Options;
-use trace_reader::{TraceReader, Unobserved};
+use trace_reader::{NoObserver, TraceReader};
 
 /// Reads a class line and then a trace, replays the trace on a new heap over that table, and writes the report: a line for each event that
 /// has one, and the totals. A fault in the replay is a line of the report, and the replay goes on.
@@ -88,14 +88,14 @@ impl Input for LineAndTrace {
 
     fn take(&mut self, piece: &[u8]) -> Result<(), AllocError> {
         if self.line_has_ended {
-            return feed(&mut self.reader, piece, &mut Unobserved);
+            return feed(&mut self.reader, piece, &mut NoObserver);
         }
         let Some((end, trace)) = first_line(piece) else {
             return self.line.extend_from_slice(piece);
         };
         self.line.extend_from_slice(end)?;
         self.line_has_ended = true;
-        feed(&mut self.reader, trace, &mut Unobserved)
+        feed(&mut self.reader, trace, &mut NoObserver)
     }
 }
 
@@ -163,7 +163,7 @@ fn report_over(
     ensures { (trace : List ℕ) → KeepsEvents reader trace
         → GivesAnswer report_left (λ answer. replay_over config table.now before (lines trace) ≡ answer) result }
 {
-    end(&mut reader, before, &mut Unobserved)?;
+    end(&mut reader, before, &mut NoObserver)?;
     let report = Report::new(alloc, table, config, reader, Vec::new(alloc))?;
     Ok((report, Status::Done))
 }

@@ -111,7 +111,7 @@ fn answer_to(
     ensures { (bytes : List ℕ) → KeepsEventsAndCounts input.reader input.requests.profile bytes
         → GivesAnswer report_left (RunAnswers limit step config bytes) result }
 {
-    let (reader, profile) = ended(input)?;
+    let (reader, profile) = end_trace(input)?;
     let tuned = tune(alloc, &profile, limit, step, false)?;
     let sheet = tuned.sheet();
     let mut text = Vec::new(alloc);
@@ -121,7 +121,7 @@ fn answer_to(
 }
 
 // Ends a trace. Returns its events, which wait in the reader, and its profile.
-fn ended(input: WholeTrace) -> Result<(TraceReader, Profile), AnswerError>
+fn end_trace(input: WholeTrace) -> Result<(TraceReader, Profile), AnswerError>
     ensures ended { MatchResult result (λ _. (finished input.reader).state ≡ Finished)
         (λ error. HasEnded 0 (finished input.reader).state (Err error)) }
     ensures events { IfOk result (λ all. all.0 ≡ finished input.reader) }

@@ -3,10 +3,11 @@ ghost use Rattle.std.specs.Prelude.{◌≡◌, ◌++◌, ◌∷◌, [], IfOk};
 ghost use Rattle.std.specs.Fmt.{decimal};
 ghost use Rattle.line_text.specs.Lines.{lines};
 ghost use Rattle.mte_engine.specs.Outcome.{GivesAnswer, Runs};
-ghost use Rattle.mte_engine.specs.Parts.{AfterText, AreFewLines};
+ghost use Rattle.mte_engine.specs.Parts.{AfterLine, AfterText, AreFewLines};
 ghost use Rattle.mte_engine.specs.Score.{score_after, score_answers, score_of, score_text};
 ghost use Rattle.byte_streams.specs.TextLeft.{text_left};
 
+use crate::border::fault_of_several_lines;
 use crate::engine::{Engine, Status, run_engine};
 use crate::fault::{AnswerError, InputFault, ToolFault};
 use crate::input_parts::{read_class_text, read_profile, read_table};
@@ -20,7 +21,7 @@ use tool_call::Options;
 
 /// What a table is worth for a profile.
 #[derive(Debug, Clone, Copy, PartialEq, Eq)]
-pub enum Scored {
+pub enum TableScore {
     /// The bytes that it loses by rounding the requests up.
     Waste(u64),
     /// The least counted size that has no class, in bytes.
@@ -28,7 +29,8 @@ pub enum Scored {
 }
 
 /// Reads a class line and then a profile, and writes `waste W`, the bytes that the table loses by rounding the requests up,
-/// or `not serving N` with the status of a no, where N is the least counted size that has no class.
+/// or `not serving N` with the status of a no, where N is the least counted size that has no class. A class line is one line: if
+/// `first_lines` says more, it is refused.
 ///
 /// Faults of the input (`Input`), in this order: that it is too long; the fault of the class line; that of the profile. `ToolFault` has the
 /// other faults, and what the sink took when one comes.
@@ -61,17 +63,35 @@ impl Engine for ScoreEngine {
     }
 
     fn answer(&self, alloc: Global, input: WholeText) -> Result<(Text, Status), AnswerError> {
-        score_of_text(alloc, self.options, &input.text)
+        score_at_border(alloc, self.options, &input.text)
     }
 }
 
-// the answer to a text
-fn score_of_text(
+// the answer to a text, where the options say how many of its lines are the first text, which has to be a class line
+fn score_at_border(
     alloc: Global,
     options: Options,
     text: &[u8],
 ) -> Result<(Text, Status), AnswerError>
     ensures { GivesAnswer text_left (score_answers options text.now) result }
+{
+    if options.first_lines > 1 {
+        let mut lines = lines_in(text);
+        let Some(line) = lines.next() else {
+            return Err(AnswerError::Input(InputFault::Table(TableError::BadLine)));
+        };
+        return Err(fault_of_several_lines(line));
+    }
+    score_of_text(alloc, options, text)
+}
+
+// the answer to a text, whose first line is the class line
+fn score_of_text(
+    alloc: Global,
+    options: Options,
+    text: &[u8],
+) -> Result<(Text, Status), AnswerError>
+    ensures { GivesAnswer text_left (AfterLine (score_after options) text.now) result }
 {
     let mut lines = lines_in(text);
     let Some(line) = lines.next() else {
@@ -110,26 +130,26 @@ fn score_of_counts(
 }
 
 /// What a table is worth for a profile.
-pub fn score_of(options: Options, table: &ClassTable, profile: &Profile) -> Scored
+pub fn score_of(options: Options, table: &ClassTable, profile: &Profile) -> TableScore
     ensures { result ≡ score_of options table.now profile.now }
 {
     match profile.unserved(table) {
-        Some(size) => Scored::NotServing(size),
-        None => Scored::Waste(profile.waste(table)),
+        Some(size) => TableScore::NotServing(size),
+        None => TableScore::Waste(profile.waste(table)),
     }
 }
 
 // the text and the status of a score
-fn answer_for(alloc: Global, scored: Scored) -> Result<(Text, Status), AllocError>
+fn answer_for(alloc: Global, scored: TableScore) -> Result<(Text, Status), AllocError>
     ensures { IfOk result
         (λ answered. record { text = text_left answered.0; status = answered.1 } ≡ score_text scored) }
 {
     match scored {
-        Scored::NotServing(size) => Ok((
+        TableScore::NotServing(size) => Ok((
             numbered_line(alloc, b"not serving ", u64::from(size))?,
             Status::No,
         )),
-        Scored::Waste(waste) => Ok((numbered_line(alloc, b"waste ", waste)?, Status::Done)),
+        TableScore::Waste(waste) => Ok((numbered_line(alloc, b"waste ", waste)?, Status::Done)),
     }
 }
 

@@ -4,9 +4,10 @@ ghost use Rattle.byte_streams.specs.TextLeft.{text_left};
 ghost use Rattle.line_text.specs.Lines.{lines};
 ghost use Rattle.mte_engine.specs.CountsInput.{HasTakenCounts, KeepsLineAnd};
 ghost use Rattle.mte_engine.specs.Outcome.{GivesAnswer};
-ghost use Rattle.mte_engine.specs.Parts.{AfterLine, AfterText, AreFewLines};
+ghost use Rattle.mte_engine.specs.Parts.{AfterText, AreFewLines, AtBorder};
 ghost use Rattle.mte_engine.specs.TableCommands.{answers_after};
 
+use crate::border::fault_of_several_lines;
 use crate::counts_input::CountsInput;
 use crate::engine::{Engine, Status};
 use crate::fault::AnswerError;
@@ -38,7 +39,7 @@ impl Engine for OverLine {
 
     type Output = Text;
 
-    ghost answers = { λ e. AfterLine (answers_after e.command e.options) };
+    ghost answers = { λ e. AtBorder e.options.first_lines (answers_after e.command e.options) };
 
     fn input(&self, alloc: Global) -> Result<LineAndCounts, AllocError> {
         LineAndCounts::new(alloc)
@@ -58,13 +59,16 @@ fn answer_to_input(
 ) -> Result<(Text, Status), AnswerError>
     ensures { (bytes : List ℕ)
         → KeepsLineAnd input.line_has_ended input.line.items (HasTakenCounts input.counts) bytes
-        → GivesAnswer text_left (AfterLine (answers_after command options) bytes) result }
+        → GivesAnswer text_left (AtBorder options.first_lines (answers_after command options) bytes) result }
 {
     let LineAndCounts {
         line,
         line_has_ended: _,
         counts,
     } = input;
+    if options.first_lines > 1 {
+        return Err(fault_of_several_lines(&line));
+    }
     let table = read_table(&line)?;
     answer_to_counts(command, alloc, options, &table, counts, 1)
 }

@@ -1,6 +1,6 @@
 //! Where a timeline begins in a text that comes in pieces.
 ghost use Rattle.std.specs.Prelude.{IfSome};
-ghost use Rattle.mte_engine.specs.FitAndCounts.{IsCutAfterLine};
+ghost use Rattle.mte_engine.specs.LeadingFitInput.{IsCutAfterLine};
 
 use history_count::TIMELINE;
 use line_text::first_line;

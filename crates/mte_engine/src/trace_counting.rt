@@ -12,7 +12,7 @@ use crate::trace_feeding::feed;
 use profile_count::Profile;
 use replay_core::{Event, request_size};
 use std::alloc::AllocError;
-use trace_reader::{Observer, TraceReader, Unobserved};
+use trace_reader::{NoObserver, Observer, TraceReader};
 
 /// The requests of a trace, counted as its events are read. There must be at most 1,000,000 events in all, so that no count gets full.
 #[derive(Drop)]
@@ -53,7 +53,7 @@ pub fn feed_counted(
         KeepsCounts reader.new profile.new (bytes ++ piece.now)) }
     ensures unfinished { is_finished reader.new ≡ false }
 {
-    feed(reader, piece, &mut Unobserved)?;
+    feed(reader, piece, &mut NoObserver)?;
     count_out(reader, profile);
     Ok(())
 }

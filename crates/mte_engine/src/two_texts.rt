@@ -20,7 +20,7 @@ use byte_streams::{Input, Text, WholeText};
 use replay_core::Config;
 use std::alloc::{AllocError, Global};
 use tool_call::Options;
-use trace_reader::{TraceReader, Unobserved};
+use trace_reader::{NoObserver, TraceReader};
 
 /// A command over a profile, which comes after a first text.
 #[derive(Clone, Copy)]
@@ -131,6 +131,6 @@ impl Input for TraceEvents {
     ghost has_taken = { λ input bytes. KeepsEvents input.reader bytes };
 
     fn take(&mut self, piece: &[u8]) -> Result<(), AllocError> {
-        feed(&mut self.reader, piece, &mut Unobserved)
+        feed(&mut self.reader, piece, &mut NoObserver)
     }
 }

@@ -1,5 +1,5 @@
 -- The exit status of the program.
-use Rattle.std.specs.Prelude.{◌≡◌, ℕ, Bool, true, false, Ok, Err, ⊤}
+use Rattle.std.specs.Prelude.{◌≡◌, ℕ, Bool, true, false, Ok, Err}
 use Rattle.clap.specs.{Words.{kind_of}, declared.error.kind.ErrorKind.{ErrorKind}}
 use Rattle.clap.specs.declared.error.kind.ErrorKind.TheVariants.{DisplayHelp, DisplayVersion}
 use Rattle.mte_engine.specs.declared.engine.Status.TheVariants.{Done, No}
@@ -30,9 +30,3 @@ abbrev pub AsksForText : Refusal → Type 0
 AsksForText NoMemory = ⊥
 AsksForText (Options fault) = ⊥
 AsksForText (Words error) = is_shown (kind_of error) ≡ true
-
--- No command runs, since the words are none that the program takes.
-abbrev pub IsMistake : Refusal → Type 0
-IsMistake NoMemory = ⊥
-IsMistake (Options fault) = ⊤
-IsMistake (Words error) = is_shown (kind_of error) ≡ false

@@ -1,11 +1,10 @@
 //! Texts that the program itself gives to its streams: help, and the line of a fault.
-ghost use Rattle.std.specs.Prelude.{◌≡◌, IfOk, string_bytes};
 ghost use Rattle.byte_streams.specs.Transfer.{HasWritten};
-ghost use Rattle.mte_tool.specs.Told.{IsFaultText, Tells};
+ghost use Rattle.mte_engine.specs.FaultText.{fault_line};
+ghost use Rattle.mte_tool.specs.Told.{Tells};
 
 use byte_streams::{ByteSink, Failure, Output, write_all};
-use mte_engine::ToolFault;
-use std::alloc::Global;
+use mte_engine::{ToolFault, fault_line};
 
 // a text that is written from where it lies
 #[derive(Drop)]
@@ -48,12 +47,9 @@ pub fn tell<E: ByteSink>(text: &str, errors: &mut E)
     let _ = write_text(text, errors);
 }
 
-/// Tells the line of a fault; where there is no memory for it, that there is none.
-pub fn tell_fault<E: ByteSink>(alloc: Global, fault: ToolFault, errors: &mut E)
-    ensures { IsFaultText fault (λ text. Tells text (E.state errors.old) (E.state errors.new)) }
+/// Tells the line of a fault.
+pub fn tell_fault<E: ByteSink>(fault: ToolFault, errors: &mut E)
+    ensures { Tells (fault_line fault) (E.state errors.old) (E.state errors.new) }
 {
-    match format!(in alloc; "error {fault}\n") {
-        Ok(line) => tell(line.as_str(), errors),
-        Err(_) => tell("error 1 OutOfMemory\n", errors),
-    }
+    tell(fault_line(fault).as_str(), errors);
 }

@@ -1,7 +1,8 @@
 //! The program: its words, its streams, and how it ends.
 ghost use Rattle.std.specs.Prelude.{◌≡◌, ⊤, IfErr, MatchResult, map, string_bytes};
 ghost use Rattle.command_words.specs.Words.{AreRefused, IsNoText, Mean};
-ghost use Rattle.mte_tool.specs.RefusedRun.{EndsWithout, IsToldEnd, IsShown};
+ghost use Rattle.mte_tool.specs.RefusedRun.{EndsWithout, IsToldEnd, IsShown, TellsSome};
+ghost use Rattle.mte_tool.specs.Told.{IsSilent, IsWaitingAtMost, Tells, option_line};
 ghost use Rattle.mte_tool.specs.WholeRun.{AreNew, HasRun};
 ghost use Rattle.mte_tool.specs.declared.end.End.TheVariants.{Ended};
 
@@ -9,7 +10,7 @@ use crate::end::End;
 use crate::lines::{tell, tell_fault, write_text};
 use crate::running::{CallEnd, run_call_of};
 use clap::error::ErrorKind;
-use command_words::{Refusal, no_text, read_call};
+use command_words::{OptionFault, Refusal, no_text, read_call};
 use mte_engine::{ByteSink, ByteSource, Status, ToolFault};
 use std::alloc::Global;
 use std::io;
@@ -17,6 +18,9 @@ use std::rt::Env;
 
 const WAITS: &str =
     "mte_tool: reading standard input; Ctrl-D ends it, and `--help` after the command says what it takes\n";
+
+// where clap's text of refused words is not to be had, as there is no memory for it
+const NO_TEXT: &str = "error: the words are refused, and there is no memory to say why\n";
 
 const TIP: &str =
     "\ntip: the input is standard input, and no file is named: mte_tool COMMAND < FILE\n";
@@ -57,14 +61,22 @@ pub fn run_words<S: ByteSource, W: ByteSink, E: ByteSink>(
     ensures { HasRun (Mean (map string_bytes words.now)) (AreRefused (map string_bytes words.now))
         (S.state source.new) (W.state sink.new) (E.state errors.new) result }
 {
-    // read here for the hint alone: `run_call_of` reads the words itself, so that its contract covers the whole run
-    if at_terminal && read_call(alloc, words).is_ok() {
-        tell(WAITS, errors);
-    }
+    tell_waiting(alloc, words, at_terminal, errors);
     match run_call_of(alloc, words, source, sink) {
         CallEnd::Done(status) => End::Ended(Ok(status)),
-        CallEnd::Failed(fault) => fail(alloc, fault, errors),
+        CallEnd::Failed(fault) => fail(fault, errors),
         CallEnd::Refused(refusal) => refuse(alloc, &refusal, sink, errors),
+    }
+}
+
+// Says at a terminal that the program waits, if the words mean a call. They are read here for this alone: `run_call_of` reads the words
+// itself, so that its contract covers the whole run.
+fn tell_waiting<E: ByteSink>(alloc: Global, words: &[String], at_terminal: bool, errors: &mut E)
+    requires { IsSilent (E.state errors.old) }
+    ensures { IsWaitingAtMost (E.state errors.new) }
+{
+    if at_terminal && read_call(alloc, words).is_ok() {
+        tell(WAITS, errors);
     }
 }
 
@@ -80,10 +92,10 @@ pub fn words<R: Env + AllocGlobal>(rt: &R) -> Result<Vec<String>, Refusal>
 }
 
 // tells a command's fault
-fn fail<E: ByteSink>(alloc: Global, fault: ToolFault, errors: &mut E) -> End
+fn fail<E: ByteSink>(fault: ToolFault, errors: &mut E) -> End
     ensures { IsToldEnd fault (E.state errors.old) (E.state errors.new) result }
 {
-    tell_fault(alloc, fault, errors);
+    tell_fault(fault, errors);
     End::Ended(Err(fault))
 }
 
@@ -97,36 +109,53 @@ fn refuse<W: ByteSink, E: ByteSink>(
     ensures { EndsWithout refusal.now W.state sink.old sink.new (E.state errors.old) (E.state errors.new) result }
 {
     match refusal {
-        Refusal::OutOfMemory => fail(alloc, ToolFault::OutOfMemory, errors),
+        Refusal::OutOfMemory => fail(ToolFault::OutOfMemory, errors),
         Refusal::Options(fault) => {
-            match format!(in alloc; "error {fault}\n") {
-                Ok(line) => tell(line.as_str(), errors),
-                Err(_) => tell("error 83 BadOption\n", errors),
-            }
+            tell_option_fault(*fault, errors);
             End::Refused
         }
         Refusal::Words(error) if error.use_stderr() => {
-            if let Ok(text) = error.to_string(alloc) {
-                tell(text.as_str(), errors);
-            }
-            if error.kind() == ErrorKind::UnknownArgument {
-                tell(TIP, errors);
-            }
+            tell_mistake(alloc, error, errors);
             End::Refused
         }
         Refusal::Words(error) => match error.to_string(alloc) {
-            Ok(text) => show(alloc, text.as_str(), sink, errors),
-            Err(_) => fail(alloc, ToolFault::OutOfMemory, errors),
+            // clap's text is not empty, but its contract doesn't say so
+            Ok(text) if !text.is_empty() => show(text.as_str(), sink, errors),
+            _ => fail(ToolFault::OutOfMemory, errors),
         },
     }
 }
 
+// tells an option's fault
+fn tell_option_fault<E: ByteSink>(fault: OptionFault, errors: &mut E)
+    ensures { Tells (option_line fault) (E.state errors.old) (E.state errors.new) }
+{
+    match fault {
+        OptionFault::BadOption => tell("error 83 BadOption\n", errors),
+    }
+}
+
+// tells what clap says of words that are refused
+fn tell_mistake<E: ByteSink>(alloc: Global, error: &clap::Error, errors: &mut E)
+    ensures { TellsSome (E.state errors.old) (E.state errors.new) }
+{
+    match error.to_string(alloc) {
+        Ok(text) if !text.is_empty() => {
+            let is_told = write_text(text.as_str(), errors).is_ok();
+            if is_told && error.kind() == ErrorKind::UnknownArgument {
+                tell(TIP, errors);
+            }
+        }
+        _ => tell(NO_TEXT, errors),
+    }
+}
+
 // writes the help that was asked for
-fn show<W: ByteSink, E: ByteSink>(alloc: Global, text: &str, sink: &mut W, errors: &mut E) -> End
+fn show<W: ByteSink, E: ByteSink>(text: &str, sink: &mut W, errors: &mut E) -> End
     ensures { IsShown text.now (W.state sink.old) (W.state sink.new) (E.state errors.old) (E.state errors.new) result }
 {
     match write_text(text, sink) {
         Ok(()) => End::Shown,
-        Err(_) => fail(alloc, ToolFault::WriteFault, errors),
+        Err(_) => fail(ToolFault::WriteFault, errors),
     }
 }

@@ -6,7 +6,7 @@ use Rattle.line_text.specs.{Lines.{lines}, LineSteps.{read_lines}, Stops.{Takes}
 use Rattle.line_text.specs.declared.line_reader.Stop.TheVariants.{OutOfMemory, Fault}
 use Rattle.potential_check.{proofs.ReadIsSpelled.{lines_read}, specs.Certificates.SheetView.{sheet_of}}
 use Rattle.potential_check.specs.Leading.{GivesLeadingBy, IsLeadingOf, leading_lines, lines_after, lines_from}
-use Rattle.potential_check.specs.SheetText.{GivesBy, IsTaken, Reading, bad_line, is_left, lines_by, most_head_lines}
+use Rattle.potential_check.specs.SheetText.{GivesBy, IsTaken, SheetReading, bad_line, is_left, lines_by, most_head_lines}
 use Rattle.potential_check.specs.SheetText.{nothing_read, part_after, part_of, read_by, sheet_steps, with_part}
 use Rattle.potential_check.specs.declared.{cost.Cost.{Cost}, cost.Cost.TheVariants.{Waste, Footprint}, fault.SheetError.{SheetError}}
 use Rattle.potential_check.specs.declared.{part.Part.{Part}, part.Part.TheVariants.{Table}}
@@ -29,7 +29,7 @@ unfolding lines_from
 no_line_left next = refl
 
 -- What is made of a line that is not left
-pub takes_line : (r : Reading) (line : List ℕ) (rest : List (List ℕ)) (new : Sheet) (read : Result (Unit {0}) (Stop (Unit {0})))
+pub takes_line : (r : SheetReading) (line : List ℕ) (rest : List (List ℕ)) (new : Sheet) (read : Result (Unit {0}) (Stop (Unit {0})))
     → is_left r.next line ≡ false → IsTaken (with_part r.cost (part_of r.next line) r.sheet line) new read
     → Takes sheet_steps (λ r ls. lines_from r.next ls) r line
     (record { cost = r.cost; next = part_after (part_of r.next line); sheet = new }) rest read
@@ -66,7 +66,7 @@ unless_line (line ∷ ls) number (Ok s) = Err (number, tt)
 unless_line (line ∷ ls) number (Err fault) = Err fault
 
 -- a line that is left comes after a whole sheet, and would be faulty in it
-left_is_faulty : (r : Reading) (line : List ℕ) → is_left r.next line ≡ true
+left_is_faulty : (r : SheetReading) (line : List ℕ) → is_left r.next line ≡ true
     → (sheet_steps.step r line ≡ Err tt) × (sheet_steps.finish r ≡ Ok r.sheet)
 left_is_faulty r line left = go r.next refl
   where
@@ -74,13 +74,13 @@ left_is_faulty r line left = go r.next refl
     go next is = grind arith
 
 -- What is read of all lines is what is read of the first of them, where these are all.
-all_by_own : (ls : List (List ℕ)) (n : ℕ) (r : Reading) → read_lines sheet_steps n r ls
+all_by_own : (ls : List (List ℕ)) (n : ℕ) (r : SheetReading) → read_lines sheet_steps n r ls
     ≡ unless_line (drop (length (lines_from r.next ls)) ls) (n + length (lines_from r.next ls)) (read_lines sheet_steps n r (lines_from r.next ls))
 unfolding read_lines lines_from
 all_by_own [] n r = refl
 all_by_own (line ∷ ls) n r = go (all_by_own ls) (is_left r.next line) refl (with_part r.cost (part_of r.next line) r.sheet line) refl
   where
-    go : ((n : ℕ) (r : Reading) → read_lines sheet_steps n r ls ≡ unless_line (drop (length (lines_from r.next ls)) ls)
+    go : ((n : ℕ) (r : SheetReading) → read_lines sheet_steps n r ls ≡ unless_line (drop (length (lines_from r.next ls)) ls)
         (n + length (lines_from r.next ls)) (read_lines sheet_steps n r (lines_from r.next ls)))
         → (left : Bool) → is_left r.next line ≡ left → (read : Option Sheet) → with_part r.cost (part_of r.next line) r.sheet line ≡ read
         → read_lines sheet_steps n r (line ∷ ls)

@@ -6,7 +6,7 @@ use Rattle.line_text.{proofs.LawLemmas.{read_has, text_laws as laws}, specs.Line
 use Rattle.class_table.specs.{ClassLine.{class_line}, NamedLines.{named_line}, declared.table.TheConstants.{MOST_CLASSES}}
 use Rattle.potential_check.proofs.SheetLines.{forced_line, forced_line-is, line-cost_in, line-forced_in, line-limit_in, line-row_in, line-step_in}
 use Rattle.potential_check.proofs.SheetLines.{line-table_in}
-use Rattle.potential_check.specs.SheetText.{IsRow, IsWithinLimits, Reading, SpellsBy, cost_in, forced_in, forced_lines, is_named, limit_in}
+use Rattle.potential_check.specs.SheetText.{IsRow, IsWithinLimits, SheetReading, SpellsBy, cost_in, forced_in, forced_lines, is_named, limit_in}
 use Rattle.potential_check.specs.SheetText.{lines_by, nothing_read, part_after, part_of, read_by, row_in, sheet_steps, step_in, step_lines}
 use Rattle.potential_check.specs.{SheetText.{table_in, with_part, with_row, word_of}, declared.{cost.Cost.{Cost}, part.Part.{Part}}}
 use Rattle.potential_check.specs.declared.part.Part.TheVariants.{Table, Limit, Step, Forced, Stated, Row}
@@ -130,19 +130,19 @@ part_read cost Row s next line is read =
 -- ---- all lines
 
 -- What is read of lines is spelled by these, after those that were read before them.
-abbrev IsSpelled : Reading → List (List ℕ) → Sheet → Type 0
+abbrev IsSpelled : SheetReading → List (List ℕ) → Sheet → Type 0
 IsSpelled r ls s = IsReadBefore r.next r.sheet → IsWithinLimits s × (lines_by r.cost s ≡ lines_before r.cost r.next r.sheet ++ ls)
 
-end_spelled : (r : Reading) (s : Sheet) → sheet_steps.finish r ≡ Ok s → IsSpelled r [] s
+end_spelled : (r : SheetReading) (s : Sheet) → sheet_steps.finish r ≡ Ok s → IsSpelled r [] s
 end_spelled r s is before = go r.next refl
   where
     go : (next : Part) → r.next ≡ next → IsWithinLimits s × (lines_by r.cost s ≡ lines_before r.cost r.next r.sheet ++ [])
     go next e = grind (arith, append-nil)
 
-abbrev reading_after : Reading → List ℕ → Sheet → Reading
+abbrev reading_after : SheetReading → List ℕ → Sheet → SheetReading
 reading_after r line s = record { cost = r.cost; next = part_after (part_of r.next line); sheet = s }
 
-line_spelled : (r next : Reading) (line : List ℕ) (ls : List (List ℕ)) (s : Sheet) → sheet_steps.step r line ≡ Ok next → IsSpelled next ls s
+line_spelled : (r next : SheetReading) (line : List ℕ) (ls : List (List ℕ)) (s : Sheet) → sheet_steps.step r line ≡ Ok next → IsSpelled next ls s
     → IsSpelled r (line ∷ ls) s
 line_spelled r next line ls s is rest before = go (with_part r.cost (part_of r.next line) r.sheet line) refl
   where

@@ -3,7 +3,7 @@ use Rattle.std.proofs.Common.{◌≡◌, ℕ, zero, suc, ◌+◌, ◌<◌, ◌�
 use Rattle.std.{proofs.Common.{Option, Some, None, Ok, refl, sym, subst, arith}, proofs.lemmas.List.Elements.{All-take}}
 use Rattle.line_text.specs.{Lines.{IsLine}, LineSteps.{read_lines}}
 use Rattle.potential_check.specs.{Leading.{leading_lines, lines_from}, declared.{cost.Cost.{Cost}, part.Part.{Part}}}
-use Rattle.potential_check.specs.SheetText.{Reading, is_left, is_named, nothing_read, part_after, part_of, read_by, sheet_steps, whole, with_part}
+use Rattle.potential_check.specs.SheetText.{SheetReading, is_left, is_named, nothing_read, part_after, part_of, read_by, sheet_steps, whole, with_part}
 use Rattle.potential_check.specs.declared.part.Part.TheVariants.{Table, Row}
 use Rattle.tuner_theory.specs.Sheets.{Sheet}
 
@@ -38,14 +38,14 @@ whole_at_rows : (next : Part) (s t : Sheet) → whole next s ≡ Some t → next
 whole_at_rows next s t is = grind arith
 
 -- where a line that is no row stands after lines that are read
-from_one_more : (ls : List (List ℕ)) (n : ℕ) (r : Reading) (s : Sheet) (line : List ℕ) → is_left Row line ≡ true
+from_one_more : (ls : List (List ℕ)) (n : ℕ) (r : SheetReading) (s : Sheet) (line : List ℕ) → is_left Row line ≡ true
     → read_lines sheet_steps n r (lines_from r.next ls) ≡ Ok s → lines_from r.next (lines_from r.next ls ++ line ∷ []) ≡ lines_from r.next ls
 unfolding lines_from read_lines
 from_one_more [] n r s line left e = grind (arith, whole_at_rows)
 from_one_more (first ∷ ls) n r s line left e =
     go (λ n r. from_one_more ls n r s line left) (is_left r.next first) refl (with_part r.cost (part_of r.next first) r.sheet first) refl
   where
-    go : ((n : ℕ) (r : Reading) → read_lines sheet_steps n r (lines_from r.next ls) ≡ Ok s
+    go : ((n : ℕ) (r : SheetReading) → read_lines sheet_steps n r (lines_from r.next ls) ≡ Ok s
         → lines_from r.next (lines_from r.next ls ++ line ∷ []) ≡ lines_from r.next ls)
         → (leaves : Bool) → is_left r.next first ≡ leaves → (read : Option Sheet) → with_part r.cost (part_of r.next first) r.sheet first ≡ read
         → lines_from r.next (lines_from r.next (first ∷ ls) ++ line ∷ []) ≡ lines_from r.next (first ∷ ls)

@@ -10,7 +10,7 @@ use Rattle.line_text.{proofs.LawLemmas.{line_read, no_line, text_laws as laws}, 
 use Rattle.potential_check.proofs.SheetLines.{cost-not_forced, cost-not_step, cost_in-line, forced-named, forced_in-line, forced_line}
 use Rattle.potential_check.proofs.SheetLines.{limit_in-line, names, one_small, row_in-line, step_in-line, step_small}
 use Rattle.potential_check.{proofs.SheetLines.{table_in-line}, specs.declared.{cost.Cost.{Cost}, part.Part.{Part}}}
-use Rattle.potential_check.specs.SheetText.{IsRow, IsWithinLimits, Reading, SpellsBy, forced_lines, lines_by, part_after, part_of}
+use Rattle.potential_check.specs.SheetText.{IsRow, IsWithinLimits, SheetReading, SpellsBy, forced_lines, lines_by, part_after, part_of}
 use Rattle.potential_check.specs.SheetText.{nothing_stated, read_by, sheet_steps, step_lines, with_part, with_row, word_of}
 use Rattle.potential_check.specs.declared.part.Part.TheVariants.{Table, Limit, Step, Forced, Stated, Row}
 use Rattle.tuner_theory.specs.Sheets.{Sheet}
@@ -55,7 +55,7 @@ lines-full cost s within =
 
 -- ---- they are read one after the other
 
-abbrev at : Cost → Part → Sheet → Reading
+abbrev at : Cost → Part → Sheet → SheetReading
 at cost next s = record { cost = cost; next = next; sheet = s }
 
 abbrev read_at : Cost → ℕ → Part → Sheet → List (List ℕ) → Result Sheet (ℕ × Unit {0})

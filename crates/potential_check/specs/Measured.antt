@@ -1,6 +1,6 @@
 -- What the tests of a certificate's rows say by a measure.
 use Rattle.std.specs.Prelude.{◌↔◌, IsTrue}
-use Rattle.potential_check.specs.declared.measured.RowTests.{RowTests}
+use Rattle.potential_check.specs.declared.measured_load.RowTests.{RowTests}
 use Rattle.tuner_theory.specs.{Measures.{Measure}, Sheets.{MeetsOn, Sheet}}
 use Rattle.tuner_theory.specs.declared.verdict.Refusal.TheVariants.{LastClass, StageDrop, Edge}
 

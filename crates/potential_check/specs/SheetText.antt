@@ -12,7 +12,7 @@ use Rattle.class_table.specs.declared.table.TheConstants.{MOST_CLASSES}
 use Rattle.potential_check.specs.declared.{cost.Cost.{Cost}, cost.Cost.TheVariants.{Waste, Footprint}, fault.SheetError.{SheetError}}
 use Rattle.potential_check.specs.declared.{part.Part.{Part}, part.Part.TheVariants.{Table, Limit, Step, Forced, Stated, Row}}
 use Rattle.potential_check.specs.declared.fault.SheetError.TheVariants.{OutOfMemory as NoMemory, BadSheet, BadFit}
-pub use Rattle.potential_check.specs.declared.reading.Reading.{Reading}
+pub use Rattle.potential_check.specs.declared.reading.SheetReading.{SheetReading}
 use Rattle.tuner_theory.specs.Sheets.{Sheet}
 
 -- ---- the spelling
@@ -202,7 +202,7 @@ abbrev pub whole : Part → Sheet → Option Sheet
 whole Row s = Some s
 whole next s = None
 
-abbrev pub sheet_steps : LineSteps Reading Sheet (Unit {0})
+abbrev pub sheet_steps : LineSteps SheetReading Sheet (Unit {0})
 sheet_steps = record {
   step = λ r line. ok_or (option_map (λ s. record { cost = r.cost; next = part_after (part_of r.next line); sheet = s })
       (with_part r.cost (part_of r.next line) r.sheet line)) tt;
@@ -213,7 +213,7 @@ sheet_steps = record {
 abbrev pub nothing_stated : Sheet
 nothing_stated = record { table = []; limit = 1; step = 1; forced = false; cost = 0; rows = [] }
 
-abbrev pub nothing_read : Cost → Reading
+abbrev pub nothing_read : Cost → SheetReading
 nothing_read cost = record { cost = cost; next = Table; sheet = nothing_stated }
 
 -- There are at most so many lines before the rows.
@@ -229,7 +229,7 @@ before_rows Forced = 2
 before_rows Stated = 1
 before_rows Row = 0
 
-abbrev pub may_come : Reading → ℕ
+abbrev pub may_come : SheetReading → ℕ
 may_come r = before_rows r.next + (MOST_CLASSES - length r.sheet.rows)
 
 -- What is read of lines, or the number of the first faulty one. A missing line is faulty too.

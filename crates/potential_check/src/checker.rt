@@ -11,7 +11,7 @@ ghost use Rattle.tuner_theory.specs.declared.verdict.Refusal.TheVariants.{LastCl
 ghost use Rattle.tuner_theory.specs.declared.verdict.Verdict.TheVariants.{Optimal, Refused};
 
 use crate::certificates::{Certificate, Rows, Spans};
-use crate::measured::Measured;
+use crate::measured_load::MeasuredLoad;
 use class_table::is_step;
 use std::alloc::{AllocError, Global};
 use tuner_theory::{Refusal, Verdict};
@@ -19,7 +19,7 @@ use tuner_theory::{Refusal, Verdict};
 /// The verdict on a certificate, whoever wrote it and whatever it holds: optimal, or the first refusal that holds.
 /// The table of an optimal one is a best one: no table of at most `limit` classes that fits the step and serves the counts costs less.
 /// The only error is that the allocator refuses memory.
-pub(crate) fn verdict_on<M: Measured>(
+pub(crate) fn verdict_on<M: MeasuredLoad>(
     alloc: Global,
     measured: &M,
     sheet: &Certificate<M::Kind>,
@@ -46,7 +46,7 @@ pub(crate) fn verdict_on<M: Measured>(
 }
 
 // the first refusal for the table, with the step, the limit and the cost
-fn table_refusal<M: Measured>(measured: &M, sheet: &Certificate<M::Kind>) -> Option<Refusal>
+fn table_refusal<M: MeasuredLoad>(measured: &M, sheet: &Certificate<M::Kind>) -> Option<Refusal>
     ensures refused { IfSome result
         (λ refusal. IsVerdictOn (M.measure measured.now) (sheet_of sheet.now) (Refused refusal)) }
     ensures none { IfNone result (AreMetBefore (MeetsOn (M.measure measured.now) (sheet_of sheet.now)) Shape) }
@@ -68,7 +68,7 @@ fn table_refusal<M: Measured>(measured: &M, sheet: &Certificate<M::Kind>) -> Opt
 }
 
 // the first refusal for the numbers of the rows, which have their shape
-fn numbers_refusal<M: Measured>(
+fn numbers_refusal<M: MeasuredLoad>(
     alloc: Global,
     measured: &M,
     spans: &Spans<'_>,

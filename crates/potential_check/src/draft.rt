@@ -9,7 +9,7 @@ use crate::certificates::{Certificate, Rows};
 use crate::cost::Cost;
 use crate::part::Part;
 use crate::sheet_line::{
-    ROW, cost_in, forced_in, limit_in, row_of_words, step_in, table_in, words_after,
+    ROW, cost_in, forced_class_in, limit_in, row_of_words, step_in, table_in, words_after,
 };
 use class_table::{ClassTable, MOST_CLASSES};
 use line_text::Stop;
@@ -70,7 +70,7 @@ impl Draft {
             Part::Table => self.table = table_in(line).ok_or(Stop::Fault(()))?,
             Part::Limit => self.limit = limit_in(line).ok_or(Stop::Fault(()))?,
             Part::Step => self.step = step_in(line).ok_or(Stop::Fault(()))?,
-            Part::Forced => self.forced = forced_in(line).ok_or(Stop::Fault(()))?,
+            Part::Forced => self.forced = forced_class_in(line).ok_or(Stop::Fault(()))?,
             Part::Stated => self.cost = cost_in(cost, line).ok_or(Stop::Fault(()))?,
             Part::Row => return self.take_row(line),
         }

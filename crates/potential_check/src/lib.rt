@@ -11,7 +11,7 @@ mod fault;
 mod footprints;
 pub mod laws;
 mod leading_sheet;
-mod measured;
+mod measured_load;
 mod on_profile;
 mod part;
 mod reading;
@@ -28,7 +28,7 @@ pub use footprints::{
     check_fit, check_over, lower_slack, moments_in, names_moments, no_bounds, test_rows,
 };
 pub use leading_sheet::LeadingSheet;
-pub use measured::RowTests;
+pub use measured_load::RowTests;
 pub use on_profile::check;
 pub use reading::{read_leading_sheet, read_sheet};
 pub use tuner_theory::{Refusal, Verdict};

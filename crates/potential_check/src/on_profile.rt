@@ -9,7 +9,7 @@ ghost use Rattle.tuner_theory.specs.declared.verdict.Verdict.TheVariants.{Optima
 use crate::certificates::{Certificate, Sheet, Spans};
 use crate::checker::verdict_on;
 use crate::cost::OfWaste;
-use crate::measured::{Measured, RowTests};
+use crate::measured_load::{MeasuredLoad, RowTests};
 use crate::sheet_on_spans::SheetOnSpans;
 use class_table::ClassTable;
 use profile_count::Profile;
@@ -39,7 +39,7 @@ struct OnProfile<'a> {
     profile: &'a Profile,
 }
 
-impl<'a> Measured for OnProfile<'a> {
+impl<'a> MeasuredLoad for OnProfile<'a> {
     ghost use Rattle.tuner_theory.proofs.LawLemmas.{waste-sum};
     ghost use Rattle.tuner_theory.specs.Measures.{waste_on};
 

@@ -37,7 +37,7 @@ pub fn read_leading_sheet<C: CostKind>(
 ) -> Result<LeadingSheet<'_, C>, SheetError>
     ensures { GivesLeadingBy C.kind (lines text.now) result }
 {
-    match read_lines(Reading::new(C::kind(), alloc), 1, lines_in(text)) {
+    match read_lines(SheetReading::new(C::kind(), alloc), 1, lines_in(text)) {
         Ok((sheet, rest)) => Ok(LeadingSheet {
             lines: sheet.lines(),
             rest: rest.rest(),
@@ -50,18 +50,18 @@ pub fn read_leading_sheet<C: CostKind>(
 
 // what was read of a certificate by a cost, and the part that comes next
 #[derive(Drop)]
-struct Reading {
+struct SheetReading {
     cost: Cost,
     next: Part,
     sheet: Draft,
 }
 
-impl Reading {
+impl SheetReading {
     // before the first line
-    fn new(cost: Cost, alloc: Global) -> Reading
+    fn new(cost: Cost, alloc: Global) -> SheetReading
         ensures { result ≡ nothing_read cost }
     {
-        Reading {
+        SheetReading {
             cost,
             next: Part::Table,
             sheet: Draft::new(alloc),
@@ -69,7 +69,7 @@ impl Reading {
     }
 }
 
-impl LineReader for Reading {
+impl LineReader for SheetReading {
     ghost use Rattle.potential_check.specs.Leading.{lines_from};
     ghost use Rattle.potential_check.specs.SheetText.{may_come, sheet_steps};
 

@@ -56,7 +56,7 @@ pub(crate) fn step_in(line: &[u8]) -> Option<u8>
 }
 
 /// That the largest class is forced, which a line spells.
-pub(crate) fn forced_in(line: &[u8]) -> Option<bool>
+pub(crate) fn forced_class_in(line: &[u8]) -> Option<bool>
     ensures { result ≡ forced_in line.now }
 {
     match only_number(words_after(FORCED, line)?)? {

@@ -9,7 +9,7 @@ ghost use Rattle.tuner_theory.specs.Sheets.{Meets};
 ghost use Rattle.tuner_theory.specs.declared.verdict.Refusal.TheVariants.{Edge, LastClass, Shape, StageDrop};
 
 use crate::certificates::{Rows, Sheet, Spans};
-use crate::measured::RowTests;
+use crate::measured_load::RowTests;
 use crate::row_conditions::{edges_hold, last_class_holds, stage_drop_holds};
 use std::marker::Model;
 

@@ -3,9 +3,9 @@ use Rattle.std.proofs.{Common.{◌≡◌, ◌≢◌, ℕ, ◌≤◌, List, get_o
 use Rattle.std.proofs.lemmas.List.Elements.{All-set}
 use Rattle.tuner_theory.specs.Profiles.{AreCounts, greatest_count}
 use Rattle.profile_count.proofs.Zeros.{zeros_are_counts, each_is_zero}
-use Rattle.profile_count.specs.{ProfileText.{Reading, IsNext, nothing_read, with_entry}, declared.entry.Entry.TheVariants.{Size}}
+use Rattle.profile_count.specs.{ProfileText.{ProfileReading, IsNext, nothing_read, with_entry}, declared.entry.Entry.TheVariants.{Size}}
 
-pub record IsOpen (reading : Reading) : Type 0 where
+pub record IsOpen (reading : ProfileReading) : Type 0 where
   pub counts : AreCounts reading.profile.counts
   pub large : reading.profile.large ≡ 0
   pub none : (k : ℕ) → reading.next ≤ k → get_or reading.profile.counts k 0 ≡ 0
@@ -18,7 +18,7 @@ pub other_count : (counts : List ℕ) (size count k : ℕ) → k ≢ size → ge
 other_count counts size count k other = get_or-set_other counts size k count 0 other
 
 -- a reading stays open after the line of a size
-pub is_open-size_read : (reading : Reading) (size count : ℕ) → IsOpen reading → IsNext reading.next 0 (Size size count) →
+pub is_open-size_read : (reading : ProfileReading) (size count : ℕ) → IsOpen reading → IsNext reading.next 0 (Size size count) →
     IsOpen (with_entry reading (Size size count))
 is_open-size_read reading size count is_open next =
     record {

@@ -6,13 +6,13 @@ use Rattle.tuner_theory.specs.Profiles.{Profile, IsProfile}
 use Rattle.profile_count.proofs.BeforeLarge.{IsOpen, is_open-nothing_read, other_count, is_open-size_read}
 use Rattle.profile_count.{proofs.EntryLines.{entry_line, entry_line-read}, specs.Counts.{with_large}, specs.declared.entry.Entry.{Entry}}
 use Rattle.profile_count.proofs.SizeLines.{size_lines_from, size_lines-none, size_lines-counted, size_lines-passed}
-use Rattle.profile_count.specs.ProfileText.{Reading, SpellsProfile, IsNext, large_lines, entry_of, with_entry, nothing_read, profile_of}
+use Rattle.profile_count.specs.ProfileText.{ProfileReading, SpellsProfile, IsNext, large_lines, entry_of, with_entry, nothing_read, profile_of}
 use Rattle.profile_count.specs.ProfileText.{profile_steps}
 use Rattle.profile_count.specs.declared.{entry.Entry.TheVariants.{Size, Large}, fault.ProfileFault.{ProfileFault}}
 
 -- After a reading, lines spell a profile: what it counts from the next size on, and its large requests. Below that size it counts what was
 -- read.
-record SpellsRest (reading : Reading) (ls : List (List ℕ)) (p : Profile) : Type 0 where
+record SpellsRest (reading : ProfileReading) (ls : List (List ℕ)) (p : Profile) : Type 0 where
   profile : IsProfile p
   kept : (k : ℕ) → k < reading.next → get_or p.counts k 0 ≡ get_or reading.profile.counts k 0
   spelled : ls ≡ size_lines_from p.counts reading.next ++ large_lines p.large
@@ -20,16 +20,16 @@ record SpellsRest (reading : Reading) (ls : List (List ℕ)) (p : Profile) : Typ
 -- ---- one line in front of others that spell the rest
 
 -- from the next size on nothing is counted
-no_size_lines : (reading : Reading) → IsOpen reading → size_lines_from reading.profile.counts reading.next ≡ []
+no_size_lines : (reading : ProfileReading) → IsOpen reading → size_lines_from reading.profile.counts reading.next ≡ []
 no_size_lines reading is_open = grind (arith, size_lines-none, get_or-drop)
 
 -- a `large` line alone spells its count
-spells_rest-large : (reading : Reading) (count : ℕ) → IsOpen reading → IsNext reading.next 0 (Large count) →
+spells_rest-large : (reading : ProfileReading) (count : ℕ) → IsOpen reading → IsNext reading.next 0 (Large count) →
     SpellsRest reading (entry_line (Large count) ∷ []) (with_large reading.profile count)
 spells_rest-large reading count is_open next = grind (arith, no_size_lines, ne_eqb)
 
 -- the line of a size spells its count, and that the sizes before it are not counted
-spells_rest-size : (reading : Reading) (size count : ℕ) (ls : List (List ℕ)) (p : Profile) → IsOpen reading →
+spells_rest-size : (reading : ProfileReading) (size count : ℕ) (ls : List (List ℕ)) (p : Profile) → IsOpen reading →
     IsNext reading.next 0 (Size size count)
     → SpellsRest (with_entry reading (Size size count)) ls p → SpellsRest reading (entry_line (Size size count) ∷ ls) p
 spells_rest-size reading size count ls p is_open next rest =
@@ -44,14 +44,14 @@ spells_rest-size reading size count ls p is_open next rest =
 -- ---- all lines
 
 -- What lines that are read spell: the rest of a profile, and no line where a `large` line came before.
-record IsReading (reading : Reading) (ls : List (List ℕ)) (p : Profile) : Type 0 where
+record IsReading (reading : ProfileReading) (ls : List (List ℕ)) (p : Profile) : Type 0 where
   is_rest : IsOpen reading → SpellsRest reading ls p
   none : 0 < reading.profile.large → (ls ≡ []) × (reading.profile ≡ p)
 
-no_line_spells : (reading : Reading) (p : Profile) → profile_steps.finish reading ≡ Ok p → IsReading reading [] p
+no_line_spells : (reading : ProfileReading) (p : Profile) → profile_steps.finish reading ≡ Ok p → IsReading reading [] p
 no_line_spells reading p is = grind (arith, no_size_lines)
 
-line_spells : (reading next : Reading) (line : List ℕ) (ls : List (List ℕ)) (p : Profile) → profile_steps.step reading line ≡ Ok next
+line_spells : (reading next : ProfileReading) (line : List ℕ) (ls : List (List ℕ)) (p : Profile) → profile_steps.step reading line ≡ Ok next
     → IsReading next ls p → IsReading reading (line ∷ ls) p
 line_spells reading next line ls p is rest = go (entry_of reading.next reading.profile.large (words line)) refl
   where

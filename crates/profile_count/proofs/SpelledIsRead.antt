@@ -9,7 +9,7 @@ use Rattle.profile_count.proofs.BeforeLarge.{IsOpen, is_open-nothing_read, other
 use Rattle.profile_count.proofs.EntryLines.{entry_line, entry_line-is_line, entry_line-some, entry_of-line}
 use Rattle.profile_count.specs.declared.entry.Entry.{Entry}
 use Rattle.profile_count.specs.ProfileText.{large_lines, with_entry, profile_of, profile_steps}
-use Rattle.profile_count.specs.ProfileText.{Reading, SpellsProfile}
+use Rattle.profile_count.specs.ProfileText.{ProfileReading, SpellsProfile}
 use Rattle.profile_count.specs.{ProfileText.{IsNext, size_lines}, declared.entry.Entry.TheVariants.{Size, Large}}
 
 -- ---- lists that agree below a place
@@ -31,13 +31,13 @@ drop_parts xs rest n x e =
 -- ---- lines are read one by one
 
 -- an entry's line is read, and then the others
-read-entry_line : (number : ℕ) (reading : Reading) (entry : Entry) (ls : List (List ℕ)) → reading.profile.large ≡ 0 →
+read-entry_line : (number : ℕ) (reading : ProfileReading) (entry : Entry) (ls : List (List ℕ)) → reading.profile.large ≡ 0 →
     IsNext reading.next 0 entry
     → read_lines profile_steps number reading (entry_line entry ∷ ls) ≡ read_lines profile_steps (number + 1) (with_entry reading entry) ls
 read-entry_line number reading entry ls none next = grind (arith, line_read, entry_of-line)
 
 -- the `large` line is read last, where there is one
-read-large_lines : (number : ℕ) (reading : Reading) (large : ℕ) → reading.profile.large ≡ 0 → large ≤ greatest_count
+read-large_lines : (number : ℕ) (reading : ProfileReading) (large : ℕ) → reading.profile.large ≡ 0 → large ≤ greatest_count
     → read_lines profile_steps number reading (large_lines large) ≡ Ok (record { counts = reading.profile.counts; large = large })
 read-large_lines number reading zero none small = rw (← none) (no_line profile_steps number reading reading.profile refl)
 read-large_lines number reading (suc n) none small =
@@ -46,7 +46,7 @@ read-large_lines number reading (suc n) none small =
     ∙ no_line profile_steps (number + 1) (with_entry reading (Large (suc n))) _ refl)
 
 -- The lines from a size on are read as the profile whose counts of the sizes below were read.
-read-size_lines : (counts : List ℕ) (size number : ℕ) (reading : Reading) (p : Profile) → IsOpen reading → IsProfile p →
+read-size_lines : (counts : List ℕ) (size number : ℕ) (reading : ProfileReading) (p : Profile) → IsOpen reading → IsProfile p →
     reading.next ≤ size
     → AgreeBelow reading.profile.counts p.counts size → drop size p.counts ≡ counts →
     read_lines profile_steps number reading (size_lines size counts ++ large_lines p.large) ≡ Ok p

@@ -7,7 +7,7 @@ use Rattle.line_text.specs.{FirstFault.{◌>>=◌}, Lines.{IsTextOf, lines, word
 use Rattle.line_text.specs.Numbers.{number_of}
 use Rattle.tuner_theory.specs.Profiles.{Profile, IsProfile, greatest_count}
 use Rattle.profile_count.specs.{Counts.{nothing_counted, with_count, with_large}, declared.entry.Entry.{Entry}}
-pub use Rattle.profile_count.specs.declared.reading.Reading.{Reading}
+pub use Rattle.profile_count.specs.declared.reading.ProfileReading.{ProfileReading}
 use Rattle.profile_count.specs.declared.{entry.Entry.TheVariants.{Size, Large}, fault.ProfileError.{ProfileError}}
 use Rattle.profile_count.specs.declared.fault.{ProfileError.TheVariants.{OutOfMemory, Line}, ProfileFault.{ProfileFault}}
 use Rattle.profile_count.specs.declared.fault.ProfileFault.TheVariants.{BadLine, NotAscending, CountOutOfRange}
@@ -74,24 +74,24 @@ abbrev pub IsNext : ℕ → ℕ → Entry → Type 0
 IsNext next large (Size size count) = (large ≡ 0) × (next ≤ size) × (size ≤ largest_counted) × (1 ≤ count) × (count ≤ greatest_count)
 IsNext next large (Large count) = (large ≡ 0) × (1 ≤ count) × (count ≤ greatest_count)
 
-abbrev pub with_entry : Reading → Entry → Reading
+abbrev pub with_entry : ProfileReading → Entry → ProfileReading
 with_entry reading (Size size count) = record { profile = with_count reading.profile size count; next = suc size }
 with_entry reading (Large count) = record { profile = with_large reading.profile count; next = reading.next }
 
 -- ---- reading line by line
 
-abbrev pub profile_steps : LineSteps Reading Profile ProfileFault
+abbrev pub profile_steps : LineSteps ProfileReading Profile ProfileFault
 profile_steps = record {
   step = λ reading line. entry_of reading.next reading.profile.large (words line) >>= λ entry. Ok (with_entry reading entry);
   finish = λ reading. Ok reading.profile;
 }
 
 -- How many lines may come: each has another size, and one may be of the large requests.
-abbrev pub may_come : Reading → ℕ
+abbrev pub may_come : ProfileReading → ℕ
 may_come reading = if nat_lt 0 reading.profile.large then 0 else suc (largest_counted + 1 - reading.next)
 
 -- before the first line
-abbrev pub nothing_read : Reading
+abbrev pub nothing_read : ProfileReading
 nothing_read = record { profile = nothing_counted; next = 0 }
 
 abbrev pub profile_of_lines : List (List ℕ) → Result Profile (ℕ × ProfileFault)

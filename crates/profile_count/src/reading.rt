@@ -9,12 +9,12 @@ use std::alloc::Global;
 
 /// What was counted so far, and the least size that may come next.
 #[derive(Drop)]
-pub(crate) struct Reading {
+pub(crate) struct ProfileReading {
     profile: Profile,
     next: u32,
 }
 
-impl LineReader for Reading {
+impl LineReader for ProfileReading {
     ghost use Rattle.profile_count.specs.ProfileText.{may_come, profile_steps};
 
     type Value = Profile;
@@ -52,7 +52,7 @@ impl Profile {
         ensures { GivesProfile result (profile_of text.now) }
     {
         let profile = Profile::new(alloc)?;
-        match read_lines(Reading { profile, next: 0 }, 1, lines_in(text)) {
+        match read_lines(ProfileReading { profile, next: 0 }, 1, lines_in(text)) {
             Ok((profile, _rest)) => Ok(profile),
             Err((Stop::OutOfMemory, _number)) => Err(ProfileError::OutOfMemory),
             Err((Stop::Fault(fault), number)) => Err(ProfileError::Line(number, fault)),

@@ -15,7 +15,7 @@ use trace_event::Event;
 pub(crate) const LONGEST_ACCESS: usize = Event::LONGEST_ACCESS as usize;
 
 /// The address `off` bytes after another one, modulo 2^64.
-pub(crate) fn moved_by(address: u64, off: i32) -> u64
+pub(crate) fn move_address(address: u64, off: i32) -> u64
     ensures { result ≡ moved_by address off }
 {
     address.wrapping_add_signed(i64::from(off))

@@ -9,7 +9,7 @@ ghost use Rattle.replay_theory.specs.Totals.{request_size};
 ghost use Rattle.std.specs.Prelude.{◌≡◌, ◌+◌, ◌^◌, ◌<◌, ◌≤◌, IfOk, List, None, Some, length, slice_index, slice_set, ℕ};
 ghost use Rattle.std.specs.Result.{result_unwrap_or};
 
-use crate::access::{LONGEST_ACCESS, load, moved_by, store};
+use crate::access::{LONGEST_ACCESS, load, move_address, store};
 use crate::answer::Answer;
 use heap_theory::{NullCause, ReallocError};
 use tagged_heap::Heap;
@@ -39,10 +39,20 @@ pub(crate) fn perform(
         Event::Realloc { v, n } => reallocate(heap, variables, v, n),
         Event::Free { v } => free(heap, variables[usize::from(v)]),
         Event::Load { v, off, len } => {
-            load(heap, moved_by(variables[usize::from(v)], off), len, bytes)
+            load(
+                heap,
+                move_address(variables[usize::from(v)], off),
+                len,
+                bytes,
+            )
         }
         Event::Store { v, off, len, byte } => {
-            store(heap, moved_by(variables[usize::from(v)], off), len, byte)
+            store(
+                heap,
+                move_address(variables[usize::from(v)], off),
+                len,
+                byte,
+            )
         }
         // one arm, so that the compiler takes these fields apart here alone, and not for each event
         Event::Addg { v, w, u6, u4 } | Event::Subg { v, w, u6, u4 } => {

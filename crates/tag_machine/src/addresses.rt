@@ -31,7 +31,7 @@ pub fn with_tag(address: u64, tag: u8) -> u64
 }
 
 /// The address rounded down to a multiple of 16.
-pub(crate) fn aligned(address: u64) -> u64
+pub(crate) fn align_address(address: u64) -> u64
     ensures { result ≡ aligned address }
 {
     address & !(GRANULE_BYTES - 1)

@@ -22,7 +22,7 @@ pub(crate) fn is_mapped(memory: &Memory, address: u64, len: u64) -> bool
 }
 
 /// The number of the first byte of an access of `len` bytes, 1 to 64, counted from the region's start. `None` if it is not mapped.
-fn mapped_at(memory: &Memory, address: u64, len: u64) -> Option<u64>
+fn mapped_byte(memory: &Memory, address: u64, len: u64) -> Option<u64>
     requires { (1 ≤ len) × (len ≤ LONGEST_ACCESS) }
     ensures none { IfNone result (IsMapped (length memory.now) address len → ⊥) }
     ensures mapped { IfSome result (λ at. IsMapped (length memory.now) address len) }
@@ -49,7 +49,7 @@ pub(crate) fn check_access(memory: &Memory, address: u64, len: u64) -> Result<us
     ensures mapped { OnOk result (IsMapped (length memory.now) address len) }
     ensures memory { IsMemory memory.now }
 {
-    let Some(at) = mapped_at(memory, address, len) else {
+    let Some(at) = mapped_byte(memory, address, len) else {
         return Err(Fault::Unmapped);
     };
     // an access touches at most five granules

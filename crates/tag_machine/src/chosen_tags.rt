@@ -4,7 +4,7 @@ ghost use Rattle.std.specs.Prelude.{◌≡◌, ◌<◌, bit_or};
 ghost use Rattle.tag_machine.specs.Rows.{row_mask};
 
 /// What `choose_tag` returns for the mask of a row, below 32, without tag 0.
-pub(crate) fn chosen_in_row(row: usize, tag: u8, offset: u8) -> u8
+pub(crate) fn tag_in_row(row: usize, tag: u8, offset: u8) -> u8
     requires row { row < 32 }
     requires tag { tag < 16 }
     requires offset { offset < 16 }

@@ -7,9 +7,9 @@ ghost use Rattle.tag_machine.specs.Rows.{row_mask};
 ghost use Rattle.std.specs.Borrow.{sem};
 ghost use Rattle.std.specs.Prelude.{◌≡◌, ◌≢◌, ◌↔◌, ◌<◌, ◌≤◌, IsTrue, OnErr, OnOk, length, replicate, take};
 
-use crate::addresses::{aligned, granule_of, logical_tag, with_tag};
+use crate::addresses::{align_address, granule_of, logical_tag, with_tag};
 use crate::checks::{check_access, check_tag_store, is_mapped};
-use crate::chosen_tags::chosen_in_row;
+use crate::chosen_tags::tag_in_row;
 use crate::draws::{next_offset, next_seed};
 use crate::tag_choice::choose_tag;
 use granule_memory::Memory;
@@ -80,7 +80,7 @@ impl Machine {
           tag = drawn_tag self.old.tag self.old.seed (row_mask row);
         } }
     {
-        self.tag = chosen_in_row(row, self.tag, next_offset(self.seed));
+        self.tag = tag_in_row(row, self.tag, next_offset(self.seed));
         self.seed = next_seed(self.seed);
         with_tag(xn, self.tag)
     }
@@ -121,7 +121,7 @@ impl Machine {
     pub fn ldg(&self, xt: u64, xn: u64) -> Result<u64, Fault>
         ensures { result ≡ ldg self.now.memory xt xn }
     {
-        if !is_mapped(&self.memory, aligned(xn), GRANULE_BYTES) {
+        if !is_mapped(&self.memory, align_address(xn), GRANULE_BYTES) {
             return Err(Fault::Unmapped);
         }
         Ok(with_tag(xt, self.memory.tag(granule_of(xn))))

@@ -14,7 +14,7 @@ fn is_excluded(exclude: u16, tag: u8) -> bool
 }
 
 /// The allowed tags as a mask. Its bit k stands for the tag k + 1 steps above `tag`.
-fn allowed_above(tag: u8, exclude: u16) -> u16
+fn allowed_tags_above(tag: u8, exclude: u16) -> u16
     requires { tag < 16 }
     ensures { allowed_after tag exclude ≡ map (λ k. (tag + (1 + k)) % 16) (set_bits result) }
 {
@@ -28,7 +28,7 @@ pub(crate) fn choose_tag(tag: u8, offset: u8, exclude: u16) -> u8
     ensures chosen { result ≡ choose_tag tag offset exclude }
     ensures below { result < 16 }
 {
-    let allowed = allowed_above(tag, exclude);
+    let allowed = allowed_tags_above(tag, exclude);
     if allowed == 0 {
         return 0;
     }

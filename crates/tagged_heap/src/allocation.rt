@@ -41,7 +41,7 @@ pub(crate) fn unused_bytes(class: u32, n: u32) -> u32
 
 /// A chunk that was given out: its slot, the slot's header granule, its address, and the bytes that it leaves unused in its block.
 #[derive(Clone, Copy)]
-pub(crate) struct Given {
+pub(crate) struct GivenChunk {
     pub(crate) slot: u32,
     pub(crate) start: u32,
     pub(crate) address: u64,
@@ -108,7 +108,7 @@ impl Heap {
 
     /// Gives out the slot for a request of n bytes, or says why there is none.
     #[inline(always)]
-    pub(crate) fn allocate(&mut self, n: u32) -> Result<Given, NullCause>
+    pub(crate) fn allocate(&mut self, n: u32) -> Result<GivenChunk, NullCause>
         ensures slot { result_map_both (λ given. given.slot) (λ cause. cause) result
             ≡ slot_for_request self.old.state n }
         ensures start { IfOk result (λ given. given.start ≡ (slot_in self.old.state given.slot).start) }
@@ -132,7 +132,7 @@ impl Heap {
         )
         .ok_or(NullCause::Exhausted)?;
         let address = give_out(&mut self.machine, &self.layout, slot, place, n);
-        Ok(Given {
+        Ok(GivenChunk {
             slot,
             start: place.start,
             address,
@@ -141,7 +141,7 @@ impl Heap {
     }
 
     // Sets to 0 all bytes of the chunk granules for n bytes, in a slot that was given out.
-    fn zero_chunk(&mut self, given: Given, n: u32)
+    fn zero_chunk(&mut self, given: GivenChunk, n: u32)
         requires slot { IsSlot self.old.state given.slot }
         requires start { given.start ≡ (slot_in self.old.state given.slot).start }
         requires size { n ≤ largest_counted }

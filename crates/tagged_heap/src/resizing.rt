@@ -10,7 +10,7 @@ ghost use Rattle.std.specs.Prelude.{◌≡◌, ◌↔◌, ◌+◌, ◌*◌, ◌^
 ghost use Rattle.tagged_heap.specs.Chunks.{IsChunk};
 ghost use Rattle.tagged_heap.specs.Frees.{frees_of_realloc};
 
-use crate::allocation::{Given, class_number_for, unused_bytes};
+use crate::allocation::{GivenChunk, class_number_for, unused_bytes};
 use crate::freeing::Chunk;
 use crate::heap::Heap;
 use crate::slot_changes::resize;
@@ -116,7 +116,7 @@ impl Heap {
     }
 
     // Copies the first bytes of a chunk's payload to that of a slot that was given out.
-    fn copy_payload(&mut self, from: Chunk, to: Given, count: u32)
+    fn copy_payload(&mut self, from: Chunk, to: GivenChunk, count: u32)
         requires from { IsChunk self.old.state from }
         requires to { IsSlot self.old.state to.slot }
         requires start { to.start ≡ (slot_in self.old.state to.slot).start }

@@ -13,6 +13,8 @@ pub enum OptionName {
     Granules,
     Seed,
     Quarantine,
+    Claim,
+    FirstLines,
 }
 
 /// The options of all commands. A command reads those that are its own.
@@ -31,6 +33,10 @@ pub struct Options {
     pub step: u8,
     /// Whether the table must have class 1024: 0 or 1.
     pub largest_class: u8,
+    /// Whether a line of what was shown follows `optimal`: 0 or 1.
+    pub claim: u8,
+    /// Of one text that is two: the lines of the first; by their form for 0, 0 to 64.
+    pub first_lines: u8,
 }
 
 impl OptionName {
@@ -45,6 +51,8 @@ impl OptionName {
             OptionName::Granules => (64, 262_144),
             OptionName::Seed => (1, 65_535),
             OptionName::Quarantine => (0, 4_194_304),
+            OptionName::Claim => (0, 1),
+            OptionName::FirstLines => (0, 64),
         }
     }
 }
@@ -58,6 +66,8 @@ impl Options {
         limit: 0,
         step: 0,
         largest_class: 0,
+        claim: 0,
+        first_lines: 0,
     };
 
     /// The program's own defaults; what has none is its least number.
@@ -68,6 +78,8 @@ impl Options {
         limit: 1,
         step: 1,
         largest_class: 0,
+        claim: 0,
+        first_lines: 0,
     };
 
     /// The number of an option.
@@ -81,6 +93,8 @@ impl Options {
             OptionName::Granules => self.granules,
             OptionName::Seed => u32::from(self.seed),
             OptionName::Quarantine => self.quarantine,
+            OptionName::Claim => u32::from(self.claim),
+            OptionName::FirstLines => u32::from(self.first_lines),
         }
     }
 
@@ -114,6 +128,14 @@ impl Options {
                 quarantine: n,
                 ..self
             },
+            OptionName::Claim => Options {
+                claim: n as u8,
+                ..self
+            },
+            OptionName::FirstLines => Options {
+                first_lines: n as u8,
+                ..self
+            },
         }
     }
 }
@@ -123,6 +145,8 @@ const TUNE: &[OptionName] = &[
     OptionName::Step,
     OptionName::LargestClass,
 ];
+
+const CHECK: &[OptionName] = &[OptionName::Claim, OptionName::FirstLines];
 
 const REPLAY: &[OptionName] = &[
     OptionName::Granules,
@@ -138,20 +162,22 @@ const RUN: &[OptionName] = &[
     OptionName::Quarantine,
 ];
 
+const SCORE: &[OptionName] = &[OptionName::FirstLines];
+
 /// The options of a command, in the order in which the help lists them.
 pub fn options_of(command: CommandName) -> &'static [OptionName]
     ensures { result.now ≡ options_of command }
 {
     match command {
-        CommandName::Score => &[],
+        CommandName::Score => SCORE,
         CommandName::Tune => TUNE,
-        CommandName::Check => &[],
-        CommandName::Footprint => &[],
+        CommandName::Check => CHECK,
+        CommandName::Footprint => SCORE,
         CommandName::Fit => TUNE,
-        CommandName::CheckFit => &[],
+        CommandName::CheckFit => CHECK,
         CommandName::Profile => &[],
         CommandName::Replay => REPLAY,
         CommandName::Run => RUN,
-        CommandName::Peaks => &[],
+        CommandName::Peaks => SCORE,
     }
 }

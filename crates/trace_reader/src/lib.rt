@@ -17,6 +17,6 @@ mod words;
 
 pub use events::Events;
 pub use fault::{TraceError, TraceFault};
-pub use observer::{Observer, Unobserved};
+pub use observer::{NoObserver, Observer};
 pub use reader::TraceReader;
 pub use trace_event::Event;

@@ -16,9 +16,9 @@ pub trait Observer {
 
 /// Looks at no event.
 #[derive(Debug, Drop)]
-pub struct Unobserved;
+pub struct NoObserver;
 
-impl Observer for Unobserved {
+impl Observer for NoObserver {
     ghost has_seen = { λ _ _. ⊤ };
 
     #[inline(always)]

@@ -38,7 +38,7 @@ const ABOVE_FOUR: u32 = 0x7676_7677;
 const HIGH_BITS_OF_FOUR: u32 = 0x8080_8080;
 
 /// The `Caller` that hands events out at once.
-pub(crate) struct AtOnce;
+pub(crate) struct ImmediateCaller;
 
 // The first four letters of the events' names, as words: the first letter is the lowest byte.
 const MALL: u32 = 0x6c6c_616d;

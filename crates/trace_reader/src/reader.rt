@@ -14,8 +14,8 @@ use crate::events::Events;
 use crate::fault::{TraceError, TraceFault};
 use crate::kept_event::KeptEvent;
 use crate::line::{LONGEST_LINE, MOST_EVENTS, event_in};
-use crate::observer::{Observer, Unobserved};
-use crate::one_pass::{AtOnce, first_event};
+use crate::observer::{NoObserver, Observer};
+use crate::one_pass::{ImmediateCaller, first_event};
 use crate::status::Status;
 use arrayvec::ArrayVec;
 use line_text::first_line;
@@ -79,7 +79,7 @@ impl TraceReader {
         ensures prefix { IsPrefix self.new.events (fed self.old piece.now).events }
         ensures unfinished { is_finished self.new ≡ false }
     {
-        self.feed_observed(piece, &mut Unobserved)
+        self.feed_observed(piece, &mut NoObserver)
     }
 
     /// `feed`, with an observer that sees the events, each before it is kept. If it saw those that waited before, it has then seen those that
@@ -119,7 +119,7 @@ impl TraceReader {
         ensures finished { is_finished self.new ≡ is_ok result }
         ensures few { OnOk result (length self.new.events ≤ MOST_EVENTS) }
     {
-        self.finish_observed(&mut Unobserved)
+        self.finish_observed(&mut NoObserver)
     }
 
     /// `finish`, with an observer, as in `feed_observed`.
@@ -191,7 +191,7 @@ impl TraceReader {
         if self.lines == MOST_EVENTS {
             return None;
         }
-        let (event, after) = first_event::<AtOnce>(text)?;
+        let (event, after) = first_event::<ImmediateCaller>(text)?;
         self.lines += 1;
         Some((event, after))
     }

@@ -7,7 +7,7 @@ ghost use Rattle.trace_reader.specs.TraceLine.{byte_of, event_of_words, is_empty
 
 use crate::fault::TraceFault;
 use arrayvec::ArrayVec;
-use line_text::{Number, SignedNumber, hex_byte_in, number_in, signed_in, words_in};
+use line_text::{Number, SignedNumber, hex_byte_in, number_in, signed_number_in, words_in};
 use trace_event::Event;
 
 /// The most words that an event's line has.
@@ -48,7 +48,7 @@ pub(crate) fn number_from(low: u32, high: u32, word: &[u8]) -> Result<u32, Trace
 pub(crate) fn offset_in(word: &[u8]) -> Result<i32, TraceFault>
     ensures { result ≡ offset_of word.now }
 {
-    match signed_in(word) {
+    match signed_number_in(word) {
         SignedNumber::NoNumber => Err(TraceFault::BadNumber),
         SignedNumber::Value(z) if z.unsigned_abs() <= FARTHEST => Ok(z as i32),
         SignedNumber::TooLarge | SignedNumber::Value(_) => Err(TraceFault::OutOfRange),

@@ -4,7 +4,7 @@ use Rattle.std.proofs.{Common.{slice_index_or, slice_set, arith, ap, sym, ◌∙
 use Rattle.std.proofs.lemmas.List.{length-replicate}
 use Rattle.class_tuner.proofs.{FitLemmas.Numbers.{set-here, set-other_place, set-other_row, set-shape, set-small}, Rows.{shape-pushed}}
 use Rattle.class_tuner.specs.Fits.PlaceByPlace.{AreCostsFrom, AreLeastRowsFrom, AreOlderCosts, AreReady, AreRowsSoFar, IsFresh}
-use Rattle.class_tuner.specs.{Fits.PlaceByPlace.{IsLeastOf, IsPlaceFilled, end_cost}, declared.fits.filling.Memory.{Memory}}
+use Rattle.class_tuner.specs.{Fits.PlaceByPlace.{IsLeastOf, IsPlaceFilled, end_cost}, declared.fits.place_filling.Memory.{Memory}}
 use Rattle.potential_check.specs.{Footprints.AlikeRows.{AreAlikeFrom}}
 use Rattle.tuner_theory.{proofs.Sheets.{rows-end}, specs.Growing.{IsGrowing}, specs.Lists.{lists_of}}
 use Rattle.tuner_theory.specs.Rows.{IsFilled, IsLeastEnd, number_at}

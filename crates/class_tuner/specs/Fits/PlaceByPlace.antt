@@ -1,6 +1,6 @@
 -- Rows that are filled place by place, from the last place on.
 use Rattle.std.specs.Prelude.{◌≡◌, ℕ, suc, ◌+◌, ◌^◌, ◌/◌, ◌<◌, ◌≤◌, List, length, slice_index}
-use Rattle.class_tuner.specs.declared.fits.filling.Memory.{Memory}
+use Rattle.class_tuner.specs.declared.fits.place_filling.Memory.{Memory}
 use Rattle.potential_check.specs.{Footprints.Bounds.{AreRowBounds, AreZeros, IsSlack}, declared.footprints.slack.TheConstants.{BLOCK}}
 use Rattle.tuner_theory.specs.{Lists.{lists_of}, Rows.{HasShape, IsLeastEnd, number_at}}
 

@@ -135,7 +135,7 @@ fn look_at_first(
 
 // what is seen in a block
 #[derive(Clone, Copy)]
-struct Seen {
+struct BlockScan {
     // no end of the block costs less
     low: u64,
     // the least cost so far, with the first end so far that has it
@@ -151,7 +151,7 @@ fn look_into(
     stop: usize,
     least: u64,
     end: usize,
-) -> Seen
+) -> BlockScan
     requires order { start ≤ stop }
     requires block { IsBlock costs.now before.now start stop }
     requires small { least ≤ 2 ^ 60 }
@@ -164,13 +164,13 @@ fn look_into(
 {
     let low = least_of(costs, before, start, stop);
     if low > least {
-        return Seen { low, least, end };
+        return BlockScan { low, least, end };
     }
     let first = first_of(costs, before, start, stop, low);
     if low == least && end < first {
-        return Seen { low, least, end };
+        return BlockScan { low, least, end };
     }
-    Seen {
+    BlockScan {
         low,
         least: low,
         end: first,

@@ -1,8 +1,8 @@
 //! One place of all rows.
 ghost use Rattle.std.specs.Prelude.{◌≡◌, ◌≢◌, ℕ, ◌+◌, ◌^◌, ◌<◌, ◌≤◌, [], length, slice_index, slice_index_or, slice_set};
-ghost use Rattle.class_tuner.specs.Fits.PlaceByPlace.{AreCostsFrom, AreRowsSoFar, IsLeastOf, IsPlaceFilled};
+ghost use Rattle.class_tuner.specs.Fits.PlaceByPlace.{AreCostsFrom, AreReady, IsLeastOf, IsPlaceFilled};
 ghost use Rattle.potential_check.specs.Footprints.AlikeRows.{AreAlikeFrom};
-ghost use Rattle.potential_check.specs.Footprints.Bounds.{AreBounds, AreRowBounds, IsSlack};
+ghost use Rattle.potential_check.specs.Footprints.Bounds.{AreBounds, IsSlack};
 ghost use Rattle.tuner_theory.specs.Lists.{lists_of};
 ghost use Rattle.tuner_theory.specs.Rows.{number_at};
 
@@ -25,16 +25,13 @@ pub(crate) fn fill_place(
     requires some { 1 ≤ limit }
     requires few { limit ≤ 2 ^ 16 }
     requires costs { AreCostsFrom places place costs.now }
-    requires slack { IsSlack places slack.now }
-    requires rows { AreRowsSoFar places limit (lists_of rows.old) (lists_of ends.old) }
-    requires bounds { let before = number_at (lists_of rows.old) in
-        AreRowBounds costs.now slack.now place places limit before (lists_of bounds.old) }
+    requires ready { AreReady costs.now slack.now place places limit (lists_of rows.old) (lists_of ends.old)
+        (lists_of bounds.old) }
     requires alike { AreAlikeFrom (number_at (lists_of rows.old)) limit (place + 1) alike }
-    ensures rows { AreRowsSoFar places limit (lists_of rows.new) (lists_of ends.new) }
+    ensures ready { AreReady costs.now slack.now place places limit (lists_of rows.new) (lists_of ends.new)
+        (lists_of bounds.new) }
     ensures filled { IsPlaceFilled costs.now places place limit (lists_of rows.old) (lists_of rows.new)
         (lists_of ends.old) (lists_of ends.new) }
-    ensures bounds { let before = number_at (lists_of rows.old) in
-        AreRowBounds costs.now slack.now place places limit before (lists_of bounds.new) }
     ensures alike { AreAlikeFrom (number_at (lists_of rows.new)) limit place result }
 {
     let mut here = alike;
@@ -44,17 +41,8 @@ pub(crate) fn fill_place(
     for k in 1..limit {
         // mostly the end is that of the next place, or near it
         let hint = end_at(&ends[k], place + 1);
-        let found = least_end_in(
-            costs,
-            &rows[k - 1],
-            slack,
-            bounds,
-            k,
-            place,
-            hint,
-            alike,
-            above,
-        );
+        let before = &rows[k - 1];
+        let found = least_end_in(costs, before, slack, bounds, k, place, hint, alike, above);
         set_number(rows, k, place, found.0);
         set_end(ends, k, place, found.1);
         here = alike_with(here, k, found.0, above.0);

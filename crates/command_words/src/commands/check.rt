@@ -1,13 +1,13 @@
 //! `check`.
 
-use crate::commands::shared_help::{About, Words, about, help_text};
+use crate::commands::shared_help::{Purpose, Words, about, help_text};
 
 /// The command's name.
 pub const NAME: &str = "check";
 
-const ABOUT: About = about!(
-    "Check whether a sheet proves that no table within its limit and step wastes less",
-    ", whoever wrote it."
+const ABOUT: Purpose = about!(
+    "Check a sheet's proof that no table of its limit, step and forced class wastes less",
+    "."
 );
 
 /// The text after the options in its own help.
@@ -33,6 +33,12 @@ The output is one line:
                        multiples of S, with class 1024 if it is forced, and that serves each
                        counted size, wastes less
   refused CODE NAME    the first condition that the sheet breaks; the exit status is 1
+
+With --claim one more line follows `optimal`, and says what was shown: W, K, S and the forced class,
+0 if none is, are the sheet's; N sizes were requested R times, which asks for B bytes, and larger
+ones L times:
+
+  claim waste W limit K step S forced F sizes N requests R bytes B large L
 
 A table may be a best one and its sheet refused: the rows must prove it. The conditions:
 

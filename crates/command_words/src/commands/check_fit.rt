@@ -1,13 +1,13 @@
 //! `check-fit`.
 
-use crate::commands::shared_help::{About, Words, about, help_text};
+use crate::commands::shared_help::{Purpose, Words, about, help_text};
 
 /// The command's name.
 pub const NAME: &str = "check-fit";
 
-const ABOUT: About = about!(
-    "Check whether a fit proves that no table within its limit and step takes less",
-    ", whoever wrote it."
+const ABOUT: Purpose = about!(
+    "Check a fit's proof that no table of its limit, step and forced class takes less",
+    "."
 );
 
 /// The text after the options in its own help.
@@ -36,6 +36,12 @@ The output is one line:
                        counted size, takes less: over the history, or over every moment of the
                        timeline
   refused CODE NAME    the first condition that the fit breaks; the exit status is 1
+
+With --claim one more line follows `optimal`, and says what was shown: W, K, S and the forced class,
+0 if none is, are the fit's; the history has T snapshots, and the timeline E events:
+
+  claim footprint W limit K step S forced F snapshots T
+  claim footprint W limit K step S forced F events E
 
 A table may be one that takes least and its fit refused: the rows must prove it. The conditions:
 

@@ -1,10 +1,10 @@
 //! `fit`.
-use crate::commands::shared_help::{About, Words, about, help_text};
+use crate::commands::shared_help::{Purpose, Words, about, help_text};
 
 /// The command's name.
 pub const NAME: &str = "fit";
 
-const ABOUT: About = about!(
+const ABOUT: Purpose = about!(
     "Find the table of at most K classes that takes least over a history, with a certificate"
 );
 

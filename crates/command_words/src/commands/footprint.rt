@@ -1,11 +1,11 @@
 //! `footprint`.
 
-use crate::commands::shared_help::{About, Words, about, help_text};
+use crate::commands::shared_help::{Purpose, Words, about, help_text};
 
 /// The command's name.
 pub const NAME: &str = "footprint";
 
-const ABOUT: About = about!("Report how many bytes a class table takes over a history");
+const ABOUT: Purpose = about!("Report how many bytes a class table takes over a history");
 
 /// The text after the options in its own help.
 pub const AFTER: &str = help_text!(

@@ -1,11 +1,11 @@
 //! `peaks`.
 
-use crate::commands::shared_help::{About, Words, about, help_text};
+use crate::commands::shared_help::{Purpose, Words, about, help_text};
 
 /// The command's name.
 pub const NAME: &str = "peaks";
 
-const ABOUT: About = about!(
+const ABOUT: Purpose = about!(
     "Report the most live blocks of each class over a timeline, and the most freed ones"
 );
 

@@ -1,11 +1,11 @@
 //! `profile`.
 
-use crate::commands::shared_help::{About, Words, about, help_text};
+use crate::commands::shared_help::{Purpose, Words, about, help_text};
 
 /// The command's name.
 pub const NAME: &str = "profile";
 
-const ABOUT: About = about!("Count how often a trace requests each size");
+const ABOUT: Purpose = about!("Count how often a trace requests each size");
 
 /// The text after the options in its own help.
 pub const AFTER: &str = help_text!(

@@ -1,10 +1,10 @@
 //! `replay`.
-use crate::commands::shared_help::{About, Words, about, help_text};
+use crate::commands::shared_help::{Purpose, Words, about, help_text};
 
 /// The command's name.
 pub const NAME: &str = "replay";
 
-const ABOUT: About = about!("Run a trace on the heap with memory tags, with a given class table");
+const ABOUT: Purpose = about!("Run a trace on the heap with memory tags, with a given class table");
 
 /// The text after the options in its own help.
 pub const AFTER: &str = help_text!(

@@ -1,10 +1,10 @@
 //! `run`.
-use crate::commands::shared_help::{About, Words, help_text};
+use crate::commands::shared_help::{Purpose, Words, help_text};
 
 /// The command's name.
 pub const NAME: &str = "run";
 
-const ABOUT: About = About {
+const ABOUT: Purpose = Purpose {
     line: "Tune a class table for a trace, and run the trace with it",
     sentence: "\
 Find the table of at most K classes that wastes least on the sizes that a trace requests, and run

@@ -11,7 +11,7 @@ use tool_call::OptionName;
 
 /// What a command does.
 #[derive(Clone, Copy)]
-pub struct About {
+pub struct Purpose {
     /// The line in the list of commands, without a full stop.
     pub line: &'static str,
     /// The sentence that the command's own help begins with.
@@ -24,7 +24,7 @@ pub struct Words {
     /// The command's name.
     pub name: &'static str,
     /// What the command does.
-    pub about: About,
+    pub about: Purpose,
 }
 
 impl Words {
@@ -62,7 +62,7 @@ macro_rules! about {
         about!($line, ".")
     };
     ($line:literal, $end:literal) => {
-        About {
+        Purpose {
             line: $line,
             sentence: concat!($line, $end),
         }

@@ -1,10 +1,10 @@
 //! `tune`.
-use crate::commands::shared_help::{About, Words, about, help_text};
+use crate::commands::shared_help::{Purpose, Words, about, help_text};
 
 /// The command's name.
 pub const NAME: &str = "tune";
 
-const ABOUT: About = about!(
+const ABOUT: Purpose = about!(
     "Find the table of at most K classes that wastes least on a profile, with a certificate"
 );
 

@@ -1,6 +1,6 @@
 //! Calls of the engines, so that one table runs them all.
 use super::streams::{sink, source};
-use super::support::{ended, same};
+use super::support::{end_text, same};
 use mte_engine::{ByteSink, ByteSource, Call, Options, Status, ToolFault, run_call, run_call_on};
 use std::process::Abort;
 use std::test::Fail;
@@ -49,7 +49,7 @@ pub fn answers(
     let mut from = source(input);
     let mut to = sink(rt.alloc())?;
     let end = call_on(rt, call, &mut from, &mut to);
-    let ends = ended(rt.alloc(), end)?;
+    let ends = end_text(rt.alloc(), end)?;
     same(rt, &ends.as_str(), &wanted, &input);
     same(rt, &to.text.as_slice(), &written.as_bytes(), &input);
     Ok(())
@@ -67,7 +67,7 @@ pub fn answers_on(
     assert!(rt; call.command.has_two_texts());
     let mut to = sink(rt.alloc())?;
     let end = run_call_on(call, rt.alloc(), first, &mut source(input), &mut to);
-    let ends = ended(rt.alloc(), end)?;
+    let ends = end_text(rt.alloc(), end)?;
     same(rt, &ends.as_str(), &wanted, &(first, input));
     same(
         rt,
@@ -105,7 +105,7 @@ pub fn ends(
 ) -> Result<(), Fail> {
     let mut to = sink(rt.alloc())?;
     let end = call_on(rt, call, &mut source(input), &mut to);
-    let ends = ended(rt.alloc(), end)?;
+    let ends = end_text(rt.alloc(), end)?;
     same(rt, &ends.as_str(), &wanted, &input);
     Ok(())
 }

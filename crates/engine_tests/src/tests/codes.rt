@@ -11,7 +11,7 @@ use tagged_heap::{FreeError, NullCause, ReallocError};
 use trace_reader::{TraceError, TraceFault};
 
 // Fails if the errors have other texts.
-fn shown<E: Display>(
+fn check_texts<E: Display>(
     rt: &(impl Abort + AllocGlobal),
     errors: &[(E, &'static str)],
 ) -> Result<(), Fail> {
@@ -141,19 +141,19 @@ const TRACES: &[(TraceError, &str)] = &[
 
 #[test]
 fn refusals_of_the_heap(rt: HostRuntime) -> Result<(), Fail> {
-    shown(&rt, NULLS)?;
-    shown(&rt, FREES)?;
-    shown(&rt, REALLOCS)
+    check_texts(&rt, NULLS)?;
+    check_texts(&rt, FREES)?;
+    check_texts(&rt, REALLOCS)
 }
 
 #[test]
 fn faults_of_texts(rt: HostRuntime) -> Result<(), Fail> {
-    shown(&rt, TABLES)?;
-    shown(&rt, PROFILES)?;
-    shown(&rt, COUNTS)?;
-    shown(&rt, HISTORIES)?;
-    shown(&rt, TIMELINES)?;
-    shown(&rt, SHEETS)?;
-    shown(&rt, FITS)?;
-    shown(&rt, TRACES)
+    check_texts(&rt, TABLES)?;
+    check_texts(&rt, PROFILES)?;
+    check_texts(&rt, COUNTS)?;
+    check_texts(&rt, HISTORIES)?;
+    check_texts(&rt, TIMELINES)?;
+    check_texts(&rt, SHEETS)?;
+    check_texts(&rt, FITS)?;
+    check_texts(&rt, TRACES)
 }

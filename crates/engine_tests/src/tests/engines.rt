@@ -1,4 +1,5 @@
 //! Tests of the engines, from text to text: worked values, and calls that fail in the middle of an input or an output.
+mod borders_and_claims;
 mod check_texts;
 mod fit_texts;
 mod long_traces;

@@ -19,7 +19,7 @@ pub fn same<T: PartialEq + Debug, C: Debug>(rt: &impl Abort, given: &T, wanted: 
 }
 
 /// How an engine ended: `done`, `no`, or the fault as the program prints it.
-pub fn ended(alloc: Global, end: Result<Status, ToolFault>) -> Result<String, AllocError> {
+pub fn end_text(alloc: Global, end: Result<Status, ToolFault>) -> Result<String, AllocError> {
     match end {
         Ok(Status::Done) => String::from_str(alloc, "done"),
         Ok(Status::No) => String::from_str(alloc, "no"),

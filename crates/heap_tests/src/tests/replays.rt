@@ -58,7 +58,7 @@ const STEPS: &[(Event, &str)] = &[
     ),
 ];
 
-// of these steps, which are those of crates/mte_tool/stdin: scripts/tests/formats writes what the plain program counts
+// of these steps, which are those of crates/mte_tool/stdin: scripts/tests/test_formats.py writes what the plain program counts
 const TOTALS: &str =
     "events 6\nrequests 2\nnull large 0\nnull no-class 0\nnull exhausted 0\nfaults tag 3\nfaults unmapped 0\n\
     refused frees 0\nloss 16\n";

@@ -18,13 +18,13 @@ fn load(v: u16, off: i32, len: u8) -> Event {
 
 // What a reader gave: all events, and what its last call answered.
 #[derive(Drop)]
-struct Seen {
+struct ReaderOutput {
     events: Vec<Event>,
     answer: Result<(), TraceError>,
 }
 
 // What pieces give, whose events are taken out after each of them. An error stays to the end.
-fn read_pieces(rt: &impl Abort, alloc: Global, pieces: &[&[u8]]) -> Result<Seen, Fail> {
+fn read_pieces(rt: &impl Abort, alloc: Global, pieces: &[&[u8]]) -> Result<ReaderOutput, Fail> {
     let mut reader = TraceReader::new(alloc);
     let mut events = Vec::new(alloc);
     let mut answer = Ok(());
@@ -34,7 +34,7 @@ fn read_pieces(rt: &impl Abort, alloc: Global, pieces: &[&[u8]]) -> Result<Seen,
     }
     let answer = finish(rt, &mut reader, answer);
     take_events(&mut reader, &mut events)?;
-    Ok(Seen { events, answer })
+    Ok(ReaderOutput { events, answer })
 }
 
 // feeds a piece after one that was answered so

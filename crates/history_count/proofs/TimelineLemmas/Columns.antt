@@ -14,7 +14,7 @@ use Rattle.history_count.{proofs.TimelineLemmas.Requests.{unrequested-before}, s
 use Rattle.history_count.proofs.TimelineLemmas.Walk.{free_counts, free_is_live, large_free_counts, large_request_counts, request_counts}
 use Rattle.history_count.{proofs.TimelineLemmas.Walk.{snapshot_none, snapshot_small}, specs.Timelines.Runs.{after_event, may_come, size_of}}
 use Rattle.history_count.specs.Timelines.Stretches.{AreRequested, AreStretchesTo, Bounds, IsLineOf, column_of}
-use Rattle.history_count.specs.declared.timelines.requested.Requested.{Requested}
+use Rattle.history_count.specs.declared.timelines.requested_sizes.RequestedSizes.{RequestedSizes}
 
 -- ---- columns
 
@@ -44,7 +44,7 @@ column-set sizes snapshot n line count are within there inside =
 -- ---- one event more
 
 -- the line of a size, as it was read
-pub line-read : (events : List SizeEvent) (r : Requested) (n line : ℕ) → AreRequested events r → n ≤ largest_counted → 0 < requested events n
+pub line-read : (events : List SizeEvent) (r : RequestedSizes) (n line : ℕ) → AreRequested events r → n ≤ largest_counted → 0 < requested events n
     → line ≡ get_or r.lines.items n line → IsLineOf r.sizes.items n line
 line-read events r n line are counted some read = grind (arith, get_or_default)
 
@@ -55,7 +55,7 @@ pub record IsCountedAt (sizes : List ℕ) (line : ℕ) (event : SizeEvent) (coun
   pub after : slice_set counts line (after_event event (slice_index counts line)) ≡ newer
 
 -- an event's line, and its count after it
-pub column-event : (events : List SizeEvent) (r : Requested) (k : ℕ) (event : SizeEvent) → IsTimeline events → AreRequested events r
+pub column-event : (events : List SizeEvent) (r : RequestedSizes) (k : ℕ) (event : SizeEvent) → IsTimeline events → AreRequested events r
     → k < length events → get_or events k (Request 0) ≡ event → size_of event ≤ largest_counted → (line : ℕ)
     → line ≡ get_or r.lines.items (size_of event) line
     → IsCountedAt r.sizes.items line event (column_of r.sizes.items (snapshot_at events k)) (column_of r.sizes.items (snapshot_at events (k + 1)))
@@ -89,7 +89,7 @@ column-none events sizes are =
 -- ---- a snapshot and its column
 
 -- no other size is live
-pub column-counts : (events : List SizeEvent) (r : Requested) (m : ℕ) → AreRequested events r → m ≤ length events
+pub column-counts : (events : List SizeEvent) (r : RequestedSizes) (m : ℕ) → AreRequested events r → m ≤ length events
     → CountsSizes (snapshot_at events m) r.sizes.items (column_of r.sizes.items (snapshot_at events m))
 column-counts events r m are within = record {
   size = column-length r.sizes.items (snapshot_at events m);
@@ -120,7 +120,7 @@ bounds-more events sizes from k most newer timeline are bounds len raised = reco
 }
 
 -- the history of some moments is that of its columns
-module _ (events : List SizeEvent) (r : Requested) (timeline : IsTimeline events) (are : AreRequested events r) where
+module _ (events : List SizeEvent) (r : RequestedSizes) (timeline : IsTimeline events) (are : AreRequested events r) where
   abbrev pub rows_at : List ℕ → List (List ℕ)
   rows_at numbers = map (λ m. column_of r.sizes.items (snapshot_at events m)) numbers
 

@@ -11,7 +11,7 @@ use Rattle.tuner_theory.specs.declared.size_event.SizeEvent.TheVariants.{Request
 use Rattle.history_count.proofs.{CutLines.{sum-lines}, TimelineLemmas.Columns.{bounds-start, column-at, column-counts}}
 use Rattle.history_count.specs.{CountedLines.{AreFew}, Histories.{blocks_from}, Timelines.LiveBlocks.{IsFirst}}
 use Rattle.history_count.specs.Timelines.Stretches.{AreInOrder, AreRequested, AreStretchesTo, IsPeakTo, IsSpan, column_of}
-use Rattle.history_count.specs.declared.timelines.{peaks.Peak.{Peak}, peaks.Span.{Span}, requested.Requested.{Requested}}
+use Rattle.history_count.specs.declared.timelines.{peaks.Peak.{Peak}, peaks.Span.{Span}, requested_sizes.RequestedSizes.{RequestedSizes}}
 
 -- ---- sums
 
@@ -175,7 +175,7 @@ module _ (events : List SizeEvent) (low end : ℕ) (timeline : IsTimeline events
 
 -- ---- by the rows of the stretches
 
-module _ (events : List SizeEvent) (r : Requested) (starts : List ℕ) (before bounds : List (List ℕ)) (span : Span)
+module _ (events : List SizeEvent) (r : RequestedSizes) (starts : List ℕ) (before bounds : List (List ℕ)) (span : Span)
     (timeline : IsTimeline events) (requested_are : AreRequested events r)
     (are : AreStretchesTo events r.sizes.items (length events) starts before bounds) (is : IsSpan r.sizes.items span) where
   -- the blocks of the sizes are those of the lines

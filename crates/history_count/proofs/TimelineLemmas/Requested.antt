@@ -8,7 +8,7 @@ use Rattle.tuner_theory.specs.declared.size_event.{SizeEvent.{SizeEvent}, SizeEv
 use Rattle.history_count.proofs.TimelineLemmas.Requests.{freed-before, largest_kept, own-request, requested-free, requested-next}
 use Rattle.history_count.{proofs.TimelineLemmas.Requests.{requested-other}, specs.Timelines.Requests.{IsLargestSoFar}}
 use Rattle.history_count.specs.Timelines.{Runs.{size_of}, Stretches.{AreLinesBelow, AreRequested, AreSeen}}
-use Rattle.history_count.specs.declared.timelines.requested.Requested.{Requested}
+use Rattle.history_count.specs.declared.timelines.requested_sizes.RequestedSizes.{RequestedSizes}
 
 -- ---- the marks
 
@@ -61,7 +61,7 @@ module _ (events : List SizeEvent) (k : ℕ) (seen : List ℕ) (event : SizeEven
 
 -- ---- the requested sizes
 
-pub are-requested : (events : List SizeEvent) (seen : List ℕ) (r : Requested) → AreSeen events (length events) seen
+pub are-requested : (events : List SizeEvent) (seen : List ℕ) (r : RequestedSizes) → AreSeen events (length events) seen
     → AreLinesBelow seen (largest_counted + 1) r.sizes.items r.lines.items
     → IsLargestSoFar events (length events) r.largest.above r.largest.moment → AreRequested events r
 are-requested events seen r are lines largest = grind (arith, take_all)

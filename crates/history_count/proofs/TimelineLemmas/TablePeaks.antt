@@ -9,8 +9,8 @@ use Rattle.tuner_theory.specs.{Timelines.{most_to, snapshot_at}, declared.size_e
 use Rattle.tuner_theory.specs.declared.size_event.SizeEvent.TheVariants.{Request, Free}
 use Rattle.history_count.specs.Timelines.{LiveBlocks.{AreLive, AreSame, IsMoved, IsOneMore, moved_by}, Runs.{after_event, may_come}}
 use Rattle.history_count.specs.Timelines.TablePeaks.{AreSums, MayMove, live_blocks, live_bytes, made_blocks, moved_sums}
-use Rattle.history_count.specs.{Timelines.TablePeaks.{sums_after}, declared.timelines.counting.Moved.{Moved}}
-use Rattle.history_count.specs.declared.timelines.{counting.Moved.TheVariants.{Nothing, New, Again, Freed}, sums.Sums.{Sums}}
+use Rattle.history_count.specs.{Timelines.TablePeaks.{sums_after}, declared.timelines.counting.BlockMove.{BlockMove}}
+use Rattle.history_count.specs.declared.timelines.{counting.BlockMove.TheVariants.{Nothing, New, Again, Freed}, sums.Sums.{Sums}}
 
 -- ---- one more block of a class
 
@@ -227,7 +227,7 @@ module _ (events : List SizeEvent) (classes : List ℕ) (k : ℕ) (sums : Sums) 
       → AreSums events classes (k + 1) (sums_after sums made alive bytes)
   next-sums made alive bytes is few small = grind (arith, most_to-more)
 
-  pub sums-moved : IsLegalTable 1 classes → (moved : Moved) → IsMoved moved live most newer greater
+  pub sums-moved : IsLegalTable 1 classes → (moved : BlockMove) → IsMoved moved live most newer greater
       → MayMove classes sums moved × AreSums events classes (k + 1) (moved_sums classes sums moved)
   sums-moved legal Nothing is =
       let its = summed-by _ _ _ (made-same is.1) (grind (arith, sum-same, same)) (grind (arith, sum-same, same)) in

@@ -4,7 +4,7 @@ use Rattle.std.specs.Prelude.{slice_set}
 use Rattle.class_table.specs.{Sizes.{granule_bytes, largest_counted}, Tables.{class_number_for}}
 use Rattle.tuner_theory.specs.{Footprint.{blocks}, Histories.{most}, Timelines.{moments, most_to, snapshot_at}}
 use Rattle.tuner_theory.specs.declared.size_event.{SizeEvent.{SizeEvent}, SizeEvent.TheVariants.{Request, Free}}
-use Rattle.history_count.specs.declared.timelines.counting.{Moved.{Moved}, Moved.TheVariants.{Nothing, New, Again, Freed}}
+use Rattle.history_count.specs.declared.timelines.counting.{BlockMove.{BlockMove}, BlockMove.TheVariants.{Nothing, New, Again, Freed}}
 
 -- The first moment at which a measure is so much, up to this one.
 pub record IsFirst (measure : List ℕ → ℕ) (events : List SizeEvent) (moment much first : ℕ) : Type 0 where
@@ -45,7 +45,7 @@ pub record IsOneMore (number : ℕ) (counts more : List ℕ) : Type 0 where
   pub others : (j : ℕ) → j ≢ number → slice_index more j ≡ slice_index counts j
 
 -- What an event does to the blocks of its class, of which it may make more than there were.
-abbrev pub moved_by : SizeEvent → ℕ → Bool → Moved
+abbrev pub moved_by : SizeEvent → ℕ → Bool → BlockMove
 moved_by (Request n) number is_more = if is_more then New number else Again number
 moved_by (Free n) number is_more = Freed number
 
@@ -54,7 +54,7 @@ abbrev pub AreSame : List ℕ → List ℕ → Type 0
 AreSame counts same = (j : ℕ) → slice_index same j ≡ slice_index counts j
 
 -- What an event did to the live blocks of each class and to the most so far, `newer` and `greater` after it.
-abbrev pub IsMoved : Moved → List ℕ → List ℕ → List ℕ → List ℕ → Type 0
+abbrev pub IsMoved : BlockMove → List ℕ → List ℕ → List ℕ → List ℕ → Type 0
 IsMoved Nothing live most newer greater = AreSame live newer × AreSame most greater
 IsMoved (New number) live most newer greater = IsOneMore number live newer × IsOneMore number most greater
 IsMoved (Again number) live most newer greater = IsOneMore number live newer × AreSame most greater

@@ -5,7 +5,7 @@ use Rattle.class_table.specs.Sizes.{granule_bytes, largest_counted}
 use Rattle.tuner_theory.specs.{Lists.{lists_of}, Profiles.{greatest_count}, Timelines.{IsTimeline, most_to, requested, snapshot_at}}
 use Rattle.tuner_theory.specs.declared.size_event.SizeEvent.{SizeEvent}
 use Rattle.history_count.specs.{CountedLines.{AreSizes, IsCutAt}, Timelines.LiveBlocks.{IsFirst}, Timelines.Requests.{IsLargestSoFar}}
-use Rattle.history_count.specs.declared.timelines.{peaks.Peak.{Peak}, peaks.Span.{Span}, requested.Requested.{Requested}}
+use Rattle.history_count.specs.declared.timelines.{peaks.Peak.{Peak}, peaks.Span.{Span}, requested_sizes.RequestedSizes.{RequestedSizes}}
 use Rattle.history_count.specs.declared.timelines.stretches.Stretches.{Stretches}
 
 -- ---- the requested sizes
@@ -30,7 +30,7 @@ pub record AreLinesBelow (seen : List ℕ) (n : ℕ) (sizes lines : List ℕ) : 
   pub line : (m : ℕ) → m < n → 0 < slice_index seen m → IsLineOf sizes m (slice_index lines m)
 
 -- The requested sizes that are counted, the line of each, and the largest of them.
-pub record AreRequested (events : List SizeEvent) (r : Requested) : Type 0 where
+pub record AreRequested (events : List SizeEvent) (r : RequestedSizes) : Type 0 where
   pub sizes_are : AreSizes r.sizes.items
   pub lines_len : length r.lines.items ≡ largest_counted + 1
   pub some : (k : ℕ) → k < length r.sizes.items → 0 < requested events (slice_index r.sizes.items k)
@@ -68,7 +68,7 @@ abbrev pub AreStretches : List SizeEvent → List ℕ → Stretches → Type 0
 AreStretches events sizes s = AreStretchesTo events sizes (length events) s.starts.items (lists_of s.before.items) (lists_of s.most.items)
 
 -- What an index keeps of a timeline.
-pub record IsIndex (events : List SizeEvent) (r : Requested) (s : Stretches) : Type 0 where
+pub record IsIndex (events : List SizeEvent) (r : RequestedSizes) (s : Stretches) : Type 0 where
   pub timeline : IsTimeline events
   pub requested_are : AreRequested events r
   pub stretches_are : AreStretches events r.sizes.items s

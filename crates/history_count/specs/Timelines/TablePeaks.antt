@@ -3,7 +3,7 @@ use Rattle.std.specs.Prelude.{◌≡◌, ℕ, zero, suc, ◌+◌, ◌-◌, ◌*�
 use Rattle.class_table.specs.Sizes.{granule_bytes}
 use Rattle.tuner_theory.specs.{Footprint.{blocks}, Profiles.{greatest_count}, Timelines.{most_to, snapshot_at}}
 use Rattle.tuner_theory.specs.declared.size_event.SizeEvent.{SizeEvent}
-use Rattle.history_count.specs.declared.timelines.counting.{Moved.{Moved}, Moved.TheVariants.{Nothing, New, Again, Freed}}
+use Rattle.history_count.specs.declared.timelines.counting.{BlockMove.{BlockMove}, BlockMove.TheVariants.{Nothing, New, Again, Freed}}
 use Rattle.history_count.specs.declared.timelines.sums.Sums.{Sums}
 
 -- The bytes of all live blocks at a snapshot.
@@ -58,7 +58,7 @@ sums_after sums made live bytes = record {
 }
 
 -- The sums after an event that did this to the blocks of its class,
-abbrev pub moved_sums : List ℕ → Sums → Moved → Sums
+abbrev pub moved_sums : List ℕ → Sums → BlockMove → Sums
 moved_sums classes sums Nothing = sums_after sums sums.made sums.live sums.bytes
 moved_sums classes sums (New number) =
     sums_after sums (sums.made + 1) (sums.live + 1) (sums.bytes + granule_bytes * slice_index classes number)
@@ -68,7 +68,7 @@ moved_sums classes sums (Freed number) =
     sums_after sums sums.made (sums.live - 1) (sums.bytes - granule_bytes * slice_index classes number)
 
 -- and what they are before it.
-abbrev pub MayMove : List ℕ → Sums → Moved → Type 0
+abbrev pub MayMove : List ℕ → Sums → BlockMove → Type 0
 MayMove classes sums Nothing = sums.live ≤ sums.made
 MayMove classes sums (New number) = number < length classes × sums.live ≤ sums.made
 MayMove classes sums (Again number) = number < length classes × sums.live < sums.made

@@ -7,7 +7,7 @@ ghost use Rattle.history_count.specs.Timelines.Requests.{IsLeastSoFar};
 ghost use Rattle.tuner_theory.specs.Timelines.{IsTimeline};
 
 use crate::timelines::line::LARGE_SIZE;
-use crate::timelines::live::{counted, event_size};
+use crate::timelines::live::{count_after, event_size};
 use class_table::{ClassTable, FEWEST_GRANULES, LARGEST_COUNTED, Layout};
 use profile_count::no_counts;
 use std::alloc::{AllocError, Global};
@@ -29,7 +29,7 @@ pub(crate) struct ClassPeaks {
 
 /// What an event does to the blocks of a class, by its number, where a class has a new block only if none of its own is free.
 #[derive(Clone, Copy)]
-pub(crate) enum Moved {
+pub(crate) enum BlockMove {
     /// Its size has no class.
     Nothing,
     /// The class has a new block.
@@ -42,11 +42,11 @@ pub(crate) enum Moved {
 
 /// What one event more comes to.
 #[derive(Clone, Copy)]
-pub(crate) struct Counted {
+pub(crate) struct EventCount {
     /// The least size without a class so far, or `LARGE_SIZE` if there is none.
     pub(crate) least: u16,
     /// What the event does.
-    pub(crate) moved: Moved,
+    pub(crate) moved: BlockMove,
 }
 
 /// Counts the blocks of each class of a table over a timeline. It goes over the events once. The only error is that the allocator refuses
@@ -102,7 +102,7 @@ pub(crate) fn count_event(
     events: &[SizeEvent],
     k: usize,
     layout: &Layout,
-) -> Counted
+) -> EventCount
     requires timeline { IsTimeline events.now }
     requires event { k < length events.now }
     requires legal { IsLegalTable 1 layout.now.classes }
@@ -117,27 +117,27 @@ pub(crate) fn count_event(
     let event = events[k];
     let n = event_size(event);
     let Some(number) = known_class(known, layout, n) else {
-        return Counted {
+        return EventCount {
             least: least.min(n),
-            moved: Moved::Nothing,
+            moved: BlockMove::Nothing,
         };
     };
-    let count = counted(live[number], event);
-    let moved = moved_by(event, number, most[number] < count);
+    let count = count_after(live[number], event);
+    let moved = block_move(event, number, most[number] < count);
     live[number] = count;
     note(most, firsts, number, count, k + 1);
-    Counted { least, moved }
+    EventCount { least, moved }
 }
 
 // what an event does to the blocks of its class, of which it may make more than there were
 #[inline(always)]
-fn moved_by(event: SizeEvent, number: usize, is_more: bool) -> Moved
+fn block_move(event: SizeEvent, number: usize, is_more: bool) -> BlockMove
     ensures { result ≡ moved_by event number is_more }
 {
     match event {
-        SizeEvent::Free { .. } => Moved::Freed(number),
-        SizeEvent::Request { .. } if is_more => Moved::New(number),
-        SizeEvent::Request { .. } => Moved::Again(number),
+        SizeEvent::Free { .. } => BlockMove::Freed(number),
+        SizeEvent::Request { .. } if is_more => BlockMove::New(number),
+        SizeEvent::Request { .. } => BlockMove::Again(number),
     }
 }
 

@@ -24,7 +24,7 @@ pub struct Footprint {
 
 /// Whether a table serves a timeline, and what it takes over it.
 #[derive(Debug, Drop)]
-pub struct Measured {
+pub struct MeasuredTable {
     /// The least counted size that is requested and has no class in the table. `None` if the table serves the timeline.
     pub unserved: Option<u32>,
     /// What the table takes.
@@ -37,7 +37,7 @@ pub fn measure_over(
     alloc: Global,
     events: &[SizeEvent],
     table: &ClassTable,
-) -> Result<Measured, AllocError>
+) -> Result<MeasuredTable, AllocError>
     requires { IsTimeline events.now }
     ensures bytes { IfOk result (λ measured. measured.footprint.bytes ≡ footprint_over events.now table.now) }
     ensures small { IfOk result (λ measured. measured.footprint.bytes < 2 ^ 58) }
@@ -51,8 +51,8 @@ pub fn measure_over(
         let block_bytes = u64::from(GRANULE_BYTES * u32::from(table.class(number)));
         total += block_bytes * u64::from(peaks.most[number]);
     }
-    Ok(Measured {
-        unserved: unserved_in(peaks.least),
+    Ok(MeasuredTable {
+        unserved: unserved_size(peaks.least),
         footprint: Footprint {
             bytes: total,
             firsts: peaks.firsts,
@@ -61,7 +61,7 @@ pub fn measure_over(
 }
 
 /// The least size without a class, if there is one.
-pub(crate) fn unserved_in(least: u16) -> Option<u32>
+pub(crate) fn unserved_size(least: u16) -> Option<u32>
     ensures some { IfSome result (λ n. (n ≡ least) × (n ≤ largest_counted)) }
     ensures none { IfNone result (largest_counted < least) }
 {

@@ -11,7 +11,7 @@ use crate::footprint::line_from;
 use crate::history::History;
 use crate::timelines::footprint::Footprint;
 use crate::timelines::peaks::{Span, span_peak};
-use crate::timelines::requested::{Requested, requested_in};
+use crate::timelines::requested_sizes::{RequestedSizes, find_requested_sizes};
 use crate::timelines::stretches::{Stretches, counts_at, stretches_of};
 use class_table::{ClassTable, GRANULE_BYTES};
 use profile_count::class_end;
@@ -24,7 +24,7 @@ use tuner_theory::SizeEvent;
 #[derive(Debug, Drop)]
 pub struct TimelineIndex<'a> {
     events: &'a [SizeEvent],
-    requested: Requested,
+    requested: RequestedSizes,
     stretches: Stretches,
 }
 
@@ -46,7 +46,7 @@ impl<'a> TimelineIndex<'a> {
         requires { IsTimeline events.now }
         ensures { IfOk result (λ index. index ≡ events.now) }
     {
-        let requested = requested_in(alloc, events)?;
+        let requested = find_requested_sizes(alloc, events)?;
         let stretches = stretches_of(alloc, events, &requested)?;
         Ok(TimelineIndex {
             events,

@@ -24,7 +24,7 @@ pub(crate) fn event_size(event: SizeEvent) -> u16
 
 /// A count after an event of its size. No jump depends on the kind of the event, which a processor cannot foresee.
 #[inline(always)]
-pub(crate) fn counted(count: u32, event: SizeEvent) -> u32
+pub(crate) fn count_after(count: u32, event: SizeEvent) -> u32
     requires few { count ≤ GREATEST_COUNT }
     requires live { may_come event count }
     ensures { result ≡ after_event event count }
@@ -37,7 +37,7 @@ pub(crate) fn counted(count: u32, event: SizeEvent) -> u32
 
 // a count before a free, and one that a request raises
 #[inline(always)]
-fn raised(event: SizeEvent, count: u32) -> u32
+fn raise_count(event: SizeEvent, count: u32) -> u32
     requires { count ≤ GREATEST_COUNT }
     ensures { result ≡ raised event count }
 {
@@ -49,7 +49,7 @@ fn raised(event: SizeEvent, count: u32) -> u32
 
 // the same count after the event
 #[inline(always)]
-fn lowered(event: SizeEvent, count: u32) -> u32
+fn lower_count(event: SizeEvent, count: u32) -> u32
     requires { 0 < count }
     ensures { result ≡ lowered event count }
 {
@@ -60,7 +60,7 @@ fn lowered(event: SizeEvent, count: u32) -> u32
 }
 
 /// What a line's event, or that it spells none, adds to the events before it. `live` has the counts after these, and then after the event too.
-pub(crate) fn followed_by(
+pub(crate) fn admit_event(
     events: &[SizeEvent],
     live: &mut [u32],
     spelled: Option<SizeEvent>,
@@ -92,10 +92,10 @@ pub(crate) fn count(events: &[SizeEvent], live: &mut [u32], event: SizeEvent) ->
     ensures live { OnTrue result (AreLiveCounts (events.now ++ event ∷ []) live.new) }
 {
     let n = event_size(event) as usize;
-    let most = raised(event, live[n]);
+    let most = raise_count(event, live[n]);
     if most == 0 {
         return false;
     }
-    live[n] = lowered(event, most);
+    live[n] = lower_count(event, most);
     true
 }

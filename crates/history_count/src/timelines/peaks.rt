@@ -8,7 +8,7 @@ ghost use Rattle.tuner_theory.specs.Histories.{most};
 ghost use Rattle.tuner_theory.specs.Timelines.{IsTimeline, moments, snapshot_at};
 
 use crate::footprint::{blocks_between, most_between};
-use crate::timelines::requested::Requested;
+use crate::timelines::requested_sizes::RequestedSizes;
 use crate::timelines::stretches::Stretches;
 use tuner_theory::SizeEvent;
 
@@ -37,7 +37,7 @@ pub(crate) struct Peak {
 /// The most blocks of some sizes that are live at a moment.
 pub(crate) fn span_peak(
     events: &[SizeEvent],
-    requested: &Requested,
+    requested: &RequestedSizes,
     stretches: &Stretches,
     span: Span,
 ) -> Peak
@@ -63,7 +63,7 @@ pub(crate) fn span_peak(
 // the peak up to the end of a stretch
 fn peak_to_next(
     events: &[SizeEvent],
-    requested: &Requested,
+    requested: &RequestedSizes,
     stretches: &Stretches,
     b: usize,
     span: Span,

@@ -6,8 +6,8 @@ ghost use Rattle.tuner_theory.specs.Timelines.{IsTimeline, snapshot_at};
 
 use crate::timelines::counting::zeros;
 use crate::timelines::line::LARGE_SIZE;
-use crate::timelines::live::{counted, event_size};
-use crate::timelines::requested::Requested;
+use crate::timelines::live::{count_after, event_size};
+use crate::timelines::requested_sizes::RequestedSizes;
 use std::alloc::{AllocError, Global};
 use tuner_theory::SizeEvent;
 
@@ -32,7 +32,7 @@ pub(crate) struct Stretches {
 pub(crate) fn stretches_of(
     alloc: Global,
     events: &[SizeEvent],
-    requested: &Requested,
+    requested: &RequestedSizes,
 ) -> Result<Stretches, AllocError>
     requires timeline { IsTimeline events.now }
     requires requested { AreRequested events.now requested.now }
@@ -111,7 +111,7 @@ fn count_stretch(
     events: &[SizeEvent],
     from: usize,
     to: usize,
-    requested: &Requested,
+    requested: &RequestedSizes,
 )
     requires timeline { IsTimeline events.now }
     requires requested { AreRequested events.now requested.now }
@@ -134,7 +134,7 @@ fn count_most(
     most: &mut [u32],
     events: &[SizeEvent],
     k: usize,
-    requested: &Requested,
+    requested: &RequestedSizes,
 )
     requires timeline { IsTimeline events.now }
     requires requested { AreRequested events.now requested.now }
@@ -156,7 +156,7 @@ fn count_line(
     counts: &mut [u32],
     events: &[SizeEvent],
     k: usize,
-    requested: &Requested,
+    requested: &RequestedSizes,
 ) -> Option<usize>
     requires timeline { IsTimeline events.now }
     requires requested { AreRequested events.now requested.now }
@@ -172,7 +172,7 @@ fn count_line(
         return None;
     }
     let line = requested.lines[n as usize] as usize;
-    counts[line] = counted(counts[line], event);
+    counts[line] = count_after(counts[line], event);
     Some(line)
 }
 
@@ -181,7 +181,7 @@ fn count_line(
 pub(crate) fn counts_at(
     alloc: Global,
     events: &[SizeEvent],
-    requested: &Requested,
+    requested: &RequestedSizes,
     stretches: &Stretches,
     moment: usize,
 ) -> Result<Vec<u32>, AllocError>

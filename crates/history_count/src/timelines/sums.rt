@@ -7,8 +7,10 @@ ghost use Rattle.tuner_theory.specs.Histories.{most, peaks};
 ghost use Rattle.tuner_theory.specs.Timelines.{IsTimeline, moments};
 ghost use Rattle.tuner_theory.specs.Waste.{Serves};
 
-use crate::timelines::counting::{Moved, SIZES, UNKNOWN, count_event, marks, no_moments, zeros};
-use crate::timelines::footprint::unserved_in;
+use crate::timelines::counting::{
+    BlockMove, SIZES, UNKNOWN, count_event, marks, no_moments, zeros,
+};
+use crate::timelines::footprint::unserved_size;
 use crate::timelines::line::LARGE_SIZE;
 use class_table::{ClassTable, FEWEST_GRANULES, GRANULE_BYTES, Layout};
 use std::alloc::{AllocError, Global};
@@ -88,7 +90,7 @@ pub fn table_peaks(
         sums = moved_sums(sums, counted.moved, table);
     }
     Ok(TablePeaks {
-        unserved: unserved_in(least),
+        unserved: unserved_size(least),
         most,
         firsts,
         most_bytes: sums.most_bytes,
@@ -98,22 +100,22 @@ pub fn table_peaks(
 
 // the sums after an event that did this to the blocks of its class
 #[inline(always)]
-fn moved_sums(sums: Sums, moved: Moved, table: &ClassTable) -> Sums
+fn moved_sums(sums: Sums, moved: BlockMove, table: &ClassTable) -> Sums
     requires small { AreSmall sums }
     requires moved { MayMove table.now sums moved }
     ensures { result ≡ moved_sums table.now sums moved }
 {
     match moved {
-        Moved::Nothing => sums_after(sums, sums.made, sums.live, sums.bytes),
-        Moved::New(number) => {
+        BlockMove::Nothing => sums_after(sums, sums.made, sums.live, sums.bytes),
+        BlockMove::New(number) => {
             let bytes = sums.bytes + block_bytes(table, number);
             sums_after(sums, sums.made + 1, sums.live + 1, bytes)
         }
-        Moved::Again(number) => {
+        BlockMove::Again(number) => {
             let bytes = sums.bytes + block_bytes(table, number);
             sums_after(sums, sums.made, sums.live + 1, bytes)
         }
-        Moved::Freed(number) => {
+        BlockMove::Freed(number) => {
             let bytes = sums.bytes - block_bytes(table, number);
             sums_after(sums, sums.made, sums.live - 1, bytes)
         }

@@ -6,7 +6,7 @@ ghost use Rattle.history_count.specs.Timelines.Runs.{AreLiveCounts, IsRun};
 
 use crate::timelines::fault::TimelineFault;
 use crate::timelines::line::{event_in, next_counted};
-use crate::timelines::live::{count, followed_by};
+use crate::timelines::live::{admit_event, count};
 use line_text::Lines;
 use memchr::memrchr;
 use std::alloc::AllocError;
@@ -52,7 +52,7 @@ fn take_line(
     ensures { TakesLines result events.old.items events.new.items live.new (line.now ∷ []) }
 {
     make_room(events)?;
-    match followed_by(events, live, event_in(line)) {
+    match admit_event(events, live, event_in(line)) {
         Ok(event) => events.push_reserved(event),
         Err(fault) => return Ok(Some(fault)),
     }

@@ -4,11 +4,11 @@ use Rattle.byte_streams.specs.{Streams.{SourceState, sink_state}, declared.memor
 use Rattle.mte_engine.{proofs.LawLemmas.{answers_all}, specs.Outcome.{Answer, AnswersInput, Reports, Runs}}
 use Rattle.mte_engine.specs.declared.{engine.Status.{Status}, engine.Status.TheVariants.{Done, No}, fault.InputFault.{InputFault}}
 use Rattle.mte_engine.specs.declared.fault.{ToolFault.{ToolFault}, ToolFault.TheVariants.{OutOfMemory, Input, ReadFault, WriteFault}}
-use Rattle.mte_c.specs.{Commands.Answered.{HandsOut, IsAnswered}, declared.commands.ended.Ended.{Ended}}
-use Rattle.mte_c.specs.declared.commands.ended.Ended.TheVariants.{OutOfMemory as RanOut}
+use Rattle.mte_c.specs.{Commands.Answered.{HandsOut, IsAnswered}, declared.commands.call_end.CallEnd.{CallEnd}}
+use Rattle.mte_c.specs.declared.commands.call_end.CallEnd.TheVariants.{OutOfMemory as RanOut}
 
 -- memory ran out
-ran_out : (answers : List ℕ → Result Answer InputFault → Type 0) (all : List ℕ) (ended : Ended) (text : List ℕ) → ended ≡ RanOut
+ran_out : (answers : List ℕ → Result Answer InputFault → Type 0) (all : List ℕ) (ended : CallEnd) (text : List ℕ) → ended ≡ RanOut
     → text ≡ [] → IsAnswered answers all ended text
 ran_out answers all ended text out none = rw out none
 
@@ -22,7 +22,7 @@ answered answers source source' sink sink' all status knows empty ran =
     rw same (answers_all answers source source' all _ knows ran.1)
 
 handed : (answers : List ℕ → Result Answer InputFault → Type 0) (source source' : SourceState) (sink sink' : MemorySink)
-    (end : Result Status ToolFault) (all : List ℕ) (ended : Ended) (text : List ℕ) → source.remaining ≡ Some all → sink.text.items ≡ []
+    (end : Result Status ToolFault) (all : List ℕ) (ended : CallEnd) (text : List ℕ) → source.remaining ≡ Some all → sink.text.items ≡ []
     → Reports answers source source' (λ (s : MemorySink). sink_state (Some s.text.items) s.writes) sink sink' end
     → HandsOut end sink'.text.items ended text → IsAnswered answers all ended text
 handed answers source source' sink sink' (Ok Done) all ended text knows empty ran (inl out) =
@@ -40,7 +40,7 @@ handed answers source source' sink sink' (Err ReadFault) all ended text knows em
 handed answers source source' sink sink' (Err WriteFault) all ended text knows empty ran out = ran_out answers all ended text out.0 out.1
 
 pub handed_out : {answers : List ℕ → Result Answer InputFault → Type 0} {source source' : SourceState} {sink sink' : MemorySink}
-    {end : Result Status ToolFault} (all : List ℕ) (ended : Ended) (text : List ℕ)
+    {end : Result Status ToolFault} (all : List ℕ) (ended : CallEnd) (text : List ℕ)
     → Runs answers source source' (λ (s : MemorySink). sink_state (Some s.text.items) s.writes) sink sink' end
     → source.remaining ≡ Some all → sink.text.items ≡ [] → HandsOut end sink'.text.items ended text → IsAnswered answers all ended text
 handed_out {answers = a} {source = s} {source' = s'} {sink = k} {sink' = k'} {end = e} all ended text ran knows empty out =

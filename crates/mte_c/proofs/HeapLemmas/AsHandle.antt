@@ -1,8 +1,8 @@
 -- The handle to a heap.
 use mathlib.Core.Path.{refl}
 use Rattle.handed_text.proofs.LawLemmas.Handles.{HandleOf}
-use Rattle.mte_c.specs.contracts.heap.held.Held as Held
-use Rattle.mte_c.proofs.heap.held.Held.TheLaws as held
+use Rattle.mte_c.specs.contracts.heap.held_heap.HeldHeap as Held
+use Rattle.mte_c.proofs.heap.held_heap.HeldHeap.TheLaws as held
 use Rattle.mte_c.specs.contracts.heap.handle.Handle as Handle
 
 abbrev pub K : HandleOf

@@ -1,7 +1,7 @@
 -- What the calls over arrays answer.
 use Rattle.std.specs.Prelude.{◌≡◌, ◌≢◌, ℕ, ◌*◌, ◌/◌, ◌%◌, ◌<◌, ◌≤◌, ◌==◌, List, ◌++◌, drop, length, Result, Ok, Err, IsOk}
 use Rattle.class_table.specs.{Faults.{table_of_classes}, declared.fault.TableError.{TableError}}
-use Rattle.mte_engine.specs.{Check.{IsJudged}, Score.{score_of}, Tune.{IsTunedBy}, declared.scoring.Scored.{Scored}}
+use Rattle.mte_engine.specs.{Check.{IsJudged}, Score.{score_of}, Tune.{IsTunedBy}, declared.scoring.TableScore.{TableScore}}
 use Rattle.tool_call.specs.{Options.{AreValid}, declared.options.Options.{Options}}
 use Rattle.tool_call.specs.declared.call.CommandName.TheVariants.{Score, Tune, Check}
 use Rattle.tuner_theory.specs.{Profiles.{Profile}, Served.{served}, Sheets.{Sheet}, Spans.{places}, declared.verdict.Verdict.{Verdict}}
@@ -17,7 +17,7 @@ GivesTable (Err other) read = ⊥
 
 -- ---- score
 
-abbrev pub IsScored : Options → List ℕ → List ℕ → List ℕ → Result Scored ArrayError → Type 0
+abbrev pub IsScored : Options → List ℕ → List ℕ → List ℕ → Result TableScore ArrayError → Type 0
 IsScored options classes sizes counts (Ok score) =
     AreValid Score options × ((table : List ℕ) × (profile : Profile) × (table_of_classes classes ≡ Ok table)
     × (profile_of_arrays sizes counts ≡ Ok profile) × (score ≡ score_of options table profile))

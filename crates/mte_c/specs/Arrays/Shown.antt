@@ -8,8 +8,8 @@ use Rattle.tuner_theory.specs.{Sheets.{code_of}, declared.verdict.Verdict.{Verdi
 use Rattle.tuner_theory.specs.declared.verdict.Verdict.TheVariants.{Optimal, Refused}
 use Rattle.mte_c.specs.{Arrays.Calls.{IsChecked, IsScored, IsTunedInto, IsTunedOr}, declared.arrays.fault.ArrayError.{ArrayError}}
 use Rattle.mte_c.specs.declared.arrays.fault.ArrayError.TheVariants.{OutOfMemory, Table, Entry, BadOption, Misuse}
-use Rattle.mte_c.specs.declared.arrays.{shown.Numbers.{Numbers}, tuning.TunedNumbers.{TunedNumbers}}
-use Rattle.mte_engine.specs.declared.scoring.{Scored.{Scored}, Scored.TheVariants.{Waste, NotServing}}
+use Rattle.mte_c.specs.declared.arrays.{numbers.Numbers.{Numbers}, tuning.TunedNumbers.{TunedNumbers}}
+use Rattle.mte_engine.specs.declared.scoring.{TableScore.{TableScore}, TableScore.TheVariants.{Waste, NotServing}}
 use Rattle.tool_call.specs.declared.options.Options.{Options}
 
 -- An end and no number.
@@ -29,7 +29,7 @@ ShowsError (Table fault) numbers =
 ShowsError (Entry index fault) numbers =
     IsCodeIn (shown_profile_fault fault) numbers.fault × (numbers ≡ record (plain REFUSED) { fault = numbers.fault; at = index })
 
-abbrev pub ShowsScore : Result Scored ArrayError → Numbers → Type 0
+abbrev pub ShowsScore : Result TableScore ArrayError → Numbers → Type 0
 ShowsScore (Ok (Waste waste)) numbers = numbers ≡ record (plain DONE) { waste = waste }
 ShowsScore (Ok (NotServing size)) numbers = numbers ≡ record (plain NO) { at = size }
 ShowsScore (Err error) numbers = ShowsError error numbers
@@ -46,7 +46,7 @@ ShowsVerdict (Err error) numbers = ShowsError error numbers
 -- ---- the functions for C
 
 pub record Scores (options : Options) (classes sizes counts : List ℕ) (numbers : Numbers) : Type 0 where
-  pub scored : Result Scored ArrayError
+  pub scored : Result TableScore ArrayError
   pub is_scored : IsScored options classes sizes counts scored
   pub shown : ShowsScore scored numbers
 

@@ -1,9 +1,9 @@
 -- The heap of a handle.
 use Rattle.std.specs.Prelude.{Option, Some, None}
 use Rattle.tagged_heap.specs.HeapAtRest.{HeapAndFrees}
-use Rattle.mte_c.specs.declared.heap.{handed_heap.HandedHeap.{HandedHeap}, held.Held.{Held}}
+use Rattle.mte_c.specs.declared.heap.{handed_heap.HandedHeap.{HandedHeap}, held_heap.HeldHeap.{HeldHeap}}
 
-abbrev pub held_heap : Option Held → Option HeapAndFrees
+abbrev pub held_heap : Option HeldHeap → Option HeapAndFrees
 held_heap None = None
 held_heap (Some held) = Some held.heap
 

@@ -5,7 +5,7 @@ ghost use Rattle.class_table.specs.Faults.{table_of_classes};
 use crate::arrays::counting::count;
 use crate::arrays::fault::ArrayError;
 use class_table::ClassTable;
-use mte_engine::{Scored, score_of};
+use mte_engine::{TableScore, score_of};
 use std::alloc::Global;
 use tool_call::{Call, CommandName, Options};
 
@@ -17,7 +17,7 @@ pub fn score(
     classes: &[u16],
     sizes: &[u32],
     counts: &[u32],
-) -> Result<Scored, ArrayError>
+) -> Result<TableScore, ArrayError>
     ensures { IsScored options classes.now sizes.now counts.now result }
 {
     let command = CommandName::Score;

@@ -4,7 +4,7 @@ ghost use Rattle.std.specs.Option.{ForNone, ForSome};
 ghost use Rattle.handed_text.specs.Bytes.{IsLeft, bytes_of, is_answer_of};
 ghost use Rattle.mte_c.specs.Commands.Answered.{EndsWith, HandsOut};
 
-use crate::commands::ended::Ended;
+use crate::commands::call_end::CallEnd;
 use handed_text::HandedText;
 use mte_engine::{History, MemorySink, Status, ToolFault};
 use std::alloc::{AllocError, Global};
@@ -45,15 +45,15 @@ pub fn hand_out(
     end: Result<Status, ToolFault>,
     written: Vec<u8>,
     text: &mut HandedText,
-) -> Ended
+) -> CallEnd
     ensures answer { HandsOut end written.items result (bytes_of text.new) }
     ensures left { IsLeft text.new }
 {
     match end {
-        Ok(Status::Done) => ended_with(alloc, Ended::Done, written, text),
-        Ok(Status::No) => ended_with(alloc, Ended::No, written, text),
+        Ok(Status::Done) => end_with_text(alloc, CallEnd::Done, written, text),
+        Ok(Status::No) => end_with_text(alloc, CallEnd::No, written, text),
         Err(ToolFault::Input(fault)) => match format!(in alloc; "{fault}") {
-            Ok(shown) => ended_with(alloc, Ended::Refused(fault), shown.into_bytes(), text),
+            Ok(shown) => end_with_text(alloc, CallEnd::Refused(fault), shown.into_bytes(), text),
             Err(AllocError) => out_of_memory(alloc, text),
         },
         Err(_) => out_of_memory(alloc, text),
@@ -61,20 +61,20 @@ pub fn hand_out(
 }
 
 // this end with this text, unless memory runs out
-fn ended_with(alloc: Global, ended: Ended, written: Vec<u8>, text: &mut HandedText) -> Ended
+fn end_with_text(alloc: Global, ended: CallEnd, written: Vec<u8>, text: &mut HandedText) -> CallEnd
     ensures text { EndsWith ended written.items result (bytes_of text.new) }
     ensures left { IsLeft text.new }
 {
     match text.put(alloc, written) {
         Ok(()) => ended,
-        Err(_) => Ended::OutOfMemory,
+        Err(_) => CallEnd::OutOfMemory,
     }
 }
 
-fn out_of_memory(alloc: Global, text: &mut HandedText) -> Ended
-    ensures end { result ≡ Ended.OutOfMemory }
+fn out_of_memory(alloc: Global, text: &mut HandedText) -> CallEnd
+    ensures end { result ≡ CallEnd.OutOfMemory }
     ensures text { bytes_of text.new ≡ [] }
 {
     text.clear(alloc);
-    Ended::OutOfMemory
+    CallEnd::OutOfMemory
 }

@@ -2,7 +2,7 @@
 ghost use Rattle.std.specs.Prelude.{◌≡◌, slice_get};
 ghost use Rattle.mte_c.specs.Commands.Settings.{commands};
 
-use crate::commands::ended::Ended;
+use crate::commands::call_end::CallEnd;
 use crate::commands::faults::{code_of, line_of};
 use handed_text::{BAD_OPTION, DONE, MISUSE, NO, OUT_OF_MEMORY, REFUSED};
 use tool_call::CommandName;
@@ -43,20 +43,20 @@ impl Ending {
     ghost use Rattle.mte_c.specs.Commands.Ending.{Shows};
 
     /// What C is told of this end.
-    pub fn of(ended: Ended) -> Ending
+    pub fn of(ended: CallEnd) -> Ending
         ensures { Shows ended result }
     {
         match ended {
-            Ended::Done => Ending::without_fault(DONE),
-            Ended::No => Ending::without_fault(NO),
-            Ended::Refused(fault) => Ending {
+            CallEnd::Done => Ending::without_fault(DONE),
+            CallEnd::No => Ending::without_fault(NO),
+            CallEnd::Refused(fault) => Ending {
                 end: REFUSED,
                 fault: code_of(fault),
                 line: line_of(fault),
             },
-            Ended::OutOfMemory => Ending::without_fault(OUT_OF_MEMORY),
-            Ended::BadOption => Ending::without_fault(BAD_OPTION),
-            Ended::Misuse => Ending::without_fault(MISUSE),
+            CallEnd::OutOfMemory => Ending::without_fault(OUT_OF_MEMORY),
+            CallEnd::BadOption => Ending::without_fault(BAD_OPTION),
+            CallEnd::Misuse => Ending::without_fault(MISUSE),
         }
     }
 

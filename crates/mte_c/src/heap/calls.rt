@@ -4,7 +4,7 @@ ghost use Rattle.mte_c.specs.Heap.Calls.{IsAddg, IsCalloc, IsFree, IsGranule, Is
 ghost use Rattle.mte_c.specs.Heap.Held.{heap_of};
 
 use crate::heap::handed_heap::HandedHeap;
-use crate::heap::held::Held;
+use crate::heap::held_heap::HeldHeap;
 use crate::heap::outcome::Outcome;
 use crate::heap::settings::{Settings, config};
 use crate::heap::{access, freeing, granules};
@@ -32,7 +32,7 @@ pub fn new(alloc: Global, settings: Settings, classes: &[u16], heap: &mut Handed
     let Ok(made) = Heap::new(alloc, &table, config) else {
         return Outcome::plain(OUT_OF_MEMORY);
     };
-    match Box::new(alloc, Held { heap: made }) {
+    match Box::new(alloc, HeldHeap { heap: made }) {
         Ok(held) => {
             heap.close(held);
             Outcome::plain(DONE)
@@ -127,7 +127,7 @@ pub fn granule(alloc: Global, heap: &mut HandedHeap, granule: u32) -> Outcome
         return Outcome::plain(MISUSE);
     }
     let held = heap.open(alloc);
-    let outcome = granules::told(&held.heap, granule);
+    let outcome = granules::granule_outcome(&held.heap, granule);
     heap.close(held);
     outcome
 }

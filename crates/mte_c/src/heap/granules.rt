@@ -9,7 +9,7 @@ use tagged_heap::Heap;
 
 /// The kind and the tag of a granule, and the slot over it.
 #[tactic(auto, unfolding(crate::specs::Heap::Outcomes::granule_outcome))]
-pub(crate) fn told(heap: &Heap, granule: u32) -> Outcome
+pub(crate) fn granule_outcome(heap: &Heap, granule: u32) -> Outcome
     ensures { result ≡ granule_outcome heap.now.state granule }
 {
     if !is_inside(heap, granule) {

@@ -3,7 +3,7 @@ ghost use Rattle.std.specs.Prelude.{◌≡◌};
 ghost use Rattle.std.specs.Option.{ForNone, ForSome};
 
 use crate::heap::handle::Handle;
-use crate::heap::held::Held;
+use crate::heap::held_heap::HeldHeap;
 use handed_text::BoxParts;
 use std::alloc::Global;
 
@@ -39,7 +39,7 @@ impl HandedHeap {
     }
 
     /// The box of the heap. The empty handle is left.
-    pub fn open(&mut self, alloc: Global) -> Box<Held>
+    pub fn open(&mut self, alloc: Global) -> Box<HeldHeap>
         requires { IsSome (heap_of self.old) }
         ensures heap { heap_of self.old ≡ Some result.value.heap }
         ensures left { heap_of self.new ≡ None }
@@ -49,7 +49,7 @@ impl HandedHeap {
     }
 
     /// Puts a box into the empty handle.
-    pub fn close(&mut self, held: Box<Held>)
+    pub fn close(&mut self, held: Box<HeldHeap>)
         requires { heap_of self.old ≡ None }
         ensures { heap_of self.new ≡ Some held.value.heap }
     {

@@ -1,10 +1,10 @@
 //! A handle to a heap, which C can hold.
 ghost use Rattle.std.specs.Prelude.{◌≡◌, Option, Some, None, IsSome};
-ghost use Rattle.mte_c.specs.declared.heap.held.Held.{Held as HeldHeap};
-ghost use Rattle.mte_c.specs.contracts.heap.held.Held.{the_row};
+ghost use Rattle.mte_c.specs.declared.heap.held_heap.HeldHeap.{HeldHeap as HeldView};
+ghost use Rattle.mte_c.specs.contracts.heap.held_heap.HeldHeap.{the_row};
 ghost use Rattle.std.specs.Coded.{coded_option};
 
-use crate::heap::held::Held;
+use crate::heap::held_heap::HeldHeap;
 use handed_text::BoxParts;
 use std::alloc::Global;
 use std::marker::Model;
@@ -14,11 +14,11 @@ use std::marker::Model;
 #[derive(Drop)]
 pub struct Handle {
     at: *mut u8,
-    ghost held: { Option HeldHeap } by { coded_option the_row.coded },
+    ghost held: { Option HeldView } by { coded_option the_row.coded },
 }
 
 impl Model for Handle {
-    ghost use Rattle.mte_c.specs.contracts.heap.held.Held.{the_row};
+    ghost use Rattle.mte_c.specs.contracts.heap.held_heap.HeldHeap.{the_row};
     ghost use Rattle.handed_text.specs.Ownership.{handle_owns};
 
     ghost also_owns = { λ h. handle_owns the_row h.at h.held };
@@ -35,7 +35,7 @@ impl Handle {
     }
 
     /// A handle to the heap of this box.
-    pub fn of_parts(parts: BoxParts<Held, Global>) -> Handle
+    pub fn of_parts(parts: BoxParts<HeldHeap, Global>) -> Handle
         ensures { result.held ≡ Some parts.value }
     {
         let BoxParts { ptr, alloc: _ } = parts;
@@ -43,13 +43,13 @@ impl Handle {
     }
 
     /// The box of a handle that is not null.
-    pub fn into_parts(self, alloc: Global) -> BoxParts<Held, Global>
+    pub fn into_parts(self, alloc: Global) -> BoxParts<HeldHeap, Global>
         requires { IsSome self.held }
         ensures { self.held ≡ Some result.value }
     {
         let Handle { at } = self;
         BoxParts {
-            ptr: at as *mut Held,
+            ptr: at as *mut HeldHeap,
             alloc,
         }
     }

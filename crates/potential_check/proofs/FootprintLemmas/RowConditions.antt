@@ -3,7 +3,7 @@ use Rattle.std.proofs.Common.{◌≡◌, ℕ, suc, ◌+◌, ◌-◌, ◌<◌, �
 use Rattle.std.proofs.{Common.{IsTrue, inl, inr}, lemmas.Bool.{cases_lt}}
 use Rattle.potential_check.specs.Footprints.RowConditions.{AreBoth, AreRowTests, AreTestsAt, AreTestsFrom, DropsHoldAt, DropsHoldFrom}
 use Rattle.potential_check.specs.Footprints.RowConditions.{EdgesHoldAt, EdgesHoldFrom, LastHoldsFrom}
-use Rattle.potential_check.specs.declared.measured.RowTests.{RowTests}
+use Rattle.potential_check.specs.declared.measured_load.RowTests.{RowTests}
 use Rattle.tuner_theory.specs.{Growing.{IsGrowing}, Rows.{number_at}}
 
 -- ---- one row more

@@ -1,7 +1,7 @@
 -- The conditions on the rows of a certificate, and what is tested of them place by place.
-use Rattle.std.specs.Prelude.{◌↔◌, ℕ, suc, ◌+◌, ◌<◌, ◌≤◌, List, length, slice_index, IsTrue}
-use Rattle.potential_check.specs.declared.measured.RowTests.{RowTests}
-use Rattle.tuner_theory.specs.{Potentials.{KeepsEdges, KeepsLastClass, KeepsStageDrops}, Rows.{number_at}}
+use Rattle.std.specs.Prelude.{◌≡◌, ◌↔◌, ℕ, suc, ◌+◌, ◌^◌, ◌<◌, ◌≤◌, List, length, slice_index, IsTrue}
+use Rattle.potential_check.specs.declared.measured_load.RowTests.{RowTests}
+use Rattle.tuner_theory.specs.{Potentials.{KeepsEdges, KeepsLastClass, KeepsStageDrops}, Rows.{HasShape, number_at}}
 
 -- Each test says whether its condition holds of the numbers of rows, for costs over d places.
 pub record AreRowTests (cost : ℕ → ℕ → ℕ) (d : ℕ) (rows : List (List ℕ)) (tests : RowTests) : Type 0 where
@@ -10,6 +10,14 @@ pub record AreRowTests (cost : ℕ → ℕ → ℕ) (d : ℕ) (rows : List (List
   pub edge : IsTrue tests.edge ↔ KeepsEdges cost d (length rows) (number_at rows)
 
 -- ---- at one place
+
+-- Rows of d numbers, and the costs from place i, one of theirs. There are few rows, and few places.
+pub record AreRowsAt (costs : List ℕ) (rows : List (List ℕ)) (d i : ℕ) : Type 0 where
+  pub few : length rows ≤ 2 ^ 16
+  pub few_places : d ≤ 2 ^ 16
+  pub shape : HasShape rows (length rows) d
+  pub size : length costs ≡ d + 1
+  pub place : i < d
 
 -- The number is within the edges of place i to its later places.
 pub record EdgeHoldsAt (costs before : List ℕ) (number i : ℕ) : Type 0 where

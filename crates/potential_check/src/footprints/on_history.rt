@@ -12,7 +12,7 @@ use crate::checker::verdict_on;
 use crate::cost::OfFootprint;
 use crate::footprints::history_spans::HistorySpans;
 use crate::footprints::row_tests::test_rows;
-use crate::measured::{Measured, RowTests};
+use crate::measured_load::{MeasuredLoad, RowTests};
 use class_table::ClassTable;
 use history_count::History;
 use profile_count::Profile;
@@ -60,7 +60,7 @@ fn on_history<'a>(history: &'a History, sizes: &'a Profile, forced: bool) -> OnH
     }
 }
 
-impl<'a> Measured for OnHistory<'a> {
+impl<'a> MeasuredLoad for OnHistory<'a> {
     ghost use Rattle.tuner_theory.proofs.Footprint.{footprint_is_sum};
     ghost use Rattle.tuner_theory.specs.Measures.{footprint_on};
 

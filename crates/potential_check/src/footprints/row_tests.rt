@@ -4,7 +4,7 @@ ghost use Rattle.std.specs.Prelude.{IfOk, IsTrue, OnErr, OnOk};
 ghost use Rattle.potential_check.specs.Footprints.AlikeRows.{AreAlikeFrom};
 ghost use Rattle.potential_check.specs.Footprints.Bounds.{AreBounds, AreRowBounds, IsFresh, IsSlack};
 ghost use Rattle.potential_check.specs.Footprints.CallCounts.{span_count};
-ghost use Rattle.potential_check.specs.Footprints.RowConditions.{AreBoth, AreRowTests, AreTestsAt};
+ghost use Rattle.potential_check.specs.Footprints.RowConditions.{AreBoth, AreRowTests, AreRowsAt, AreTestsAt};
 ghost use Rattle.potential_check.specs.Footprints.RowConditions.{DropsHoldAt, EdgeHoldsAt, EdgesHoldAt, WithinEdges};
 ghost use Rattle.tuner_theory.specs.Lists.{lists_of};
 ghost use Rattle.tuner_theory.specs.Rows.{HasShape, number_at};
@@ -12,7 +12,7 @@ ghost use Rattle.tuner_theory.specs.Rows.{HasShape, number_at};
 use crate::certificates::Rows;
 use crate::footprints::slack::{BLOCK, WHOLE_SLACK, lower_slack, no_bounds};
 use crate::footprints::span_costs::SpanCosts;
-use crate::measured::RowTests;
+use crate::measured_load::RowTests;
 use class_table::MOST_NEEDS;
 use std::alloc::{AllocError, Global};
 use std::mem::swap;
@@ -126,11 +126,7 @@ fn tests_at(
     places: usize,
     alike: &mut usize,
 ) -> RowTests
-    requires few { length rows.now ≤ 2 ^ 16 }
-    requires few_places { places ≤ 2 ^ 16 }
-    requires shape { HasShape rows.now (length rows.now) places }
-    requires size { length costs.now ≡ places + 1 }
-    requires place { i < places }
+    requires rows { AreRowsAt costs.now rows.now places i }
     requires slack { IsSlack places slack.now }
     requires bounds { let limit = length rows.now in
         AreRowBounds costs.now slack.now i places limit (number_at rows.now) (lists_of bounds.old) }
@@ -155,14 +151,14 @@ fn both_tests(one: &RowTests, other: &RowTests) -> RowTests
     ensures { AreBoth one.now other.now result }
 {
     RowTests {
-        last_class: both(one.last_class, other.last_class),
-        stage_drop: both(one.stage_drop, other.stage_drop),
-        edge: both(one.edge, other.edge),
+        last_class: both_hold(one.last_class, other.last_class),
+        stage_drop: both_hold(one.stage_drop, other.stage_drop),
+        edge: both_hold(one.edge, other.edge),
     }
 }
 
 // whether both hold
-fn both(one: bool, other: bool) -> bool
+fn both_hold(one: bool, other: bool) -> bool
     ensures { IsTrue result ↔ (IsTrue one × IsTrue other) }
 {
     one && other
@@ -195,11 +191,7 @@ fn edges_hold_at(
     places: usize,
     alike: &mut usize,
 ) -> bool
-    requires few { length rows.now ≤ 2 ^ 16 }
-    requires few_places { places ≤ 2 ^ 16 }
-    requires shape { HasShape rows.now (length rows.now) places }
-    requires size { length costs.now ≡ places + 1 }
-    requires place { i < places }
+    requires rows { AreRowsAt costs.now rows.now places i }
     requires slack { IsSlack places slack.now }
     requires bounds { let limit = length rows.now in
         AreRowBounds costs.now slack.now i places limit (number_at rows.now) (lists_of bounds.old) }
@@ -215,16 +207,8 @@ fn edges_hold_at(
     for k in 1..rows.len() {
         let number = rows.number(k + 1, i);
         let is_known = is_as_above(later, k, number, above);
-        if !edge_holds_in(
-            costs,
-            rows.row(k - 1),
-            slack,
-            bounds,
-            k,
-            number,
-            i,
-            is_known,
-        ) {
+        let before = rows.row(k - 1);
+        if !edge_holds_in(costs, before, slack, bounds, k, number, i, is_known) {
             *alike = rows.len();
             return false;
         }

@@ -56,7 +56,7 @@ impl<'a> SnapshotSums<'a> {
         for t in 0..lines.columns.len() {
             sums.push(sums_up_to(alloc, &lines.columns[t], &cuts)?)?;
         }
-        let narrow = narrowed(alloc, &sums)?;
+        let narrow = narrow_sums(alloc, &sums)?;
         Ok(SnapshotSums {
             history,
             spans,
@@ -346,7 +346,7 @@ fn raise_eight(
 }
 
 // the sums as numbers of 32 bits, and none where one of them does not fit
-fn narrowed(alloc: Global, sums: &[Vec<u64>]) -> Result<Vec<Vec<u32>>, AllocError>
+fn narrow_sums(alloc: Global, sums: &[Vec<u64>]) -> Result<Vec<Vec<u32>>, AllocError>
     ensures { IfOk result (λ narrow. AreNarrow (lists_of narrow.items) (lists_of sums.now)) }
 {
     let mut narrow = Vec::new(alloc);

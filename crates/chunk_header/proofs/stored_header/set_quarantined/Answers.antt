@@ -13,7 +13,7 @@ returns c =
     let new = c.set_word-2.new.self in
     let header = record (header_at old g) { standing = Quarantined; next = 0; mark = c.args.mark } in
     let at : 16 * g + 0 ≡ 16 * g = omega arith in
-    let word = c.quarantined-word.ensures 0 ∙ word_relinked (λ standing. Quarantined) old g 0 c.word.result 0 c.word.ensures in
+    let word = c.word_of_quarantined-word.ensures 0 ∙ word_relinked (λ standing. Quarantined) old g 0 c.word.result 0 c.word.ensures in
     let first : word_at new (16 * g) ≡ first_word header =
     ap (word_at new) (sym at) ∙ c.set_word-2.ensures.others.word (16 * g + 0) (inl (omega arith))
     ∙ c.set_word.ensures.word ∙ word in

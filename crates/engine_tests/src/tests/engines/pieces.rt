@@ -4,7 +4,7 @@ ghost use Rattle.byte_streams.specs.Streams.{source_state};
 
 use crate::tests::calls::call_on;
 use crate::tests::streams::sink_with_room;
-use crate::tests::support::{ended, same};
+use crate::tests::support::{end_text, same};
 use mte_engine::{ByteSource, Call, Failure, History};
 use std::process::Abort;
 use std::test::Fail;
@@ -52,7 +52,7 @@ fn check_cut(
     };
     let mut to = sink_with_room(rt.alloc(), 4096)?;
     let end = call_on(rt, call, &mut from, &mut to);
-    let ends = ended(rt.alloc(), end)?;
+    let ends = end_text(rt.alloc(), end)?;
     same(rt, &ends.as_str(), &wanted, &(input, first));
     let text = to.text.as_slice();
     same(rt, &text, &written.as_bytes(), &(input, first));

@@ -10,15 +10,15 @@ use mte_engine::Call;
 use std::process::Abort;
 use std::test::Fail;
 
-const fn tuned(limit: u8, step: u8) -> Call {
+const fn run_call(limit: u8, step: u8) -> Call {
     call!(Run, limit: limit, step: step, quarantine: 64)
 }
 
 #[test]
 fn runs(rt: HostRuntime) -> Result<(), Fail> {
-    check(&rt, tuned(2, 1), &[Case(TRACE, TUNED, "done")])?;
-    check(&rt, tuned(2, 4), &[Case(TRACE, TUNED_BY_FOURS, "done")])?;
-    check(&rt, tuned(1, 1), NO_REQUESTS)
+    check(&rt, run_call(2, 1), &[Case(TRACE, TUNED, "done")])?;
+    check(&rt, run_call(2, 4), &[Case(TRACE, TUNED_BY_FOURS, "done")])?;
+    check(&rt, run_call(1, 1), NO_REQUESTS)
 }
 
 // the lines of the accesses that fault
@@ -97,7 +97,13 @@ fn answers_fronts(
     let (written, wanted) = report(rt, answer)?;
     for len in first..end {
         assert!(rt; len <= TRACE.len());
-        answers(rt, tuned(2, 1), &TRACE.as_bytes()[..len], &written, wanted)?;
+        answers(
+            rt,
+            run_call(2, 1),
+            &TRACE.as_bytes()[..len],
+            &written,
+            wanted,
+        )?;
     }
     Ok(())
 }

@@ -1,10 +1,10 @@
 //! Reads and writes that fail, or move a byte at a time, or never end.
 use super::score_texts::SCORE;
-use super::support::Repeated;
+use super::support::RepeatedByte;
 use super::worked_replays::{NO_CLASS, NO_CLASS_REPORT, REPORT, TRACE, TUNED};
 use crate::tests::calls::{call, call_on};
 use crate::tests::streams::{sink, source};
-use crate::tests::support::{ended, same};
+use crate::tests::support::{end_text, same};
 use mte_engine::{Call, History, StreamSink, StreamSource};
 use std::io::{ErrorKind, Read, Write};
 use std::process::Abort;
@@ -96,7 +96,7 @@ fn ends(
     to.most = streams.write;
     to.until_failure = streams.writes;
     let end = call_on(rt, call, &mut from, &mut to);
-    let ends = ended(rt.alloc(), end)?;
+    let ends = end_text(rt.alloc(), end)?;
     same(rt, &ends.as_str(), &wanted, &(input, streams));
     same(rt, &to.text.as_slice(), &written, &(input, streams));
     Ok(())
@@ -155,12 +155,12 @@ fn each_write_fails_in_turn(rt: HostRuntime) -> Result<(), Fail> {
 
 // a writer of std that takes a byte at each of its first calls, and then none
 #[derive(Drop)]
-struct Filling {
+struct LimitedWriter {
     text: Vec<u8>,
     room: usize,
 }
 
-impl Write for Filling {
+impl Write for LimitedWriter {
     fn write(&mut self, buf: &[u8]) -> std::io::Result<usize> {
         if self.text.len() >= self.room || buf.is_empty() {
             return Ok(0);
@@ -179,7 +179,7 @@ impl Write for Filling {
 // The write after so many bytes, of a byte each, takes none.
 fn takes_nothing(rt: &(impl Abort + AllocGlobal), case: Case, room: usize) -> Result<(), Fail> {
     let Case(call, input, written) = case;
-    let mut filling = Filling {
+    let mut filling = LimitedWriter {
         text: Vec::new(rt.alloc()),
         room,
     };
@@ -194,11 +194,11 @@ fn fails_once(
     rt: &(impl Abort + AllocGlobal),
     call: Call,
     input: &str,
-    filling: &mut Filling,
+    filling: &mut LimitedWriter,
 ) -> Result<(), Fail> {
     let mut to = StreamSink::new(filling);
     let end = call_on(rt, call, &mut source(input.as_bytes()), &mut to);
-    let ends = ended(rt.alloc(), end)?;
+    let ends = end_text(rt.alloc(), end)?;
     same(rt, &ends.as_str(), &"error 82 WriteFault", &input);
     Ok(())
 }
@@ -234,14 +234,14 @@ fn ends_on_letters(
     most: usize,
     wanted: &str,
 ) -> Result<(), Fail> {
-    let mut from = Repeated {
+    let mut from = RepeatedByte {
         left,
         reads: History::new(),
         most,
     };
     let mut to = sink(rt.alloc())?;
     let end = call_on(rt, call, &mut from, &mut to);
-    let ends = ended(rt.alloc(), end)?;
+    let ends = end_text(rt.alloc(), end)?;
     same(rt, &ends.as_str(), &wanted, &(left, most));
     assert!(rt; to.text.is_empty());
     Ok(())
@@ -305,15 +305,15 @@ fn the_most_input_and_one_byte_more(rt: HostRuntime) -> Result<(), Fail> {
 
 // a reader and a writer of std that only fail
 #[derive(Drop)]
-struct Broken;
+struct FailingStream;
 
-impl Read for Broken {
+impl Read for FailingStream {
     fn read(&mut self, _buf: &mut [u8]) -> std::io::Result<usize> {
         Err(ErrorKind::Other.into())
     }
 }
 
-impl Write for Broken {
+impl Write for FailingStream {
     fn write(&mut self, _buf: &[u8]) -> std::io::Result<usize> {
         Err(ErrorKind::Other.into())
     }
@@ -325,19 +325,161 @@ impl Write for Broken {
 
 #[test]
 fn a_failing_standard_reader(rt: HostRuntime) -> Result<(), Fail> {
-    let mut from = StreamSource::new(Broken);
+    let mut from = StreamSource::new(FailingStream);
     let mut to = sink(rt.alloc())?;
     let end = call_on(&rt, SCORE, &mut from, &mut to);
-    let ends = ended(rt.alloc(), end)?;
+    let ends = end_text(rt.alloc(), end)?;
     same(&rt, &ends.as_str(), &"error 81 ReadFault", &"the end");
     Ok(())
 }
 
 #[test]
 fn a_failing_standard_writer(rt: HostRuntime) -> Result<(), Fail> {
-    let mut to = StreamSink::new(Broken);
+    let mut to = StreamSink::new(FailingStream);
     let end = call_on(&rt, SCORE, &mut source(INPUT), &mut to);
-    let ends = ended(rt.alloc(), end)?;
+    let ends = end_text(rt.alloc(), end)?;
     same(&rt, &ends.as_str(), &"error 82 WriteFault", &"the end");
+    Ok(())
+}
+
+// A reader and a writer of std that move a byte at a time. One call is interrupted, and those after it succeed again: whoever tries once more
+// goes on as if nothing had failed.
+#[derive(Drop)]
+struct InterruptedStream<'a> {
+    rest: &'a [u8],
+    text: Vec<u8>,
+    calls: usize,
+    interrupted: usize,
+}
+
+// A call more; whether it is the one that is interrupted.
+fn is_interrupted(calls: &mut usize, interrupted: usize) -> bool {
+    let now = *calls;
+    *calls = now.saturating_add(1);
+    now == interrupted
+}
+
+impl Read for InterruptedStream<'_> {
+    fn read(&mut self, buf: &mut [u8]) -> std::io::Result<usize> {
+        if is_interrupted(&mut self.calls, self.interrupted) {
+            return Err(ErrorKind::Interrupted.into());
+        }
+        if buf.is_empty() || self.rest.is_empty() {
+            return Ok(0);
+        }
+        buf[0] = self.rest[0];
+        self.rest = &self.rest[1..];
+        Ok(1)
+    }
+}
+
+impl Write for InterruptedStream<'_> {
+    fn write(&mut self, buf: &[u8]) -> std::io::Result<usize> {
+        if is_interrupted(&mut self.calls, self.interrupted) {
+            return Err(ErrorKind::Interrupted.into());
+        }
+        if buf.is_empty() {
+            return Ok(0);
+        }
+        match self.text.push(buf[0]) {
+            Ok(()) => Ok(1),
+            Err(_) => Err(ErrorKind::OutOfMemory.into()),
+        }
+    }
+
+    fn flush(&mut self) -> std::io::Result<()> {
+        Ok(())
+    }
+}
+
+// a stream of which the call after so many is interrupted
+fn interrupted_stream<'a>(
+    rt: &impl AllocGlobal,
+    input: &'a str,
+    interrupted: usize,
+) -> InterruptedStream<'a> {
+    InterruptedStream {
+        rest: input.as_bytes(),
+        text: Vec::new(rt.alloc()),
+        calls: 0,
+        interrupted,
+    }
+}
+
+// Calls the engine over this reader: a read fails, and nothing is written.
+fn read_fault(
+    rt: &(impl Abort + AllocGlobal),
+    call: Call,
+    reader: &mut InterruptedStream<'_>,
+) -> Result<(), Fail> {
+    let mut to = sink(rt.alloc())?;
+    let end = call_on(rt, call, &mut StreamSource::new(reader), &mut to);
+    let ends = end_text(rt.alloc(), end)?;
+    same(rt, &ends.as_str(), &"error 81 ReadFault", &"the end");
+    assert!(rt; to.text.is_empty());
+    Ok(())
+}
+
+// The read after so many is the last: none is made in the place of the one that failed.
+fn reads_no_more(
+    rt: &(impl Abort + AllocGlobal),
+    call: Call,
+    input: &str,
+    reads: usize,
+) -> Result<(), Fail> {
+    let mut reader = interrupted_stream(rt, input, reads);
+    read_fault(rt, call, &mut reader)?;
+    same(rt, &reader.calls, &reads.saturating_add(1), &(input, reads));
+    Ok(())
+}
+
+#[test]
+fn a_read_that_fails_once(rt: HostRuntime) -> Result<(), Fail> {
+    for Case(call, input, _) in cases() {
+        for reads in 0..=input.len() {
+            reads_no_more(&rt, *call, input, reads)?;
+        }
+    }
+    Ok(())
+}
+
+// Calls the engine over this writer: a write fails.
+fn write_fault(
+    rt: &(impl Abort + AllocGlobal),
+    call: Call,
+    input: &str,
+    writer: &mut InterruptedStream<'_>,
+) -> Result<(), Fail> {
+    let mut to = StreamSink::new(writer);
+    let end = call_on(rt, call, &mut source(input.as_bytes()), &mut to);
+    let ends = end_text(rt.alloc(), end)?;
+    same(rt, &ends.as_str(), &"error 82 WriteFault", &input);
+    Ok(())
+}
+
+// The write after so many bytes is the last, and the writer has the bytes before it.
+fn writes_no_more(rt: &(impl Abort + AllocGlobal), case: Case, writes: usize) -> Result<(), Fail> {
+    let Case(call, input, written) = case;
+    let mut writer = interrupted_stream(rt, "", writes);
+    write_fault(rt, call, input, &mut writer)?;
+    assert!(rt; writes <= written.len());
+    let before = &written.as_bytes()[..writes];
+    same(rt, &writer.text.as_slice(), &before, &(input, writes));
+    same(
+        rt,
+        &writer.calls,
+        &writes.saturating_add(1),
+        &(input, writes),
+    );
+    Ok(())
+}
+
+#[test]
+fn a_write_that_fails_once(rt: HostRuntime) -> Result<(), Fail> {
+    for case in cases() {
+        for writes in 0..case.2.len() {
+            writes_no_more(&rt, *case, writes)?;
+        }
+    }
     Ok(())
 }

@@ -6,7 +6,7 @@ use mte_engine::{ByteSource, Failure, History};
 
 /// Gives the byte `a` for ever, or so often.
 #[derive(Drop)]
-pub struct Repeated {
+pub struct RepeatedByte {
     /// How many bytes are still to come; none for ever.
     pub left: Option<usize>,
     /// What its reads gave.
@@ -15,7 +15,7 @@ pub struct Repeated {
     pub most: usize,
 }
 
-impl ByteSource for Repeated {
+impl ByteSource for RepeatedByte {
     ghost state = { λ s. source_state None s.reads };
 
     fn read(&mut self, buf: &mut [u8]) -> Result<usize, Failure> {

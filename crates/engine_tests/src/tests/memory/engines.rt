@@ -1,5 +1,5 @@
 //! The engines: where a growth is refused, the sink is as it was.
-use super::support::{PROFILE, SHEET, refused_twice};
+use super::support::{PROFILE, SHEET, report_two_refusals};
 use crate::tests::calls::{call, call_on};
 use crate::tests::engines::score_texts::SCORE;
 use crate::tests::engines::worked_replays::{REPORT, TRACE};
@@ -14,7 +14,7 @@ const HISTORY: &str = "snapshots 2\n16 3 0\n40 0 1\n";
 const FIT: &str = "classes 2 4\nlimit 2\nfootprint 160\nrow 192 64\nrow 160 64\n";
 
 #[test]
-fn scoring(rt: HostRuntime) -> Result<(), Fail> {
+fn scoring_a_table(rt: HostRuntime) -> Result<(), Fail> {
     answers(&rt, SCORE, "classes 4\n16 3\n40 1\n", "waste 104\n")
 }
 
@@ -24,7 +24,7 @@ fn tuning(rt: HostRuntime) -> Result<(), Fail> {
 }
 
 #[test]
-fn checking(rt: HostRuntime) -> Result<(), Fail> {
+fn checking_a_sheet(rt: HostRuntime) -> Result<(), Fail> {
     let mut input = String::from_str(rt.alloc(), SHEET)?;
     input.push_str(PROFILE)?;
     answers(&rt, call!(Check), &input, "optimal\n")
@@ -38,7 +38,7 @@ fn taking_a_footprint(rt: HostRuntime) -> Result<(), Fail> {
 }
 
 #[test]
-fn fitting(rt: HostRuntime) -> Result<(), Fail> {
+fn fitting_a_history(rt: HostRuntime) -> Result<(), Fail> {
     answers(&rt, call!(Fit, limit: 2), HISTORY, FIT)
 }
 
@@ -67,20 +67,20 @@ fn counting_peaks(rt: HostRuntime) -> Result<(), Fail> {
 }
 
 #[test]
-fn profiling(rt: HostRuntime) -> Result<(), Fail> {
+fn profiling_a_trace(rt: HostRuntime) -> Result<(), Fail> {
     let trace = "malloc 1 40\ncalloc 2 16369\n";
     answers(&rt, call!(Profile), trace, "40 1\nlarge 1\n")
 }
 
 #[test]
-fn replaying(rt: HostRuntime) -> Result<(), Fail> {
+fn replaying_a_trace(rt: HostRuntime) -> Result<(), Fail> {
     let mut input = String::from_str(rt.alloc(), "classes 2 4\n")?;
     input.push_str(TRACE)?;
     answers(&rt, call!(Replay, quarantine: 64), &input, REPORT)
 }
 
 #[test]
-fn running(rt: HostRuntime) -> Result<(), Fail> {
+fn running_a_trace(rt: HostRuntime) -> Result<(), Fail> {
     let sheet = "classes 2\nlimit 2\nwaste 16\nrow 16\nrow 16\n";
     let mut written = String::from_str(rt.alloc(), sheet)?;
     written.push_str(REPORT)?;
@@ -98,15 +98,15 @@ fn answers(
     for _attempt in 0..2 {
         let mut to = sink(rt.alloc())?;
         let end = call_on(rt, call, &mut source(input.as_bytes()), &mut to);
-        if answered(rt, end, &to, written) {
+        if is_answered(rt, end, &to, written) {
             return Ok(());
         }
     }
-    refused_twice(rt)
+    report_two_refusals(rt)
 }
 
 // whether the engine answered and wrote this; where it was refused memory, nothing was written
-fn answered(
+fn is_answered(
     rt: &impl Abort,
     end: Result<Status, ToolFault>,
     sink: &MemorySink,

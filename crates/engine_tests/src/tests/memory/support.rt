@@ -15,6 +15,6 @@ pub fn profile(rt: &impl AllocGlobal) -> Result<Profile, Fail> {
 }
 
 /// Where a call was refused memory in both of its attempts. The script refuses one growth alone, so the second one has all it wants.
-pub fn refused_twice(rt: &impl Abort) -> Result<(), Fail> {
+pub fn report_two_refusals(rt: &impl Abort) -> Result<(), Fail> {
     panic!(rt; "memory was refused twice")
 }

@@ -1,5 +1,5 @@
 //! A trace that is fed and ended.
-use super::support::refused_twice;
+use super::support::report_two_refusals;
 use crate::tests::support::same;
 use std::process::Abort;
 use std::test::Fail;
@@ -27,7 +27,7 @@ fn a_trace_that_is_fed(rt: HostRuntime) -> Result<(), Fail> {
             }
         }
     }
-    refused_twice(&rt)
+    report_two_refusals(&rt)
 }
 
 #[test]
@@ -47,7 +47,7 @@ fn a_trace_that_is_ended(rt: HostRuntime) -> Result<(), Fail> {
             }
         }
     }
-    refused_twice(&rt)
+    report_two_refusals(&rt)
 }
 
 // each later call answers that memory was refused

@@ -38,7 +38,11 @@ fn table(classes: &[u16]) -> Result<ClassTable, Fail> {
 }
 
 // what the table takes over the history of a text
-fn taken(rt: &impl AllocGlobal, text: &str, classes: &[u16]) -> Result<TableFootprint, Fail> {
+fn footprint_of_classes(
+    rt: &impl AllocGlobal,
+    text: &str,
+    classes: &[u16],
+) -> Result<TableFootprint, Fail> {
     let taken = footprint_of_text(rt.alloc(), text.as_bytes(), &table(classes)?);
     Ok(taken.ok().ok_or("a history")?)
 }
@@ -46,7 +50,7 @@ fn taken(rt: &impl AllocGlobal, text: &str, classes: &[u16]) -> Result<TableFoot
 #[test]
 fn footprints(rt: HostRuntime) -> Result<(), Fail> {
     for (text, classes, bytes) in FOOTPRINTS {
-        let taken = taken(&rt, text, classes)?;
+        let taken = footprint_of_classes(&rt, text, classes)?;
         same(
             &rt,
             &taken,
@@ -59,7 +63,7 @@ fn footprints(rt: HostRuntime) -> Result<(), Fail> {
 
 #[test]
 fn unserved_sizes(rt: HostRuntime) -> Result<(), Fail> {
-    let taken = taken(&rt, THREE, &[2])?;
+    let taken = footprint_of_classes(&rt, THREE, &[2])?;
     same(&rt, &taken, &TableFootprint::Unserved(40), &"class 2");
     Ok(())
 }

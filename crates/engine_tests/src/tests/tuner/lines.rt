@@ -1,6 +1,8 @@
 //! Lines, words and numbers.
 use crate::tests::support::same;
-use line_text::{Number, SignedNumber, hex_byte_in, lines_in, number_in, signed_in, words_in};
+use line_text::{
+    Number, SignedNumber, hex_byte_in, lines_in, number_in, signed_number_in, words_in,
+};
 use std::process::Abort;
 
 // texts, and their lines
@@ -174,7 +176,7 @@ const SIGNED: &[(&str, SignedNumber)] = &[
 #[test]
 fn signed_numbers(rt: HostRuntime) {
     for (word, number) in SIGNED {
-        same(&rt, &signed_in(word.as_bytes()), number, word);
+        same(&rt, &signed_number_in(word.as_bytes()), number, word);
     }
 }
 

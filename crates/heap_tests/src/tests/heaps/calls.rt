@@ -143,17 +143,17 @@ fn is_kept(pointers: &mut [u64; 8], v: Variable, given: Option<u64>) -> bool {
 fn is_accessed(rt: &impl Abort, heap: &mut Heap, pointers: &[u64; 8], step: Step) -> bool {
     match step {
         Step::Store(v, off, byte, len) => {
-            store(rt, heap, at(pointers, v, off), byte, len) == Ok(())
+            store(rt, heap, address_at(pointers, v, off), byte, len) == Ok(())
         }
         Step::StoreFault(v, off, len, fault) => {
-            store(rt, heap, at(pointers, v, off), 0xee, len) == Err(fault)
+            store(rt, heap, address_at(pointers, v, off), 0xee, len) == Err(fault)
         }
         Step::Load(v, off, bytes) => {
-            let (ended, loaded) = load(rt, heap, at(pointers, v, off), bytes.len());
+            let (ended, loaded) = load(rt, heap, address_at(pointers, v, off), bytes.len());
             ended == Ok(()) && loaded.starts_with(bytes)
         }
         Step::LoadFault(v, off, len, fault) => {
-            let (ended, loaded) = load(rt, heap, at(pointers, v, off), len);
+            let (ended, loaded) = load(rt, heap, address_at(pointers, v, off), len);
             ended == Err(fault) && loaded == [0xff; 64]
         }
         Step::Mapped(v, len, is_mapped) => {
@@ -183,7 +183,7 @@ fn is_seen(rt: &impl Abort, heap: &Heap, pointers: &[u64; 8], step: Step) -> boo
     }
 }
 
-fn at(pointers: &[u64; 8], v: Variable, off: i16) -> u64 {
+fn address_at(pointers: &[u64; 8], v: Variable, off: i16) -> u64 {
     let pointer = pointers[v % 8];
     let distance = u64::from(off.unsigned_abs());
     if off < 0 {

@@ -12,5 +12,5 @@ filled-entry result filled o count next subject is gives = rw (is.read, ← is.s
 
 pub returns : goal.returns
 returns c =
-    rw c.in-Some.is (filled-entry c.tested.result c.fill.new.counts _ _ c.args.next c.in-Some.subject (filled-ok _ _ _ _ c.in_ok-fill.ensures)
-    c.tested.ensures)
+    rw c.in-Some.is (filled-entry c.check_entry.result c.fill.new.counts _ _ c.args.next c.in-Some.subject (filled-ok _ _ _ _ c.in_ok-fill.ensures)
+    c.check_entry.ensures)

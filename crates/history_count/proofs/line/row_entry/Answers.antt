@@ -8,4 +8,4 @@ returns-then-size-from c = grind (arith, row-no_size)
 pub returns : goal.returns
 returns c = λ ws row.
     let is = row-size ws c.args.next c.args.size c.args.counts.now row (omega arith) in
-    rw is.entry (c.tested.ensures is.numbers is.is)
+    rw is.entry (c.check_entry.ensures is.numbers is.is)

@@ -9,13 +9,14 @@ use Rattle.mte_engine.{proofs.TwoParts.{either_refused, first_refused, other_ans
 use Rattle.mte_engine.specs.{CheckFit.{CheckFitAnswers, IsFitChecked}, Parts.{both_parts, history_part, sheet_part, timeline_part}}
 use Rattle.mte_engine.specs.CheckFitOver.{CheckFitOverAnswers, IsCheckedOver, begins_moments, whole_moments_part}
 use Rattle.mte_engine.specs.declared.fault.InputFault.{InputFault}
+use Rattle.tool_call.specs.declared.options.Options.{Options}
 use Rattle.mte_engine.proofs.fit_checking.check_fit_text.Goals as goal
 
-abbrev over : Sheet × (List ℕ × List SizeEvent) → Answer → Type 0
-over parts answer = IsCheckedOver parts.0 parts.1.0 parts.1.1 answer
+abbrev over : Options → Sheet × (List ℕ × List SizeEvent) → Answer → Type 0
+over options parts answer = IsCheckedOver options parts.0 parts.1.0 parts.1.1 answer
 
-abbrev checked : Sheet × History → Answer → Type 0
-checked parts answer = IsFitChecked parts.0 parts.1 answer
+abbrev checked : Options → Sheet × History → Answer → Type 0
+checked options parts answer = IsFitChecked options parts.0 parts.1 answer
 
 abbrev part : List (List ℕ) → Result Sheet InputFault
 part ls = sheet_part Footprint (fit_of_lines (leading_lines ls))
@@ -35,9 +36,9 @@ returns-in_err-leading c =
     let text = c.args.text.now in
     let ls = lines text in
     rw (error.1, error.2)
-    (either_refused (CheckFitOverAnswers text) (CheckFitAnswers text) (begins_moments (lines_after ls)) fault
-    (first_refused (part ls) (moments_and_timeline ls) over fault c.in_err-leading.ensures.sheet)
-    (first_refused (part ls) (history ls) checked fault c.in_err-leading.ensures.sheet))
+    (either_refused (CheckFitOverAnswers c.args.options text) (CheckFitAnswers c.args.options text) (begins_moments (lines_after ls)) fault
+    (first_refused (part ls) (moments_and_timeline ls) (over c.args.options) fault c.in_err-leading.ensures.sheet)
+    (first_refused (part ls) (history ls) (checked c.args.options) fault c.in_err-leading.ensures.sheet))
 
 pub returns-then-begins_moments : goal.returns-then-begins_moments
 returns-then-begins_moments c =
@@ -45,9 +46,9 @@ returns-then-begins_moments c =
     let text = c.args.text.now in
     let ls = lines text in
     let begins = sym c.begins_moments.ensures ∙ c.if-begins_moments.true in
-    one_answers text_left (CheckFitOverAnswers text) (CheckFitAnswers text) (begins_moments (lines_after ls)) (rw leading.rest at begins)
+    one_answers text_left (CheckFitOverAnswers c.args.options text) (CheckFitAnswers c.args.options text) (begins_moments (lines_after ls)) (rw leading.rest at begins)
     c.check_after_moments.result
-    (then_answered (part ls) (moments_and_timeline ls) over text_left (sheet_of c.in_ok-leading.leading.sheet) leading.sheet
+    (then_answered (part ls) (moments_and_timeline ls) (over c.args.options) text_left (sheet_of c.in_ok-leading.leading.sheet) leading.sheet
     c.check_after_moments.result (rw (leading.lines.0, leading.rest) at c.check_after_moments.ensures))
 
 pub returns : goal.returns
@@ -56,7 +57,7 @@ returns c =
     let text = c.args.text.now in
     let ls = lines text in
     let begins = sym c.begins_moments.ensures ∙ c.if-begins_moments.false in
-    other_answers text_left (CheckFitOverAnswers text) (CheckFitAnswers text) (begins_moments (lines_after ls)) (rw leading.rest at begins)
+    other_answers text_left (CheckFitOverAnswers c.args.options text) (CheckFitAnswers c.args.options text) (begins_moments (lines_after ls)) (rw leading.rest at begins)
     c.check_history.result
-    (then_answered (part ls) (history ls) checked text_left (sheet_of c.in_ok-leading.leading.sheet) leading.sheet c.check_history.result
+    (then_answered (part ls) (history ls) (checked c.args.options) text_left (sheet_of c.in_ok-leading.leading.sheet) leading.sheet c.check_history.result
     (rw (leading.lines.0, leading.rest) at c.check_history.ensures))

@@ -9,4 +9,4 @@ returns c =
       is_verdict = c.in_ok-verdict.ensures.verdict;
       least = c.in_ok-verdict.ensures.least;
       written = written;
-    }) c.answer_for.ensures
+    }) (rw c.claim_asked.ensures at c.answer_for.ensures)

@@ -5,7 +5,7 @@ use Rattle.profile_count.specs.ProfileText.{SpellsProfile, profile_of_lines}
 use Rattle.mte_engine.proofs.FaultLines.{after_table_at_first, alone_at_first, check_profile_at_first, profile_is_part, replay_at_first}
 use Rattle.mte_engine.proofs.{FaultLines.{shown_with_line, IsPart}, HistoryFaultLines.{check_fit_history_at_first, history_is_part}}
 use Rattle.mte_engine.specs.{Parts.{history_part, profile_part, timeline_part}, declared.fault.InputFault.TheVariants.{Timeline}}
-use Rattle.std.proofs.Common.{◌≡◌, ◌+◌, [], refl}
+use Rattle.std.proofs.{Common.{◌≡◌, ◌+◌, [], refl}, lemmas.Bool.{le-ltb}}
 use Rattle.line_text.specs.{Lines.{lines}, LineSteps.{read_lines}}
 use Rattle.mte_engine.proofs.laws.law_fault_lines.Goals as goal
 
@@ -32,13 +32,14 @@ pub returns-clause-shown : goal.returns-clause-shown
 returns-clause-shown c = shown_with_line
 
 pub returns-clause-score : goal.returns-clause-score
-returns-clause-score c = λ options. after_table_at_first SpellsProfile profile_of_lines profile_part profile_is_part
+returns-clause-score c = λ options text fault small answers.
+    after_table_at_first SpellsProfile profile_of_lines profile_part profile_is_part text fault (rw (le-ltb 1 options.first_lines small) at answers)
 
 pub returns-clause-tune : goal.returns-clause-tune
 returns-clause-tune c = λ options. alone_at_first SpellsProfile profile_of_lines profile_part profile_is_part
 
 pub returns-clause-check : goal.returns-clause-check
-returns-clause-check c = check_profile_at_first
+returns-clause-check c = λ options text n fault none answers. check_profile_at_first options text n fault (rw none at answers)
 
 pub returns-clause-replay : goal.returns-clause-replay
 returns-clause-replay c = replay_at_first

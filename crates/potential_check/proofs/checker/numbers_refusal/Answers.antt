@@ -1,5 +1,5 @@
 use Rattle.std.proofs.Common.{arith, ◌≡◌, Bool, true, false, not, rules, IsTrue}
-use Rattle.potential_check.specs.{Certificates.SheetView.{sheet_of}, Measured.{AreTestsOf}, declared.measured.RowTests.{RowTests}}
+use Rattle.potential_check.specs.{Certificates.SheetView.{sheet_of}, Measured.{AreTestsOf}, declared.measured_load.RowTests.{RowTests}}
 use Rattle.tuner_theory.specs.{Measures.{Measure}, Sheets.{AreMetBefore, IsVerdictBy, IsVerdictOn, MeetsOn, Sheet}}
 use Rattle.tuner_theory.specs.declared.verdict.{Refusal.{Refusal}, Refusal.TheVariants.{Shape, LastClass, StageDrop, Edge, NotTight}}
 use Rattle.tuner_theory.specs.declared.verdict.Verdict.TheVariants.{Refused}
@@ -47,17 +47,17 @@ returns-then-not-tests-clause-refused g c = grind arith
 
 pub returns-then-not-tests-2-clause-refused : goal.returns-then-not-tests-2-clause-refused
 returns-then-not-tests-2-clause-refused g c =
-    refused-drop (g.M.Measured.measure c.args.measured.now) (sheet_of c.args.sheet.now) c.in_ok-tests.tests c.requires.met c.in_ok-tests.ensures
+    refused-drop (g.M.MeasuredLoad.measure c.args.measured.now) (sheet_of c.args.sheet.now) c.in_ok-tests.tests c.requires.met c.in_ok-tests.ensures
     (holds c.in_ok-tests.tests.last_class c.if-not-tests.false) (fails c.in_ok-tests.tests.stage_drop c.if-not-tests-2.true)
 
 pub returns-then-not-tests-3-clause-refused : goal.returns-then-not-tests-3-clause-refused
 returns-then-not-tests-3-clause-refused g c =
-    refused-edge (g.M.Measured.measure c.args.measured.now) (sheet_of c.args.sheet.now) c.in_ok-tests.tests c.requires.met c.in_ok-tests.ensures
+    refused-edge (g.M.MeasuredLoad.measure c.args.measured.now) (sheet_of c.args.sheet.now) c.in_ok-tests.tests c.requires.met c.in_ok-tests.ensures
     (holds c.in_ok-tests.tests.last_class c.if-not-tests.false) (holds c.in_ok-tests.tests.stage_drop c.if-not-tests-2.false)
     (fails c.in_ok-tests.tests.edge c.if-not-tests-3.true)
 
 pub returns-clause-none : goal.returns-clause-none
 returns-clause-none g c =
-    none-refused (g.M.Measured.measure c.args.measured.now) (sheet_of c.args.sheet.now) c.in_ok-tests.tests c.requires.met c.in_ok-tests.ensures
+    none-refused (g.M.MeasuredLoad.measure c.args.measured.now) (sheet_of c.args.sheet.now) c.in_ok-tests.tests c.requires.met c.in_ok-tests.ensures
     (holds c.in_ok-tests.tests.last_class c.if-not-tests.false) (holds c.in_ok-tests.tests.stage_drop c.if-not-tests-2.false)
     (holds c.in_ok-tests.tests.edge c.if-not-tests-3.false)

@@ -8,6 +8,6 @@ returns-clause-verdict g c = search rules
 
 pub returns-clause-best : goal.returns-clause-best
 returns-clause-best g c =
-    let m = g.M.Measured.measure c.args.measured.now in
-    λ _. optimal-best_by m (sheet_of c.args.sheet.now) (g.met.M.Measured.sums c.args.measured.now)
+    let m = g.M.MeasuredLoad.measure c.args.measured.now in
+    λ _. optimal-best_by m (sheet_of c.args.sheet.now) (g.met.M.MeasuredLoad.sums c.args.measured.now)
     c.in_default.ensures.legal (returns-clause-verdict g c)

@@ -10,7 +10,7 @@ pub load-requires-clause-tagged : goal.load-requires-clause-tagged
 load-requires-clause-tagged c =
     let range = subst IsInRange c.in-Load.is c.requires.in_range in
     subst (λ a. IsTaggedOrUnmapped c.args.heap.now.state a c.in-Load.len)
-    (sym (c.moved_by.ensures ∙ ap (moved_by (slice_index c.args.variables.now c.from-in-Load.result)) (near_offset c.in-Load.off range.1)))
+    (sym (c.move_address.ensures ∙ ap (moved_by (slice_index c.args.variables.now c.from-in-Load.result)) (near_offset c.in-Load.off range.1)))
     (tagged_or_not_mapped c.args.heap.now.state c.requires.sound _ c.in-Load.off c.in-Load.len range.1 range.2
     (c.requires.variables.tagged c.from-in-Load.result))
 
@@ -18,7 +18,7 @@ pub store-requires-clause-tagged : goal.store-requires-clause-tagged
 store-requires-clause-tagged c =
     let range = subst IsInRange c.in-Store.is c.requires.in_range in
     subst (λ a. IsTaggedOrUnmapped c.args.heap.now.state a c.in-Store.len)
-    (sym (c.moved_by-in-Store.ensures
+    (sym (c.move_address-in-Store.ensures
     ∙ ap (moved_by (slice_index c.args.variables.now c.from-in-Store.result)) (near_offset c.in-Store.off range.0.1)))
     (tagged_or_not_mapped c.args.heap.now.state c.requires.sound _ c.in-Store.off c.in-Store.len range.0.1 range.0.2
     (c.requires.variables.tagged c.from-in-Store.result))

@@ -2,7 +2,7 @@ use Rattle.std.proofs.Common.{◌≡◌, ℕ, suc, ◌-◌, ◌<◌, List, [], l
 use Rattle.std.specs.declared.alloc.Global.{Global}
 use Rattle.tuner_theory.{proofs.Lists.{lists-length, row-read}, specs.Lists.{lists_of}, specs.Rows.{HasShape, number_at}}
 use Rattle.class_tuner.proofs.{FitLemmas.Numbers.{set-here}, FitLemmas.Places.{alike-set, found-again, place-first, place-more, so_far-set}, Rows.{has-place, has-row}}
-use Rattle.potential_check.proofs.FootprintLemmas.LawLemmas.{alike-more, bounds-same, row_bounds-set}
+use Rattle.potential_check.proofs.FootprintLemmas.LawLemmas.{alike-more, bounds-same, row_bounds-same, row_bounds-set}
 use Rattle.class_tuner.proofs.fits.place.fill_place.Goals as goal
 
 -- the row before one
@@ -29,7 +29,7 @@ least_end_in-found-requires-clause-slack c =
     let so_far = c.loop-k.invariant.rows in
     let row = row-above c.loop-k.rows c.args.limit c.args.places so_far.rows_shape (c.loop-k.k - 1) c.index-rows-k.result
     c.deref-in-loop-k.result.now (omega arith) c.deref-in-loop-k.ensures.value in
-    rw row.size c.requires.slack
+    rw row.size c.requires.ready.slack
 
 pub least_end_in-found-requires-clause-small : goal.least_end_in-found-requires-clause-small
 least_end_in-found-requires-clause-small c = λ j.
@@ -102,7 +102,7 @@ loop-k-preserved c =
 
 pub set_number-requires : goal.set_number-requires
 set_number-requires c =
-    let shape = c.requires.rows.rows_shape in
+    let shape = c.requires.ready.rows.rows_shape in
     record {
       row = has-row c.args.rows.now c.args.places c.args.limit shape 0 c.requires.some;
       place = has-place c.args.rows.now c.args.places c.args.limit shape 0 c.args.place c.requires.some c.requires.costs.within;
@@ -110,7 +110,7 @@ set_number-requires c =
 
 pub set_end-requires : goal.set_end-requires
 set_end-requires c =
-    let shape = c.requires.rows.ends_shape in
+    let shape = c.requires.ready.rows.ends_shape in
     record {
       row = has-row c.args.ends.now c.args.places c.args.limit shape 0 c.requires.some;
       place = has-place c.args.ends.now c.args.places c.args.limit shape 0 c.args.place c.requires.some c.requires.costs.within;
@@ -121,18 +121,27 @@ loop-k-init c =
     let last = slice_index c.args.costs.now c.args.places in
     rw (c.set_number.ensures, c.set_end.ensures) (record {
       rows = so_far-set c.args.costs.now c.args.places c.args.limit c.args.place (lists_of c.args.rows.now) (lists_of c.args.ends.now)
-          c.requires.costs c.requires.rows 0 last c.args.places c.requires.some (omega arith);
+          c.requires.costs c.requires.ready.rows 0 last c.args.places c.requires.some (omega arith);
       filled = place-first c.args.costs.now c.args.places c.args.limit c.args.place (lists_of c.args.rows.now) (lists_of c.args.ends.now)
-          c.requires.costs c.requires.rows c.requires.some;
-      number = sym (set-here (lists_of c.args.rows.now) c.args.limit c.args.places c.requires.rows.rows_shape 0 c.args.place last c.requires.some
+          c.requires.costs c.requires.ready.rows c.requires.some;
+      number = sym (set-here (lists_of c.args.rows.now) c.args.limit c.args.places c.requires.ready.rows.rows_shape 0 c.args.place last c.requires.some
           c.requires.costs.within);
-      end = sym (set-here (lists_of c.args.ends.now) c.args.limit c.args.places c.requires.rows.ends_shape 0 c.args.place c.args.places
+      end = sym (set-here (lists_of c.args.ends.now) c.args.limit c.args.places c.requires.ready.rows.ends_shape 0 c.args.place c.args.places
           c.requires.some c.requires.costs.within);
       small = omega arith;
       order = omega arith;
       alike = λ m from lt. absurd (omega (arith, c.requires.alike.some));
-      bounds = c.requires.bounds;
+      bounds = c.requires.ready.bounds;
     })
+
+pub returns-clause-ready : goal.returns-clause-ready
+returns-clause-ready c = record {
+  slack = c.requires.ready.slack;
+  rows = c.loop-k.invariant.rows;
+  bounds = row_bounds-same c.args.costs.now c.args.slack.now c.args.place c.args.places c.args.limit
+      (number_at (lists_of c.args.rows.now)) (number_at (lists_of c.loop-k.rows)) (lists_of c.loop-k.bounds)
+      (λ k j past. sym (c.loop-k.invariant.filled.rows_kept k j (λ e. omega (arith, e)))) c.loop-k.invariant.bounds;
+}
 
 pub returns-clause-alike : goal.returns-clause-alike
 returns-clause-alike c =

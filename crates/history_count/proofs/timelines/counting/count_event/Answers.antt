@@ -5,8 +5,8 @@ use Rattle.history_count.proofs.TimelineLemmas.Steps.{event_live, event_step, nu
 use Rattle.history_count.specs.Timelines.Runs.{size_of}
 use Rattle.history_count.proofs.timelines.counting.count_event.Goals as goal
 
-pub counted-count-requires-clause-live : goal.counted-count-requires-clause-live
-counted-count-requires-clause-live c =
+pub count_after-count-requires-clause-live : goal.count_after-count-requires-clause-live
+count_after-count-requires-clause-live c =
     let found = rw c.event_size-n.ensures at c.in-Some.ensures.some in
     event_live c.args.events.now c.args.layout.now.classes c.args.k c.in-Some.number c.args.live.now c.args.most.now c.args.firsts.now
     c.requires.timeline c.requires.event c.requires.live found.2 (get_or c.args.events.now c.args.k (Request 0)) refl found.0 found.1
@@ -14,7 +14,7 @@ counted-count-requires-clause-live c =
 pub returns-clause-live : goal.returns-clause-live
 returns-clause-live c =
     let found = rw c.event_size-n.ensures at c.in-Some.ensures.some in
-    rw (c.note.ensures.most, c.note.ensures.firsts, c.counted-count.ensures)
+    rw (c.note.ensures.most, c.note.ensures.firsts, c.count_after-count.ensures)
     (event_step c.args.events.now c.args.layout.now.classes c.args.k c.in-Some.number c.args.live.now c.args.most.now c.args.firsts.now
     c.requires.timeline c.requires.event c.requires.live found.2 (get_or c.args.events.now c.args.k (Request 0)) c.requires.legal refl
     found.0 found.1)
@@ -31,7 +31,7 @@ returns-clause-moved c =
     let event = get_or c.args.events.now c.args.k (Request 0) in
     let may = event_live c.args.events.now c.args.layout.now.classes c.args.k c.in-Some.number c.args.live.now c.args.most.now c.args.firsts.now
     c.requires.timeline c.requires.event are found.2 event refl found.0 found.1 in
-    rw (c.moved_by-moved.ensures, c.note.ensures.most, c.counted-count.ensures)
+    rw (c.block_move-moved.ensures, c.note.ensures.most, c.count_after-count.ensures)
     (event_moved event c.args.live.now c.args.most.now c.in-Some.number (omega (arith, are.live_len, found.2))
     (omega (arith, are.most_len, found.2)) (are.below c.in-Some.number found.2) may)
 

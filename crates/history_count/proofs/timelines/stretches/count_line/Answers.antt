@@ -14,11 +14,11 @@ bounds-counts-line c =
     (omega (arith, c.event_size-n.ensures, c.if-n-ge-LARGE_SIZE.false)) c.index.result.now (rw c.event_size-n.ensures at c.index.ensures) in
     omega (arith, its.within, ap length c.requires.counts, column-length r.sizes.items (snapshot_at events c.args.k))
 
-pub counted-requires-clause-few : goal.counted-requires-clause-few
-counted-requires-clause-few c = grind (arith, bounds-start)
+pub count_after-requires-clause-few : goal.count_after-requires-clause-few
+count_after-requires-clause-few c = grind (arith, bounds-start)
 
-pub counted-requires-clause-live : goal.counted-requires-clause-live
-counted-requires-clause-live c = grind (arith, column-event)
+pub count_after-requires-clause-live : goal.count_after-requires-clause-live
+count_after-requires-clause-live c = grind (arith, column-event)
 
 pub bounds-counts-line-2 : goal.bounds-counts-line-2
 bounds-counts-line-2 c =
@@ -34,7 +34,7 @@ returns-clause-counts c =
     let r = c.args.requested.now in
     let its = column-event events r c.args.k (get_or events c.args.k (Request 0)) c.requires.timeline c.requires.requested c.requires.event refl
     (omega (arith, c.event_size-n.ensures, c.if-n-ge-LARGE_SIZE.false)) c.index.result.now (rw c.event_size-n.ensures at c.index.ensures) in
-    rw (c.counted.ensures, c.requires.counts) its.after
+    rw (c.count_after.ensures, c.requires.counts) its.after
 
 pub returns-clause-line : goal.returns-clause-line
 returns-clause-line c =

@@ -85,12 +85,12 @@ pub returns-clause-some : goal.returns-clause-some
 returns-clause-some c =
     let all : c.loop-k.k ≡ length c.args.events.now = omega arith in
     unserved_is_least c.args.events.now c.args.table.now c.loop-k.least
-    (subst (λ (k : ℕ). IsLeastSoFar c.args.events.now c.args.table.now k c.loop-k.least) all c.loop-k.invariant.least) c.unserved_in.result
-    c.unserved_in.ensures.some
+    (subst (λ (k : ℕ). IsLeastSoFar c.args.events.now c.args.table.now k c.loop-k.least) all c.loop-k.invariant.least) c.unserved_size.result
+    c.unserved_size.ensures.some
 
 pub returns-clause-none : goal.returns-clause-none
 returns-clause-none c =
     let all : c.loop-k.k ≡ length c.args.events.now = omega arith in
     none_is_unserved c.args.events.now c.args.table.now c.loop-k.least
-    (subst (λ (k : ℕ). IsLeastSoFar c.args.events.now c.args.table.now k c.loop-k.least) all c.loop-k.invariant.least) c.unserved_in.result
-    c.requires c.unserved_in.ensures.none
+    (subst (λ (k : ℕ). IsLeastSoFar c.args.events.now c.args.table.now k c.loop-k.least) all c.loop-k.invariant.least) c.unserved_size.result
+    c.requires c.unserved_size.ensures.none

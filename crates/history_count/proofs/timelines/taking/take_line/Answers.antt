@@ -13,7 +13,7 @@ returns c =
     c.push_reserved.ensures.items ∙ ap (λ (events : List SizeEvent). events ++ c.in-Ok.event ∷ []) c.make_room.ensures.kept in
     rw pushed
     (taken-event before before c.args.live.now (line ∷ []) (line ∷ []) []
-    (taken-none before c.args.live.now (line ∷ []) c.requires.run c.requires.live) c.event_in.result c.in-Ok.event c.followed_by.new.live next
+    (taken-none before c.args.live.now (line ∷ []) c.requires.run c.requires.live) c.event_in.result c.in-Ok.event c.admit_event.new.live next
     (sym (rw same at c.in-Ok.ensures.event)) (rw same at c.in-Ok.ensures.live))
 
 pub returns-in-Err : goal.returns-in-Err
@@ -24,5 +24,5 @@ returns-in-Err c =
     let same : c.deref.result.now ≡ before = c.deref.ensures.value ∙ c.make_room.ensures.kept in
     rw c.make_room.ensures.kept
     (taken-fault before before c.args.live.now (line ∷ []) (line ∷ []) []
-    (taken-none before c.args.live.now (line ∷ []) c.requires.run c.requires.live) c.event_in.result c.in-Err.fault c.followed_by.new.live next
+    (taken-none before c.args.live.now (line ∷ []) c.requires.run c.requires.live) c.event_in.result c.in-Err.fault c.admit_event.new.live next
     (sym (rw same at c.in-Err.ensures.event)))

@@ -1,4 +1,4 @@
-use Rattle.mte_engine.proofs.FitAndCounts.{cut_after_line}
+use Rattle.mte_engine.proofs.LeadingFitInput.{cut_after_line}
 use Rattle.mte_engine.proofs.timeline_search.TimelineSearch.next_cut.Goals as goal
 
 pub returns-then-eq : goal.returns-then-eq

@@ -25,13 +25,13 @@ edge_holds_in-requires c =
     let rows = c.args.rows.now in
     let k = c.loop-k.k in
     let within = rw c.len-k-end.ensures at c.loop-k-test.true in
-    let read = sym (get_or_from_slice_get rows (k - 1) c.row.result.now [] c.row.ensures) in
-    let size = row-length rows (length rows) c.args.places k c.row.result.now c.requires.shape (below k (length rows) within) c.loop-k.auto.k read in
+    let read = sym (get_or_from_slice_get rows (k - 1) c.row-before.result.now [] c.row-before.ensures) in
+    let size = row-length rows (length rows) c.args.places k c.row-before.result.now c.requires.rows.shape (below k (length rows) within) c.loop-k.auto.k read in
     rw size (record {
       row = rw (← lists-length c.loop-k.bounds, c.loop-k.invariant.bounds.size) within;
-      size = c.requires.size;
-      place = c.requires.place;
-      short = c.requires.few_places;
+      size = c.requires.rows.size;
+      place = c.requires.rows.place;
+      short = c.requires.rows.few_places;
       slack = c.requires.slack;
       bounds = grind arith;
       known = λ is.
@@ -42,26 +42,26 @@ edge_holds_in-requires c =
 pub returns-then-not-edge_holds_in-clause-edges : goal.returns-then-not-edge_holds_in-clause-edges
 returns-then-not-edge_holds_in-clause-edges c =
     let rows = c.args.rows.now in
-    let read = sym (get_or_from_slice_get rows (c.loop-k.k - 1) c.row.result.now [] c.row.ensures) in grind arith
+    let read = sym (get_or_from_slice_get rows (c.loop-k.k - 1) c.row-before.result.now [] c.row-before.ensures) in grind arith
 
 pub returns-then-not-edge_holds_in-clause-bounds : goal.returns-then-not-edge_holds_in-clause-bounds
 returns-then-not-edge_holds_in-clause-bounds c =
     let rows = c.args.rows.now in
-    let read = sym (get_or_from_slice_get rows (c.loop-k.k - 1) c.row.result.now [] c.row.ensures) in
-    raised c.args.costs.now c.args.slack.now rows c.args.places (length rows) c.args.i c.loop-k.k c.row.result.now
+    let read = sym (get_or_from_slice_get rows (c.loop-k.k - 1) c.row-before.result.now [] c.row-before.ensures) in
+    raised c.args.costs.now c.args.slack.now rows c.args.places (length rows) c.args.i c.loop-k.k c.row-before.result.now
     (lists_of c.loop-k.bounds) (lists_of c.edge_holds_in.new.bounds) read
-    (row-length rows (length rows) c.args.places c.loop-k.k c.row.result.now c.requires.shape (omega arith) (omega arith) read)
+    (row-length rows (length rows) c.args.places c.loop-k.k c.row-before.result.now c.requires.rows.shape (omega arith) (omega arith) read)
     (omega (arith, lists-length c.loop-k.bounds, lists-length c.edge_holds_in.new.bounds)) c.edge_holds_in.ensures.others
     c.edge_holds_in.ensures.bounds c.loop-k.invariant.bounds
 
 pub loop-k-preserved : goal.loop-k-preserved
 loop-k-preserved c =
     let rows = c.args.rows.now in
-    let read = sym (get_or_from_slice_get rows (c.loop-k.k - 1) c.row.result.now [] c.row.ensures) in
-    let size = row-length rows (length rows) c.args.places c.loop-k.k c.row.result.now c.requires.shape (omega arith) (omega arith) read in
+    let read = sym (get_or_from_slice_get rows (c.loop-k.k - 1) c.row-before.result.now [] c.row-before.ensures) in
+    let size = row-length rows (length rows) c.args.places c.loop-k.k c.row-before.result.now c.requires.rows.shape (omega arith) (omega arith) read in
     record {
       edges = grind arith;
-      bounds = raised c.args.costs.now c.args.slack.now rows c.args.places (length rows) c.args.i c.loop-k.k c.row.result.now
+      bounds = raised c.args.costs.now c.args.slack.now rows c.args.places (length rows) c.args.i c.loop-k.k c.row-before.result.now
           (lists_of c.loop-k.bounds) (lists_of c.edge_holds_in.new.bounds) read size
           (omega (arith, lists-length c.loop-k.bounds, lists-length c.edge_holds_in.new.bounds)) c.edge_holds_in.ensures.others
           c.edge_holds_in.ensures.bounds c.loop-k.invariant.bounds;

@@ -97,11 +97,13 @@ tests_at-requires g c =
     let same : c.deref-in-loop-i-2.result.now ≡ c.deref-in-loop-i.result.now =
     c.deref-in-loop-i-2.ensures.value ∙ sym c.deref-in-loop-i.ensures.value in
     rw same (record {
-      few = c.requires.few;
-      few_places = few d c.requires.few_places;
-      shape = c.requires.shape;
-      size = ap length (c.deref-in-loop-i.ensures.value ∙ from) ∙ size;
-      place = within c.loop-i.i d c.loop-i-test.true c.loop-i.auto.i;
+      rows = record {
+        few = c.requires.few;
+        few_places = few d c.requires.few_places;
+        shape = c.requires.shape;
+        size = ap length (c.deref-in-loop-i.ensures.value ∙ from) ∙ size;
+        place = within c.loop-i.i d c.loop-i-test.true c.loop-i.auto.i;
+      };
       slack = slack-narrowed c.deref.result.now c.deref-in-loop-i.result.now c.loop-i.slack c.lower_slack.new.slack i d c.lower_slack.ensures
           c.loop-i.invariant.slack;
       bounds = row_bounds-next c.deref.result.now c.deref-in-loop-i.result.now c.loop-i.slack c.lower_slack.new.slack i d (length rows)

@@ -7,5 +7,5 @@ invariant_of-self c =
     rw c.next_seed-self-inside.ensures (record {
       seed_some = next_seed-some _ register.seed_some register.seed_fits;
       seed_fits = next_seed-below _ register.seed_fits;
-      tag_fits = c.chosen_in_row-self-inside.ensures.below;
+      tag_fits = c.tag_in_row-self-inside.ensures.below;
     })

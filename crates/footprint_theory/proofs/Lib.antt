@@ -1,0 +1,13 @@
+pub mod Slots
+pub mod Chosen
+pub mod Growing
+pub mod Counted
+pub mod Peaks
+pub mod Moments
+pub mod Runs
+pub mod LargeSizes
+pub mod LawLemmas
+pub mod Room
+pub mod Existence
+pub mod Traces
+pub mod Examples

@@ -1,0 +1,4 @@
+pub mod Calls
+pub mod Taken
+pub mod Traces
+pub mod Room
