@@ -7,7 +7,7 @@ ODD, WORD = 0x9E3779B97F4A7C15, 1 << 64
 crc = binascii.crc32
 
 
-def folded(numbers: "Iterable[int]") -> int:
+def checksum_of(numbers: "Iterable[int]") -> int:
     """Of some numbers of 64 bits."""
     check = 0
     for number in numbers:

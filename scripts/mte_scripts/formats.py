@@ -1,8 +1,8 @@
 """The numbers of the formats and of the library's interface, and the codes with their words: the one table of them beside the proofs.
 
-scripts/tests/formats compares it with the laws that the crates prove of their numbers, with the texts of the codes that contracts cite, and
+scripts/tests/test_formats.py compares it with the laws that the crates prove of their numbers, with the texts of the codes that contracts cite, and
 with what the program and the documents say. It writes the options of crates/tool_call and command_words, and the parts of include/, library/,
-python/, rust/, web/, bench/plain and scripts/shims that have numbers, sentences, options or a call for each command. Of the totals it writes
+python/, rust/, web/, scripts/tests/plain and scripts/shims that have numbers, sentences, options or a call for each command. Of the totals it writes
 the fields, bounds and lines in the definitions and in the crates, their rows in FORMATS.md, and three texts with numbers that the plain program
 counts: README.md's session, crates/mte_tool/stdout and TOTALS of crates/heap_tests. Last it writes how much `scripts/statement run` prints.
 """
@@ -10,7 +10,7 @@ counts: README.md's session, crates/mte_tool/stdout and TOTALS of crates/heap_te
 import re
 from typing import Iterable, NamedTuple, Optional
 
-from mte_scripts import claims
+from mte_scripts import claim_words
 
 # The version of all that this repository makes: the program, the library, its header and its packages.
 VERSION = "1.0.0"
@@ -52,8 +52,8 @@ NUMBERS = {name: value for name, value in list(globals().items()) if name.isuppe
 
 class Option(NamedTuple):
     """An option of the commands: its range, its default (a limit has none, and has to be given), the bits that its number has in the proved
-    functions' structure, what it is, the letter of its number and what it is in the help, and its values where these are not all of the
-    range."""
+    functions' structure, what it is, the letter of its number and what it is in the help, its values where these are not all of the range,
+    and whether the program alone has it: the library's calls take two texts apart, and give a claim as numbers."""
 
     least: int
     most: int
@@ -63,6 +63,7 @@ class Option(NamedTuple):
     letter: str
     help: str
     values: str = ""
+    is_of_program: bool = False
 
     def described(self) -> str:
         """What it is, with its values."""
@@ -73,7 +74,7 @@ class Option(NamedTuple):
         return f"{words}: {self.values}" if self.values else f"{words}, {self.least} to {self.most}"
 
 
-# in the order of mte_tool_options, in which a new one is the last
+# in the order of mte_tool_options, in which a new one of the library is the last
 OPTIONS = {
     "granules": Option(FEWEST_GRANULES, MOST_GRANULES, 65_536, 32, "the granules of the heap", "R", "The granules of the heap's region"),
     "quarantine": Option(0, MOST_QUARANTINE, 65_536, 32, "the bytes of freed blocks that the heap holds back",
@@ -83,7 +84,13 @@ OPTIONS = {
     "step": Option(1, 8, 1, 8, "the granules that each class is a multiple of", "S", "Each class is a multiple of S granules", "1, 2, 4 or 8"),
     "largest_class": Option(0, 1, 0, 8, f"whether the table must have class {LARGEST_CLASS}",
                             "L", f"Whether the table must have class {LARGEST_CLASS}", "0 or 1"),
+    "claim": Option(0, 1, 0, 8, "whether a line of what was shown follows `optimal`",
+                    "C", "Whether a line of what was shown follows `optimal`", "0 or 1", is_of_program=True),
+    "first_lines": Option(0, 64, 0, 8, "of one text that is two: the lines of the first; by their form for 0",
+                          "N", "The lines of the first text; by its form for 0", is_of_program=True),
 }
+
+LIBRARY_OPTIONS = {name: it for name, it in OPTIONS.items() if not it.is_of_program}
 
 # the help lists these first, and then the others as they stand above
 FIRST_IN_HELP = ("limit", "step", "largest_class", "granules", "seed")
@@ -103,23 +110,30 @@ class Command(NamedTuple):
     gives: str
     words: str
 
+    @property
+    def library_options(self) -> "list[str]":
+        """Those of its options that the library has."""
+        return [option for option in self.options if option in LIBRARY_OPTIONS]
+
 
 LIMITS = ("limit", "step")
 TUNER = (*LIMITS, "largest_class")
 HEAP = ("granules", "quarantine", "seed")
+BORDER = ("first_lines",)  # of the commands that read a first text and then counts
+CHECKER = ("claim", *BORDER)
 
 # in the order of their numbers in C
 COMMANDS = {
-    "score": Command(("classes", "profile"), (), "cost", "What the table of a class line, such as `classes 2 8`, wastes on a profile"),
-    "tune": Command(("profile",), TUNER, "text", claims.GIVEN["tune"]),
-    "check": Command(("sheet", "profile"), (), "verdict", claims.GIVEN["check"]),
-    "footprint": Command(("classes", "history"), (), "cost", "What the table of a class line takes of memory over a history or a timeline"),
-    "fit": Command(("history",), TUNER, "fit", claims.GIVEN["fit"]),
-    "check_fit": Command(("fit", "history"), (), "verdict", claims.GIVEN["check_fit"]),
+    "score": Command(("classes", "profile"), BORDER, "cost", "What the table of a class line, such as `classes 2 8`, wastes on a profile"),
+    "tune": Command(("profile",), TUNER, "text", claim_words.GIVEN["tune"]),
+    "check": Command(("sheet", "profile"), CHECKER, "verdict", claim_words.GIVEN["check"]),
+    "footprint": Command(("classes", "history"), BORDER, "cost", "What the table of a class line takes of memory over a history or a timeline"),
+    "fit": Command(("history",), TUNER, "fit", claim_words.GIVEN["fit"]),
+    "check_fit": Command(("fit", "history"), CHECKER, "verdict", claim_words.GIVEN["check_fit"]),
     "profile": Command(("trace",), (), "text", "The profile of a trace"),
     "replay": Command(("classes", "trace"), HEAP, "text", "The report of the tagged heap over the table of a class line on a trace"),
     "run": Command(("trace",), (*LIMITS, *HEAP), "text", "The sheet of a trace's profile, and then the report with its table"),
-    "peaks": Command(("classes", "timeline"), (), "text", "The most live blocks of each class of a class line over a timeline, and when"),
+    "peaks": Command(("classes", "timeline"), BORDER, "text", "The most live blocks of each class of a class line over a timeline, and when"),
 }
 
 

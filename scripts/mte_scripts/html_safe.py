@@ -25,7 +25,7 @@ pre, code { font-family: ui-monospace, "DejaVu Sans Mono", monospace; font-size:
 """
 
 
-def shown(text: object) -> str:
+def escape_unprintable(text: object) -> str:
     """A text from outside. Characters that are no text, as a file's name may have them, are shown escaped, and raw bytes by their number."""
     return "".join(c if c.isprintable() else escape_of(c) for c in str(text))
 

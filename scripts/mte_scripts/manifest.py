@@ -3,7 +3,8 @@
 
     find crates.txt crates/*/src crates/*/specs crates/*/proofs -type f | LC_ALL=C sort | xargs sha256sum
 
-scripts/mte_tool writes the manifest after a build, by scripts/step, and compares the program with it each time."""
+scripts/mte_tool writes the manifest after a build, by scripts/step, and says when it compares the program and the
+sources with it; a Python script does so at its start."""
 
 import contextlib
 import hashlib
@@ -12,10 +13,10 @@ import re
 import subprocess
 from collections import namedtuple
 
-from mte_scripts import running
+from mte_scripts import entry_point
 
 Manifest = namedtuple("Manifest", "program sources kit proofs verdict", defaults=("",))
-LINES = re.compile(r"program ([0-9a-f]{64})\nsources ([0-9a-f]{64})\nkit ([^\n]{1,200})\nproofs (proved|unproved)\n"
+LINES = re.compile(r"program ([0-9a-f]{64})\nsources ([0-9a-f]{64})\nkit ([^\n]{1,200})\nproofs (proved|by-project|unproved)\n"
                    r"(?:verdict ([^\n]{1,500})\n)?")
 
 
@@ -104,7 +105,7 @@ def why_unproved(program: str, root: "str | None") -> str:
     try:
         if hash_of(program) != manifest.program:
             return "the program is not the one of its manifest"
-        if manifest.proofs != "proved":
+        if manifest.proofs == "unproved":
             return "its manifest says that the program was not proved"
         if root is not None and sources_of(root) != manifest.sources:
             return "the sources are not those of the program's manifest"
@@ -122,8 +123,13 @@ def main(words: list[str]) -> None:
             with open(log, encoding="utf-8", errors="replace") as file:
                 verdict = verdict_in(file.read(), os.path.basename(program))
             if not put(program, before, verdict, root):
-                running.say("mte_tool", "the sources were changed while the program was built: nothing is proved of what it answers")
+                entry_point.say(
+                    "mte_tool",
+                    "the sources were changed while the program was built: nothing is proved of what it answers",
+                )
         else:
-            raise running.Refused(2, "it is `step manifest sources FOLDER`, or `step manifest write FOLDER PROGRAM SOURCES [LOG]`")
+            raise entry_point.Refusal(
+                2, "it is `step manifest sources FOLDER`, or `step manifest write FOLDER PROGRAM SOURCES [LOG]`"
+            )
     except (OSError, subprocess.CalledProcessError) as error:
-        raise running.Refused(3, f"the manifest can't be made: {error}") from None
+        raise entry_point.Refusal(3, f"the manifest can't be made: {error}") from None

@@ -19,7 +19,7 @@ import os
 import stat
 from _collections_abc import Callable, Iterator
 
-from mte_scripts.running import Refused
+from mte_scripts.entry_point import Refusal
 
 MOST_LINKS = 40
 WAITING = (_signal.SIGINT, _signal.SIGTERM, _signal.SIGHUP)
@@ -74,7 +74,7 @@ class Place:
                 with contextlib.suppress(FileExistsError):
                     os.mkdir("/".join(names[:at]), 0o755, dir_fd=self.descriptor)
             except OSError as error:
-                raise Refused(3, f"{self.file('/'.join(names[:at]))} can't be made: {error.strerror}") from None
+                raise Refusal(3, f"{self.file('/'.join(names[:at]))} can't be made: {error.strerror}") from None
 
     def write(self, name: str, data: bytes) -> None:
         """A file of this name, which may stand in a folder below; by the descriptor."""
@@ -82,7 +82,7 @@ class Place:
             with open(name, "wb", opener=lambda name, flags: os.open(name, flags | os.O_NOFOLLOW, 0o666, dir_fd=self.descriptor)) as file:
                 file.write(data)
         except OSError as error:
-            raise Refused(3, f"{self.file(name)} can't be written: {error.strerror}") from None
+            raise Refusal(3, f"{self.file(name)} can't be written: {error.strerror}") from None
 
     def has(self, name: str) -> bool:
         """Whether it has a file of this name that nobody else can change; the folder itself is closed."""
@@ -99,7 +99,7 @@ class Place:
                 with self.new_file(name) as new:
                     build(new)
             except OSError as error:
-                raise Refused(3, f"{self.path} can't be written: {error.strerror}{remedy}") from None
+                raise Refusal(3, f"{self.path} can't be written: {error.strerror}{remedy}") from None
         return self.file(name)
 
     def replace(self, name: str, text: str) -> None:
@@ -130,11 +130,11 @@ class Place:
             raise
 
 
-def opened(path: str, make: bool = False) -> Place:
+def open_folder(path: str, make: bool = False) -> Place:
     """The folder of this path, once each folder and link on the way is tested. With `make`, a folder that is missing is made, for the user
     alone. Raises NotPrivate, or OSError if there is no such folder."""
     waiting = (path if path.startswith("/") else f"{os.getcwd()}/{path}").split("/")[::-1]
-    place = tested(os.open("/", LOOK), "/")
+    place = check_place(os.open("/", LOOK), "/")
     links = 0
     while waiting:
         name = waiting.pop()
@@ -142,7 +142,7 @@ def opened(path: str, make: bool = False) -> Place:
             continue
         with place:
             at = os.path.dirname(place.path) if name == ".." else place.file(name)
-            step = tested(entry(place, name, make), at)
+            step = check_place(entry(place, name, make), at)
             if stat.S_ISLNK(os.fstat(step.descriptor).st_mode):
                 links += 1
                 with step:
@@ -150,7 +150,11 @@ def opened(path: str, make: bool = False) -> Place:
                 if links > MOST_LINKS:
                     raise OSError(errno.ELOOP, os.strerror(errno.ELOOP), path)
                 waiting += target.split("/")[::-1]
-                step = tested(os.open("/", LOOK), "/") if target.startswith("/") else Place(os.dup(place.descriptor), place.path)
+                step = (
+                    check_place(os.open("/", LOOK), "/")
+                    if target.startswith("/")
+                    else Place(os.dup(place.descriptor), place.path)
+                )
         place = step
     return place
 
@@ -174,7 +178,7 @@ def make_folder(place: Place, name: str) -> None:
         os.umask(mask)
 
 
-def tested(descriptor: int, path: str) -> Place:
+def check_place(descriptor: int, path: str) -> Place:
     """What is open, if it is a folder or a link that nobody else can move or replace."""
     status = os.fstat(descriptor)
     is_folder = stat.S_ISDIR(status.st_mode)
@@ -187,9 +191,9 @@ def tested(descriptor: int, path: str) -> Place:
     return Place(descriptor, path)
 
 
-def closed(path: str, make: bool = False) -> Place:
+def open_private_folder(path: str, make: bool = False) -> Place:
     """The same, and others can't put files into the folder: what it has is the user's or root's."""
-    place = opened(path, make)
+    place = open_folder(path, make)
     if is_written_by_others(os.fstat(place.descriptor)):
         place.close()
         raise NotPrivate(place.path)
@@ -249,7 +253,7 @@ def written_or_link(place: Place, name: str, path: str) -> "int | str":
 def is_safe(path: str) -> bool:
     """Whether nobody else can change where this folder is."""
     try:
-        opened(path).close()
+        open_folder(path).close()
     except (NotPrivate, OSError):
         return False
     return True
@@ -261,15 +265,15 @@ def cache(*names: str) -> Place:
     if not base.startswith("/"):
         home = os.environ.get("HOME", "")
         if not home.startswith("/"):
-            raise Refused(3, f"HOME is {'no absolute path' if home else 'not set'}")
+            raise Refusal(3, f"HOME is {'no absolute path' if home else 'not set'}")
         base = os.path.join(home, ".cache")
     path = os.path.join(base, "mte_tool", *names)
     try:
-        return closed(path, make=True)
+        return open_private_folder(path, make=True)
     except NotPrivate as found:
-        raise Refused(3, str(found)) from None
+        raise Refusal(3, str(found)) from None
     except OSError as error:
-        raise Refused(3, f"{path} can't be made: {error.strerror}") from None
+        raise Refusal(3, f"{path} can't be made: {error.strerror}") from None
 
 
 def look_at(path: str, flags: int) -> int:
@@ -288,12 +292,16 @@ class Folder(Place):
         super().__init__(os.open(name, LIST, dir_fd=place.descriptor), place.file(name))
         self.place, self.name, self.is_kept = place, name, False
         status = os.fstat(self.descriptor)
-        if status.st_uid != os.geteuid() or status.st_mode & 0o077:
+        if status.st_uid != os.geteuid() or status.st_mode & 0o066:
             super().close()
             raise NotPrivate(self.path)
 
     def __enter__(self) -> "Folder":
         return self
+
+    def open_to_all(self) -> None:
+        """Lets every user go through it, to names that he knows. Nobody else can list or change it."""
+        os.fchmod(self.descriptor, 0o711)
 
     def keep(self) -> None:
         self.is_kept = True
@@ -355,12 +363,16 @@ def temporary_folder() -> Folder:
     reason = ""
     for where in dict.fromkeys((wanted, "/tmp")):
         try:
-            return new_folder(opened(where))
+            return new_folder(open_folder(where))
         except NotPrivate as found:
-            raise Refused(3, f"no folder can be made in {where} that only you can change, since {found}: set TMPDIR to another place") from None
+            raise Refusal(
+                3,
+                f"no folder can be made in {where} that only you can change, since {found}: set TMPDIR to another "
+                "place",
+            ) from None
         except OSError as error:
             reason = reason or error.strerror
-    raise Refused(3, f"no folder can be made in {wanted}: {reason}: set TMPDIR to another place")
+    raise Refusal(3, f"no folder can be made in {wanted}: {reason}: set TMPDIR to another place")
 
 
 @contextlib.contextmanager
@@ -374,9 +386,9 @@ def remove_named(path: str) -> None:
     """Removes a folder that `make` printed."""
     above, name = os.path.split(path)
     try:
-        Folder(opened(above), name).close()
+        Folder(open_folder(above), name).close()
     except (NotPrivate, OSError) as error:
-        raise Refused(3, f"{path} can't be removed: {error}") from None
+        raise Refusal(3, f"{path} can't be removed: {error}") from None
 
 
 def main(words: list) -> None:
@@ -387,4 +399,4 @@ def main(words: list) -> None:
     elif words[:1] == ["remove"] and len(words) == 3:
         remove_named(words[2])
     else:
-        raise Refused(2, "it is `make NAME` or `remove NAME FOLDER`")
+        raise Refusal(2, "it is `make NAME` or `remove NAME FOLDER`")

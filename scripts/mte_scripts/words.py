@@ -12,9 +12,9 @@ import sys
 from collections.abc import Sequence
 from typing import Any, Callable, NoReturn
 
-from mte_scripts import helps, texts
-from mte_scripts.formats import VERSION
-from mte_scripts.running import Refused
+from mte_scripts import helps, shell_words, text_files
+from mte_scripts.entry_point import Refusal
+from mte_scripts.formats import MOST_CLASSES, VERSION
 
 # what argparse says, and what a script says
 SAYINGS = (
@@ -46,11 +46,11 @@ class Words(argparse.ArgumentParser):
         if unknown := {*kinds, *(defaults or {}), *of} - options.keys():
             raise ValueError(f"the help has no options {unknown}")
         for name, option in options.items():
-            kind: Any = kinds.get(name, some if option.value else {"action": "store_true"})
+            kind: Any = kinds.get(name, nonempty_word if option.value else {"action": "store_true"})
             how: dict = kind if isinstance(kind, dict) else {"type": kind, "default": (defaults or {}).get(name)}
             if not of or name in of:
                 self.add_argument(option.names[-1], dest=how.pop("dest", name), **how)
-        self.add_argument("-h", "--help", action=Says, const=texts.help_text(help_text))
+        self.add_argument("-h", "--help", action=Says, const=shell_words.help_text(help_text))
         self.add_argument("-V", "--version", action=Says, const=f"{os.path.basename(sys.argv[0])} {VERSION}\n")
         if rest:
             self.add_argument(rest, nargs="*")
@@ -97,7 +97,7 @@ class Words(argparse.ArgumentParser):
             if match := re.fullmatch(pattern, message, re.S):
                 message = match.expand(says)
                 break
-        raise Refused(2, f"{message}; --help says what there is")
+        raise Refusal(2, f"{message}; --help says what there is")
 
 
 class ProgramWords(Words):
@@ -118,11 +118,11 @@ class Says(argparse.Action):
         super().__init__(option_strings, argparse.SUPPRESS, nargs=0, const=const)
 
     def __call__(self, parser: argparse.ArgumentParser, *_: object) -> None:
-        texts.write(self.const)
+        text_files.write(self.const)
         parser.exit()
 
 
-def between(least: int, most: int) -> Callable[[str], int]:
+def number_between(least: int, most: int) -> Callable[[str], int]:
     """A number of a range."""
     def taken(word: str) -> int:
         if not re.fullmatch("[0-9]{1,18}", word) or not least <= int(word) <= most:
@@ -142,13 +142,13 @@ def decimal(least: float, most: float, what: str) -> Callable[[str], float]:
     return taken
 
 
-def one_of(*values: int) -> Callable[[str], int]:
+def number_among(*values: int) -> Callable[[str], int]:
     """One of these numbers."""
-    name_of = named(*map(str, values))
+    name_of = name_among(*map(str, values))
     return lambda word: int(name_of(word.lstrip("0") or "0"))
 
 
-def named(*names: str) -> Callable[[str], str]:
+def name_among(*names: str) -> Callable[[str], str]:
     """One of these names."""
     def taken(word: str) -> str:
         if word not in names:
@@ -158,7 +158,7 @@ def named(*names: str) -> Callable[[str], str]:
     return taken
 
 
-def some(word: str) -> str:
+def nonempty_word(word: str) -> str:
     """A word that is not empty."""
     if not word:
         raise argparse.ArgumentTypeError("takes a value")
@@ -166,4 +166,4 @@ def some(word: str) -> str:
 
 
 # which tables are meant: of at most so many classes, all multiples of so many granules
-TABLES: "dict[str, Any]" = {"limit": between(1, texts.MOST_CLASSES), "step": one_of(1, 2, 4, 8)}
+TABLES: "dict[str, Any]" = {"limit": number_between(1, MOST_CLASSES), "step": number_among(1, 2, 4, 8)}

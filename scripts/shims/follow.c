@@ -3,12 +3,12 @@
 //   follow FOUND LIBRARIES WANTED ONLY TABLES STREAM PATH WORD..
 //
 // FOUND is a descriptor: a page of notes, and then the texts that they give the lengths of. LIBRARIES are those of the program's
-// LD_PRELOAD, stream.c's first. WANTED is `all`: all requests of all processes; or of the first process, with what it runs in its own
-// place: `live`, the blocks live at the peak; `history N`, these and N snapshots; `timeline`, the record of the run; `windows N AT..`, its
-// moments, N windows and those after AT events, a history of the windows' most after that, and AT of each moment; `classes`, its moments for
-// the classes of TABLES alone, class lines with a comma between them; `trace N`, at most N events. With `-` before it a realloc leaves a block
-// where Scudo does. `none`: nothing is followed, and only the most resident memory is noted. ONLY: processes whose program has this name. PATH
-// is the program's file, the words its own.
+// LD_PRELOAD, stream.c's first. WANTED is `all`: all requests of all processes; `counts`: the same, of counts.c; or of the first process, with
+// what it runs in its own place: `live`, the blocks live at the peak; `history N`, these and N snapshots; `timeline`, the record of the run,
+// and `timeline blocks`, with that of blocks.h; `windows N AT..`, its moments, N windows and those after AT events, a history of the windows'
+// most after that, and AT of each moment; `classes`, its moments for the classes of TABLES alone, class lines with a comma between them;
+// `trace N`, at most N events. With `-` before it a realloc leaves a block where Scudo does. `none`: nothing is followed, and only the most
+// resident memory is noted. ONLY: processes whose program has this name. PATH is the program's file, the words its own.
 // Without a program the stream is the file STREAM, of processes that something else starts; or for `-` it is the timeline, of any length, on
 // standard input.
 //
@@ -16,20 +16,19 @@
 // the program runs on, and the notes say why.
 #define _GNU_SOURCE
 #include <dirent.h>
-#include <errno.h>
-#include <fcntl.h>
-#include <limits.h>
+#include <stddef.h>
 #include <signal.h>
 #include <sys/resource.h>
-#include <sys/stat.h>
 #include <sys/wait.h>
 #include <time.h>
 #include "kept.h"
+#include "loadable.h"
 #include "timeline_text.h"
 #include "traced.h"
 
-enum { PATIENCE = 2000, WHILE_FULL = 500, ABOUT_TO_END = 200, SAMPLES = 20, LOOKS = 10, LEFT = 32, NAMED = 16, LOOKED_AT = 8 };  // milliseconds, samples, processes
-enum { PROFILE, WANTED, MOMENTS, UPPER, SITES, TEXTS };  // the texts: of MOMENTS are the numbers; sites.h has SITES
+enum { PATIENCE = 2000, WHILE_FULL = 500, ABOUT_TO_END = 200, SECOND = 1000 };  // milliseconds
+enum { SAMPLES = 20, LOOKS = 10, LEFT = 32, NAMED = 16, LOOKED_AT = 8 };       // milliseconds, samples, processes
+enum { PROFILE, WANTED, MOMENTS, UPPER, SITES, BLOCKS, TEXTS };  // the texts: of MOMENTS are the numbers; sites.h has SITES, blocks.h BLOCKS
 // mte_scripts/recording/notes.py reads it
 static struct notes {
   uint64_t version;                            // how often the texts were written; 0 while there are none
@@ -49,19 +48,24 @@ static struct notes {
   char allocator[NAME] __attribute__((aligned(NAME)));
   struct named { char name[24]; uint64_t processes, requests, resident; } named[NAMED];  // the programs of the processes
   char followed[24];                           // that of the process that is followed
+  struct unfollowed unfollowed[UNFOLLOWED];    // the programs that are not
+  uint64_t more_unfollowed, instead;           // others; the one that the first process ran at last, by its place from 1 on, or 0
 } *notes;
 _Static_assert(sizeof(struct notes) <= PAGE, "the notes are one page");
 
 static struct stream *stream;
 WITH_STACKS(static struct stacks *stacks;)
-static uint64_t number_of_rings;
+static uint64_t number_of_rings, words_of_ring = WORDS_OF_RING;
 static int found, opened = -1;
 static struct reading {
-  uint64_t *records, start, read, since, requests;  // since when nothing was there to read
-  int is_named, is_main, is_counted, is_over;
+  uint64_t *records, start, requests;
+  // up to where a lane was read, given back, and written; since when a record is not there; whether it waits for others
+  struct place { uint64_t read, freed, whole, since; int waits; } lanes[LANES];
+  int is_named, is_main, is_counted, is_over, is_forced;
 } readings[RINGS];
 static int64_t all[COUNTERS];
 static const char *only, *wanted;
+static int is_all, is_counting;    // whether all processes count; whether they do so themselves (counts.c)
 static pid_t child, main_process;  // the program; the process that is followed, 0 where there is none yet, and -1 where it has ended
 static int has_ended, looks;       // whether it has; samples since processes were looked for that nobody waits for
 static volatile sig_atomic_t asked, ends;
@@ -103,6 +107,7 @@ static void go(uint64_t address) {
   if (most_traced) trace_free(address, block->more);
   WITH_STACKS(sites.current = block->site;)
   event(block->size, -1);
+  put_free(block->number);
   remove_block(block);
 }
 
@@ -111,7 +116,7 @@ static void come(int kind, uint64_t address, uint64_t size) {
   int variable = most_traced ? trace_block(kind == CALLOC ? "calloc" : "malloc", address, size) : 0;
   if (!address) return;
   WITH_STACKS(sites.current = site_of(stack, counter_of(size));)
-  put_block((struct block){address, size, variable WITH_STACKS(, sites.current, stack)});
+  put_block((struct block){address, size, variable, put_request(size, kind == CALLOC) WITH_STACKS(, sites.current, stack)});
   event(size, 1);
 }
 
@@ -144,16 +149,27 @@ static void moved(uint64_t address, uint64_t old, uint64_t size) {
   if (!as_it_was || !stays(&block, size)) event(as_it_was ? block.size : size, 1);
   if (most_traced) block.more = trace_moved(block.more, old, address, size);
   else if (address) block.more = as_it_was ? block.size - size : 0;
-  put_block((struct block){address ? address : old, as_it_was ? block.size : size, block.more WITH_STACKS(, block.site, block.stack)});
+  if (address) put_call(RESIZED, block.number, size);
+  put_block((struct block){address ? address : old, as_it_was ? block.size : size, block.more, block.number WITH_STACKS(, block.site, block.stack)});
 }
 
-// How many records the call at an index has, 0 where it is not whole yet; does it.
-static int take(struct reading *reading, uint64_t i, uint64_t end) {
-#define AT(k) __atomic_load_n(&reading->records[(k) & (RING - 1)], __ATOMIC_ACQUIRE)
+// Whether a call comes after one of another thread that is not read yet: a block comes where one is live, or goes where
+// none is.
+static int is_early(int kind, uint64_t address) {
+  int comes = (kind < FREE || kind == REALLOC) && address, goes = kind == FREE || kind == MOVES;
+  int is_live = (comes || goes) && block_of(address)->key;
+  return comes ? is_live : goes && !is_live;
+}
+
+// How many records the call at an index has, 0 where it is not whole yet, TOO_EARLY where it has to wait; does it.
+enum { TOO_EARLY = -1 };
+static int take(struct reading *reading, const uint64_t *records, uint64_t i, uint64_t end) {
+#define AT(k) __atomic_load_n(&records[(k) & (LANE - 1)], __ATOMIC_ACQUIRE)
   uint64_t one = AT(i), address = one >> ADDRESS << 3, size = one >> 4 & ((1 << SIZE_BITS) - 1);
   int kind = one & 15, is_request = kind < FREE || kind == MOVES, has_size = kind < OLD && kind != FREE, is_large = size == LARGE && has_size;
   int has_stack = HAS_STACKS && is_request, number = 1 + (kind == REALLOC) + is_large + has_stack;
   if (!one || end - i < (uint64_t)number) return 0;
+  if (kind == NOTHING) return 1;
   uint64_t last = AT(i + number - 1 - has_stack), whose = AT(i + number - 1);
   int is_whole = kind >= MALLOC && kind <= (HAS_STACKS ? STACK : SIZE);
   if (kind < SIZE) is_whole &= size <= (has_size ? LARGE : 0);
@@ -161,6 +177,7 @@ static int take(struct reading *reading, uint64_t i, uint64_t end) {
   if (kind == REALLOC) is_whole &= (AT(i + 1) & 15) == OLD;
   if (has_stack) is_whole &= (whose & 15) == STACK && whose >> 4 <= STACKS_MOST, stack = whose >> 4;
   if (!is_whole) return notes->spoiled = 1, number;
+  if (reading->is_main && !reading->is_forced && is_early(kind, address)) return TOO_EARLY;
   if (is_large) size = last >> 4;
   if (is_request) {
     reading->requests++;
@@ -173,6 +190,29 @@ static int take(struct reading *reading, uint64_t i, uint64_t end) {
   else if (kind == MOVES) move(address, size);
   else if (kind == REALLOC) moved(address, AT(i + 1) >> ADDRESS << 3, size);
   return number;
+}
+
+// Does the record at an index, where it is of a small block that comes or goes and all of it is there, as of most: whether it did.
+static inline int take_small(struct reading *reading, const uint64_t *records, uint64_t i) {
+  uint64_t one = AT(i), address = one >> ADDRESS << 3, size = one >> 4 & ((1 << SIZE_BITS) - 1);
+  int kind = one & 15, is_request = kind >= MALLOC && kind <= ALIGNED && address && size < LARGE;
+  if (HAS_STACKS || (!is_request && (kind != FREE || size))) return 0;
+  if (!reading->is_main) {
+    reading->requests += is_request;
+    if (is_request && reading->is_counted) all[size]++, notes->requests++;
+    return 1;
+  }
+  struct block *block = block_of(address);
+  if (most_traced || (is_request ? block->key || blocks.used * 2 > blocks.mask : !block->key || block->size >= LARGE)) return 0;
+  if (is_request) {
+    *block = (struct block){address, size, 0, put_request(size, kind == CALLOC)}, blocks.used++, reading->requests++;
+    small_event(size, 1);
+  } else {
+    small_event(block->size, -1);
+    put_free(block->number);
+    remove_block(block);
+  }
+  return 1;
 }
 
 // ---- the rings
@@ -191,10 +231,10 @@ static void begin_ring(int k, uint64_t start) {
   struct ring *ring = &stream->rings[k];
   struct reading *reading = &readings[k];
   uint64_t *records = reading->records;
-  if (!records) records = mmap(NULL, RING * 8, PROT_READ | PROT_WRITE, MAP_SHARED, opened, HEAD + k * RING * 8L);
+  if (!records) records = mmap(NULL, words_of_ring * 8, PROT_READ | PROT_WRITE, MAP_SHARED, opened, HEAD + k * words_of_ring * 8);
   if (records == MAP_FAILED) give_up("it has no memory");
-  int is_named = !only || !strncmp(only, ring->name, sizeof ring->name - 1), is_all = !strcmp(wanted, "all");
-  *reading = (struct reading){.records = records, .start = start, .since = now(), .is_named = is_named, .is_counted = is_named && is_all};
+  int is_named = !only || !strncmp(only, ring->name, sizeof ring->name - 1);
+  *reading = (struct reading){.records = records, .start = start, .is_named = is_named, .is_counted = is_named && is_all};
   if (is_named) notes->started = 1;
   if (!is_all) named_as(ring->name)->processes++;
   if (!is_all && is_named && (!main_process || ring->process == (uint64_t)main_process)) {
@@ -205,47 +245,170 @@ static void begin_ring(int k, uint64_t start) {
   }
 }
 
-static int read_ring(int k) {
-  struct ring *ring = &stream->rings[k];
-  struct reading *reading = &readings[k];
-  uint64_t start = __atomic_load_n(&ring->start, __ATOMIC_ACQUIRE);
-  if (!start) return notes->spoiled = 1, 0;  // only the reader takes it away
-  if (reading->start != start) begin_ring(k, start);
-  uint64_t from = reading->read, whole = __atomic_load_n(&ring->next, __ATOMIC_ACQUIRE), end = whole, i = from, ahead = from;
-  if (ring->overrun) return 0;
-  if (ring->read != from || whole - from > 2 * RING) notes->spoiled = 1;
-  if (end - from > 1 << 15) end = from + (1 << 15);
+// Gives back what was read of a lane; whoever waits goes on once most of it is free.
+static void free_lane(struct ring *ring, struct reading *reading, int l) {
+  struct lane *lane = &ring->lanes[l];
+  struct place *place = &reading->lanes[l];
+  uint64_t *records = reading->records + l * LANE, read = place->read;
+  for (uint64_t j = place->freed; j < read;) {  // 0 again
+    uint64_t at = j & (LANE - 1), many = read - j < LANE - at ? read - j : LANE - at;
+    memset(records + at, 0, many * 8), j += many;
+  }
+  place->freed = read;
+  __atomic_store_n(&lane->read, read, __ATOMIC_SEQ_CST);
+  if (__atomic_load_n(&lane->next, __ATOMIC_SEQ_CST) - read > LANE / 4) return;
+  if (!__atomic_exchange_n(&lane->waits, 0, __ATOMIC_SEQ_CST)) return;
+  syscall(SYS_futex, low_word(&lane->read), FUTEX_WAKE, INT_MAX, NULL, NULL, 0);
+}
+
+// Reads a lane up to the next turn in it; how many records.
+static uint64_t read_stride(struct reading *reading, int l) {
+  struct place *place = &reading->lanes[l];
+  const uint64_t *records = reading->records + l * LANE;
+  uint64_t from = place->read, i = from, end = (from / STRIDE + 1) * STRIDE;
+  if (end > place->whole) end = place->whole;
+  for (uint64_t ahead = i + STRIDE; reading->is_main && ahead < i + 2 * STRIDE && ahead < place->whole; ahead++)
+    __builtin_prefetch(&blocks.at[place_from(records[ahead & (LANE - 1)] >> ADDRESS << 3)]);
   while (i < end && !notes->spoiled) {
-    for (; reading->is_main && ahead < end && ahead < i + 24; ahead++)
-      __builtin_prefetch(&blocks.at[place_from(reading->records[ahead & (RING - 1)] >> ADDRESS << 3)]);
-    int number = take(reading, i, whole);
+    int number = take_small(reading, records, i) ? 1 : take(reading, records, i, place->whole);
+    if (number == TOO_EARLY) place->since = 0;
+    if (number == TOO_EARLY) break;
     if (!number) {  // not there yet: the thread waits, or was ended, or jumped out of a handler
-      uint64_t patience = whole - from > RING / 2 ? WHILE_FULL : PATIENCE;
-      if (i > from || (now() - reading->since < patience && !reading->is_over)) break;
+      uint64_t patience = place->whole - from > LANE / 2 ? WHILE_FULL : PATIENCE;
+      if (!place->since) place->since = now();
+      if (i > from || (now() - place->since < patience && !reading->is_over)) break;
       notes->lost += reading->is_main || reading->is_counted, number = 1;
     }
-    i += number, reading->since = 0;
+    i += number, place->since = 0, reading->is_forced = reading->is_forced > 1;
   }
-  if (i == from) {
-    if (!reading->since) reading->since = now();
-    return 0;
+  place->waits = i == from, place->read = i;
+  return i - from;
+}
+
+// The turn of the next record of a lane; where it is not there yet, that of the one before. (A record comes after its turn.)
+static uint64_t turn_of(const struct reading *reading, int l) {
+  uint64_t at = reading->lanes[l].read;
+  uint64_t is_there = __atomic_load_n(&reading->records[l * LANE + (at & (LANE - 1))], __ATOMIC_ACQUIRE);
+  if (!is_there && !at--) return 0;
+  return reading->records[RING + l * (LANE / STRIDE) + (at & (LANE - 1)) / STRIDE];
+}
+
+// The lane to read next, whose turn is the first; none where each is read, waits for another, or is later than this.
+static int next_lane(const struct reading *reading, uint64_t latest) {
+  int first = -1;
+  for (int l = 0; l < LANES; l++) {
+    const struct place *place = &reading->lanes[l];
+    uint64_t turn = place->waits || place->read >= place->whole ? UINT64_MAX : turn_of(reading, l);
+    if (turn <= latest && turn < UINT64_MAX) first = l, latest = turn;
   }
-  for (uint64_t j = from; j < i;) {  // 0 again
-    uint64_t at = j & (RING - 1), many = i - j < RING - at ? i - j : RING - at;
-    memset(reading->records + at, 0, many * 8), j += many;
+  return first;
+}
+
+// Looks how far each lane was written; how many are.
+static int look_at_lanes(const struct ring *ring, struct reading *reading) {
+  int used = 0;
+  for (int l = 0; l < LANES; l++) {
+    struct place *place = &reading->lanes[l];
+    place->whole = __atomic_load_n(&ring->lanes[l].next, __ATOMIC_ACQUIRE), place->waits = 0, used += place->whole > 0;
+    if (ring->lanes[l].read != place->freed || place->whole - place->read > 2 * LANE) notes->spoiled = 1;
   }
-  reading->read = i, reading->since = now();
-  __atomic_store_n(&ring->read, i, __ATOMIC_RELEASE);
+  return used;
+}
+
+// Reads what was there at a turn, in the order of the turns; how many records.
+static uint64_t read_lanes(struct ring *ring, struct reading *reading) {
+  uint64_t latest = __atomic_load_n(&ring->turns, __ATOMIC_ACQUIRE), more = 0;
+  int used = look_at_lanes(ring, reading), l;
+  if (used < 2) latest = UINT64_MAX;
+  reading->is_forced = used < 2 ? 2 : 0;  // of one thread nothing has to wait
+  while (more < 1 << 15 && !notes->spoiled && (l = next_lane(reading, latest)) >= 0) {
+    uint64_t turn = turn_of(reading, l), number = read_stride(reading, l);
+    more += number;
+    if (reading->lanes[l].since && turn < latest) latest = turn;  // what is behind the missing record may be next
+    for (int other = 0; number && used > 1 && other < LANES; other++) reading->lanes[other].waits = 0;
+    if (reading->lanes[l].read - reading->lanes[l].freed >= LANE / 8) free_lane(ring, reading, l);
+  }
+  return more;
+}
+
+// What waits for a call that was not recorded, as one that was left, or of a block from elsewhere, goes on without it,
+// where no thread is about to store a record; how many records.
+static uint64_t read_forced(struct reading *reading) {
+  for (int l = 0; l < LANES; l++) {
+    if (reading->lanes[l].since) return 0;
+    reading->lanes[l].waits = 0;
+  }
+  int l = next_lane(reading, UINT64_MAX);
+  reading->is_forced = 1;
+  return l < 0 ? 0 : read_stride(reading, l);
+}
+
+static uint64_t read_ring(int k) {
+  struct ring *ring = &stream->rings[k];
+  struct reading *reading = &readings[k];
+  uint64_t start = __atomic_load_n(&ring->start, __ATOMIC_ACQUIRE), more;
+  if (!start) return notes->spoiled = 1, 0;  // only the reader takes it away
+  if (reading->start != start) begin_ring(k, start);
+  if (is_counting || ring->overrun) return 0;
+  more = read_lanes(ring, reading);
+  if (!more) more = read_lanes(ring, reading);  // each lane was looked at since what waits was there
+  if (!more && !notes->spoiled) more = read_forced(reading);
+  for (int l = 0; l < LANES && !notes->spoiled; l++)
+    if (reading->lanes[l].read != reading->lanes[l].freed) free_lane(ring, reading, l);
+  return more;
+}
+
+static int is_read(int k) {
+  for (int l = 0; l < LANES; l++)
+    if (readings[k].lanes[l].read != stream->rings[k].lanes[l].next) return 0;
   return 1;
 }
 
-static int is_zombie(pid_t process) {  // it has ended, and nobody waits for it
-  char path[64], state = 0;
-  snprintf(path, sizeof path, "/proc/%d/stat", process);
+static uint64_t counted;  // the requests of the processes that have ended
+
+// Takes what the threads of a process have counted; how many requests these are.
+static uint64_t take_counts(int k, int64_t *counts) {
+  const struct ring *ring = &stream->rings[k];
+  const uint64_t *words = readings[k].records;
+  uint64_t requests = 0, areas = __atomic_load_n(&ring->areas, __ATOMIC_RELAXED);
+  if (areas >> AREAS) notes->spoiled = 1;
+  for (int l = 0; l < LANES; l++) notes->spoiled |= (ring->lanes[l].next | ring->lanes[l].read) != 0;
+  for (uint64_t a = 0; words && a < AREAS && !notes->spoiled; a++, words += AREA) {
+    if (!(areas >> a & 1)) continue;
+    if (a < AREAS - 1 && !words[OWNER]) notes->spoiled = 1;
+    for (int i = 0; i < OWNER; i++) {
+      uint64_t number = __atomic_load_n(&words[i], __ATOMIC_RELAXED);
+      if (number >> 56 || (number && i >= COUNTERS)) notes->spoiled = 1;
+      else if (number && counts) counts[i] += number;
+      requests += number;
+    }
+  }
+  return requests;
+}
+
+// Empties a ring for its next process.
+static void clear_ring(int k) {
+  struct ring *ring = &stream->rings[k];
+  if (is_counting) fallocate(opened, FALLOC_FL_PUNCH_HOLE | FALLOC_FL_KEEP_SIZE, HEAD + k * words_of_ring * 8, words_of_ring * 8);
+  else if (readings[k].records && (ring->overrun || !is_read(k))) memset(readings[k].records, 0, RING * 8);
+}
+
+// What /proc tells of a process after its name, in which there may be anything; null where it is gone.
+static const char *after_name(const char *process, char *text, size_t bytes) {
+  char path[64];
+  snprintf(path, sizeof path, "/proc/%.20s/stat", process);
   FILE *file = fopen(path, "re");
-  if (file && fscanf(file, "%*d (%*[^)]) %c", &state) < 1) state = 0;
+  text[file ? fread(text, 1, bytes - 1, file) : 0] = 0;
   if (file) fclose(file);
-  return state == 'Z';
+  const char *end = strrchr(text, ')');
+  return end ? end + 1 : NULL;
+}
+
+static int is_zombie(pid_t process) {  // it has ended, and nobody waits for it
+  char number[24], text[1024] = "", state = 0;
+  snprintf(number, sizeof number, "%d", process);
+  const char *after = after_name(number, text, sizeof text);
+  return after && sscanf(after, " %c", &state) == 1 && state == 'Z';
 }
 
 static int is_there(pid_t process) {
@@ -265,16 +428,25 @@ static int is_over(int k, int last) {
 static void end_ring(int k) {
   struct ring *ring = &stream->rings[k];
   struct reading *reading = &readings[k];
+  if (is_counting) reading->requests = take_counts(k, reading->is_counted ? all : NULL);
+  if (is_counting && reading->is_counted) counted += reading->requests;
   if (reading->is_main || reading->is_counted) notes->gaps |= ring->overrun;
   else if (reading->is_named && reading->requests) notes->others++, notes->other_requests += reading->requests;
   int has_next = 0;
   for (uint64_t j = 0; j < number_of_rings && !has_next; j++)
     has_next = stream->rings[j].process == ring->process && stream->rings[j].start > ring->start;
-  if (strcmp(wanted, "all") && !(reading->is_main && has_next)) named_as(ring->name)->requests += reading->requests;  // not what ran before in its place
-  if ((reading->is_main || reading->is_counted) && ring->executed && !has_next) notes->executed++;
+  if (!is_all && !(reading->is_main && has_next)) named_as(ring->name)->requests += reading->requests;  // not what ran before in its place
+  int went_on = ring->marked && ring->marked != progress_of(ring, is_counting ? reading->records : NULL) + 1;
+  uint64_t executed = went_on ? 0 : ring->executed;
+  if (executed && !has_next) {
+    notes->executed += reading->is_main || reading->is_counted;
+    if (ring->process == (uint64_t)child) notes->instead = executed - 1;
+  }
   if (reading->is_main && !has_next) main_process = -1;  // another one may get its number
-  if (reading->records && (ring->overrun || ring->next != ring->read)) memset(reading->records, 0, RING * 8);
-  ring->start = ring->next = ring->read = ring->overrun = ring->executed = 0, memset(ring->name, 0, sizeof ring->name);
+  clear_ring(k);
+  memset(ring->lanes, 0, sizeof ring->lanes);
+  ring->start = ring->turns = ring->areas = ring->overrun = ring->executed = ring->marked = 0;
+  memset(ring->name, 0, sizeof ring->name);
   *reading = (struct reading){.records = reading->records};
   __atomic_store_n(&ring->process, 0, __ATOMIC_RELEASE);
 }
@@ -296,12 +468,12 @@ static uint64_t read_all(void) {
     int k = order[a];
     struct ring *ring = &stream->rings[k];
     int was_over = is_over(k, last);  // before it is read to its end
-    uint64_t before = readings[k].start == ring->start ? readings[k].read : 0;
-    for (int n = 0; n < 64 && read_ring(k); n++) ;
+    uint64_t number = 1;
+    for (int n = 0; n < 64 && number; n++) more += number = read_ring(k);
     if (notes->spoiled) break;
-    more += readings[k].read - before + was_over;
+    more += was_over;
     if (!was_over) continue;
-    if (readings[k].read == ring->next || ring->overrun) end_ring(k);
+    if (is_counting || is_read(k) || ring->overrun) end_ring(k);
     else if ((readings[k].is_over = 1) && readings[k].is_main) break;  // its next program waits
   }
   return more;
@@ -309,14 +481,40 @@ static uint64_t read_all(void) {
 
 // ---- what is found
 
-static uint64_t resident_of(pid_t process) {  // KiB, 0 where it is gone
+// KiB, as a line of a process's status has them after these words; 0 where it is gone
+static uint64_t kibibytes_of(pid_t process, const char *words) {
   char path[64], line[256];
   snprintf(path, sizeof path, "/proc/%d/status", process);
   FILE *file = process > 0 ? fopen(path, "re") : NULL;
   unsigned long kibibytes = 0;
-  while (file && fgets(line, sizeof line, file) && sscanf(line, "VmHWM: %lu", &kibibytes) != 1) ;
+  size_t length = strlen(words);
+  while (file && fgets(line, sizeof line, file))
+    if (!strncmp(line, words, length)) { kibibytes = strtoul(line + length, NULL, 10); break; }
   if (file) fclose(file);
   return kibibytes;
+}
+static uint64_t resident_of(pid_t process) { return kibibytes_of(process, "VmHWM:"); }
+
+// Milliseconds for which a process was ready to run and had no processor; 0 where Linux does not count it.
+static uint64_t waited_of(pid_t process) {
+  char path[64];
+  unsigned long long nanoseconds = 0;
+  snprintf(path, sizeof path, "/proc/%d/schedstat", process);
+  FILE *file = process > 0 ? fopen(path, "re") : NULL;
+  if (file && fscanf(file, "%*u %llu", &nanoseconds) != 1) nanoseconds = 0;
+  if (file) fclose(file);
+  return nanoseconds / 1000000;
+}
+
+// Puts the time since the record's begin into it, less that for which other programs had the processor, and what is resident of files; where
+// the process is gone, what was last.
+static void put_clock(void) {
+  static uint64_t begin, last, files;
+  uint64_t waited = waited_of(main_process), time = now(), found = kibibytes_of(main_process, "RssFile:");
+  if (block_record.calls == 1) begin = time - waited, last = files = 0;
+  if (found) files = found;
+  if (found && time > begin + waited + last) last = time - begin - waited;
+  put_call(CLOCK, last, files);
 }
 
 // of a few processes that are not followed, what they take at most
@@ -344,21 +542,35 @@ static uint64_t bytes_of_stacks(void) {
 static void note_resident(uint64_t kibibytes) {
   uint64_t bytes = kibibytes * 1024, less = bytes_of_stacks();
   for (uint64_t k = 0; k < number_of_rings; k++)
-    if (readings[k].is_main && stream->rings[k].process) less += (stream->rings[k].next < RING ? stream->rings[k].next : RING) * 8;
+    for (int l = 0; l < LANES && readings[k].is_main && stream->rings[k].process; l++) {
+      uint64_t next = stream->rings[k].lanes[l].next;
+      less += (next < LANE ? next : LANE) * 8;
+    }
   if (bytes > less && bytes - less > notes->resident) notes->resident = bytes - less;
+}
+
+// Notes how many requests there are, of processes that count them, which takes some time.
+static void note_counts(void) {
+  static uint64_t noted;
+  if (now() - noted < SECOND) return;
+  noted = now(), notes->requests = counted;
+  for (uint64_t k = 0; k < number_of_rings; k++)
+    if (readings[k].is_counted && stream->rings[k].start) notes->requests += take_counts(k, NULL);
 }
 
 static void sample_resident(void) {
   note_resident(resident_of(main_process));
-  if (strcmp(wanted, "all")) sample_others();
+  if (is_counting) note_counts();
+  if (!is_all) sample_others();
 }
 
 static void note(void) {
-  if (strcmp(wanted, "all")) notes->requests = kept.requests, notes->live = kept.bytes;
+  if (!is_all) notes->requests = kept.requests, notes->live = kept.bytes;
   notes->large = kept.most_large;
   if (!stream) return;
   notes->untouched = stream->untouched, notes->foreign = stream->foreign;
   memcpy(notes->refused, stream->refused, sizeof notes->refused), memcpy(notes->allocator, stream->allocator, NAME);
+  memcpy(notes->unfollowed, stream->unfollowed, sizeof notes->unfollowed), notes->more_unfollowed = stream->more_unfollowed;
 }
 
 static long written;  // bytes of the texts, with the notes
@@ -390,7 +602,7 @@ static void write_texts(void) {
   if (!to) give_up("it has no memory");
   setvbuf(to, NULL, _IOFBF, 1 << 20);
   written = PAGE, number_chosen = 0, notes->events = kept.events, notes->is_cut = kept.is_reduced && record_of == RECORDS;
-  write_profile(to, strcmp(wanted, "all") ? NULL : all), end_text(to, PROFILE);
+  write_profile(to, is_all ? all : NULL), end_text(to, PROFILE);
   write_wanted(to), end_text(to, WANTED), notes->snapshots = number_chosen;
   for (int k = 0; record_of && k < number_chosen; k++) fprintf(to, "%lu\n", (unsigned long)chosen[k]->at);
   end_text(to, MOMENTS);
@@ -398,6 +610,8 @@ static void write_texts(void) {
   end_text(to, UPPER);
   WITH_STACKS(if (record_of && !kept.is_reduced) write_sites(to, kept.piece, stacks);)
   end_text(to, SITES);
+  if (block_record.bytes) fwrite(block_record.at, 1, block_record.bytes, to);
+  end_text(to, BLOCKS);
   if (fclose(to)) give_up("there is no room for what is recorded");
   note();
   __atomic_fetch_add(&notes->version, 1, __ATOMIC_RELEASE);
@@ -416,14 +630,31 @@ static void handle(int number) {  // a program that is started does not inherit 
   if (!sigaction(number, NULL, &before) && before.sa_handler != SIG_IGN) sigaction(number, &action, NULL);
 }
 
-static void run_program(const char *libraries, const char *path, char **words) {
+// Runs the program, with the first of the libraries only where it can be followed.
+static void run_program(const char *libraries, int is_followed, const char *path, char **words) {
   char place[64];
   snprintf(place, sizeof place, "/proc/%d/fd/%d", getppid(), opened);
+  if (!is_followed) libraries += strcspn(libraries, ":"), libraries += *libraries == ':';
   if (*libraries) setenv("LD_PRELOAD", libraries, 1);
-  if (stream) setenv("MTE_STREAM", place, 1);
+  if (stream && is_followed) setenv("MTE_STREAM", place, 1);
   execv(path, words);
   notes->error = errno;
   _exit(127);
+}
+
+// Whether a program can be followed, where there is a stream; notes one that can't.
+static int is_followed(const char *path) {
+  int why = stream ? why_not(AT_FDCWD, path, 0) : LOADABLE;
+  if (why) notes->instead = note_unfollowed(stream, why, path);
+  return !why;
+}
+
+// Has the kernel mark the stream when this process ends.
+static void show_life(void) {
+  static struct robust_list_head head;
+  head.list.next = &stream->life, head.futex_offset = offsetof(struct stream, alive) - offsetof(struct stream, life);
+  stream->life.next = &head.list, stream->alive = getpid();
+  syscall(SYS_set_robust_list, &head, sizeof head);
 }
 
 // Makes the stream, as a file that has its name once it is whole where there is one. Null, or why that can't be.
@@ -432,19 +663,22 @@ static const char *make_stream(const char *file) {
   char made[PATH_MAX];
   snprintf(made, sizeof made, "%s.new", file);
   number_of_rings = RINGS;
-  if (!getrlimit(RLIMIT_FSIZE, &limit) && limit.rlim_cur < HEAD + RINGS * RING * 8ULL)
-    number_of_rings = limit.rlim_cur < HEAD ? 0 : (limit.rlim_cur - HEAD) / (RING * 8);
+  if (!getrlimit(RLIMIT_FSIZE, &limit) && limit.rlim_cur < HEAD + RINGS * words_of_ring * 8)
+    number_of_rings = limit.rlim_cur < HEAD ? 0 : (limit.rlim_cur - HEAD) / (words_of_ring * 8);
   if (!number_of_rings) return "there is no room for a stream: files may not be so large (ulimit -f)";
   opened = *file ? open(made, O_RDWR | O_CREAT | O_EXCL | O_NOFOLLOW | O_CLOEXEC, 0600) : memfd_create("mte_stream", MFD_CLOEXEC);
   if (opened < 0) return strerror(errno);
   const char *why = NULL;
-  uint64_t bytes = HEAD + number_of_rings * RING * 8;
-  if (ftruncate(opened, bytes WITH_STACKS(+ sizeof *stacks)) || (*file && fallocate(opened, 0, 0, HEAD + RING * 8))) {
+  uint64_t bytes = HEAD + number_of_rings * words_of_ring * 8;
+  if (ftruncate(opened, bytes WITH_STACKS(+ sizeof *stacks)) || (*file && fallocate(opened, 0, 0, HEAD + words_of_ring * 8))) {
     why = "there is no room for a stream";
   } else if ((stream = mmap(NULL, HEAD, PROT_READ | PROT_WRITE, MAP_SHARED, opened, 0)) == MAP_FAILED) {
     stream = NULL, why = "it has no memory";
   } else {
+    struct own own;
+    show_life();
     stream->number = number_of_rings, stream->reader = getpid(), stream->found = found;
+    stream->filters = read_own(&own) ? own.filters : 0;
     stream->space = own_space(), stream->form = FORM;
     WITH_STACKS(stacks = mmap(NULL, sizeof *stacks, PROT_READ | PROT_WRITE, MAP_SHARED | MAP_NORESERVE, opened, bytes);)
     WITH_STACKS(stream->stacks = stacks == MAP_FAILED ? 0 : bytes; if (!stream->stacks) why = "it has no memory";)
@@ -467,7 +701,7 @@ static void begin_wanted(const char *words) {
   long number = strtol(wanted + strcspn(wanted, " "), &more, 10);
   if (*wanted == 'h') snapshots = some((number_of_snapshots = number - 1) * sizeof *snapshots + 1);
   if (*wanted == 'w' || !strcmp(wanted, "classes")) record_of = REDUCES;
-  if (!strcmp(wanted, "timeline")) record_of = RECORDS;
+  if (!strncmp(wanted, "timeline", 8)) record_of = RECORDS, block_record.is_wanted = wanted[8] != 0;
   if (*wanted == 'w' || record_of == RECORDS) {
     windows.wanted = number ? number : USUAL_WINDOWS, begin_table(&tables[number_of_tables++], NULL);
     for (int k = 0; WEIGHED[k]; k++) begin_table(&tables[number_of_tables++], WEIGHED[k]);
@@ -484,13 +718,12 @@ static void begin_wanted(const char *words) {
 
 // When a process began, in ticks since the system did; 0 where it is gone.
 static uint64_t began(const char *process) {
-  char path[64], text[1024], *at;
+  char text[1024];
   uint64_t start = 0;
-  snprintf(path, sizeof path, "/proc/%.20s/stat", process);
-  FILE *file = fopen(path, "re");
-  text[file ? fread(text, 1, sizeof text - 1, file) : 0] = 0;
-  if (file) fclose(file);
-  if ((at = strrchr(text, ')'))) sscanf(at + 1, " %*c %*s %*s %*s %*s %*s %*s %*s %*s %*s %*s %*s %*s %*s %*s %*s %*s %*s %*s %lu", &start);
+  const char *after = after_name(process, text, sizeof text);
+  enum { BEFORE = 19 };  // fields between the name and the start
+  for (int k = 0; after && k < BEFORE; k++) after = strchr(after + 1, ' ');
+  if (after) start = strtoull(after, NULL, 10);
   return start;
 }
 
@@ -550,7 +783,7 @@ static void follow(void) {
     if (ended && (is_last || (!more && !rings && !notes->left))) break;
     idle = more ? 0 : idle + 1;
     // some way behind the writers, so that they do not share a line of the cache with the reader; but not far
-    if (more < (ended ? 1 : RING / 4)) usleep(more ? 2000 : idle < 20 ? 200 : 5000);
+    if (more < (ended ? 1 : LANE / 2)) usleep(more ? 1000 : idle < 20 ? 200 : 5000);
   }
 }
 
@@ -558,6 +791,8 @@ int main(int argc, char **argv) {
   if (argc < 7) return 2;
   static struct notes nowhere;
   found = atoi(argv[1]), only = *argv[4] ? argv[4] : NULL, as_scudo = *argv[3] == '-', wanted = argv[3] + as_scudo;
+  is_counting = !strcmp(wanted, "counts"), is_all = is_counting || !strcmp(wanted, "all");
+  if (is_counting) words_of_ring = COUNTING_RING;
   fcntl(found, F_SETFD, FD_CLOEXEC);
   handle(SIGINT), handle(SIGTERM), handle(SIGHUP), handle(SIGUSR1), handle(SIGXFSZ);
   int has_notes = !ftruncate(found, PAGE) && (notes = mmap(NULL, PAGE, PROT_READ | PROT_WRITE, MAP_SHARED, found, 0)) != MAP_FAILED;
@@ -565,8 +800,9 @@ int main(int argc, char **argv) {
   memset(notes, 0, sizeof *notes);
   int is_text = !strcmp(argv[6], "-"), follows = strcmp(wanted, "none");
   const char *why = !has_notes ? "there is no room for what is recorded" : follows && !is_text ? make_stream(argv[6]) : NULL;
+  int follows_it = argc > 7 && is_followed(argv[7]);
   child = argc > 7 ? fork() : -1;
-  if (!child) run_program(argv[2], argv[7], argv + 8);
+  if (!child) run_program(argv[2], follows_it, argv[7], argv + 8);
   if (child < 0 && argc > 7) why = strerror(errno);
   if (child > 0 && ends) kill(child, ends);  // one that came before
   if (why) give_up(why);
@@ -582,6 +818,7 @@ int main(int argc, char **argv) {
     end_ring(k);
   }
   stream->closed = 1;
+  if (is_counting) notes->requests = counted;
   if (*argv[6]) unlink(argv[6]);
   write_texts();
 }

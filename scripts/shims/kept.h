@@ -7,14 +7,15 @@
 #define KEPT_H
 #include <unistd.h>
 #include "windows.h"
+#include "blocks.h"
 #ifdef STACKS
 #include "sites.h"
 #endif
 
 // ---- the live blocks: a table by address. A block that moves has another key, since its address may be another's before the realloc ends.
 
-// `more`: by how much the program has less; or of a trace, the variable
-struct block { uint64_t key, size : 48, more : 16; WITH_STACKS(uint32_t site, stack;) };
+// `more`: by how much the program has less; or of a trace, the variable. `number`: in the record of blocks
+struct block { uint64_t key, size : 48, more : 16; uint32_t number; WITH_STACKS(uint32_t site, stack;) };
 static struct { struct block *at; uint64_t mask, used; } blocks;
 static const uint64_t MOVING = 1ULL << 63;
 
@@ -64,7 +65,8 @@ static struct kept {
   int64_t bytes, most, large, most_large, events, requests;
   int live[COUNTERS];
   struct moment peak;
-  int is_open, changes, is_changed[COUNTERS], changed[COUNTERS];  // whether the last event was the peak's; the places in which it differs
+  int is_open, changes;                  // whether the last event was the peak's; in how many places it differs now
+  int is_changed[COUNTERS], changed[COUNTERS + 1];  // these; after the last one there is room to write to
   uint64_t spacing, text;                // of the snapshots; the bytes of the record's text
   int is_reduced, piece;                 // whether the record is a history; of its events, in the pieces
 } kept;
@@ -99,7 +101,7 @@ static void reduce_pieces(void) {
     keep_piece(pieces[k], number);
     if (k) munmap(pieces[k], PIECE * sizeof **pieces), pieces[k] = NULL;
   }
-  kept.is_reduced = 1, kept.piece = 0;
+  kept.is_reduced = 1, kept.piece = 0, end_record();
 }
 
 static void record_event(int place, int is_free) {
@@ -124,13 +126,25 @@ static void event(uint64_t size, int by) {
   if (record_of) record_event(place, by < 0);
 }
 
+// The same of a size below LARGE, with no branch for its place.
+static inline void small_event(unsigned size, int by) {
+  int place = place_of(size);
+  int64_t after = kept.bytes + by * (int64_t)size;
+  if (kept.is_open && after <= kept.most) follow_peak();
+  kept.live[place] += by, kept.bytes = after, kept.events++, kept.requests += by > 0;
+  kept.changed[kept.changes] = place, kept.changes += !kept.is_changed[place], kept.is_changed[place] = 1;
+  if (after > kept.most) kept.most = after, kept.is_open = 1, kept.peak.at = record_of ? kept.events : kept.requests;
+  if (number_of_snapshots && by > 0 && !(kept.requests & (kept.spacing - 1))) take_snapshot();
+  if (record_of) record_event(place, by < 0);
+}
+
 static void begin_kept(void) {
   if (blocks.at) munmap(blocks.at, (blocks.mask + 1) * sizeof *blocks.at);
   begin_blocks(1 << 12);
   memset(&kept, 0, sizeof kept);
   kept.spacing = 1, kept.is_reduced = record_of == REDUCES, kept.text = strlen("timeline\n");
   for (int k = 0; k < number_of_snapshots; k++) snapshots[k].at = 0;
-  begin_moments(), begin_windows();
+  begin_moments(), begin_windows(), begin_record();
   WITH_STACKS(begin_sites();)
 }
 
@@ -159,14 +173,17 @@ static void write_moments(FILE *to, int is_upper) {
 }
 
 static void write_timeline(FILE *to) {
-  static char lines[2][COUNTERS][8], room[1 << 16];
-  for (int i = 0; i < COUNTERS; i++)
-    for (int is_free = 0; is_free < 2; is_free++) snprintf(lines[is_free][i], 8, i < LARGE ? "%s%d\n" : "%slarge\n", is_free ? "-" : "", i);
+  static char lines[COUNTERS][2][16], room[1 << 16];
+  for (int place = 0; place < sizes.number; place++) {
+    int counter = sizes.counters[place];
+    snprintf(lines[place][0], 16, counter < LARGE ? "%d\n" : "large\n", counter);
+    snprintf(lines[place][1], 16, counter < LARGE ? "-%d\n" : "-large\n", counter);
+  }
   char *end = stpcpy(room, "timeline\n");
   for (int i = 0; i < kept.piece; i++) {
     int code = pieces[i / PIECE][i % PIECE], place = place_in(code), is_free = code >= FREED;
     if (end > room + sizeof room - 8) fwrite(room, 1, end - room, to), end = room;
-    memcpy(end, lines[is_free][sizes.counters[place]], 8), end += sizes.lines[place] + is_free;
+    memcpy(end, lines[place][is_free], 8), end += sizes.lines[place] + is_free;
   }
   fwrite(room, 1, end - room, to);
 }

@@ -19,8 +19,10 @@ enum { IS_KNOWN = 0 };
 enum { NOWHERE, BY_SP, BY_BP, AT_BP };  // where the caller's frame is: at an offset from rsp or rbp, or at what stands at one from rbp
 struct rule { int32_t offset; int16_t saved; uint8_t base, keeps; };  // rbp is saved at the caller's frame + saved, unless the function keeps it
 static struct stacks *stacks;
+static char program_path[480];  // read at the start: later the process may have given up that call
 static uint64_t image;      // the number of this program's layout, which its forks have too
 static uintptr_t deepest;   // bytes of the first thread's stack
+static uintptr_t lowest;    // from there on it is mapped
 static struct { uintptr_t low, high; const uint8_t *table; } known[MODULES];
 static int number_known;
 
@@ -186,7 +188,7 @@ static int note_object(struct dl_phdr_info *object, size_t size, void *address) 
   struct module *module = &stacks->module[k];
   *module = (struct module){.image = image, .low = low, .high = high, .bias = object->dlpi_addr};
   if (*object->dlpi_name) strncpy(module->name, object->dlpi_name, sizeof module->name - 1);
-  else if (readlink("/proc/self/exe", module->name, sizeof module->name - 1) < 0) *module->name = 0;
+  else strcpy(module->name, program_path);
   return 1;
 }
 
@@ -198,6 +200,47 @@ static __attribute__((noinline, cold)) struct rule find_rule(uintptr_t address) 
     if (!tries) dl_iterate_phdr(note_object, &address);
   }
   return (struct rule){.base = NOWHERE};
+}
+
+// ---- threads
+
+// The stack of a thread: what it is known by stands at its end, and it begins at LOW or before. Each notes itself at its
+// start, at the place of its number.
+enum { THREADS = 1 << 12, STARTS = 1 << 8 };
+static struct thread { uintptr_t own, low; } threads[THREADS];
+static struct start { int is_taken; void *(*function)(void *), *word; size_t size; } starts[STARTS];
+
+static inline struct thread *thread_of(uintptr_t own) { return &threads[own * 0x9E3779B97F4A7C15ULL >> 52]; }
+
+static void *begin_thread(void *given) {
+  struct start *taken = given, start = *taken;
+  uintptr_t own = (uintptr_t)pthread_self();
+  *thread_of(own) = (struct thread){own, own - start.size};
+  __atomic_store_n(&taken->is_taken, 0, __ATOMIC_RELEASE);
+  return start.function(start.word);
+}
+
+// The bytes of a thread's stack, without the guard and what the thread is known by.
+static size_t bytes_of_thread(const pthread_attr_t *attributes) {
+  pthread_attr_t usual;
+  size_t size = 0, guard = 0;
+  if (!attributes && !pthread_attr_init(&usual)) attributes = &usual;
+  if (!attributes || pthread_attr_getstacksize(attributes, &size) || pthread_attr_getguardsize(attributes, &guard)) return 0;
+  return size > guard + 2 * PAGE ? size - guard - 2 * PAGE : 0;
+}
+
+// A function that a program calls: what it hands on has to be there until the thread has begun, and no heap may change.
+int pthread_create(pthread_t *thread, const pthread_attr_t *attributes, void *(*function)(void *), void *word) {
+  static int (*create)(pthread_t *, const pthread_attr_t *, void *(*)(void *), void *);
+  struct start *start = starts;
+  if (!create) create = (__typeof__(create))dlsym(RTLD_NEXT, "pthread_create");
+  if (!create) return EAGAIN;
+  while (start < starts + STARTS && __atomic_exchange_n(&start->is_taken, 1, __ATOMIC_ACQUIRE)) start++;
+  if (start == starts + STARTS) return create(thread, attributes, function, word);
+  start->function = function, start->word = word, start->size = bytes_of_thread(attributes);
+  int refused = create(thread, attributes, begin_thread, start);
+  if (refused) __atomic_store_n(&start->is_taken, 0, __ATOMIC_RELEASE);
+  return refused;
 }
 
 // ---- a stack
@@ -228,11 +271,22 @@ static inline struct rule rule_of(uintptr_t address) {
   return rule;
 }
 
-// Up to where the stack may be read. That of a thread ends at what the thread is known by; of another stack no more than the page is sure.
+// Whether the first thread's stack goes on down to a page: a program may have another stack below it, with nothing between.
+static __attribute__((noinline, cold)) int goes_down_to(uintptr_t page) {
+  static unsigned char pages[(1 << 27) / PAGE];
+  int error = errno, is_whole = !sealed && !mincore((void *)page, lowest - page, pages);
+  if (is_whole) lowest = page;
+  return errno = error, is_whole;
+}
+
+// Up to where the stack may be read that has a word at AT: the first thread's to its begin, that of another thread to what
+// the thread is known by. A program may change to stacks of its own, with anything beside them: of these no more than the
+// page is sure.
 static inline uintptr_t end_of(uintptr_t at) {
   uintptr_t last = (uintptr_t)__libc_stack_end, own = (uintptr_t)pthread_self();
-  if (at < last && last - at <= deepest) return last;
-  if (at < own && own - at < 1 << 28) return own;
+  const struct thread *thread = thread_of(own);
+  if (last - at <= deepest && (at >= lowest || goes_down_to(at & -PAGE))) return last;
+  if (thread->own == own && at - thread->low < own - thread->low) return own;
   return at | (PAGE - 1);
 }
 
@@ -249,6 +303,7 @@ static inline __attribute__((always_inline)) int go_up(struct call *call, struct
   if (rule.base == AT_BP) {
     if (caller < sp || caller > end || caller & 7) return 0;
     base = (const uintptr_t *)caller, caller = *base;
+    if ((uintptr_t)base >= caller) return 0;
   } else {
     saved = caller + rule.saved;
   }
@@ -267,12 +322,30 @@ static inline uint64_t mixed(uint64_t hash, uintptr_t address) {
   return hash ^ hash >> 29;
 }
 
+// The first words of the stacks, as many as this process has mapped: an address space may be small.
+static struct words { uint64_t *at, number; } words;
+
+// The same with at least so many, where the process may; where it was mapped before it stays, for other threads.
+static int reach_words(uint64_t number) {
+  struct words more = {words.at, words.number};
+  while (more.number < number) more.number *= 2;
+  if (more.number == words.number) return 1;
+  int error = errno;
+  more.at = sealed ? MAP_FAILED : mremap(words.at, 0, more.number * 8, MREMAP_MAYMOVE);
+  errno = error;
+  if (more.at == MAP_FAILED) return 0;
+  __atomic_store_n(&words.at, more.at, __ATOMIC_RELEASE);
+  __atomic_store_n(&words.number, more.number, __ATOMIC_RELEASE);
+  return 1;
+}
+
 // Keeps a stack of these addresses, or of these calls, which are the other way round.
 static __attribute__((noinline, cold)) void keep_stack(struct kept_stack *place, const uintptr_t *addresses, const struct call *calls, int number) {
   uint64_t at = __atomic_fetch_add(&stacks->used, number + 1, __ATOMIC_RELAXED);
-  if (at + number + 1 > STACK_WORDS) return;
-  stacks->words[at] = image << 32 | number;
-  for (int i = 0; i < number; i++) stacks->words[at + 1 + i] = addresses ? addresses[i] : calls[number - 1 - i].address;
+  if (at + number + 1 > STACK_WORDS || !reach_words(at + number + 1)) return;
+  uint64_t *to = __atomic_load_n(&words.at, __ATOMIC_ACQUIRE) + at;
+  *to = image << 32 | number;
+  for (int i = 0; i < number; i++) to[1 + i] = addresses ? addresses[i] : calls[number - 1 - i].address;
   __atomic_store_n(&place->at, at + 1, __ATOMIC_RELEASE);
 }
 
@@ -333,11 +406,11 @@ static inline void keep_call(volatile struct call *to, const volatile struct cal
   to->uses = from->uses || (from->keeps && has_outer && outer->uses);
 }
 
-// Whether a call is one of the last stack's, with all outwards of it; leaves none that are inwards of it.
-static inline int is_kept_call(struct last *last, const struct call *call) {
+// Whether a call is one of the last stack's, with all outwards of it, up to the end; leaves none that are inwards of it.
+static inline int is_kept_call(struct last *last, const struct call *call, uintptr_t end) {
   while (last->number && last->calls[last->number - 1].sp < call->sp) last->number--;
   struct call *other = &last->calls[last->number - 1];
-  if (!last->number || other->sp != call->sp || other->address != call->address || (other->uses && other->bp != call->bp)) return 0;
+  if (!last->number || last->calls->sp > end || other->sp != call->sp || other->address != call->address || (other->uses && other->bp != call->bp)) return 0;
   while (other > last->calls)
     if (!is_as_it_was(--other)) return 0;
   other = &last->calls[last->number - 1];
@@ -349,7 +422,7 @@ static inline int is_kept_call(struct last *last, const struct call *call) {
 static __attribute__((noinline)) int walk(struct last *last, uintptr_t end) {
   int number = 0, is_known;
   struct call *fresh = last->fresh;
-  while (!(is_known = is_kept_call(last, &fresh[number])) && ++number < DEEP && go_up(&fresh[number - 1], &fresh[number], end)) ;
+  while (!(is_known = is_kept_call(last, &fresh[number], end)) && ++number < DEEP && go_up(&fresh[number - 1], &fresh[number], end)) ;
   if (!is_known) last->number = 0;
   else if (last->number + number > DEEP)
     for (last->number = 0; number < DEEP && go_up(&fresh[number - 1], &fresh[number], end);) number++;
@@ -377,7 +450,8 @@ static inline void see(struct seen *seen, const struct call *calls, int number) 
     if (call->uses && call->saved) *word++ = (struct word){call->saved, call->bp};
     if (call->base) *word++ = (struct word){call->base, call->sp};
   }
-  seen->sp = first->sp, seen->bp = first->bp, seen->high = calls->sp, seen->uses = first->uses, seen->number = word - seen->words;
+  seen->sp = first->sp, seen->bp = first->bp, seen->high = number > 1 ? calls->sp : 1;
+  seen->uses = first->uses, seen->number = word - seen->words;
   if (number < DEEP) seen->address = first->address;
 }
 
@@ -400,7 +474,7 @@ static __attribute__((noinline)) struct seen *search(struct last *last, const st
 static __attribute__((noinline)) uint64_t stack_of(const uintptr_t *frame) {
   if (!stacks || frame[1] <= PAGE) return 0;
   struct call first = {.address = frame[1] - 1, .sp = (uintptr_t)(frame + 2), .bp = frame[0]};
-  uintptr_t end = end_of(first.sp) - 8;
+  uintptr_t end = end_of((uintptr_t)&frame[1]) - 8;
   struct last *last = &lasts[(uintptr_t)pthread_self() * 0x9E3779B97F4A7C15ULL >> 58];
   if (__builtin_expect(was_held(last), 0)) return stack_alone(first, end);
   struct seen **next = last->seen ? &last->seen->next : &last->seen, *seen = *next;
@@ -412,13 +486,21 @@ static __attribute__((noinline)) uint64_t stack_of(const uintptr_t *frame) {
 }
 
 static void begin_stacks(int opened, uint64_t offset) {
+  enum { FIRST_WORDS = 1 << 19 };
   struct rlimit limit;
   deepest = 1 << 27;
   if (!getrlimit(RLIMIT_STACK, &limit) && limit.rlim_cur < deepest) deepest = limit.rlim_cur;
   if (stacks || !offset) return;
-  void *all = mmap(NULL, sizeof *stacks, PROT_READ | PROT_WRITE, MAP_SHARED | MAP_NORESERVE, opened, offset);
-  if (all == MAP_FAILED) return;
-  madvise(all, sizeof *stacks, MADV_DONTDUMP);
+  size_t bytes = offsetof(struct stacks, words), more = FIRST_WORDS * 8;
+  void *all = mmap(NULL, bytes, PROT_READ | PROT_WRITE, MAP_SHARED | MAP_NORESERVE, opened, offset);
+  void *first = mmap(NULL, more, PROT_READ | PROT_WRITE, MAP_SHARED | MAP_NORESERVE, opened, offset + bytes);
+  if (first == MAP_FAILED || all == MAP_FAILED) {
+    if (all != MAP_FAILED) munmap(all, bytes);
+    return;
+  }
+  madvise(all, bytes, MADV_DONTDUMP), madvise(first, more, MADV_DONTDUMP);
+  words.at = first, words.number = FIRST_WORDS, lowest = (uintptr_t)__builtin_frame_address(0) & -PAGE;
+  if (readlink("/proc/self/exe", program_path, sizeof program_path - 1) < 0) *program_path = 0;
   image = __atomic_add_fetch(&((struct stacks *)all)->images, 1, __ATOMIC_RELAXED) & 0xFFFFFFFF, stacks = all;
 }
 #endif

@@ -2,18 +2,16 @@
 // build and use it.
 //
 // MTE_STREAM=FILE  the file that the reader made. Nothing is called for a record: no lock, no system call; there is no word in a block, and
-//                  nothing at the end. A request is put down after it has its block, a free before the block is given back: so the order
-//                  of the indices is one in which the calls could have come one after the other.
+//                  nothing at the end. A thread that is a lane ahead of the reader sleeps, where the process may. A request is put down
+//                  after it has its block, a free before the block is given back: so the reader finds an order in which the calls could
+//                  have come one after the other, and in which a call stands before an earlier one of another thread only where its own
+//                  thread has made fewer than STRIDE records since.
 //
 // Each call goes on to the function that it would have reached without the library, so a program with another allocator keeps that. A
 // process is left untouched where its allocator can't be followed, and the stream names the file that has it.
 #define _GNU_SOURCE
 #include <dlfcn.h>
-#include <elf.h>
-#include <errno.h>
-#include <fcntl.h>
-#include <limits.h>
-#include <link.h>
+#include <spawn.h>
 #include <stdarg.h>
 #include <stddef.h>
 #include <stdio.h>
@@ -21,15 +19,17 @@
 #include <string.h>
 #include <sys/mman.h>
 #include <sys/prctl.h>
-#include <sys/stat.h>
-#include <sys/syscall.h>
-#include <unistd.h>
-#include "stream.h"
+#include <time.h>
+#include "loadable.h"
 #if __has_include(<sys/single_threaded.h>)
 #include <sys/single_threaded.h>
 #else
 #define __libc_single_threaded 0
 #endif
+#ifndef COUNTS
+#define COUNTS 0
+#endif
+static volatile int sealed;  // whether the process gave up system calls: a fork can't open the file
 #ifdef STACKS
 #include "stacks.h"
 #define FRAME __builtin_frame_address(0)
@@ -41,6 +41,9 @@
 extern void *__libc_malloc(size_t), *__libc_calloc(size_t, size_t), *__libc_realloc(void *, size_t), *__libc_memalign(size_t, size_t);
 extern void __libc_free(void *);
 
+typedef int (*spawns)(pid_t *, const char *, const posix_spawn_file_actions_t *, const posix_spawnattr_t *, char *const[],
+                      char *const[]);
+
 // The functions that the calls go on to. Those of glibc serve only what finding them requests itself.
 static struct {
   void *(*malloc)(size_t), *(*calloc)(size_t, size_t), *(*realloc)(void *, size_t);
@@ -48,7 +51,8 @@ static struct {
   void *(*memalign)(size_t, size_t), *(*aligned_alloc)(size_t, size_t), *(*valloc)(size_t), *(*pvalloc)(size_t);
   int (*posix_memalign)(void **, size_t, size_t);
   int (*execve)(const char *, char *const[], char *const[]), (*execvpe)(const char *, char *const[], char *const[]);
-  int (*fexecve)(int, char *const[], char *const[]), (*execv)(const char *, char *const[]), (*execvp)(const char *, char *const[]);
+  int (*fexecve)(int, char *const[], char *const[]);
+  spawns posix_spawn, posix_spawnp;
 } next = {.malloc = __libc_malloc, .calloc = __libc_calloc, .realloc = __libc_realloc, .free = __libc_free, .memalign = __libc_memalign};
 
 // At the first call, and not in a constructor, which others come before: a block stays with one allocator.
@@ -56,7 +60,7 @@ static int found;
 #define FIND(function) (next.function = (__typeof__(next.function))dlsym(RTLD_NEXT, #function))
 static __attribute__((noinline, cold)) void find(void) {
   found = 1;
-  FIND(execve), FIND(execvpe), FIND(fexecve), FIND(execv), FIND(execvp);
+  FIND(execve), FIND(execvpe), FIND(fexecve), FIND(posix_spawn), FIND(posix_spawnp);
   FIND(posix_memalign), FIND(aligned_alloc), FIND(memalign), FIND(valloc), FIND(pvalloc);
   FIND(calloc), FIND(realloc), FIND(free), FIND(malloc);
 }
@@ -64,13 +68,12 @@ static __attribute__((noinline, cold)) void find(void) {
 
 // Where this process writes. `here` is on a page that a forked child sees empty, however it is forked; a child of vfork shares the heap,
 // and so the ring. What comes before the file is mapped is early.
-enum { EARLY = 1 << 15 };
-enum { PATIENCE = 1 << 26 };  // turns, of some 100 ticks
+enum { EARLY = 1 << 15, RING_WORDS = COUNTS ? COUNTING_RING : WORDS_OF_RING };  // of what is early, and of a ring
 enum { UNSTARTED, STARTING, WRITES, OFF };
-struct place { struct ring *ring; uint64_t *records, size; int state; pid_t process; };
+struct place { struct ring *ring; uint64_t *records; int state; pid_t process; };
 static uint64_t early[EARLY];
 static struct ring early_ring;
-static struct place at_first = {&early_ring, early, EARLY, WRITES, 0}, *here = &at_first;
+static struct place at_first = {&early_ring, early, STARTING, 0}, *here = &at_first;
 
 static char file[PATH_MAX];  // as MTE_STREAM has it
 static int is_service;       // whether something else than the reader started the program
@@ -78,33 +81,39 @@ static struct stream *stream;
 static struct stat status_of;  // of the file
 static uint64_t *mapped;     // in a forked child: the records of its parent
 static volatile int reached; // whether a call came to the library's malloc while it may not record
-static volatile int sealed;  // whether the process gave up system calls: a fork can't open the file
+static int may_sleep;        // whether the process may call futex
+
+#ifdef __x86_64__
+extern long plain_syscall(long number, ...) __attribute__((visibility("hidden")));
+#else
+#define plain_syscall syscall
+#endif
 
 static void refuse(int reason) { __atomic_fetch_add(&stream->refused[reason], 1, __ATOMIC_RELAXED); }
 
-// the process as the reader sees it: /proc is the reader's, also in a namespace of processes
-static pid_t own_process(void) {
-  char text[24];
-  ssize_t length = readlink("/proc/self", text, sizeof text - 1);
-  if (length <= 0) return getpid();
-  text[length] = 0;
-  return atoi(text);
+// Whether this process is under filters of system calls that the reader is not under: nothing is known of these, and one
+// may end the process.
+static int is_under_seccomp(const struct own *own) {
+  return own->filters && (!stream || own->filters != (long)stream->filters);
 }
 
 // Takes the first ring that is free. On a disk it gets its room first: a write to a page that has none would end the program.
-static int take_ring(int opened) {
-  uint64_t process = own_process(), bytes = RING * 8;
+static int take_ring(int opened, uint64_t process) {
+  uint64_t bytes = RING_WORDS * 8;
   for (uint64_t k = 0; k < stream->number && k < RINGS; k++) {
     struct ring *ring = &stream->rings[k];
     uint64_t none = 0;
     if (ring->process || !__atomic_compare_exchange_n(&ring->process, &none, process, 0, __ATOMIC_ACQ_REL, __ATOMIC_RELAXED)) continue;
-    void *records = MAP_FAILED;
     int has_room = !is_service || !fallocate(opened, 0, HEAD + k * bytes, bytes);
+    void *records = MAP_FAILED;
     if (has_room) records = mmap(NULL, bytes, PROT_READ | PROT_WRITE, MAP_SHARED | MAP_NORESERVE, opened, HEAD + k * bytes);
-    if (records == MAP_FAILED) return refuse(NO_MEMORY), __atomic_store_n(&ring->process, 0, __ATOMIC_RELEASE), 0;
+    if (records == MAP_FAILED) {
+      refuse(has_room ? NO_MEMORY : NO_ROOM);
+      return __atomic_store_n(&ring->process, 0, __ATOMIC_RELEASE), 0;
+    }
     madvise(records, bytes, MADV_DONTDUMP);
     strncpy(ring->name, program_invocation_short_name, sizeof ring->name - 1);
-    mapped = records, *here = (struct place){ring, records, RING, STARTING, getpid()};
+    mapped = records, *here = (struct place){ring, records, STARTING, getpid()};
     __atomic_store_n(&ring->start, __atomic_add_fetch(&stream->turn, 1, __ATOMIC_ACQ_REL), __ATOMIC_RELEASE);
     return 1;
   }
@@ -119,103 +128,70 @@ static void say(const char *what) {
   if (name) *name = 0;  // the processes that this one starts don't say it again
 }
 
-// Maps the table of the file that is open, if it is not mapped yet. Null, or why that can't be.
+// Whether the file is in a folder of the user's or root's that others can neither list nor change: then nobody else finds it.
+static int is_name_secret(void) {
+  char folder[PATH_MAX];
+  struct stat status;
+  snprintf(folder, sizeof folder, "%s", file);
+  char *end = strrchr(folder, '/');
+  if (!end || end == folder) return 0;
+  *end = 0;
+  return !lstat(folder, &status) && S_ISDIR(status.st_mode) && (!status.st_uid || status.st_uid == getauxval(AT_EUID)) && !(status.st_mode & 066);
+}
+
+// Maps the table of the file that is open, if it is not mapped yet, by calls that the loader has just made. Null, or why
+// that can't be.
 static const char *map_stream(int opened) {
   struct stat status;
   if (fstat(opened, &status) || !S_ISREG(status.st_mode) || status.st_size <= HEAD) return "it is another file";
   if (stream && (status.st_dev != status_of.st_dev || status.st_ino != status_of.st_ino)) return "it is another file";
-  if (stream) return is_service && stream->space != own_space() ? "its reader is elsewhere" : NULL;
+  if (stream) return NULL;
   // another user could cut it off, and so end the program
-  if (is_service && status.st_uid && status.st_uid != geteuid()) return "it is another user's file";
-  if (is_service && (status.st_mode & 022 || status.st_nlink > 1)) return "others can change it, or it has another name too";
+  if (is_service && status.st_uid && status.st_uid != getauxval(AT_EUID)) return "it is another user's file";
+  if (is_service && (status.st_mode & 022 || status.st_nlink > 1) && !is_name_secret()) return "others can change it, or it has another name too";
   struct stream *table = mmap(NULL, HEAD, PROT_READ | PROT_WRITE, MAP_SHARED, opened, 0);
   if (table == MAP_FAILED) return "it can't be mapped";
-  const char *wrong = NULL;
-  if (table->form != FORM) wrong = "it is another file";
-  else if (is_service && table->space != own_space()) wrong = "its reader is in another namespace of processes: run it in this one";
-  if (wrong) munmap(table, HEAD);
-  else stream = table, status_of = status;
-  return wrong;
+  if (table->form != FORM) return munmap(table, HEAD), "it is another file";
+  stream = table, status_of = status;
+  return NULL;
 }
 
+// Goes on with calls that a filter may not know: whether this process has a ring now.
+static int begin_ring(int opened, const struct own *own) {
+  static int wipes;  // whether a forked child sees the page of `here` empty
+  if (mapped) munmap(mapped, RING_WORDS * 8), mapped = NULL;
+  if (!wipes) wipes = !madvise(here, PAGE, MADV_WIPEONFORK);
+  may_sleep = plain_syscall(SYS_futex, &stream->alive, FUTEX_WAKE, 0, NULL, NULL, 0) >= 0;
+  WITH_STACKS(begin_stacks(opened, stream->stacks);)
+  return wipes && !stream->closed && take_ring(opened, own->process);
+}
+
+static int is_elsewhere(void) { return is_service && stream->space != own_space(); }
+
 // At the start, and in a forked child. A call that comes meanwhile, from a handler or another thread, is not recorded.
+// What is called first the loader has called too, and more only where the process is under no filter that could end it
+// for that.
 static void begin(void) {
-  int error = errno, unstarted = UNSTARTED, opened = -1, taken = 0;
+  int error = errno, unstarted = UNSTARTED, opened = -1, taken = 0, is_fork = stream != NULL;
+  struct own own;
   if (!__atomic_compare_exchange_n(&here->state, &unstarted, STARTING, 0, __ATOMIC_ACQUIRE, __ATOMIC_RELAXED)) return;
-  if (stream && sealed) {
-    refuse(SEALED);
+  int is_known = !sealed && read_own(&own);
+  sealed |= is_fork && is_known && is_under_seccomp(&own);
+  if (is_fork && (sealed || !is_known)) {
+    refuse(sealed ? SEALED : NO_FILE);
   } else if ((opened = open(file, O_RDWR | O_CLOEXEC | O_NONBLOCK | O_NOCTTY | (is_service ? O_NOFOLLOW : 0))) < 0) {
-    if (stream) refuse(NO_FILE); else say(strerror(errno));
+    if (is_fork) refuse(NO_FILE); else say(strerror(errno));
   } else {
     const char *wrong = map_stream(opened);
-    if (wrong && stream) refuse(NO_FILE); else if (wrong) say(wrong);
-    if (mapped) munmap(mapped, RING * 8), mapped = NULL;
-    WITH_STACKS(if (!wrong) begin_stacks(opened, stream->stacks);)
-    taken = !wrong && !stream->closed && take_ring(opened);
+    if (!wrong && !is_known) wrong = "/proc can't be read";
+    else if (!wrong && is_under_seccomp(&own)) sealed = 1, refuse(SEALED);
+    else if (!wrong && is_elsewhere()) wrong = "its reader is in another namespace of processes: run it in this one";
+    else if (!wrong) taken = begin_ring(opened, &own);
+    if (wrong && is_fork) refuse(NO_FILE); else if (wrong) say(wrong);
     close(opened);
   }
   __atomic_store_n(&here->state, taken ? WRITES : OFF, __ATOMIC_RELEASE);
   errno = error;
-}
-
-// The reader is a ring behind: waits as long as it goes on, and at most some seconds for each step. Else the stream of this process ends.
-static __attribute__((noinline, cold)) int wait_for(struct ring *ring, uint64_t last, uint64_t size) {
-  uint64_t read = __atomic_load_n(&ring->read, __ATOMIC_ACQUIRE);
-  for (long turns = 0; last - read > size; turns++) {
-    for (int k = 0; k < 100; k++) __asm__ volatile("" : : : "memory");  // some time, without a call, a clock or a store
-    uint64_t now = __atomic_load_n(&ring->read, __ATOMIC_ACQUIRE);
-    if (now != read) read = now, turns = 0;
-    if (!stream || stream->closed || ring->overrun || turns > PATIENCE) {
-      if (stream) here->state = OFF;
-      return ring->overrun = 1, 0;
-    }
-  }
-  return 1;
-}
-
-// One instruction either way, so that a handler's records come before or after; the bus is locked only where there is another thread.
-static inline uint64_t add(uint64_t *to, uint64_t number) {
-#ifdef __x86_64__
-  if (__libc_single_threaded) {
-    __asm__ volatile("xaddq %0, %1" : "+r"(number), "+m"(*to) : : "memory");
-    return number;
-  }
-#endif
-  return __atomic_fetch_add(to, number, __ATOMIC_RELAXED);
-}
-
-// from the last: where the first one is there, all are
-#define RECORDS uint64_t one, uint64_t two, uint64_t three
-static inline void store(const struct place *place, uint64_t i, int number, RECORDS) {
-  uint64_t mask = place->size - 1;
-  if (number > 2) __atomic_store_n(&place->records[(i + 2) & mask], three, __ATOMIC_RELEASE);
-  if (number > 1) __atomic_store_n(&place->records[(i + 1) & mask], two, __ATOMIC_RELEASE);
-  __atomic_store_n(&place->records[i & mask], one, __ATOMIC_RELEASE);
-}
-
-static __attribute__((noinline, cold)) void put_late(const struct place *place, uint64_t i, int number, RECORDS) {
-  if (wait_for(place->ring, i + number, place->size)) store(place, i, number, one, two, three);
-}
-
-static __attribute__((noinline, cold)) void put_first(int number, RECORDS) {
-  reached = 1;
-  if (here->state == UNSTARTED) begin();
-  if (here->state == WRITES) put_late(here, add(&here->ring->next, number), number, one, two, three);
-}
-
-static inline void put(int number, RECORDS) {
-  const struct place *place = here;
-  if (__builtin_expect(place->state != WRITES, 0)) {
-    put_first(number, one, two, three);
-    return;
-  }
-  uint64_t i = add(&place->ring->next, number);
-  if (__builtin_expect(i + number - __atomic_load_n(&place->ring->read, __ATOMIC_ACQUIRE) > place->size, 0)) {
-    put_late(place, i, number, one, two, three);
-    return;
-  }
-  __builtin_prefetch(&place->records[(i + 64) & (place->size - 1)], 1);
-  store(place, i, number, one, two, three);
 }
 
 // Another allocator may call its own functions by their public names, also as the last thing that it does: that is no request of the
@@ -231,18 +207,25 @@ static inline int is_inner(void *caller) {
 }
 #define IS_INNER is_inner(__builtin_return_address(0))
 
-static inline uint64_t record(int kind, void *block, size_t size) {
-  return kind | (size <= LARGEST_SIZE ? size : LARGE) << 4 | (uintptr_t)block >> 3 << ADDRESS;
+// What tells a thread from the others of its process; one that comes later may get it again.
+static inline uint64_t own_thread(void) {
+#ifdef __x86_64__
+  uint64_t thread;
+  __asm__("movq %%fs:16, %0" : "=r"(thread));
+  return thread;
+#else
+  return (uintptr_t)__builtin_thread_pointer();
+#endif
 }
-static inline uint64_t whole(size_t size) { return SIZE | (size >> 60 ? ~0ULL : size) << 4; }
 
-// a request, or the begin of a move, from the function with this frame
-static inline void *request(int kind, void *block, size_t size, const void *frame) {
-  uint64_t stack = HAS_STACKS ? STACK | stack_of(frame) << 4 : 0;
-  if (__builtin_expect(size <= LARGEST_SIZE, 1)) put(1 + HAS_STACKS, record(kind, block, size), stack, 0);
-  else put(2 + HAS_STACKS, record(kind, block, size), whole(size), stack);
-  return block;
-}
+// The distances of threads are much alike: so it is no linear function.
+static inline uint64_t mixed_thread(uint64_t thread) { return (thread >> 6 ^ thread >> 21) * 0x9E3779B97F4A7C15ULL; }
+
+#if COUNTS
+#include "counts.h"
+#else
+#include "records.h"
+#endif
 #define REQUEST(kind, block, size) request(kind, block, size, FRAME)
 
 void *malloc(size_t size) {
@@ -257,29 +240,9 @@ void *calloc(size_t number, size_t each) {
   return IS_INNER ? block : REQUEST(CALLOC, block, size);
 }
 
-void free(void *block) {
-  if (block && !IS_INNER) put(1, record(FREE, block, 0), 0, 0);
-  TO(free)(block);
-}
-
-// Of a realloc the reader sees before it that the block may move, and after it where it is. One to 0 bytes is a free.
-void *realloc(void *block, size_t size) {
-  if (IS_INNER) return TO(realloc)(block, size);
-  if (!block) return REQUEST(MALLOC, TO(realloc)(block, size), size);
-  if (!size) {
-    put(1, record(FREE, block, 0), 0, 0);
-    void *other = TO(realloc)(block, size);
-    return other ? REQUEST(MALLOC, other, size) : other;
-  }
-  REQUEST(MOVES, block, size);
-  void *moved = TO(realloc)(block, size);
-  if (size <= LARGEST_SIZE) put(2, record(REALLOC, moved, size), record(OLD, block, 0), 0);
-  else put(3, record(REALLOC, moved, size), record(OLD, block, 0), whole(size));
-  return moved;
-}
-
 // an aligned request counts as the bytes that an allocator with 16-byte granules sets aside for it
-static inline void *aligned(size_t alignment, size_t size, void *block, int inner, const void *frame) {
+static inline __attribute__((always_inline)) void *aligned(size_t alignment, size_t size, void *block, int inner,
+                                                           const void *frame) {
   size_t all = size;
   if (alignment > 16 && __builtin_add_overflow(size, alignment - 16, &all)) all = -1;
   return inner ? block : request(ALIGNED, block, all, frame);
@@ -300,43 +263,11 @@ int posix_memalign(void **result, size_t alignment, size_t size) {
   return refused;
 }
 
-// A program that runs next in the place of this process takes a ring of its own, where it has the library.
-static int note_program(void) { return here->state == WRITES && here->process == getpid() ? here->ring->executed = 1 : 0; }
-
-#define EXECUTES(name, parameters, words) \
-  int name parameters { \
-    int noted = note_program(), status = TO(name) words; \
-    if (noted) here->ring->executed = 0; \
-    return status; \
-  }
-EXECUTES(execve, (const char *path, char *const words[], char *const variables[]), (path, words, variables))
-EXECUTES(execvpe, (const char *name, char *const words[], char *const variables[]), (name, words, variables))
-EXECUTES(fexecve, (int opened, char *const words[], char *const variables[]), (opened, words, variables))
-EXECUTES(execv, (const char *path, char *const words[]), (path, words))
-EXECUTES(execvp, (const char *name, char *const words[]), (name, words))
-
-#define WORDS \
-  va_list more; \
-  size_t number = 1; \
-  va_start(more, word); \
-  while (va_arg(more, char *)) number++; \
-  va_end(more); \
-  char *words[number + 1]; \
-  words[0] = (char *)word; \
-  va_start(more, word); \
-  for (size_t i = 1; i <= number; i++) words[i] = va_arg(more, char *);
-
-int execl(const char *path, const char *word, ...) { WORDS return va_end(more), execv(path, words); }
-int execlp(const char *name, const char *word, ...) { WORDS return va_end(more), execvp(name, words); }
-
-int execle(const char *path, const char *word, ...) {
-  WORDS
-  char *const *variables = va_arg(more, char *const *);
-  return va_end(more), execve(path, words, variables);
-}
+#include "executes.h"
 
 // A process may give up system calls: from then on none of its forks may make one for us. On x86-64 that is seen of `syscall` too, which is
-// here as glibc has it: it can't go on to that by a frame of its own, since some calls come back twice, or on another stack.
+// here as glibc has it: it can't go on to that by a frame of its own, since some calls come back twice, or on another
+// stack. What runs another program goes on as execve.
 int prctl(int option, ...) {
   va_list more;
   va_start(more, option);
@@ -344,12 +275,14 @@ int prctl(int option, ...) {
   for (int i = 0; i < 4; i++) words[i] = va_arg(more, unsigned long);
   va_end(more);
   if (option == PR_SET_SECCOMP) sealed = 1;
-  return syscall(SYS_prctl, option, words[0], words[1], words[2], words[3]);
+  return plain_syscall(SYS_prctl, option, words[0], words[1], words[2], words[3]);
 }
 #ifdef __x86_64__
 __asm__(".globl syscall\n.type syscall, @function\nsyscall:\n"
-        "  cmpl $317, %edi\n  jne 1f\n  movl $1, sealed(%rip)\n"  // seccomp
-        "1:  movq %rdi, %rax\n  movq %rsi, %rdi\n  movq %rdx, %rsi\n  movq %rcx, %rdx\n  movq %r8, %r10\n  movq %r9, %r8\n"
+        "  cmpl $59, %edi\n  je execute_by_number\n  cmpl $322, %edi\n  je execute_by_number\n"  // execve, execveat
+        "  cmpl $317, %edi\n  jne plain_syscall\n  movl $1, sealed(%rip)\n"  // seccomp
+        ".hidden plain_syscall\n.globl plain_syscall\nplain_syscall:\n"
+        "  movq %rdi, %rax\n  movq %rsi, %rdi\n  movq %rdx, %rsi\n  movq %rcx, %rdx\n  movq %r8, %r10\n  movq %r9, %r8\n"
         "  movq 8(%rsp), %r9\n  syscall\n  cmpq $-4095, %rax\n  jae 2f\n  ret\n"
         "2:  negl %eax\n  pushq %rax\n  call __errno_location@PLT\n  popq %rcx\n  movl %ecx, (%rax)\n  movq $-1, %rax\n  ret\n"
         ".size syscall, . - syscall\n");
@@ -443,12 +376,14 @@ static int can_follow(void) {
 
 __attribute__((constructor)) static void start(void) {
   const char *name = getenv("MTE_STREAM");
+  Dl_info info;
   if (!found) find();
+  if (dladdr((void *)begin, &info) && strlen(info.dli_fname) < sizeof own_name) strcpy(own_name, info.dli_fname);
   at_first.state = OFF;
   if (!name || !*name || strlen(name) >= sizeof file) return;
   strcpy(file, name), is_service = strncmp(file, "/proc/", 6) != 0;
   struct place *own = mmap(NULL, PAGE, PROT_READ | PROT_WRITE, MAP_PRIVATE | MAP_ANONYMOUS, -1, 0);
-  if (own == MAP_FAILED || madvise(own, PAGE, MADV_WIPEONFORK)) return;
+  if (own == MAP_FAILED) return;
   here = own;
   begin();
   int writes = own->state == WRITES;
@@ -458,5 +393,5 @@ __attribute__((constructor)) static void start(void) {
     return;
   }
   own->ring->overrun = early_ring.overrun, own->state = WRITES;
-  for (uint64_t i = 0; i < early_ring.next && i < EARLY; i++) put(1, early[i], 0, 0);
+  put_early();
 }

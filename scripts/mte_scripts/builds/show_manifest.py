@@ -2,7 +2,9 @@
 
 import os
 
-from mte_scripts import manifest, texts
+from mte_scripts import manifest, text_files
+from mte_scripts.entry_point import Refusal
+from mte_scripts.places import BUILT, IS_PACKAGED, ROOT
 from mte_scripts.words import Words
 
 HELP = """\
@@ -34,10 +36,10 @@ Example:
 
 def show(words: list[str]) -> int:
     Words(HELP).take(words)
-    if not os.path.isfile(texts.BUILT):
-        raise texts.Refused(3, f"there is no program {texts.BUILT}: `scripts/mte_tool --version` builds it")
-    found = manifest.read(texts.BUILT)
-    why = manifest.why_unproved(texts.BUILT, None if texts.IS_PACKAGED else texts.ROOT)
-    holds = f"this is the program {texts.BUILT}" if not why else f"nothing is proved: {why}"
-    texts.write((manifest.text_of(found) if found else "") + holds + "\n")
+    if not os.path.isfile(BUILT):
+        raise Refusal(3, f"there is no program {BUILT}: `scripts/mte_tool --prove` builds it")
+    found = manifest.read(BUILT)
+    why = manifest.why_unproved(BUILT, None if IS_PACKAGED else ROOT)
+    holds = f"this is the program {BUILT}" if not why else f"nothing is proved: {why}"
+    text_files.write((manifest.text_of(found) if found else "") + holds + "\n")
     return 1 if why else 0

@@ -1,4 +1,4 @@
-"""Building the static libraries of this repository. By hand they are built by `rt lib`, which proves them and keeps what it proved. In the
+"""Building the static libraries of this repository, or the program. By hand they are built by `rt lib`, which proves them and keeps what it proved. In the
 gate `rt ci` has just proved all crates, but makes no static library and keeps nothing for `rt lib`: there, where MTE_AFTER_CI is set, a
 static library is proved once more over the libraries that `rt ci` left, and built of that."""
 
@@ -8,7 +8,7 @@ import subprocess
 from pathlib import Path
 from typing import Any
 
-from mte_scripts import texts
+from mte_scripts import text_files
 from mte_scripts.builds.crate_list import CrateList
 from mte_scripts.places import ROOT
 
@@ -25,7 +25,7 @@ def jobs() -> "list[str]":
 
 def run(words: "list[str]", **how: Any) -> str:
     """What a command prints, on both outputs; a failure ends the script."""
-    return texts.output_of(words, stderr=subprocess.STDOUT, **how).decode(errors="replace")
+    return text_files.output_of(words, stderr=subprocess.STDOUT, **how).decode(errors="replace")
 
 
 def crates_below(crate: str) -> "list[str]":
@@ -46,10 +46,15 @@ def is_cheap(crate: str) -> bool:
     return are_left(crate) or all(os.path.exists(f"{ROOT}/crates/{name}/out/rlib/stamp") for name in crates_below(crate))
 
 
+def is_program(crate: str) -> bool:
+    return os.path.exists(f"{ROOT}/crates/{crate}/src/main.rt")
+
+
 def words(crate: str) -> "list[str]":
     """The crate, its kind and its libraries, for the compiler."""
     crates = CrateList(ROOT)
-    said = ["--crate-name", crate, "src/lib.rt", "-L", f"dependency={kit()}/rlibs", "--crate-type", "staticlib"]
+    kind = ["src/main.rt"] if is_program(crate) else ["src/lib.rt", "--crate-type", "staticlib"]
+    said = ["--crate-name", crate, *kind, "-L", f"dependency={kit()}/rlibs"]
     for name in ["std", *crates.stands_on[crate]]:
         library = f"{ROOT}/crates/{name}/out/rlib/{name}.rlib" if name in crates.stands_on else f"{kit()}/rlibs/{name}.rlib"
         said += ["--extern", f"{name}={library}"]
@@ -59,12 +64,12 @@ def words(crate: str) -> "list[str]":
 
 
 def build(crate: str, archive: str, toolchain: str) -> str:
-    """Builds the static library by this toolchain's compiler, of what was proved; what the proof printed."""
+    """Builds the static library or the program by this toolchain's compiler, of what was proved; what the proof printed."""
     place = os.path.join(ROOT, "crates", crate)
     over = ["--logic-built", f"{kit()}/logic_built"]
     made = ["--backend", "llvm", "--toolchain", toolchain, "-o", archive]
     if not are_left(crate):
-        said = run(["rt", "lib", *jobs()], cwd=place)
+        said = run(["rt", *(["run", *jobs(), "--", "--version"] if is_program(crate) else ["lib", *jobs()])], cwd=place)
         run([f"{kit()}/bin/rattle", "build", *words(crate), *over, "--incremental", "out/incremental", *made], cwd=place)
         return said
     # one proof serves each build of the crate; of another text, or over other libraries, the compiler refuses it

@@ -1,6 +1,6 @@
 """The way from a proved static library of this repository to WebAssembly: the LLVM module from which the toolchain compiles the library,
 compiled for wasm64, linked with the small heap of web/heap.c, and lowered to 32 bits. What is proved is proved of that module's source;
-nothing proves the steps of this file. scripts/tests/page compares what comes out with the program."""
+nothing proves the steps of this file. scripts/tests/test_page.py compares what comes out with the program."""
 
 import os
 import re
@@ -28,20 +28,20 @@ exec '{clang}' "$@"
 """
 
 
-class Missing(Exception):
+class MissingTool(Exception):
     """What this machine lacks for the way, in words."""
 
 
 def kit() -> str:
     if not static_libraries.kit():
-        raise Missing("the toolchain's command rt")
+        raise MissingTool("the toolchain's command rt")
     if not shutil.which("wasm-opt"):
-        raise Missing("wasm-opt of Debian's package binaryen")
+        raise MissingTool("wasm-opt of Debian's package binaryen")
     return static_libraries.kit()
 
 
-def llvm_module(crate: str, kept: str, folder: str) -> None:
-    """Proves and builds the static library by a clang that keeps the module in the file KEPT."""
+def llvm_module(crate: str, kept: str, folder: str) -> str:
+    """Proves and builds the static library or the program by a clang that keeps the module in the file KEPT; what the proof printed."""
     toolchain = os.path.join(folder, "toolchain")
     os.makedirs(os.path.join(toolchain, "bin"))
     os.symlink(f"{kit()}/toolchain/lib", f"{toolchain}/lib")
@@ -50,7 +50,7 @@ def llvm_module(crate: str, kept: str, folder: str) -> None:
     os.unlink(f"{toolchain}/bin/clang")
     Path(toolchain, "bin/clang").write_text(KEEPER.format(kept=kept, clang=f"{kit()}/toolchain/bin/clang"))
     os.chmod(f"{toolchain}/bin/clang", 0o755)
-    static_libraries.build(crate, f"{folder}/kept.a", toolchain)
+    return static_libraries.build(crate, f"{folder}/kept", toolchain)
 
 
 # The one instruction of x86 that the modules have by its name, and what stands for it: of sixteen bytes, for each of sixteen numbers the byte
@@ -58,7 +58,7 @@ def llvm_module(crate: str, kept: str, folder: str) -> None:
 SHUFFLE, SHUFFLED = "llvm.x86.ssse3.pshuf.b.128", "mte_shuffled"
 
 
-def shuffled() -> str:
+def shuffle_definition() -> str:
     """The definition of SHUFFLED, a byte at a time."""
     lines = [f"define internal <16 x i8> @{SHUFFLED}(<16 x i8> %bytes, <16 x i8> %numbers) {{"]
     made = "zeroinitializer"
@@ -79,7 +79,9 @@ def shuffled() -> str:
 def without_x86(module: str) -> str:
     """The module with a function in place of the instruction of x86. Another one of x86 is no module for WebAssembly."""
     if f"@{SHUFFLE}" in module:
-        module = re.sub(rf"^declare [^\n]*@{re.escape(SHUFFLE)}\(.*$", lambda _: shuffled(), module, flags=re.M)
+        module = re.sub(
+            rf"^declare [^\n]*@{re.escape(SHUFFLE)}\(.*$", lambda _: shuffle_definition(), module, flags=re.M
+        )
         module = module.replace(f"@{SHUFFLE}", f"@{SHUFFLED}")
     other = re.search(r"@(llvm\.x86\.[\w.]+)", module)
     if other:
@@ -108,7 +110,7 @@ def as_wasm64(module: str, prefix: str, folder: str) -> str:
     return text
 
 
-def linked(text: str, files: "dict[str, tuple[str, ...]]", folder: str) -> str:
+def link_module(text: str, files: "dict[str, tuple[str, ...]]", folder: str) -> str:
     """The module with these C files, each with its options, as WebAssembly of 64 bits."""
     clang, tools = f"{kit()}/toolchain/bin/clang", f"{kit()}/toolchain"
     common = [clang, f"--target={THERE}", PROCESSOR, "--no-default-config", "-ffunction-sections", "-c"]
@@ -161,7 +163,7 @@ def with_narrow_tables(data: bytes) -> bytes:
     return bytes(out)
 
 
-def lowered(wide: str, folder: str) -> bytes:
+def lower_to_wasm32(wide: str, folder: str) -> bytes:
     """The bytes of a module of 64 bits as one of 32."""
     Path(folder, "tables.wasm").write_bytes(with_narrow_tables(Path(wide).read_bytes()))
     run(["wasm-opt", "--enable-memory64", "--enable-bulk-memory", "--enable-sign-ext", "--enable-mutable-globals",
@@ -179,4 +181,7 @@ def modules(crate: str, prefix: str, with_checker: bool) -> "list[bytes]":
     with private_folder.temporary() as folder:
         module = f"{folder}/module.bc"
         llvm_module(crate, module, folder)
-        return [lowered(linked(as_wasm64(module, exported, folder), files, folder), folder) for exported, files in made]
+        return [
+            lower_to_wasm32(link_module(as_wasm64(module, exported, folder), files, folder), folder)
+            for exported, files in made
+        ]

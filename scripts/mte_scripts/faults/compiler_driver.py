@@ -5,12 +5,13 @@ They run for each file of a build and each question of a `configure`, so what ta
 
 import os
 import sys
-from _collections_abc import Callable
+from _collections_abc import Callable, Iterator
 
 from mte_scripts import private_folder
+from mte_scripts.entry_point import Refusal
+from mte_scripts.places import GET_GCC
 from mte_scripts.recording import programs
 from mte_scripts.recording.shims import HEADERS, SHIMS, compile_alone, sources_in, sum_of
-from mte_scripts.running import Refused
 
 HELP = """\
 Compile a C program so that scripts/find_faults can show its memory errors; traced_c++ compiles C++.
@@ -22,7 +23,8 @@ stands in ~/.cache/mte_tool (or under XDG_CACHE_HOME). There it has to stay, and
 runs as before, some times slower. Compile the program itself and those of its libraries that are to be seen. It can't be static,
 nor can another sanitizer of addresses be asked for.
 
-  TRACED_CC    the C compiler, else gcc, or clang where there is no gcc; it builds the runtime, too
+  TRACED_CC    the C compiler, else gcc, or clang where there is no gcc; it builds the runtime, too. As in `ccache gcc`, the words
+               before it run it
   TRACED_CXX   the C++ compiler, else g++, or clang++
 
 Exit status: the compiler's; 3 if there is no compiler, the runtime could not be built or has no such place, or this help could
@@ -42,22 +44,33 @@ TRACED_FLAGS = "-g -gdwarf-4 -fno-omit-frame-pointer -fno-optimize-sibling-calls
 TRACED_FLAGS += [f"-fno-builtin-{name}" for name in ("malloc", "calloc", "realloc", "free")]
 # the same for new and delete
 CXX_FLAGS = {"gcc": ["-fno-allocation-dce", "-fno-tree-dse", "-fno-tree-dce"], "clang": ["-fno-builtin"]}
+HEADER_ENDINGS = (".h", ".hh", ".hpp", ".hxx", ".H")
+INPUT_ENDINGS = (".c", ".cc", ".cpp", ".cxx", ".C", ".i", ".ii", ".s", ".S", ".o", ".a", ".so")
+MOST_NESTED = 4  # files of words within each other
 WITHOUT_LINK = ("-c", "-S", "-E", "-M", "-MM", "-r", "-V", "--version", "-fsyntax-only")
 PLACE = "set XDG_CACHE_HOME to a folder that only you can change"
 IS_X86 = os.uname().machine == "x86_64"
 OFFSET = "0x7fff8000"  # of the shadow: accesses.h
 
 
-def found(variable: str, *names: str) -> str:
+def find_compiler(variable: str, *names: str) -> str:
     """The compiler that a variable names, or the first of these that is there."""
-    wanted = os.environ.get(variable)
-    path = which(wanted) and wanted if wanted else next(filter(None, map(which, names)), None)
+    *_, wanted = command_of(variable) or [""]
+    path = find_program(wanted) and wanted if wanted else next(filter(None, map(find_program, names)), None)
     if not path:
-        raise Refused(3, f"there is no {wanted or 'compiler'}: install gcc or clang, or set TRACED_CC and TRACED_CXX")
+        get = GET_GCC.replace("gcc", names[0])
+        what = f"there is no {wanted or 'compiler'}: install gcc or clang ({get})"
+        raise Refusal(3, f"{what}, or set TRACED_CC and TRACED_CXX")
     return path
 
 
-def which(name: str) -> "str | None":
+def command_of(variable: str) -> "list[str]":
+    """The words of a variable that names a compiler: a path, which may have spaces, or a launcher as ccache before the compiler."""
+    wanted = os.environ.get(variable, "")
+    return [wanted] if find_program(wanted) else wanted.split()
+
+
+def find_program(name: str) -> "str | None":
     """The path of a program that can be run; shutil's takes longer to import than to run."""
     folders = [""] if os.path.dirname(name) else os.environ.get("PATH", os.defpath).split(os.pathsep)
     paths = (os.path.join(folder, name) for folder in folders)
@@ -66,7 +79,7 @@ def which(name: str) -> "str | None":
 
 def is_clang(compiler: str) -> bool:
     """By the name of the system's own compilers; others are asked."""
-    folder, name = os.path.split(os.path.realpath(which(compiler) or compiler))
+    folder, name = os.path.split(os.path.realpath(find_program(compiler) or compiler))
     if folder.startswith("/usr/") and any(each in name for each in ("clang", "gcc", "g++")):
         return "clang" in name
     import subprocess
@@ -77,19 +90,21 @@ def is_clang(compiler: str) -> bool:
 
 def runtime(plain: str) -> str:
     """The path of the runtime, built once for each version of its sources."""
-    return kept(f"accesses-{sum_of(RUNTIME_FLAGS, SOURCES)}", RUNTIME, lambda new: build(plain, new))
+    return keep_in_cache(f"accesses-{sum_of(RUNTIME_FLAGS, SOURCES)}", RUNTIME, lambda new: build(plain, new))
 
 
-def kept(folder: str, name: str, build_new: "Callable[[str], None]") -> str:
+def keep_in_cache(folder: str, name: str, build_new: "Callable[[str], None]") -> str:
     """The path of what is built, which stands in a folder of the cache that nobody else can change."""
     try:
         place = private_folder.cache(folder)
-    except Refused as refused:
-        raise Refused(3, f"the runtime has no place: {refused.text}: {PLACE}") from None
+    except Refusal as refused:
+        raise Refusal(3, f"the runtime has no place: {refused.text}: {PLACE}") from None
     with place:
         # it goes into the program as its rpath, by a list that has commas
         if any(c in place.path for c in ":,$"):
-            raise Refused(3, f"the loader takes no path with a colon, a comma or a dollar sign, as in {place.path}: {PLACE}")
+            raise Refusal(
+                3, f"the loader takes no path with a colon, a comma or a dollar sign, as in {place.path}: {PLACE}"
+            )
         return place.kept(name, build_new, f": {PLACE}")
 
 
@@ -97,7 +112,7 @@ def build(plain: str, to: str) -> None:
     # else a loop over bytes calls memset, which is the program's
     own = [] if is_clang(plain) else ["-fno-tree-loop-distribute-patterns"]
     words = [plain, *RUNTIME_FLAGS, *own, *(path for path in SOURCES if path.endswith(".c")), "-o", to, "-Wl,--no-as-needed", "-lm", "-ldl", "-pthread"]
-    compile_alone(words, f"the runtime could not be compiled: it needs glibc, and room in {os.path.dirname(to)}")
+    compile_alone(words, f"the runtime could not be compiled: it needs glibc ({GET_GCC}), and room in {os.path.dirname(to)}")
 
 
 def traced_flags(compiler: str, is_for_cxx: bool) -> list:
@@ -115,38 +130,73 @@ def traced_flags(compiler: str, is_for_cxx: bool) -> list:
     return [*TRACED_FLAGS, *unoptimized, *flags, *(word for parameter in parameters for word in ("--param", parameter))]
 
 
-def links(words: list) -> bool:
-    """Whether the words link a program or a library. With -v they may, where they name a file."""
-    has_input = any(not word.startswith("-") for word in words)
-    return has_input and not any(word in WITHOUT_LINK or word.startswith(("-dump", "-print", "-q")) for word in words)
+def links(given: list) -> bool:
+    """Whether the words link a program or a library, those in files `@FILE` too. With -v they may, where they name a file."""
+    words = list(expand_words(given))
+    if any(word in WITHOUT_LINK or word.startswith(("-dump", "-print", "-q")) for word in words):
+        return False
+    of_language = [after for word, after in zip(words, [*words[1:], ""]) if word == "-x"] + [word[2:] for word in words if word.startswith("-x")]
+    has_header = any(word.endswith(HEADER_ENDINGS) for word in words) and not any(word.endswith(INPUT_ENDINGS) for word in words)
+    makes_header = any(language.endswith("-header") for language in of_language) or has_header and not any(of_language)
+    return not makes_header and any(not word.startswith("-") for word in words)
 
 
-def leave_recipe(plain: str, compiler: str, library: str, link: list, flags: list) -> None:
+def expand_words(words: "list[str]", depth: int = 0) -> "Iterator[str]":
+    """The words, with those of a file in the place of `@FILE`. A pipe is left to the compiler, which can read it once; and so is what has
+    files within files without an end."""
+    for word in words:
+        if depth > MOST_NESTED or not word.startswith("@") or not os.path.isfile(word[1:]):
+            yield word
+            continue
+        try:
+            with open(word[1:], encoding="utf-8", errors="surrogateescape") as file:
+                import shlex
+
+                yield from expand_words(shlex.split(file.read()), depth + 1)
+        except (OSError, ValueError):
+            yield word
+
+
+def leave_recipe(plain: str, compiler: str, launcher: list, library: str, link: list, flags: list) -> None:
     """Leaves what the next call does as commands of a shell, which the driver reads before it runs Python. They return where anything is not
     as it is now: the driver, the environment, the compilers, or a file that this program reads. Without a place there is no recipe."""
     names = [os.environ.get(name, "") for name in ("TRACED_CC", "TRACED_CXX")]
     name = ".".join(os.path.basename(each) for each in (sys.argv[0], *names))
     own = [os.path.abspath(sys.argv[0]), __file__, os.path.join(os.path.dirname(__file__), "recipe.sh"), os.path.join(SHIMS, "accesses")]
-    files = [*own, *SOURCES, *HEADERS, *map(which, (plain, compiler)), library]
-    listed = " ".join(map(quoted, files))
-    lines = [f'[ "${{{name}-}}" = {quoted(os.environ.get(name, ""))} ] || return 0' for name in ("TRACED_CC", "TRACED_CXX")]
-    lines += [f'[ "$0" = {quoted(files[0])} ] || return 0', f"is_private {quoted(library)} || return 0"]
+    files = [*own, *SOURCES, *HEADERS, *map(find_program, (plain, compiler, *launcher)), library]
+    listed = " ".join(map(quote_word, files))
+    lines = [
+        f'[ "${{{name}-}}" = {quote_word(os.environ.get(name, ""))} ] || return 0'
+        for name in ("TRACED_CC", "TRACED_CXX")
+    ]
+    lines += [f'[ "$0" = {quote_word(files[0])} ] || return 0', f"is_private {quote_word(library)} || return 0"]
     for each in {plain, compiler}:  # the first of its name on the path
-        lines.append(f'[ "$(command -v {quoted(each if each in names else os.path.basename(each))})" = {quoted(which(each))} ] || return 0')
+        lines.append(
+            f'[ "$(command -v {quote_word(each if each in names else os.path.basename(each))})" = '
+            f'{quote_word(find_program(each))} ] || return 0'
+        )
     try:
-        now = "\n".join(f"{status.st_ino}.{status.st_size}.{int(status.st_ctime)}" for status in map(os.stat, files))
-        lines.append(f'[ "$(stat -L -c %i.%s.%Z -- {listed} 2>&1)" = {quoted(now)} ] || return 0')
-        run = f"exec {quoted(compiler)}", f'"$@" {" ".join(map(quoted, flags))}'
-        endings = "|".join([*map(quoted, WITHOUT_LINK), "-dump*", "-print*", "-q*"])
-        lines += ['[ "$*" != --help ] || return 0', "link=", f"for word; do case $word in {endings}) link=; break ;; -*) ;; *) link=yes ;; esac; done",
-                  f'[ ! "$link" ] || {run[0]} {" ".join(map(quoted, link))} {run[1]}', " ".join(run)]
+        now = "\n".join(map(state, files))
+        lines.append(f'[ "$(stat -L -c %i.%s.%.9Z -- {listed} 2>&1)" = {quote_word(now)} ] || return 0')
+        run = " ".join(["exec", *map(quote_word, [*launcher, compiler])]), f'"$@" {" ".join(map(quote_word, flags))}'
+        endings = "|".join([*map(quote_word, WITHOUT_LINK), "-dump*", "-print*", "-q*"])
+        unsure = "|".join(["@*", "-x*", *(f"*{ending}" for ending in HEADER_ENDINGS)])  # `links` knows
+        cases = f"{endings}) link=; ask=; break ;; {unsure}) ask=yes ;; -*) ;; *) link=yes ;;"
+        lines += ['[ "$*" != --help ] || return 0', "link=", "ask=", f"for word; do case $word in {cases} esac; done", '[ ! "$ask" ] || return 0',
+                  f'[ ! "$link" ] || {run[0]} {" ".join(map(quote_word, link))} {run[1]}', " ".join(run)]
         with private_folder.cache("recipes") as place:
             place.replace(name, "\n".join(lines) + "\n")
-    except (OSError, Refused):
+    except (OSError, Refusal):
         pass
 
 
-def quoted(text: str) -> str:
+def state(path: str) -> str:
+    """What changes with a file, as the recipe asks `stat` for it: two changes in one second differ too."""
+    status = os.stat(path)
+    return f"{status.st_ino}.{status.st_size}.{status.st_ctime_ns // 10**9}.{status.st_ctime_ns % 10**9:09}"
+
+
+def quote_word(text: str) -> str:
     """A text as a word of a shell."""
     return "'" + text.replace("'", "'\\''") + "'"
 
@@ -163,25 +213,26 @@ def drive(words: list, is_for_cxx: bool) -> None:
     try:
         if words != ["--help"]:
             compile_traced(words, is_for_cxx)
-        from mte_scripts import texts
+        from mte_scripts import text_files
 
-        texts.write_help(HELP)
-    except Refused:
-        from mte_scripts import texts  # noqa: F401  which knows what the scripts are called here
+        text_files.write_help(HELP)
+    except Refusal:
+        from mte_scripts import text_files  # noqa: F401  which knows what the scripts are called here
 
         raise
 
 
 def compile_traced(words: list, is_for_cxx: bool) -> None:
     """Becomes the compiler."""
-    plain = found("TRACED_CC", "gcc", "clang")
-    compiler = found("TRACED_CXX", "g++", "clang++") if is_for_cxx else plain
+    plain = find_compiler("TRACED_CC", "gcc", "clang")
+    compiler = find_compiler("TRACED_CXX", "g++", "clang++") if is_for_cxx else plain
     library = runtime(plain)
     # the runtime comes before libc, so that its malloc is the program's
     link = ["-Wl,--push-state,--no-as-needed", library, "-Wl,--pop-state", f"-Wl,-rpath,{os.path.dirname(library)}"]
     flags = traced_flags(compiler, is_for_cxx)
-    leave_recipe(plain, compiler, library, link, flags)
+    launcher = command_of("TRACED_CXX" if is_for_cxx else "TRACED_CC")[:-1]
+    leave_recipe(plain, compiler, launcher, library, link, flags)
     try:
-        programs.take_place([compiler, *(link if links(words) else []), *words, *flags])
+        programs.take_place([*launcher, compiler, *(link if links(words) else []), *words, *flags])
     except OSError as error:
-        raise Refused(3, f"{compiler} can't be run: {error.strerror}") from None
+        raise Refusal(3, f"{compiler} can't be run: {error.strerror}") from None

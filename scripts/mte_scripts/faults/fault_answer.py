@@ -33,7 +33,7 @@ def new(judged: Judged) -> list[Entry]:
     return [entry for entry, value in zip(judged.found, judged.values) if value["state"] == "new"]
 
 
-def of_one(judged: Judged, options: argparse.Namespace) -> list[str]:
+def answer_of_one(judged: Judged, options: argparse.Namespace) -> list[str]:
     """The text of a process that was run alone."""
     log = judged.log
     if options.seeds:
@@ -41,7 +41,7 @@ def of_one(judged: Judged, options: argparse.Namespace) -> list[str]:
     return fault_report.tell(log, new(judged), judged.places, judged.odds) + fault_report.totals(log, new(judged), judged.answers)
 
 
-def of_many(processes: list[Judged], options: argparse.Namespace) -> list[str]:
+def answer_of_many(processes: list[Judged], options: argparse.Namespace) -> list[str]:
     """The text of many processes: each cause is told for the first of them, and how many more have it."""
     causes: "dict[tuple, list[tuple[Judged, Entry]]]" = {}
     for judged in processes:

@@ -68,7 +68,7 @@ def stacks_of(log: Log, errors: list[Error]) -> set[int]:
     return numbers | ({log.crash.stack} if log.crash else set())
 
 
-def its_calls(log: Log, error: Error, places: Places) -> "list[tuple]":
+def lifetime_calls(log: Log, error: Error, places: Places) -> "list[tuple]":
     """Of a use after free: the calls that made the block, freed it and used it, by the program's innermost functions and their callers. A
     block that has such three calls in common with another one is of one object with it, as a text with the struct that names it. What
     all have in common does not count: the program's first function."""
@@ -82,14 +82,14 @@ def its_calls(log: Log, error: Error, places: Places) -> "list[tuple]":
     return [(made, ended, used) for made, ended, used in ways if ended[0] != used[0]]
 
 
-def within(frames: list[Frame], others: list[Frame]) -> int:
+def count_own_frames(frames: list[Frame], others: list[Frame]) -> int:
     """How many of the innermost frames of a request or a free are of the function of the wrong access, or were called by it; 0 where that
     function did not make the request."""
     names = [(frame.function, frame.source) for frame in others[:SAME_CALLERS]]
     return names.index((frames[0].function, frames[0].source)) + 1 if frames and (frames[0].function, frames[0].source) in names else 0
 
 
-def apart(one: list[Frame], other: list[Frame]) -> "tuple[str, ...]":
+def frames_to_difference(one: list[Frame], other: list[Frame]) -> "tuple[str, ...]":
     """The innermost frames of a stack, up to the first in which another one differs: the ways of both through the same functions."""
     same = next((at for at, (left, right) in enumerate(zip(one, other)) if left.show() != right.show()), SAME_CALLERS - 1)
     return tuple(frame.show() for frame in one[: same + 1])
@@ -98,7 +98,7 @@ def apart(one: list[Frame], other: list[Frame]) -> "tuple[str, ...]":
 def of_both_frees(log: Log, stack: int, block: int, places: Places) -> tuple:
     """What two double frees of one cause have in common."""
     second, first = places.frames(stack), places.frames(max(log.ended[block], 0))
-    return apart(second, first), apart(first, second)
+    return frames_to_difference(second, first), frames_to_difference(first, second)
 
 
 def cause_of(entry: "Entry", log: Log, places: Places) -> tuple:
@@ -111,7 +111,9 @@ def cause_of(entry: "Entry", log: Log, places: Places) -> tuple:
 
     def lines(stack: int) -> "list[str]":
         frames = places.frames(stack)
-        return [frame.show() for frame in frames[: within(places.frames(entry.stack), frames) or SAME_CALLERS]]
+        return [
+            frame.show() for frame in frames[: count_own_frames(places.frames(entry.stack), frames) or SAME_CALLERS]
+        ]
 
     return entry.kind, line, tuple(lines(entry.made)), tuple(lines(entry.ended)) if entry.uses[0].error.state != "live" else ()
 
@@ -128,11 +130,16 @@ class Causes:
         self.of_region: "dict[tuple, tuple]" = {}
 
     def callers(self, stack: int) -> str:
-        return ",".join(self.log.stacks[max(stack, 0)].split(",")[:SAME_CALLERS])
+        """By their lines, so that two calls in one line are the same; by their addresses, where the lines are not known."""
+        return ",".join(map(self.call, self.log.stacks[max(stack, 0)].split(",")[:SAME_CALLERS]))
+
+    def call(self, pc: str) -> str:
+        frames = self.places.at(int(pc, 16)) if pc else []
+        return " ".join(frame.show() for frame in frames) if frames and all(frame.line for frame in frames) else pc
 
     def callers_within(self, error: Error, stack: int) -> str:
         frames = self.places.frames(max(stack, 0))
-        own = frames[: within(self.places.frames(error.stack), frames)]
+        own = frames[: count_own_frames(self.places.frames(error.stack), frames)]
         return " ".join(frame.show() for frame in own) or self.callers(stack)
 
     def of(self, error: Error) -> tuple:
@@ -158,7 +165,7 @@ class Causes:
     def of_use(self, kind: str, error: Error) -> tuple:
         """What a block's first wrong use is one cause with: another block's, or one of the object that it is of."""
         key: tuple = (kind, self.line(error.stack), self.callers_within(error, self.log.ended[error.block]))
-        ways = its_calls(self.log, error, self.places)
+        ways = lifetime_calls(self.log, error, self.places)
         if key not in self.known:
             key = next((self.of_object[kind, way] for way in ways if (kind, way) in self.of_object), key)
         self.of_object.update(((kind, way), key) for way in ways if (kind, way) not in self.of_object)

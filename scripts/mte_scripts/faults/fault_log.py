@@ -3,6 +3,7 @@
 A log of a large program has millions of records, so they stand in columns of numbers, and so do the blocks. A log may come from anywhere: a
 number that no program can have is refused before anything is made of it."""
 
+import contextlib
 import os
 import re
 import stat
@@ -13,12 +14,14 @@ from collections.abc import Iterator, Sequence
 from typing import BinaryIO, Optional
 
 from mte_scripts import checksum
+from mte_scripts.formats import LARGEST_SIZE
 
 WINDOW = 64  # the bytes of the longest access of a trace
 
 HEAD, FORM = 128, b"ACCESS1\0"
 MARK = struct.Struct("<5Q")  # length, sum, not_logged, state, check
-RUNNING, ENDED, CUT, NO_ROOM = 1, 2, 3, 4
+ORIGIN = struct.Struct("<QQ16s")  # dropped; the length and the name of what a fork's log goes on from
+RUNNING, ENDED, CUT, NO_ROOM, STOPPED = 1, 2, 3, 4, 5  # the last by AddressSanitizer
 MOST_BYTES = (1 << 30) + (8 << 20)  # the runtime takes a gibibyte, and a piece of eight mebibytes
 LONGEST_LINE = 4096
 MOST_SIZE = 1 << 47  # of an address space
@@ -29,6 +32,7 @@ PIECE = 1 << 20
 MOST_TIMES = 1 << 63
 STACK = re.compile(rb"([0-9]{1,10})(?::([0-9a-f]{1,16}(?:,[0-9a-f]{1,16}){0,15}))?")
 ADDRESS = re.compile(rb"[0-9a-f]{1,16}")
+STOP = "AddressSanitizer ended the program at its first error; built with -fsanitize-recover=address, it goes on"
 KERNEL = 128  # of a signal's codes: from 1 to below it, the address is that of the access
 SIGNALS = {4: "SIGILL", 6: "SIGABRT", 7: "SIGBUS", 8: "SIGFPE", 11: "SIGSEGV"}
 
@@ -41,9 +45,10 @@ class NoLog(Exception):
     """The file is no log."""
 
 
-class Error(namedtuple("Error", "letter block offset size stack state times poisoned unpoisoned", defaults=(1, None, None))):
+class Error(namedtuple("Error", "letter block offset size stack state times poisoned unpoisoned is_guess", defaults=(1, None, None, False))):
     """A wrong access or free. The letter is the log's: L, S, P, Q, V, x, o or n. The state is of the block then: live, freed or resized. Times is
-    how often it came. Of an access of poisoned memory, the Marks by which the program poisoned it, and unpoisoned it before."""
+    how often it came. Of an access of poisoned memory, the Marks by which the program poisoned it, and unpoisoned it before. `is_guess`: where it
+    begins, or of which block it is, is a guess."""
 
     def is_free(self) -> bool:
         return self.letter in "xon"
@@ -69,9 +74,47 @@ class Error(namedtuple("Error", "letter block offset size stack state times pois
         return begin, max(1, min(self.offset + self.size - begin, WINDOW))
 
 
-def opened(path: str) -> BinaryIO:
+def open_log(path: str) -> BinaryIO:
     """A file that is open for reading; a pipe is not waited for."""
     return open(path, "rb", opener=lambda path, how: os.open(path, how | os.O_NONBLOCK | os.O_NOCTTY))
+
+
+def pieces_of(path: str) -> "list[bytes]":
+    """The text of a fork's log: first what it shares with its parent's, which is in the same folder; before it its head.
+    Nothing of a log that has all of its text itself."""
+    pieces: "list[bytes]" = []
+    at, left, head = path, MOST_BYTES, b""
+    while left:
+        try:
+            with open_log(at) as file:
+                begin = file.read(HEAD) or b""
+                _, length, name = ORIGIN.unpack_from(begin.ljust(HEAD, b"\0"), HEAD - ORIGIN.size)
+                if not head and not length:
+                    return []
+                if not length < left or b"/" in name:
+                    raise NoLog
+                pieces.append(file.read(min(left - length, os.fstat(file.fileno()).st_size)) or b"")
+        except OSError:
+            if not head:
+                return []  # its reader says why
+            raise NoLog from None
+        head = head or begin
+        at, left = os.path.join(os.path.dirname(path), os.fsdecode(name.rstrip(b"\0"))), length
+    return [head[: HEAD - ORIGIN.size] + ORIGIN.pack(0, 0, b""), *reversed(pieces)]
+
+
+@contextlib.contextmanager
+def whole_log(path: str) -> "Iterator[str]":
+    """The path of a log with all of its text."""
+    pieces = pieces_of(path)
+    if not pieces:
+        yield path
+        return
+    descriptor = os.memfd_create("mte_tool")
+    with open(descriptor, "wb") as file:
+        file.writelines(pieces)
+        file.flush()
+        yield f"/proc/{os.getpid()}/fd/{descriptor}"
 
 
 class Text:
@@ -82,7 +125,7 @@ class Text:
         if not stat.S_ISREG(status.st_mode) or status.st_size > HEAD + MOST_BYTES:
             raise NoLog
         self.file, self.missing, self.is_damaged = file, [], False
-        self.length, self.sum, self.not_logged, self.state = 0, 0, 0, ENDED
+        self.length, self.sum, self.not_logged, self.state, self.dropped = 0, 0, 0, ENDED, 0
         head = file.read(HEAD)
         self.is_empty = not head.strip(b"\0")
         if self.is_empty:
@@ -91,6 +134,7 @@ class Text:
         if len(head) < HEAD or not head.startswith(FORM):
             raise NoLog
         (turn,) = struct.unpack_from("<Q", head, len(FORM))
+        self.dropped = ORIGIN.unpack_from(head, HEAD - ORIGIN.size)[0]
         marks: list[tuple] = [MARK.unpack_from(head, len(FORM) + 8 + at * MARK.size) for at in range(2)]
         if turn > 1 or not is_whole(marks[turn]):
             self._damaged("its head was overwritten")
@@ -122,7 +166,10 @@ class Text:
     def say_end(self) -> None:
         """Adds what is missing where all that there is of the log was read."""
         if self.state == CUT:
-            self.missing.append(f"the log could not grow at {self.length} bytes: what the program did later is not in it")
+            what = "of what the program did later it has wrong accesses and frees alone"
+            self.missing.append(f"the log could not grow at {self.length} bytes: {what}")
+        elif self.state == STOPPED:
+            self.missing.append(STOP)
         elif self.state == NO_ROOM:
             how = "raise `ulimit -v`, and don't set vm.overcommit_memory to 2"
             self.missing.append(f"the runtime had no room for its tables, and ended the program: {how}")
@@ -135,7 +182,7 @@ class Text:
 
 def is_whole(mark: tuple) -> bool:
     """Whether the check of a mark is right."""
-    return checksum.folded(mark[:4]) == mark[4]
+    return checksum.checksum_of(mark[:4]) == mark[4]
 
 
 class Log:
@@ -156,7 +203,7 @@ class Log:
         self.modules: list[Module] = []
         self.crash: Optional[Crash] = None
         self.status: Optional[int] = None
-        self.length, self.is_small = 0, False
+        self.length, self.is_small, self.left_out = 0, False, 0  # the last counts blocks that the log has nothing of
         self.alignment: dict[int, int] = {}  # of a block that was requested with a larger one than malloc's
         self._times: dict[int, int] = {}
         self._numbers = {0: 0}
@@ -166,7 +213,7 @@ class Log:
         self._taken_back: set[int] = set()
         self._marks: dict[int, array] = {}  # of a block: (offset, size, stack, 1 where the bytes were poisoned) of each call, in their order
         self._kept: Optional[list[int]] = None  # where some were taken back: the numbers in the log of the others
-        with opened(path) as file:
+        with open_log(path) as file:
             text = Text(file)
             self._read_all(text)
             text.say_end()
@@ -278,12 +325,38 @@ class Log:
             self._know(block)
         self.lost.add(block)
 
+    def _guess(self, _: bytes, words: "list[bytes]") -> None:
+        (number,) = map(int, words)
+        if not 0 < number <= len(self.errors):
+            raise NoLog
+        self.errors[number - 1] = self.errors[number - 1]._replace(is_guess=True)
+
+    def _leave_out(self, letter: bytes, words: "list[bytes]") -> None:
+        (number,) = map(int, words)
+        if not 0 <= number < MOST_SIZE:
+            raise NoLog
+        self.left_out += number
+        self._add(letter, number)
+
+    def _learn_stack(self, _: bytes, words: "list[bytes]") -> None:
+        (stack,) = words
+        self._stack(stack)
+
+    def _pass_over(self, letter: bytes, words: "list[bytes]") -> None:
+        """What the profile counts (z), and that handlers of signals requested blocks (h), is for the reader alone."""
+        numbers = list(map(int, words))
+        if len(numbers) != {b"z": 2, b"h": 0}[letter]:
+            raise NoLog
+        if numbers and not (0 <= numbers[0] <= LARGEST_SIZE + 1 and 0 < numbers[1] < MOST_SIZE):
+            raise NoLog
+
     READERS = {
         **dict.fromkeys((b"l", b"s"), _right),
         **dict.fromkeys((b"m", b"c"), _request),
         **dict.fromkeys((b"L", b"S", b"P", b"Q", b"V", b"x", b"o", b"n"), _wrong),
         **dict.fromkeys((b"p", b"u"), _mark),
         b"a": _align, b"f": _free, b"r": _resize, b"M": _module, b"-": _take_back, b"+": _again, b"C": _crash, b"e": _status, b"i": _ignore, b"k": _lose,
+        b"d": _leave_out, b"t": _learn_stack, b"z": _pass_over, b"h": _pass_over, b"g": _guess,
     }  # of a record, by its letter; one of another letter has no key
 
     def _parts(self, words: "list[bytes]") -> "tuple[list[int], int]":
@@ -299,7 +372,7 @@ class Log:
 
     def _know(self, block: int) -> None:
         """Makes place for a block, and for those before it."""
-        if not 0 < block <= len(self.size) + MOST_UNRECORDED - len(self.unrecorded):
+        if not 0 < block <= len(self.size) + MOST_UNRECORDED + self.left_out - len(self.unrecorded):
             raise NoLog
         while len(self.size) <= block:
             self.unrecorded.add(len(self.size))
@@ -307,9 +380,9 @@ class Log:
                 column.append(value)
 
     def _block(self, block: int, size: int, stack: int, chain: int) -> None:
-        if block < len(self.size) or not 0 <= size < MOST_SIZE:
-            raise NoLog
         self._know(block)
+        if block not in self.unrecorded or self.ended[block] != -1 or not 0 <= size < MOST_SIZE:
+            raise NoLog
         self.unrecorded.discard(block)
         self.size[block], self.made[block], self.chain[block] = size, stack, chain
 

@@ -1,5 +1,6 @@
 """Names the source lines of return addresses, by addr2line, nm and readelf of binutils."""
 
+import itertools
 import os
 import re
 import shutil
@@ -9,10 +10,11 @@ from collections import defaultdict, namedtuple
 from collections.abc import Iterable
 
 from mte_scripts.faults.fault_log import Log
-from mte_scripts.recording.calls import lines_at, named_at, without_parameters
+from mte_scripts.recording.calls import function_names, lines_at, without_parameters
 
 RUNTIME = "libmte_accesses.so"
-SYSTEM = ("/usr/lib", "/lib", "/usr/include")
+SYSTEM = ("/usr/lib/", "/usr/lib64/", "/lib/", "/lib64/", "/usr/include/")
+STARTS = ("__libc_start", "_start of ")  # what calls main
 LOADED = re.compile(r"(?m)^ +LOAD +0x(\w+) 0x(\w+) 0x\w+ 0x(\w+) ")  # a line of `readelf -l`: offset, address, bytes in the file
 
 
@@ -23,6 +25,10 @@ class Frame(namedtuple("Frame", "function source line module")):
     def is_own(self) -> bool:
         """Whether it is the program's, and not the system's."""
         return bool(self.source) and is_own(self.module) and is_own(self.source)
+
+    def is_nameless(self) -> bool:
+        """Whether it is of the program's file, which has no line of it."""
+        return not self.source and is_own(self.module) and os.path.basename(self.module) != RUNTIME
 
     def is_folded(self) -> bool:
         """Whether it tells nothing: it is of the runtime, or of the headers of a system's library, as a template is."""
@@ -64,7 +70,7 @@ class Places:
         for address, calls in lines_at("addr2line", path, asked).items():
             self._frames[address] = [Frame(without_parameters(name), source, line, path) for name, source, line in calls]
             del asked[address]
-        for address, name in named_at(path, asked).items():
+        for address, name in function_names(path, asked).items():
             self._frames[address] = [self._frames[address][0]._replace(function=f"{name} of {os.path.basename(path)}")]
 
     def at(self, address: int) -> list[Frame]:
@@ -72,11 +78,14 @@ class Places:
         return self._frames.get(address, [])
 
     def frames(self, stack: int) -> list[Frame]:
-        """The frames of a stack of the log, the innermost first. Those that tell nothing are folded, and so are those before the program's
-        first function; where none is the program's, all are there."""
+        """The frames of a stack of the log, the innermost first. Those that tell nothing are folded, and so are the system's around and between
+        the program's; where none is the program's, all are there. Of a program without symbols those of its file are its own."""
         whole = [frame for pc in self.log.stacks[stack].split(",") if pc for frame in self._frames.get(int(pc, 16), [])]
-        own = [at for at, frame in enumerate(whole) if frame.is_own()]
-        return [frame for frame in whole[own[0] : own[-1] + 1] if not frame.is_folded()] if own else whole
+        inside = list(itertools.takewhile(lambda frame: not frame.function.startswith(STARTS), whole))
+        own = [at for at, frame in enumerate(inside) if frame.is_own()] or [at for at, frame in enumerate(inside) if frame.is_nameless()]
+        if not own:
+            return whole
+        return [frame for frame in inside[own[0] : own[-1] + 1] if not frame.is_folded() and is_own(frame.module)]
 
     def show(self, stack: int, callers: bool = True) -> str:
         """The innermost place of a stack in the program's own sources, and its callers."""
@@ -85,8 +94,10 @@ class Places:
 
 
 def is_own(path: str) -> bool:
-    """Whether a file is the program's, and not the system's."""
-    return not path.startswith(SYSTEM) and "/bits/" not in path
+    """Whether a file is the program's, and not the system's: one of a system's folders, by whatever way, or a header of a C++ library.
+    scripts/shims/accesses/tell.c has the same rule."""
+    whole = os.path.normpath(path) if path.startswith("/") else path
+    return not whole.startswith(SYSTEM) and "/include/c++/" not in whole
 
 
 def loaded_segments(path: str) -> "list[tuple[int, ...]]":

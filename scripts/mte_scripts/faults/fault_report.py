@@ -5,15 +5,16 @@ from collections import Counter
 from collections.abc import Iterator
 
 from mte_scripts import html_safe
+from mte_scripts.entry_point import printable
 from mte_scripts.faults.fault_entries import CAUGHT, NOT_CAUGHT, NOT_REPLAYED, RESULTS, Entry, Left, block_of, entries, stacks_of
 from mte_scripts.faults.fault_log import Crash, Error, Log, Mark
 from mte_scripts.faults.fault_places import Places
 from mte_scripts.faults.heap_answers import Answers, Verdict
 from mte_scripts.faults.odds import Odds
-from mte_scripts.running import printable
 
 MOST_USES = 8  # of a cause that are shown
 PLACES = ("a block that was freed long ago", "an address that the heap never gave out", "memory that is not the heap's")  # by the offset
+GUESS = " (by a guess: AddressSanitizer does not tell where a call begins, nor whose pointer it is)"
 NO_END = "the program did not come to its end"  # of what a log misses
 
 
@@ -37,11 +38,13 @@ def outcome(verdict: Verdict, report: dict[int, str]) -> tuple[str, str]:
     return CAUGHT, f"tag fault, granule {granule} has tag {memory} ({kind}), the pointer tag {pointer} (event {verdict.event})"
 
 
-def found_by(log: Log, verdicts: list[Verdict], report: dict[int, str]) -> tuple[list[Entry], Places]:
+def find_entries(log: Log, verdicts: list[Verdict], report: dict[int, str]) -> tuple[list[Entry], Places]:
     """(the entries of a log after its replay, the Places that name their frames)."""
     places = Places(log)
     places.learn(stacks_of(log, log.errors))
-    return entries(log, [(verdict, *outcome(verdict, report)) for verdict in verdicts], places), places
+    outcomes = [outcome(verdict, report) for verdict in verdicts]
+    whys = [why + GUESS * error.is_guess for error, (_, why) in zip(log.errors, outcomes)]
+    return entries(log, [(verdict, result, why) for verdict, (result, _), why in zip(verdicts, outcomes, whys)], places), places
 
 
 def count(number: int, word: str) -> str:
@@ -69,7 +72,7 @@ def sentence(error: Error, log: Log) -> str:
     return f"{access}, {place_sentence(error, size, block)}"
 
 
-def gone(error: Error) -> str:
+def state_clause(error: Error) -> str:
     return "" if error.state == "live" else f" that was {error.state}"
 
 
@@ -79,19 +82,22 @@ def free_sentence(error: Error, block: str) -> str:
     if not error.block:
         return "free of a block that was freed long ago"
     if error.offset:
-        return f"free of a pointer {count(abs(error.offset), 'byte')} {'into' if error.offset > 0 else 'before'} {block}{gone(error)}"
-    return f"free of {block}{gone(error)}"
+        return (
+            f"free of a pointer {count(abs(error.offset), 'byte')} {'into' if error.offset > 0 else 'before'} "
+            f"{block}{state_clause(error)}"
+        )
+    return f"free of {block}{state_clause(error)}"
 
 
 def place_sentence(error: Error, size: int, block: str) -> str:
     """Where an access begins."""
     if error.offset < 0:
-        return f"{count(-error.offset, 'byte')} before {block}{gone(error)}"
+        return f"{count(-error.offset, 'byte')} before {block}{state_clause(error)}"
     if error.offset >= size:
-        return f"{count(error.offset - size, 'byte')} after {block}{gone(error)}"
+        return f"{count(error.offset - size, 'byte')} after {block}{state_clause(error)}"
     if error.state == "live" and not error.is_too_large() and not error.is_of_poison():
         return f"from {count(error.offset, 'byte')} into {block} to {count(error.offset + error.size - size, 'byte')} after it"
-    return f"{count(error.offset, 'byte')} into {block}{gone(error)}"
+    return f"{count(error.offset, 'byte')} into {block}{state_clause(error)}"
 
 
 def crash_sentence(crash: Crash) -> str:
@@ -105,7 +111,7 @@ def left_sentence(left: Left) -> str:
 def history(entry: Entry, log: Log, places: Places) -> list[str]:
     """Where the block of an entry was allocated, and freed or resized: a line each."""
     error = entry.uses[0].error
-    lines = [f"{did} at {places.show(mark.stack)}: {marked(mark, error)}" for did, mark in marks_of(error) if mark]
+    lines = [f"{did} at {places.show(mark.stack)}: {mark_clause(mark, error)}" for did, mark in marks_of(error) if mark]
     lines += [f"allocated at {places.show(entry.made)}"] if error.block else []
     lines += [f"{error.state} at {places.show(entry.ended)}"] if error.block and error.state != "live" else []
     for other in {use.error.block: use.error for use in entry.uses if block_of(use.error)}.values() if block_of(error) else ():
@@ -119,7 +125,7 @@ def marks_of(error: Error) -> "tuple[tuple, tuple]":
     return ("poisoned", error.poisoned), ("unpoisoned before", error.unpoisoned)
 
 
-def marked(mark: Mark, error: Error) -> str:
+def mark_clause(mark: Mark, error: Error) -> str:
     """Where an access is in the bytes that a call poisoned or unpoisoned."""
     apart = error.offset - mark.offset
     return f"{count(mark.size, 'byte')}, the access begins {count(abs(apart), 'byte')} {'into' if apart >= 0 else 'before'} them"

@@ -11,14 +11,14 @@ import json
 import os
 from collections import Counter, namedtuple
 
-from mte_scripts import texts
+from mte_scripts import text_files
+from mte_scripts.entry_point import Refusal
 from mte_scripts.faults import fault_entries
 from mte_scripts.faults.fault_entries import Entry
 from mte_scripts.faults.fault_log import Log
 from mte_scripts.faults.fault_places import Frame, Places
 from mte_scripts.faults.fault_report import count, crash_sentence, left_sentence, sentence
 from mte_scripts.faults.odds import Odds
-from mte_scripts.running import Refused
 
 FORM = 1  # of the JSON
 FRAMES_OF_ID = 3
@@ -35,15 +35,20 @@ LARGEST_FILE = 64 << 20
 Suppression = namedtuple("Suppression", "kind place line number")
 
 
-def all_of(log: Log, found: "list[Entry]", places: Places, odds: Odds) -> "list[dict]":
+def findings_of(log: Log, found: "list[Entry]", places: Places, odds: Odds) -> "list[dict]":
     """The findings of the entries of a log."""
     made = [finding(entry, log, places, odds) for entry in found]
+    number_ids(made)
+    return made
+
+
+def number_ids(values: "list[dict]") -> None:
+    """Numbers the ids of findings that agree in all that an id is made of."""
     seen: Counter[str] = Counter()
-    for each in made:
+    for each in values:
         seen[each["id"]] += 1
         if seen[each["id"]] > 1:
-            each["id"] = hashed(each["id"], str(seen[each["id"]]))
-    return made
+            each["id"] = hash_words(each["id"], str(seen[each["id"]]))
 
 
 def finding(entry: Entry, log: Log, places: Places, odds: Odds) -> dict:
@@ -52,7 +57,7 @@ def finding(entry: Entry, log: Log, places: Places, odds: Odds) -> dict:
     value = {
         "kind": entry.kind, "cwe": None, "result": entry.result, "times": 1, "odds": None, "block": None,
         "frames": as_values(frames), "ways": [as_values(places.frames(stack)) for stack in entry.ways], "allocated": as_values(made), "ended": as_values(ended), "uses": [],
-        "id": hashed(*named(entry.kind, frames, made, ended)),
+        "id": hash_words(*id_words(entry.kind, frames, made, ended)),
     }
     if entry.kind == fault_entries.CRASH:
         return value | {"what": crash_sentence(entry.crash), "why": entry.crash.signal}
@@ -71,12 +76,19 @@ def finding(entry: Entry, log: Log, places: Places, odds: Odds) -> dict:
     return value | {"cwe": cwe, "what": sentence(first.error, log), "why": deciding.why, "times": sum(use.times for use in entry.uses)}
 
 
-def named(kind: str, frames: list[Frame], made: list[Frame], ended: list[Frame]) -> list[str]:
+def id_words(kind: str, frames: list[Frame], made: list[Frame], ended: list[Frame]) -> list[str]:
     """The words that an id is made of. Callers are none of them where one function did all of it."""
-    if kind in (fault_entries.OVERFLOW, fault_entries.UNDERFLOW) and fault_entries.within(frames, made):
-        frames, made = frames[:1], made[: fault_entries.within(frames, made)]
-    if kind in (fault_entries.USE_AFTER_FREE, fault_entries.USE_AFTER_REALLOC) and fault_entries.within(frames, ended):
-        return [kind, *map(name_of, frames[:1]), "ended", *map(name_of, ended[: fault_entries.within(frames, ended)])]
+    if kind in (fault_entries.OVERFLOW, fault_entries.UNDERFLOW) and fault_entries.count_own_frames(frames, made):
+        frames, made = frames[:1], made[: fault_entries.count_own_frames(frames, made)]
+    if kind in (fault_entries.USE_AFTER_FREE, fault_entries.USE_AFTER_REALLOC) and fault_entries.count_own_frames(
+        frames, ended
+    ):
+        return [
+            kind,
+            *map(name_of, frames[:1]),
+            "ended",
+            *map(name_of, ended[: fault_entries.count_own_frames(frames, ended)]),
+        ]
     return [kind, *map(name_of, frames[:FRAMES_OF_ID]), "allocated", *map(name_of, made[:FRAMES_OF_ID])]
 
 
@@ -106,7 +118,7 @@ def name_of(frame: Frame) -> str:
     return f"{frame.function}@{os.path.basename(frame.source or frame.module or '')}"
 
 
-def hashed(*words: str) -> str:
+def hash_words(*words: str) -> str:
     return hashlib.sha256("\0".join(words).encode(errors="surrogateescape")).hexdigest()[:16]
 
 
@@ -135,13 +147,13 @@ def text(value: dict) -> str:
 
 def read(path: str) -> str:
     """The text of a file of suppressions, a baseline or a tombstone."""
-    content = texts.read(path, LARGEST_FILE + 1)
+    content = text_files.read(path, LARGEST_FILE + 1)
     if len(content) > LARGEST_FILE:
-        raise Refused(2, f"{path} is too long")
+        raise Refusal(2, f"{path} is too long")
     try:
         return content.decode()
     except UnicodeDecodeError:
-        raise Refused(2, f"{path} is no text") from None
+        raise Refusal(2, f"{path} is no text") from None
 
 
 def suppressions(path: str) -> list[Suppression]:
@@ -153,7 +165,9 @@ def suppressions(path: str) -> list[Suppression]:
             continue
         kind, _, place = (word.strip() for word in line.partition(":"))
         if not kind or not place or not any(fnmatch.fnmatchcase(kind_id(each), kind) for each in CWES):
-            raise Refused(2, f"{path}, line {number}: it is no KIND:PLACE, with a kind of {', '.join(map(kind_id, CWES))}")
+            raise Refusal(
+                2, f"{path}, line {number}: it is no KIND:PLACE, with a kind of {', '.join(map(kind_id, CWES))}"
+            )
         found.append(Suppression(kind, place, line, number))
     return found
 
@@ -171,7 +185,7 @@ def baseline(path: str) -> dict[str, str]:
             raise ValueError
         return {each["id"]: title(each) for process in value["processes"] for each in process["findings"]}
     except (ValueError, KeyError, TypeError, AttributeError, RecursionError):
-        raise Refused(2, f"{path} is no --json of find_faults") from None
+        raise Refusal(2, f"{path} is no --json of find_faults") from None
 
 
 def matches(suppression: Suppression, value: dict) -> bool:

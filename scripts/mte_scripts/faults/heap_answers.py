@@ -10,10 +10,10 @@ from collections import namedtuple
 from collections.abc import Iterator
 from pathlib import Path
 
+from mte_scripts.entry_point import Refusal
 from mte_scripts.faults import heap_reader
-from mte_scripts.faults.fault_log import Error, Log, NoLog, Text, opened
+from mte_scripts.faults.fault_log import Error, Log, NoLog, Text, open_log
 from mte_scripts.formats import FARTHEST_ACCESS, FARTHEST_MOVE, LARGEST_SIZE
-from mte_scripts.running import Refused
 
 LARGE = 4 << 20  # bytes of a log that is told by a small one
 TOGETHER = 8  # seeds of one reader; the heaps of more would be more than a processor keeps at hand
@@ -47,6 +47,7 @@ NOT_OF_HEAP = "its memory is not the heap's"
 POISONED = "the program itself poisoned it, and the heap has no tag for that"
 OVERLAPS = "both of its places are inside of blocks"
 NO_SLOT = "its block has no slot: its class is exhausted"
+LEFT_OUT = "who had its slot since is not in the log, which would have been too long"
 
 
 class Answers:
@@ -61,9 +62,9 @@ class Answers:
     def small(cls, path: str, heap: "tuple[int, int, int]", seeds: "list[int]", least: int = LARGE) -> "tuple[Log, Answers] | None":
         """The small log of a large one with its answers, or None where there is none."""
         try:
-            with opened(path) as file:
+            with open_log(path) as file:
                 text = Text(file)
-            if text.is_damaged or text.length < least:
+            if text.is_damaged or text.length < least and not text.dropped:
                 return None
             answers = cls.__new__(cls)
             answers._read(None, path, text.length, heap, seeds, text.sum)
@@ -93,11 +94,12 @@ class Answers:
         self.facts = [facts(first[1 + at * each[0]]) for at in kept]
         self.said = [[output[2 + at * size + k] for at in kept] for output, size in zip(outputs, each) for k in range(size - 1)]
         self.verdicts = [verdict(*both, self.log) for both in zip(self.log.errors, self.facts)]
-        self.reports = [{its.event: line for its, line in zip(self.facts, lines) if its.event and line} for lines in self.said]
+        self.reports = [{its.event: line for its, line in zip(self.facts, lines) if its.event > 0 and line} for lines in self.said]
         ends = [list(map(int, output[-1].split())) for output in outputs]
         self.conflicts, self.events, exhausted = sum(end[0] for end in ends), ends[0][1], ends[0][2]
         large = sum(int(line.split()[1]) for line in self.profile.decode().splitlines() if line.startswith("large"))
-        self.left_out = {words: number for words, number in (("large blocks", large), ("blocks without a slot", exhausted)) if number}
+        counts = ("large blocks", large), ("blocks without a slot", exhausted), ("blocks of which the log has no more", ends[0][3])
+        self.left_out = {words: number for words, number in counts if number}
 
     def differences(self) -> "Iterator[str]":
         """Where the heap and the laws do not agree."""
@@ -111,7 +113,7 @@ class Answers:
     def replayed(self, report: "dict[int, str]") -> "Iterator[str]":
         """Where the replay of the trace says something else of an error than the heap did."""
         for its, line in zip(self.facts, self.said[0]):
-            if its.event and report.get(its.event, "") != line:
+            if its.event > 0 and report.get(its.event, "") != line:
                 yield f"event {its.event}: the heap says {line or 'nothing'}, the replay {report.get(its.event, 'nothing')}"
 
 
@@ -128,7 +130,9 @@ def run(words: list) -> "list[str]":
     if done.returncode == 4:
         raise NoLog(done.stderr.strip())
     if done.returncode:
-        raise Refused(3, f"the log can't be told: {done.stderr.strip() or f'its reader ended with status {done.returncode}'}")
+        raise Refusal(
+            3, f"the log can't be told: {done.stderr.strip() or f'its reader ended with status {done.returncode}'}"
+        )
     return done.stdout.split("\n")[:-1]
 
 
@@ -148,7 +152,7 @@ def why_not_asked(error: Error, its: Facts, log: Log) -> "tuple[str, str] | None
     if size > LARGEST_SIZE:
         return "large", LARGE_BLOCK
     if not its.generation:
-        return "left", NO_SLOT
+        return "left", LEFT_OUT if its.event < 0 else NO_SLOT
     if error.is_free() and error.offset % GRANULE:
         return "ruled", MISPLACED
     is_far = abs(error.offset) > GRANULE * FARTHEST_MOVE * MOST_MOVES if error.is_free() else abs(error.window(size)[0]) > FARTHEST_ACCESS
@@ -161,7 +165,7 @@ def verdict(error: Error, its: Facts, log: Log) -> Verdict:
     if error.is_free():
         before, at = its.granules
         is_chunk = before.kind == "header" and at.kind == "other"
-        return Verdict("asked", freeing(its, before, at), its.event, True, meets(its, at) if is_chunk else None)
+        return Verdict("asked", free_promise(its, before, at), its.event, True, meets(its, at) if is_chunk else None)
     promise = access(its)
     if promise.reason == LAST_GRANULE and error.state == "resized":
         promise = promise._replace(reason=IN_PLACE)
@@ -202,7 +206,7 @@ def compare(its: Facts, granule: Granule) -> "tuple[bool | None, str]":
     return (True, "law_freed") if granule.generation == its.generation + 1 and granule.kind == "other" else (None, REUSED)
 
 
-def freeing(its: Facts, before: Granule, at: Granule) -> Promise:
+def free_promise(its: Facts, before: Granule, at: Granule) -> Promise:
     """What the laws say of a free of a pointer to the second of these granules."""
     if before.kind != "header":
         return Promise("refused", "refused misplaced", "law_own_pointer")

@@ -12,7 +12,7 @@ SCUDO_ROOMS = tuple(GRANULE * granules for granules in (
 UNBOUNDED = 1 << 60
 
 
-def rounded(size: int) -> int:
+def round_to_granule(size: int) -> int:
     return -(-size // GRANULE) * GRANULE
 
 
@@ -39,12 +39,12 @@ class Slot:
 
     def resize(self, size: int) -> None:
         """Sets the tags as a realloc in place does: of what the block grows by, and of the granule after it."""
-        self.marks = {mark for mark in self.marks if mark >= rounded(size)} | {rounded(size)}
-        self.size, self.drawn = size, max(self.drawn, rounded(size))
+        self.marks = {mark for mark in self.marks if mark >= round_to_granule(size)} | {round_to_granule(size)}
+        self.size, self.drawn = size, max(self.drawn, round_to_granule(size))
 
 
 @dataclass(frozen=True)
-class Past:
+class BlockPast:
     """Of the block of an error, when it comes."""
 
     slot: Slot  # of Scudo
@@ -79,6 +79,10 @@ class Histories:
             self.cut.add(block)
         self._take(block, size, alignment)
 
+    def leave_out(self, number: int) -> None:
+        """So many requests and frees came of which nothing is known."""
+        self.requests, self.frees, self.has_freed = self.requests + number + 1, self.frees + number + 1, True
+
     def free(self, block: int, size: int) -> None:
         self.frees, self.has_freed = self.frees + 1, True
         self._give_back(block, size)
@@ -106,7 +110,7 @@ class Histories:
         if self._is_wanted(old):
             self.ended[old] = self.requests, self.frees
 
-    def past(self, block: int, is_known: bool = True) -> Past:
+    def past(self, block: int, is_known: bool = True) -> BlockPast:
         """`is_known`: no block is without a record."""
         requests, frees = self.ended.get(block, (None, self.frees))
         before, at = self.made.get(block, (0, -1))
@@ -119,7 +123,15 @@ class Histories:
         # a small log lacks other blocks' requests and frees
         cut_from = before if at == self.requests and not self.is_small else 0
         copy = replace(slot, marks=set(slot.marks))
-        return Past(copy, since, 1 if self.is_small else self.frees - frees, block in self.cut, block in self.aligned, cut_from, tuple(later))
+        return BlockPast(
+            copy,
+            since,
+            1 if self.is_small else self.frees - frees,
+            block in self.cut,
+            block in self.aligned,
+            cut_from,
+            tuple(later),
+        )
 
     def _is_wanted(self, block: int) -> bool:
         return self.wanted is None or block in self.wanted
@@ -128,7 +140,7 @@ class Histories:
         return self.rooms.get(block) or room_of(size)
 
     def _take(self, block: int, size: int, alignment: int) -> None:
-        room = room_of(rounded(size) + alignment - GRANULE) if alignment > GRANULE else room_of(size)
+        room = room_of(round_to_granule(size) + alignment - GRANULE) if alignment > GRANULE else room_of(size)
         if alignment > GRANULE:
             self.rooms[block] = room
             self.aligned.add(block)
@@ -140,7 +152,7 @@ class Histories:
 
     def _give_back(self, block: int, size: int) -> None:
         room = self._room(block, size)
-        self.freed[room] = max(self.freed.get(room, 0), rounded(size))
+        self.freed[room] = max(self.freed.get(room, 0), round_to_granule(size))
         if self._is_wanted(block):
             self.ended[block] = self.requests, self.frees
         if block in self.slots:
@@ -148,7 +160,7 @@ class Histories:
 
     def _lose(self, old: int, new: int, old_size: int, size: int, slot: "Slot | None") -> None:
         """Where it is not known whether a realloc moved a block, its slot may have any class."""
-        self.freed[0] = max(self.freed.get(0, 0), rounded(old_size), rounded(size))
+        self.freed[0] = max(self.freed.get(0, 0), round_to_granule(old_size), round_to_granule(size))
         lost = slot or Slot(size, 0, 0)
         lost.is_lost = True
         self.slots[old] = self.slots[new] = lost
@@ -156,5 +168,5 @@ class Histories:
 
 def room_of(size: int) -> int:
     """The bytes that Scudo gives to a request: those of its class; to one that has pages of its own the whole granules."""
-    at = bisect_left(SCUDO_ROOMS, rounded(size))
-    return SCUDO_ROOMS[at] if at < len(SCUDO_ROOMS) else rounded(size)
+    at = bisect_left(SCUDO_ROOMS, round_to_granule(size))
+    return SCUDO_ROOMS[at] if at < len(SCUDO_ROOMS) else round_to_granule(size)

@@ -13,15 +13,15 @@ from functools import lru_cache
 
 from mte_scripts.faults.fault_log import Log
 from mte_scripts.faults.heap_answers import Meeting, Verdict
-from mte_scripts.faults.histories import GRANULE, Histories, Past
+from mte_scripts.faults.histories import GRANULE, BlockPast, Histories
 from mte_scripts.faults.other_heaps import ALL, EVEN, PADDED, on_glibc, on_scudo
-from mte_scripts.faults.real_heaps import Measured
-from mte_scripts.faults.shares import ALWAYS, NEVER, UNKNOWN, Share, as_value, in_words, together
+from mte_scripts.faults.real_heaps import Measurement
+from mte_scripts.faults.shares import ALWAYS, NEVER, UNKNOWN, Share, as_value, combine_shares, in_words
 
 ODD = 8  # how many tags a slot takes that has an even number; one with an odd one takes EVEN, and without parity each takes ALL
 LONGEST_CHAIN = 200  # of draws: from there on the last tag is as good as independent of the first, to more than 100 digits
 MOST_DRAWS, MOST_PAIRS = 8, 16  # that are counted together; of more, these are
-ERROR, RESIZED, FREED, REQUESTS = ord("E"), ord("r"), ord("f"), b"mc"  # letters of records
+ERROR, RESIZED, FREED, LEFT_OUT, REQUESTS = ord("E"), ord("r"), ord("f"), ord("d"), b"mc"  # letters of records
 HEAPS = ("this heap", "without parity", "Scudo", "glibc")
 
 Draw = tuple[int, int, bool]  # slot, generation, and whether it is the draw of its free
@@ -43,14 +43,14 @@ def tags_of(slot: int, has_parity: bool) -> int:
     return ALL if not has_parity else EVEN if slot % 2 else ODD
 
 
-def missed(pairs: "Iterable[Pair]", has_parity: bool) -> "tuple[Fraction, bool]":
+def miss_probability(pairs: "Iterable[Pair]", has_parity: bool) -> "tuple[Fraction, bool]":
     """How probable it is that both draws of each pair have the same tag: (probability, whether it is exact and no upper bound)."""
     every = sorted(set(pairs))
     kept: list[Pair] = []
     for pair in every[:MOST_PAIRS]:
         if all(len(draws) <= MOST_DRAWS for draws in components([*kept, pair])[0].values()):
             kept.append(pair)
-    find = joined(kept)
+    find = join_draws(kept)
     draws_in, links_in = components(kept)
     found = Fraction(1)
     for component, draws in draws_in.items():
@@ -62,7 +62,7 @@ def missed(pairs: "Iterable[Pair]", has_parity: bool) -> "tuple[Fraction, bool]"
     return found, len(kept) == len(every)
 
 
-def joined(pairs: "Iterable[Pair]") -> "Callable[[Draw], Draw]":
+def join_draws(pairs: "Iterable[Pair]") -> "Callable[[Draw], Draw]":
     """A function that gives the same draw for all draws that pairs join."""
     root: dict[Draw, Draw] = {}
 
@@ -86,7 +86,7 @@ def components(pairs: "Iterable[Pair]") -> "tuple[dict, dict]":
         given = sorted(draw for draw in draws if not draw[2])
         links += [(one, other, other[1] - one[1]) for one, other in zip(given, given[1:])]
         links += [((draw[0], draw[1], False), draw, 1) for draw in draws if draw[2]]
-    find = joined([link[:2] for link in links] + list(pairs))
+    find = join_draws([link[:2] for link in links] + list(pairs))
     draws_in: dict[Draw, list] = defaultdict(list)
     links_in: dict[Draw, list] = defaultdict(list)
     for draw in sorted(set().union(*by_slot.values())):
@@ -131,7 +131,7 @@ def on_this_heap(verdicts: list[Verdict], has_parity: bool = True) -> Share:
     different = [pair for pair in pairs if pair[0] != pair[1]]
     if not different:
         return NEVER if is_exact else UNKNOWN
-    found, is_counted = missed(different, has_parity)
+    found, is_counted = miss_probability(different, has_parity)
     return Share(1 - found, is_exact and is_counted)
 
 
@@ -143,11 +143,11 @@ def is_surely_caught(meeting: "Meeting | None", has_parity: bool) -> bool:
     return one[0] == other[0] and distance == 1
 
 
-def pasts(log: Log) -> "Iterator[Past]":
+def pasts(log: Log) -> "Iterator[BlockPast]":
     """Of each error, what its block went through."""
     chains = {log.chain[error.block] for error in log.errors if error.block}
     wanted = {block for block, chain in enumerate(log.chain) if chain in chains}
-    histories = Histories(wanted, log.is_small)
+    histories = Histories(wanted, log.is_small or log.left_out > 0)
     for letter, one, two, three in zip(log.letters, log.first, log.second, log.third):
         if letter == ERROR:
             yield histories.past(log.errors[one].block, not log.unrecorded)
@@ -155,6 +155,8 @@ def pasts(log: Log) -> "Iterator[Past]":
             histories.free(one, log.size[one])
         elif letter == RESIZED:
             histories.resize(one, two, log.size[one], three, one not in log.unrecorded)
+        elif letter == LEFT_OUT:
+            histories.leave_out(one)
         elif letter in REQUESTS:
             histories.request(one, two, log.alignment.get(one, GRANULE))
 
@@ -162,7 +164,7 @@ def pasts(log: Log) -> "Iterator[Past]":
 class Odds:
     """verdicts: of each error of the log. measured: what Scudo and glibc made of them, if they were played."""
 
-    def __init__(self, log: Log, verdicts: list[Verdict], measured: "Measured | None" = None) -> None:
+    def __init__(self, log: Log, verdicts: list[Verdict], measured: "Measurement | None" = None) -> None:
         self.log, self.verdicts, self.measured = log, verdicts, measured
         self.pasts = list(pasts(log)) if log.errors else []
 
@@ -175,7 +177,12 @@ class Odds:
         """The shares of the errors with these numbers, which are one entry, in the order of HEAPS."""
         verdicts = [self.verdicts[number] for number in numbers]
         scudo, glibc = zip(*map(self._elsewhere, numbers))
-        return [on_this_heap(verdicts), on_this_heap(verdicts, has_parity=False), together(scudo), together(glibc)]
+        return [
+            on_this_heap(verdicts),
+            on_this_heap(verdicts, has_parity=False),
+            combine_shares(scudo),
+            combine_shares(glibc),
+        ]
 
     def values(self, numbers: list[int]) -> dict[str, dict]:
         """What a machine reads of them, by heap."""

@@ -1,9 +1,9 @@
-"""How probable it is that Scudo and glibc catch an error, wherever its blocks are. scripts/tests/real_heaps compares each rule with what
+"""How probable it is that Scudo and glibc catch an error, wherever its blocks are. scripts/tests/test_real_heaps.py compares each rule with what
 they do: LLVM 19's Scudo with Android's classes and pages of 4,096 bytes, with and without its odd and even tags, and glibc 2.36 with
 mem.tagging=3."""
 
 from mte_scripts.faults.fault_log import Error
-from mte_scripts.faults.histories import GRANULE, PAGE, Past, Slot, rounded
+from mte_scripts.faults.histories import GRANULE, PAGE, BlockPast, Slot, round_to_granule
 from mte_scripts.faults.shares import ALWAYS, NEVER, UNKNOWN, Share, at_least
 
 EVEN, ALL = 7, 15  # tags that Scudo draws from with its odd and even tags, or more; and that glibc draws from
@@ -50,7 +50,7 @@ def meets(begin: int, end: int, granule: int) -> bool:
     return begin < granule + GRANULE and end > granule
 
 
-def on_scudo(error: Error, size: int, past: Past) -> Share:
+def on_scudo(error: Error, size: int, past: BlockPast) -> Share:
     """`size`: of the block that the error names."""
     if not error.block:
         return CHECKSUM if error.letter == "n" else NO_BLOCK
@@ -61,13 +61,17 @@ def on_scudo(error: Error, size: int, past: Past) -> Share:
     begin, end = span(error, size)
     if past.slot.is_large:
         return on_large(past.slot, past, begin, end)
-    share = around(past.slot, past, begin, end)
+    share = around_slot(past.slot, past, begin, end)
     if share is not None:
         return share
-    return on_sure(error, past, begin, end) if past.slot.is_live or past.since == 0 else on_reused(past.slot, begin, end)
+    return (
+        on_sure(error, past, begin, end)
+        if past.slot.is_live or past.since == 0
+        else on_reused_slot(past.slot, begin, end)
+    )
 
 
-def free_on_scudo(error: Error, past: Past) -> Share:
+def free_on_scudo(error: Error, past: BlockPast) -> Share:
     """No free asks the pointer's tag: it reads the header before the address, by tag 0."""
     slot = past.slot
     if error.offset % GRANULE:
@@ -79,13 +83,13 @@ def free_on_scudo(error: Error, past: Past) -> Share:
         return IN_PLACE
     if error.offset == 0:
         return ALWAYS.since("its header says that it is free") if is_sure else TAKEN
-    if is_sure and not slot.is_large and GRANULE <= error.offset <= rounded(slot.size):
+    if is_sure and not slot.is_large and GRANULE <= error.offset <= round_to_granule(slot.size):
         return ALWAYS.since("what it takes for a header has another tag than 0")
     # no block begins where a slot does
     return CHECKSUM if error.offset == -GRANULE and slot.is_plain and not slot.is_large else NO_RULE
 
 
-def on_large(slot: Slot, past: Past, begin: int, end: int) -> Share:
+def on_large(slot: Slot, past: BlockPast, begin: int, end: int) -> Share:
     """A large block has no tag, and ends where a page does, if it was requested with no alignment."""
     if not slot.is_plain:
         return FAR_AWAY
@@ -97,7 +101,7 @@ def on_large(slot: Slot, past: Past, begin: int, end: int) -> Share:
     return UNMAPPED if past.since == 0 and -GRANULE <= begin < slot.room else TAKEN
 
 
-def around(slot: Slot, past: Past, begin: int, end: int) -> "Share | None":
+def around_slot(slot: Slot, past: BlockPast, begin: int, end: int) -> "Share | None":
     """What holds whoever had the slot, and outside it."""
     if meets(begin, end, -GRANULE):
         return HEADER if slot.is_plain or slot.is_live or past.since == 0 else REUSED
@@ -110,33 +114,33 @@ def around(slot: Slot, past: Past, begin: int, end: int) -> "Share | None":
     return ELSEWHERE if slot.is_plain and begin > slot.room else None
 
 
-def on_sure(error: Error, past: Past, begin: int, end: int) -> Share:
+def on_sure(error: Error, past: BlockPast, begin: int, end: int) -> Share:
     """In a slot that had no other user since: the block's own draw, or that of its free, and granules with tag 0."""
     slot = past.slot
-    if not slot.is_live and begin < rounded(slot.size):
+    if not slot.is_live and begin < round_to_granule(slot.size):
         return REDRAWN
     if any(meets(begin, end, mark) for mark in slot.marks):
         return MARK
-    if end <= rounded(slot.size):
+    if end <= round_to_granule(slot.size):
         return IN_PLACE if error.state == "resized" else LAST_GRANULE
     if end <= slot.drawn:
         return CUT_OFF if slot.is_live or not past.frees else GIVEN_BACK
-    return LARGER_BEFORE if rounded(end) <= max(slot.drawn, slot.doubtful) else REUSED
+    return LARGER_BEFORE if round_to_granule(end) <= max(slot.drawn, slot.doubtful) else REUSED
 
 
-def on_reused(slot: Slot, begin: int, end: int) -> Share:
+def on_reused_slot(slot: Slot, begin: int, end: int) -> Share:
     """In a slot that may have had other users since the free."""
-    is_beyond = begin >= rounded(slot.size) + GRANULE
-    return TAKEN if is_beyond and rounded(end) <= max(slot.drawn, slot.doubtful) else REUSED
+    is_beyond = begin >= round_to_granule(slot.size) + GRANULE
+    return TAKEN if is_beyond and round_to_granule(end) <= max(slot.drawn, slot.doubtful) else REUSED
 
 
-def on_glibc(error: Error, size: int, past: Past) -> Share:
+def on_glibc(error: Error, size: int, past: BlockPast) -> Share:
     """`size`: of the block that the error names."""
     if not error.block or size > GLIBC_HEAP:
         return NOT_ON_HEAP if error.block else NO_BLOCK
     if error.state == "resized" and (not past.later or max(past.later) > GLIBC_HEAP):
         return NOT_ON_HEAP
-    if error.state == "resized" and all(rounded(later) == rounded(size) for later in past.later):
+    if error.state == "resized" and all(round_to_granule(later) == round_to_granule(size) for later in past.later):
         return SAME_POINTER
     if error.is_free():
         if error.offset or error.state == "live":
@@ -147,16 +151,20 @@ def on_glibc(error: Error, size: int, past: Past) -> Share:
         return HEADER
     if not -GLIBC_BEFORE <= begin <= FAR:
         return FAR_AWAY
-    if error.state == "freed" and past.since == 0 and 0 <= begin < max(GRANULE, rounded(size)) + GRANULE:
+    if error.state == "freed" and past.since == 0 and 0 <= begin < max(GRANULE, round_to_granule(size)) + GRANULE:
         return FREE
-    return live_on_glibc(past, begin, end, max(GRANULE, rounded(size))) if error.state == "live" else OTHER_OF_GLIBC
+    return (
+        live_on_glibc(past, begin, end, max(GRANULE, round_to_granule(size)))
+        if error.state == "live"
+        else OTHER_OF_GLIBC
+    )
 
 
-def live_on_glibc(past: Past, begin: int, end: int, chunk: int) -> Share:
+def live_on_glibc(past: BlockPast, begin: int, end: int, chunk: int) -> Share:
     if 0 <= begin and end <= chunk:
         return LAST_GRANULE
     if past.is_aligned and 0 <= begin < chunk + GLIBC_SPARE:
         return SPARE if end <= chunk + GLIBC_SPARE else OTHER_OF_GLIBC
     if meets(begin, end, chunk):
         return PADDED if past.is_cut and end <= chunk + GRANULE else HEADER
-    return FREE if chunk < begin < rounded(past.cut_from) else OTHER_OF_GLIBC
+    return FREE if chunk < begin < round_to_granule(past.cut_from) else OTHER_OF_GLIBC

@@ -7,12 +7,13 @@ import shutil
 import subprocess
 from typing import NamedTuple
 
-from mte_scripts import texts
+from mte_scripts import text_files
+from mte_scripts.entry_point import Refusal
 from mte_scripts.faults.fault_log import Log
-from mte_scripts.running import Refused
+from mte_scripts.places import SCRIPTS
 from mte_scripts.tables import verification
 
-SOURCES = os.path.join(texts.SCRIPTS, "shims", "real_heaps")
+SOURCES = os.path.join(SCRIPTS, "shims", "real_heaps")
 COMPILER, LINKER, QEMU = "clang++", "aarch64-linux-gnu-gcc", "qemu-aarch64"
 TARGET = ["--target=aarch64-linux-gnu", "-march=armv8.5-a+memtag+crc", "-O2", "-w"]
 FLAGS = "-std=c++17 -fno-exceptions -fno-rtti -nostdinc++ -nostdlib++ -fno-threadsafe-statics -static -pthread".split()
@@ -44,7 +45,7 @@ HEAPS = (
 )
 
 
-class Measured(NamedTuple):
+class Measurement(NamedTuple):
     """What the heaps made of the errors of a log."""
 
     answers: dict[str, list[str]]  # of each heap, by what it says: a text for each run, with a letter for each question
@@ -68,7 +69,11 @@ def check(scudo: str) -> None:
     """Refuses a folder that has no sources of Scudo, and a machine that lacks a command."""
     verification.place(scudo)
     if absent := [name for name in (COMPILER, LINKER, QEMU) if not shutil.which(name)]:
-        raise Refused(3, f"there is no {absent[0]}, which the real heaps need (in Debian's clang, gcc-aarch64-linux-gnu and qemu-user)")
+        raise Refusal(
+            3,
+            f"there is no {absent[0]}, which the real heaps need (in Debian's clang, gcc-aarch64-linux-gnu and "
+            "qemu-user)",
+        )
 
 
 def build(scudo: str, folder: str) -> None:
@@ -79,9 +84,9 @@ def build(scudo: str, folder: str) -> None:
     header = os.path.join(source, "memtag.h")
     text = verification.read(header)
     if text.count(HEAD) != 1:
-        raise Refused(2, f"the Scudo in {scudo} draws its tags in another way than LLVM 19's")
+        raise Refusal(2, f"the Scudo in {scudo} draws its tags in another way than LLVM 19's")
     declared = 'extern "C" uptr uniform_tag(uptr, uptr);\n' + HEAD.replace(DRAW, DRAWN)
-    texts.write_file(header, text.replace(HEAD, declared).encode())
+    text_files.write_file(header, text.replace(HEAD, declared).encode())
     files = [path for path in sorted(glob.glob(os.path.join(glob.escape(source), "*.cpp"))) if not any(name in path for name in LEFT_OUT)]
     words = [COMPILER, *TARGET, *FLAGS, f"-I{source}", f"-I{source}/include", f"-I{SOURCES}", f"{SOURCES}/scudo.cpp", *files]
     verification.compile_with([*words, "-o", os.path.join(folder, "scudo")], folder, "Scudo for AArch64")
@@ -96,19 +101,19 @@ def play(folder: str, heap: Heap, events: list[str], runs: int) -> list[str]:
     try:
         done = subprocess.run(words, input="".join(line + "\n" for line in events), capture_output=True, text=True, timeout=SECONDS)
     except subprocess.TimeoutExpired:
-        raise Refused(3, f"{heap.says} did not play {len(events)} events in {SECONDS} seconds") from None
+        raise Refusal(3, f"{heap.says} did not play {len(events)} events in {SECONDS} seconds") from None
     lines = done.stdout.splitlines()
     if done.returncode or len(lines) != runs:
-        raise Refused(3, f"{heap.says} could not be played: {done.stderr.strip() or f'status {done.returncode}'}")
+        raise Refusal(3, f"{heap.says} could not be played: {done.stderr.strip() or f'status {done.returncode}'}")
     return [line for line in lines if line not in ("elsewhere", "broken")]
 
 
-def measured(folder: str, log: Log) -> Measured:
+def measure_log(folder: str, log: Log) -> Measurement:
     """Plays a whole log."""
     events, numbers = events_of(log)
     if len(events) > MOST_EVENTS or len(numbers) > MOST_QUESTIONS:
-        return Measured({}, [], f"as more than {MOST_EVENTS:,} events or {MOST_QUESTIONS:,} errors are not played")
-    return Measured({heap.says: play(folder, heap, events, RUNS) for heap in HEAPS} if numbers else {}, numbers, "")
+        return Measurement({}, [], f"as more than {MOST_EVENTS:,} events or {MOST_QUESTIONS:,} errors are not played")
+    return Measurement({heap.says: play(folder, heap, events, RUNS) for heap in HEAPS} if numbers else {}, numbers, "")
 
 
 def events_of(log: Log) -> "tuple[list[str], list[int]]":

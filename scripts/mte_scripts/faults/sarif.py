@@ -23,6 +23,7 @@ RULES = {
     fault_entries.CRASH: "The program was ended by a signal",
 }
 STATES = {"new": "new", "known": "unchanged"}
+MOST_RUNS_OF_FILE = 20  # that GitHub takes
 
 
 def rule(kind: str) -> dict:
@@ -32,7 +33,7 @@ def rule(kind: str) -> dict:
             "defaultConfiguration": {"level": "error"}, "properties": {"tags": tags, "security-severity": SEVERITY}}
 
 
-def quoted(text: str) -> str:
+def quote_for_uri(text: str) -> str:
     """A text as a part of a URI."""
     from urllib.parse import quote
 
@@ -48,7 +49,7 @@ def uri_of(path: str) -> str:
 
 def artifact(path: str) -> dict[str, str]:
     """Where a file is: under the root, or by its whole path."""
-    return {"uri": uri_of(path)} if os.path.isabs(path) else {"uri": quoted(path), "uriBaseId": ROOT}
+    return {"uri": uri_of(path)} if os.path.isabs(path) else {"uri": quote_for_uri(path), "uriBaseId": ROOT}
 
 
 def location(frame: dict, message: "str | None" = None) -> dict:
@@ -65,7 +66,7 @@ def stack(frames: list[dict], message: str) -> dict:
     return {"message": {"text": message}, "frames": made}
 
 
-def said(value: dict) -> str:
+def finding_text(value: dict) -> str:
     """The text of a finding."""
     parts = [value["what"][:1].upper() + value["what"][1:] + "."]
     if value["result"]:
@@ -79,8 +80,12 @@ def result(value: dict, kinds: list[str], has_baseline: bool) -> dict:
     stacks = [(value["frames"], "The wrong access" if value["kind"] != fault_entries.CRASH else "The crash"),
               (value["allocated"], "Allocated"), (value["ended"], "Freed or resized")]
     made = {
-        "ruleId": findings.kind_id(value["kind"]), "ruleIndex": kinds.index(value["kind"]), "level": "error", "message": {"text": said(value)},
-        "occurrenceCount": max(value["times"], 1), "partialFingerprints": {"findFaults/v1": value["id"]},
+        "ruleId": findings.kind_id(value["kind"]),
+        "ruleIndex": kinds.index(value["kind"]),
+        "level": "error",
+        "message": {"text": finding_text(value)},
+        "occurrenceCount": max(value["times"], 1),
+        "partialFingerprints": {"findFaults/v1": value["id"]},
         "stacks": [stack(frames, message) for frames, message in stacks if frames],
     }
     if value["frames"]:
@@ -97,27 +102,38 @@ def result(value: dict, kinds: list[str], has_baseline: bool) -> dict:
 
 
 def document(answer: dict, has_baseline: bool = False) -> dict:
-    """Of the answer of findings.document: a run for each process, with all rules."""
+    """Of the answer of findings.document: a run for each program, with all rules; one for all, where these are more than a code host takes."""
     kinds = list(RULES)
-    return {"$schema": SCHEMA, "version": "2.1.0", "runs": [run(process, answer, kinds, has_baseline) for process in answer["processes"]]}
+    programs = sorted({process["name"] for process in answer["processes"]})
+    names = programs if len(programs) <= MOST_RUNS_OF_FILE else [answer["program"]]
+    of_name = {name: [process for process in answer["processes"] if process["name"] == name or names != programs] for name in names}
+    runs = [run(name, processes, answer, kinds, has_baseline) for name, processes in of_name.items()]
+    return {"$schema": SCHEMA, "version": "2.1.0", "runs": runs}
 
 
-def run(process: dict, answer: dict, kinds: list[str], has_baseline: bool) -> dict:
-    missing = [{"level": "warning", "message": {"text": each}} for each in process["incomplete"]]
-    invocation = {"executionSuccessful": not missing}
+def run(name: str, processes: "list[dict]", answer: dict, kinds: "list[str]", has_baseline: bool) -> dict:
+    """What the processes of a program have, each cause once."""
+    said = dict.fromkeys(each for process in processes for each in process["incomplete"])
+    missing = [{"level": "warning", "message": {"text": each}} for each in said]
+    invocation: dict = {"executionSuccessful": not missing}
     if answer["ended"] is not None:
         invocation["exitCode"] = answer["ended"]
+    causes: "dict[str, dict]" = {}
+    for value in (each for process in processes for each in process["findings"]):
+        known = causes.setdefault(value["id"], value)
+        if known is not value:
+            causes[value["id"]] = {**known, "times": known["times"] + value["times"]}
     return {
         "tool": {"driver": {"name": "find_faults", "rules": [rule(kind) for kind in kinds]}},
-        "automationDetails": {"id": f"find_faults/{quoted(process['name'])}/"},
+        "automationDetails": {"id": f"find_faults/{quote_for_uri(name)}/"},
         "originalUriBaseIds": {ROOT: {"uri": uri_of(findings.root()).rstrip("/") + "/"}},
         "invocations": [invocation | ({"toolExecutionNotifications": missing} if missing else {})],
         "columnKind": "utf16CodeUnits",
-        "results": [result(each, kinds, has_baseline) for each in process["findings"]],
+        "results": [result(each, kinds, has_baseline) for each in causes.values()],
     }
 
 
-def escaped(text: str, of_property: bool = False) -> str:
+def escape_annotation(text: str, of_property: bool = False) -> str:
     """As the runner of GitHub's workflows reads it."""
     for mark, code in (("%", "%25"), ("\r", "%0D"), ("\n", "%0A"), *(((":", "%3A"), (",", "%2C")) if of_property else ())):
         text = text.replace(mark, code)
@@ -132,6 +148,7 @@ def annotations(answer: dict) -> Iterator[str]:
             continue
         told.add(value["id"])
         place = next((frame for frame in value["frames"] if frame["file"] and not os.path.isabs(frame["file"])), None)
-        where = f"file={escaped(place['file'], True)},line={place['line'] or 1}," if place else ""
+        where = f"file={escape_annotation(place['file'], True)},line={place['line'] or 1}," if place else ""
         callers = "".join(f"\nfrom {findings.place(frame)}" for frame in value["frames"][1:])
-        yield f"::error {where}title={escaped(RULES[value['kind']], True)}::{escaped(said(value) + callers)}"
+        title, words = escape_annotation(RULES[value["kind"]], True), escape_annotation(finding_text(value) + callers)
+        yield f"::error {where}title={title}::{words}"

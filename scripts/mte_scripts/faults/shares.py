@@ -26,7 +26,7 @@ def at_least(number: int, of: int) -> Share:
     return Share(Fraction(number, of), False)
 
 
-def together(shares: "tuple[Share, ...]") -> Share:
+def combine_shares(shares: "tuple[Share, ...]") -> Share:
     """The share of an entry: that at least one of its errors is caught, where it is not known how they hang together."""
     if all(share == NEVER for share in shares):
         return shares[0]

@@ -10,13 +10,13 @@ from collections import namedtuple
 from collections.abc import Iterator
 from typing import Any
 
+from mte_scripts.entry_point import Refusal
 from mte_scripts.faults import fault_entries, findings
 from mte_scripts.faults.fault_entries import CAUGHT, Entry, Use
 from mte_scripts.faults.fault_log import Error
 from mte_scripts.faults.fault_places import RUNTIME
 from mte_scripts.faults.fault_report import count
 from mte_scripts.recording.calls import without_parameters
-from mte_scripts.running import Refused
 
 BASE, TAG_SHIFT = 0x7000_0000_0000, 56
 GRANULE = 16
@@ -117,7 +117,7 @@ def read(text: str) -> Tombstone:
     """A Tombstone of the text of one."""
     signal = SIGNAL.search(text)
     if not signal:
-        raise Refused(2, "the tombstone has no line `signal N (NAME), code N (NAME)`")
+        raise Refusal(2, "the tombstone has no line `signal N (NAME), code N (NAME)`")
     causes = []
     for kind, distance, side, size in CAUSE.findall(text):
         offset = {"into": int(distance), "left of": -int(distance), "right of": int(size) + int(distance)}[side]

@@ -10,22 +10,24 @@ import argparse
 from collections.abc import Iterable, Sequence
 from typing import Any, NamedTuple, Optional
 
-from mte_scripts import claims, texts
+from mte_scripts import certificate_texts, claim_words, claims, count_texts
+from mte_scripts.entry_point import Refusal
 from mte_scripts.fleet.loads import GRANULE, Load
+from mte_scripts.formats import MOST_CLASSES, MOST_COUNT, MOST_SNAPSHOTS
 from mte_scripts.tables import figures
-from mte_scripts.texts import MOST_COUNT, MOST_SNAPSHOTS, Refused
+
 
 AMONG_HELP = """\
   --limit K          among tables of at most K classes, 1 to 32; 32 where it is left out
   --step S           whose classes are multiples of S granules of 16 bytes: 1, 2, 4 or 8; 1 where it is left out
   --no-largest       without it, only tables with class 1024 are meant, which serve every size that any can"""
-AMONG_DEFAULTS: "dict[str, Any]" = {"limit": texts.MOST_CLASSES, "step": 1}
+AMONG_DEFAULTS: "dict[str, Any]" = {"limit": MOST_CLASSES, "step": 1}
 
 ROUNDS = 24  # of fits over more and more columns
-MOST_TABLES = MOST_SNAPSHOTS // texts.MOST_CLASSES
+MOST_TABLES = MOST_SNAPSHOTS // MOST_CLASSES
 
 
-class Among(NamedTuple):
+class TableLimits(NamedTuple):
     """Which tables are meant: of at most so many classes, multiples of this step, and with class 1024 where it is wanted."""
 
     limit: int
@@ -33,7 +35,7 @@ class Among(NamedTuple):
     largest: bool
 
     @classmethod
-    def of(cls, options: argparse.Namespace) -> "Among":
+    def of(cls, options: argparse.Namespace) -> "TableLimits":
         return cls(options.limit, options.step, not options.no_largest)
 
     def words(self) -> list:
@@ -41,87 +43,82 @@ class Among(NamedTuple):
 
 
 class Bound(NamedTuple):
-    """What each table takes at least of a load, in bytes as Load.cost has them; who says so; and the table of the certificate."""
+    """What each table takes at least of a load, in bytes as Load.cost has them; the claim that shows it, of the load itself where it IS_OWN, else
+    of counts that bound those of it, divided; and the table, the certificate and the counts."""
 
     amount: int
-    judged: claims.Judged
+    claim: claims.Claim
+    divisor: int
+    is_own: bool
     classes: list
     certificate: str
     counts: bytes
 
 
-class Certified(NamedTuple):
-    """A sheet or a fit, and the counts that it is of, both as texts; its cost; the table; the command that checks it, whose verdict is
-    empty before that; and the classes that it forces."""
+class CertifiedTable(NamedTuple):
+    """A sheet or a fit, and the counts that it is of, both as texts; its cost; and its table."""
 
-    command: str
-    verdict: str
     cost: int
     classes: list
     certificate: str
-    counts: str
-    forced: tuple
+    counts: bytes
 
 
-def of(load: Load, among: Among) -> Bound:
+def bound_of(load: Load, among: TableLimits) -> Bound:
     """The bound of one load."""
     if load.kind in ("history", "timeline") and load.count_bound() <= MOST_COUNT:
-        timed = figures.over_time(load.kind, load.text, among.largest, among.limit, among.step)
-        cost = load.cost(timed.fit.classes) or 0
-        judged = claims.Judged(load.kind, timed.verdict, among.limit, among.step, timed.fit.classes, load.name, cost, texts.forced_classes(timed.fit))
-        between = claims.bound(judged)
-        return shown(Bound(cost if between is None else between, judged, timed.fit.classes, timed.fit_text, load.text))
-    divisor = -(-load.count_bound() // MOST_COUNT)
-    if load.kind == "profile":
-        kind, found = "profile" if divisor == 1 else "scaled", checked(sheet([(1, load)], divisor, among))
-    else:
-        kind, found = "histories", checked(fit([(1, load)], divisor, among, []))
-    cost = divisor * found.cost
-    judged = judged_of(kind, found, among, load.name, cost)
-    return shown(Bound(load.fixed + cost, judged, found.classes, found.certificate, found.counts.encode()))
+        timed = figures.over_time(load.kind, load.text, among.largest, among.limit, among.step, load.name)
+        return check_bound(Bound(timed.claim.cost, timed.claim, 1, True, timed.fit.classes, timed.fit_text, load.text))
+    divisor, is_profile = -(-load.count_bound() // MOST_COUNT), load.kind == "profile"
+    found = sheet([(1, load)], divisor, among) if is_profile else fit([(1, load)], divisor, among, [])
+    is_own = is_profile and divisor == 1
+    how = ("" if is_own else claim_words.how("bound")) + load.how
+    claim = claims.check_certificate(found.certificate, is_own and load.text or found.counts, load.name, how)
+    return check_bound(
+        Bound(
+            load.fixed + divisor * claim.cost,
+            claim,
+            divisor,
+            is_own,
+            found.classes,
+            found.certificate,
+            load.text if is_own and load.text else found.counts,
+        )
+    )
 
 
-def checked(found: Certified) -> Certified:
-    """The same with the verdict."""
-    return found._replace(verdict=figures.run([found.command], texts.joined(found.certificate, found.counts))[1])
-
-
-def judged_of(kind: str, found: Certified, among: Among, name: str, cost: int) -> claims.Judged:
-    return claims.Judged(kind, found.verdict, among.limit, among.step, found.classes, name, cost, found.forced)
-
-
-def shown(bound: Bound) -> Bound:
+def check_bound(bound: Bound) -> Bound:
     """The same; where nothing shows it, the script ends with what the checker says."""
-    if not claims.holds(bound.judged) and claims.bound(bound.judged) is None:
-        raise Refused(3, claims.says(bound.judged))
+    if not bound.claim.holds and not bound.claim.is_bound:
+        raise Refusal(3, bound.claim.sentence())
     return bound
 
 
-def sheet(parts: Iterable[tuple], divisor: int, among: Among) -> Certified:
+def sheet(parts: Iterable[tuple], divisor: int, among: TableLimits) -> CertifiedTable:
     """Of profiles, each times its number, added up, divided and rounded down: of what each table wastes there, times the numbers, the
     sum is at least the divisor times the cost."""
     sums: dict = {}
     for factor, load in parts:
-        texts.add_counts(sums, load.counts, factor)
+        count_texts.add_counts(sums, load.counts, factor)
     counts = {size: count // divisor for size, count in sums.items() if count >= divisor}
-    text = figures.profile_text(counts)
+    text = count_texts.profile_text(counts).encode()
     _, made = figures.run(["tune", *among.words()], text)
-    found = texts.parse_sheet(made)
-    return Certified("check", "", found.waste, found.classes, f"{made}\n", text, texts.forced_classes(found))
+    found = certificate_texts.parse_sheet(made)
+    return CertifiedTable(found.waste, found.classes, f"{made}\n", text)
 
 
-def fit(parts: Sequence[tuple], divisor: int, among: Among, seen: list) -> Certified:
+def fit(parts: Sequence[tuple], divisor: int, among: TableLimits, seen: list) -> CertifiedTable:
     """The same of histories and timelines, and of their footprints. SEEN are tables whose columns are taken from the start; it gets
     those that are found."""
     if not seen:
         seen += [each for each in first_tables(parts) if all(load.unserved(each) is None for _, load in parts)]
-    best: Optional[Certified] = None
+    best: Optional[CertifiedTable] = None
     for _ in range(ROUNDS):
         text = history(columns(parts, divisor, seen[-MOST_TABLES:]))
         _, made = figures.run(["fit", *among.words()], text)
-        found = texts.parse_fit(made)
+        found = certificate_texts.parse_fit(made)
         if best is None or found.footprint > best.cost:
-            best = Certified("check-fit", "", found.footprint, found.classes, f"{made}\n", text, texts.forced_classes(found))
+            best = CertifiedTable(found.footprint, found.classes, f"{made}\n", text)
         if found.classes in seen[-MOST_TABLES:] or any(load.unserved(found.classes) is not None for _, load in parts):
             break
         seen.append(found.classes)
@@ -141,17 +138,19 @@ def columns(parts: Iterable[tuple], divisor: int, tables: list) -> list:
     found: list[dict] = []
     for classes in tables:
         of_loads = [(factor, load.at_peaks(classes)) for factor, load in parts]
+        is_sum = [factor for factor, _ in of_loads] != [1]
         for at in range(len(classes)):
-            sums: dict = {}
-            for factor, peaks in of_loads:
-                texts.add_counts(sums, peaks[at], factor)
-            column = {size: count // divisor for size, count in sums.items() if count >= divisor}
-            if column and column not in found[-2 * texts.MOST_CLASSES :]:
-                found.append(column)
+            sums: dict = {} if is_sum else of_loads[0][1][at]
+            for factor, peaks in of_loads if is_sum else ():
+                count_texts.add_counts(sums, peaks[at], factor)
+            if divisor > 1:
+                sums = {size: count // divisor for size, count in sums.items() if count >= divisor}
+            if sums and sums not in found[-2 * MOST_CLASSES :]:
+                found.append(sums)
     return found
 
 
-def history(found: list) -> str:
+def history(found: list) -> bytes:
     """The text of a history of these columns."""
     sizes = sorted(set().union(*found))
-    return texts.history_text(texts.History(len(found), {size: [column.get(size, 0) for column in found] for size in sizes}))
+    return count_texts.history_text(count_texts.History(len(found), {size: [column.get(size, 0) for column in found] for size in sizes})).encode()

@@ -10,19 +10,21 @@ import json
 import math
 import os
 import re
-from collections.abc import Iterable, Sequence
+from collections.abc import Sequence
 from fractions import Fraction
 from typing import NamedTuple, Optional
 
-from mte_scripts import claims, texts
-from mte_scripts.fleet import bounds, loads, regret
+from mte_scripts import claim_words, claims, count_texts, text_files
+from mte_scripts.entry_point import Refusal
+from mte_scripts.fleet import bounds, caps, loads, regret
+from mte_scripts.formats import MOST_COUNT
 from mte_scripts.recording import timelines
-from mte_scripts.tables import figures
-from mte_scripts.texts import MOST_COUNT, Refused
-from mte_scripts.words import TABLES, Words, between, named
+from mte_scripts.tables import check_sheet, figures
+
+from mte_scripts.words import TABLES, Words, name_among, number_between
 
 HELP = f"""\
-{claims.TEMPLATES["worst.help"]}.
+Find a table of size classes for several programs or days: one that is nowhere far above the bound of each.
 
 Usage: fleet_table [OPTION..] LOAD..       (standard input for `-`)
 
@@ -32,6 +34,7 @@ own table.
   --by worst|total   worst: the highest percentage above the bound of a load is to be low; so it is where this is left out. total:
                      the sum over all loads is, in which large ones weigh more
 {bounds.AMONG_HELP}
+{caps.HELP}
   --hold-out N       cut the days into N runs; for each, make a table of the others, and say how far it is above the bounds of these
                      days, which it has not seen. All loads of a day are held out together. With as many runs as days, each day is
                      by itself
@@ -41,8 +44,7 @@ own table.
   --json             print all as JSON
 
 The table is chosen among candidates: the tables of each load and of the loads joined, each with a weight that grows where the table
-is far above the bound, and then with one class moved, while that helps. The last sentence has what bounds the worst of every table,
-by a certificate; where it is the worst of this one, none is better.
+is far above the bound, and then with one class moved, while that helps. {claim_words.general_sentence("fleet")}
 
 MTE_TOOL=PATH in the environment takes the program at PATH in place of the built one; the sentences say so.
 
@@ -68,7 +70,8 @@ class Table(NamedTuple):
     classes: list
     worst: Fraction
     low: Fraction
-    certified: bounds.Certified
+    certified: bounds.CertifiedTable
+    claim: claims.Claim
     numbers: list
     divisor: int
 
@@ -76,7 +79,7 @@ class Table(NamedTuple):
 class Search:
     """The loads with their bounds, and the candidate that is the first so far."""
 
-    def __init__(self, given: Sequence[loads.Load], own: Sequence[bounds.Bound], among: bounds.Among):
+    def __init__(self, given: Sequence[loads.Load], own: Sequence[bounds.Bound], among: bounds.TableLimits):
         self.given, self.own, self.among = list(given), list(own), among
         self.tables: list = []  # whose columns are known, of histories
         self.first: Optional[tuple] = None
@@ -165,25 +168,28 @@ class Search:
 
     def table(self) -> Table:
         if self.first is None or self.low is None:
-            raise Refused(3, "no candidate serves all sizes of all loads: take more classes")
+            raise Refusal(3, "no candidate serves all sizes of all loads: take more classes")
         low, found, numbers, divisor = self.low
         classes = self.first[1]
-        return Table(classes, self.first[0][0], low, bounds.checked(found), numbers, divisor)
+        how = claim_words.capped_words(sum(load.capped for load in self.given), max(load.cap for load in self.given))
+        claim = claims.check_certificate(found.certificate, found.counts, "the loads joined", how)
+        return Table(classes, self.first[0][0], low, found, claim, numbers, divisor)
 
 
-def of(given: Sequence[loads.Load], own: Sequence[bounds.Bound], among: bounds.Among) -> Table:
+def common_table(given: Sequence[loads.Load], own: Sequence[bounds.Bound], among: bounds.TableLimits) -> Table:
     """A table in common for these loads, of which the bounds are known."""
     return Search(given, own, among).run()
 
 
-def together(given: Sequence[loads.Load]) -> loads.Load:
+def sum_loads(given: Sequence[loads.Load]) -> loads.Load:
     """All loads as one, by the sum of their costs."""
-    if given[0].kind != "profile":
-        return loads.Load("all loads", "histories", members=[member for load in given for member in load.members])
     sums: dict = {}
     for load in given:
-        texts.add_counts(sums, load.counts)
-    return loads.Load("all loads", "profile", sums)
+        count_texts.add_counts(sums, load.counts)
+    members = [member for load in given for member in load.members]
+    made = loads.Load("all loads", "histories" if members else "profile", sums, members)
+    made.capped, made.cap = sum(load.capped for load in given), max(load.cap for load in given)
+    return made
 
 
 def percent_of(ratio: Fraction, is_up: bool) -> float:
@@ -195,96 +201,114 @@ def percent_of(ratio: Fraction, is_up: bool) -> float:
 def runs_of(days: Sequence[str], number_of: int) -> list:
     """The days in their order, cut into so many runs as equal as can be."""
     if number_of > len(days):
-        raise Refused(2, f"--hold-out {number_of} wants as many days, and there are {len(days)}")
+        raise Refusal(2, f"--hold-out {number_of} wants as many days, and there are {len(days)}")
     cuts = [len(days) * at // number_of for at in range(number_of + 1)]
     return [list(days[begin:end]) for begin, end in zip(cuts, cuts[1:])]
 
 
-def held_out(given: Sequence[loads.Load], own: Sequence[bounds.Bound], among: bounds.Among, folds: int) -> list:
+def hold_out_regrets(
+    given: Sequence[loads.Load], own: Sequence[bounds.Bound], among: bounds.TableLimits, folds: int
+) -> list:
     """For each load, how far the table of the loads of other days is above its bound: a Regret."""
     found: dict = {}
     for days in runs_of(sorted({load.day for load in given}), folds):
         seen = [(load, bound) for load, bound in zip(given, own) if load.day not in days]
-        table = of([load for load, _ in seen], [bound for _, bound in seen], among)
+        table = common_table([load for load, _ in seen], [bound for _, bound in seen], among)
         for load, bound in zip(given, own):
             if load.day in days:
-                found[load.name] = regret.compared(load, bound, table.classes)
+                found[load.name] = regret.regret_of(load, bound, table.classes)
     return [found[load.name] for load in given]
 
 
-def sentence(table: Table, given: Sequence[loads.Load], among: bounds.Among) -> str:
-    names = claims.listed(load.name for load in given) if len(given) <= 4 else f"all {len(given)} loads"
-    kind = "profile" if given[0].kind == "profile" else "histories"
-    judged = bounds.judged_of(kind, table.certified, among, names, 0)
-    is_exact = table.worst == table.low
-    return claims.worst(judged, percent_of(table.low, False), percent_of(table.worst, True), is_exact, texts.trust())
+def sentence(table: Table, given: Sequence[loads.Load]) -> str:
+    names = (
+        claim_words.join_words(claim_words.quote_name(load.name) for load in given)
+        if len(given) <= 4
+        else f"all {len(given)} loads"
+    )
+    return claims.worst(table.claim, names, percent_of(table.low, False), percent_of(table.worst, True), table.worst == table.low)
 
 
-def write_certificates(folder: str, own: Iterable[bounds.Bound], table: Table, said: list) -> None:
-    """The folder with the sheet or fit of each load, and of the loads joined, each beside its counts."""
+def write_certificates(folder: str, pairs: list, table: Table, among: bounds.TableLimits) -> None:
+    """The folder with the sheet or fit of each load, and of the loads joined, each beside its counts: PAIRS are these, their claim, and what is
+    said of it."""
     files, lines = {}, []
-    pairs = [(bound.certificate, bound.counts, bound.judged.kind) for bound in own]
-    joined = table.certified
-    pairs.append((joined.certificate, joined.counts.encode(), "profile" if joined.command == "check" else "history"))
-    for at, (certificate, counts, kind) in enumerate(pairs):
-        is_sheet = kind in ("profile", "scaled")
+    for at, (shown, claim, said) in enumerate(pairs):
         name = "joined" if at == len(pairs) - 1 else f"load{at + 1}"
-        of_counts = "history" if kind == "histories" else "profile" if is_sheet else kind
-        names = [f"{name}.{'sheet' if is_sheet else 'fit'}", f"{name}.{of_counts}"]
-        files[names[0]], files[names[1]] = certificate.encode(), counts
-        shell = " ".join(texts.path_word(os.path.join(folder, each)) for each in names)
-        lines.append(f"{said[at]}\n\n    cat {shell} | {texts.script_word('mte_tool')} {'check' if is_sheet else 'check-fit'}\n\n")
+        names = [f"{name}.{'sheet' if claim.kind == 'profile' else 'fit'}", f"{name}.{claim.kind}"]
+        files[names[0]], files[names[1]] = shown.certificate.encode(), shown.counts
+        command = check_sheet.command(claim, among, *(os.path.join(folder, each) for each in names))
+        lines.append(f"{said}\n\n    {command}\n\nThe SHA-256 of what it is of is {claim.digest}.\n\n")
     each = ", ".join(map(str, table.numbers))
     lines.append(f"Joined: the loads in their order, times {each}, added up, divided by {table.divisor:,} and rounded down.\n")
     files["claims.txt"] = "".join(lines).encode(errors="surrogateescape")
-    with texts.new_folder(folder, "--certificates") as place:
+    with text_files.new_folder(folder, "--certificates") as place:
         for name, data in files.items():
             place.write(name, data)
 
 
 def main(words: list) -> int:
-    defaults = {"by": "worst", **bounds.AMONG_DEFAULTS}
-    options = Words(HELP, "names", defaults, by=named("worst", "total"), hold_out=between(2, 1000), **TABLES).take(words, once=True)
+    defaults = {"by": "worst", "cap": caps.MOST, **bounds.AMONG_DEFAULTS}
+    kinds: dict = {
+        "by": name_among("worst", "total"),
+        "hold_out": number_between(2, 1000),
+        "cap": caps.NUMBER,
+        **TABLES,
+    }
+    options = Words(HELP, "names", defaults, **kinds).take(words, once=True)
     if not options.names or options.names.count("-") > 1:
-        raise Refused(2, "name the loads, standard input once; --help says more")
+        raise Refusal(2, "name the loads, standard input once; --help says more")
     written = [("--certificates", options.certificates)]
     if options.certificates and options.output and OWN_FILES.fullmatch(os.path.basename(options.output)):
         written.append(("--certificates", os.path.join(options.certificates, os.path.basename(options.output))))
-    texts.refuse_over([*written, ("--output", options.output)], options.names)
-    among = bounds.Among.of(options)
-    given = loads.read(options.names)
+    text_files.refuse_over([*written, ("--output", options.output)], options.names)
+    among = bounds.TableLimits.of(options)
+    given = loads.read(options.names, options.cap)
     if len({load.kind == "profile" for load in given}) > 1:
-        raise Refused(2, "there are profiles, and histories or timelines: give one kind alone")
-    own = [bounds.of(load, among) for load in given]
+        raise Refusal(2, "there are profiles, and histories or timelines: give one kind alone")
+    own = [bounds.bound_of(load, among) for load in given]
+    total = None
     if options.by == "total":
-        whole = together(given)
-        made = of([whole], [bounds.of(whole, among)], among)
+        whole = sum_loads(given)
+        bound = bounds.bound_of(whole, among)
+        made = common_table([whole], [bound], among)
+        total = regret.regret_of(whole, bound, made.classes)
     else:
-        made = of(given, own, among)
-    found = [regret.compared(load, bound, made.classes) for load, bound in zip(given, own)]
-    folds = held_out(given, own, among, options.hold_out) if options.hold_out else []
-    return finish(options, among, made, found, folds)
+        made = common_table(given, own, among)
+    found = [regret.regret_of(load, bound, made.classes) for load, bound in zip(given, own)]
+    folds = hold_out_regrets(given, own, among, options.hold_out) if options.hold_out else []
+    return finish(options, among, made, found, folds, total)
 
 
-def finish(given: argparse.Namespace, among: bounds.Among, made: Table, found: list, folds: list) -> int:
-    """Writes the files, and prints the text or the JSON."""
+def finish(
+    given: argparse.Namespace,
+    among: bounds.TableLimits,
+    made: Table,
+    found: list,
+    folds: list,
+    total: "Optional[regret.Regret]",
+) -> int:
+    """Writes the files, and prints the text or the JSON. What is said is of the TOTAL where that is to be low, else of the worst."""
     lines = figures.class_text(made.classes)
-    of_all = [each.load for each in found] if given.by == "worst" else [together([each.load for each in found])]
-    said = sentence(made, of_all, among)
-    name = figures.without_ending(given.output, ".classes") if given.output else "the table"
+    name = figures.without_ending(given.output, ".classes") if given.output else ""
+    said = total.sentences(name) if total else sentence(made, [each.load for each in found])
     if given.certificates:
-        write_certificates(given.certificates, [each.bound for each in found], made, [*(each.sentences(name) for each in found), said])
+        joined = total.bound if total else made.certified
+        pairs = [*((each.bound, each.bound.claim, each.sentences(name)) for each in found), (joined, made.claim if not total else total.bound.claim, said)]
+        write_certificates(given.certificates, pairs, made, among)
     if given.output:
-        texts.write_file(given.output, lines + "\n")
+        text_files.write_file(given.output, lines + "\n")
     if given.json:
         whole = json.loads(regret.as_json(found, name, made.classes, among, None))
         whole.update(by=given.by, worst_percent=percent_of(made.worst, True), low_percent=percent_of(made.low, False), sentence=said)
         whole["held_out"] = [{"name": each.load.name, "day": each.load.day, "above_percent": each.percent()} for each in folds]
-        return texts.write(json.dumps(whole, indent=1) + "\n")
-    text = [regret.table_text(found, folds), "\n", lines, "\n\n", regret.wrapped(said)]
+        return text_files.write(json.dumps(whole, indent=1) + "\n")
+    text = [regret.table_text(found, folds), "\n", lines, "\n\n", regret.wrap_paragraph(said)]
     if folds:
         served = [each.above for each in folds if each.above is not None]
         mean = f"{sum(served) / len(served):,.2f}%" if served else "none"
-        worst = regret.shown(regret.farthest(folds))
-        text.append(regret.wrapped(f"Held out, in {given.hold_out} runs of days: the worst is {worst}, the mean {mean}."))
-    return texts.write("".join(text))
+        worst = regret.percent_cell(regret.farthest(folds))
+        text.append(
+            regret.wrap_paragraph(f"Held out, in {given.hold_out} runs of days: the worst is {worst}, the mean {mean}.")
+        )
+    return text_files.write("".join(text))

@@ -7,12 +7,12 @@ import math
 from collections.abc import Iterable
 from typing import NamedTuple, Optional
 
-from mte_scripts import texts
-from mte_scripts.fleet import bounds, loads, reading, regret, resampling, results, rows
-from mte_scripts.fleet.faults import Faults
-from mte_scripts.tables import figures
-from mte_scripts.texts import Refused
-from mte_scripts.words import TABLES, Words, between, decimal
+from mte_scripts import certificate_texts, text_files, text_layout
+from mte_scripts.entry_point import Refusal, printable
+from mte_scripts.fleet import bounds, caps, loads, regret, resampling, results, row_reader, rows
+from mte_scripts.fleet.suspicions import Suspicions
+
+from mte_scripts.words import TABLES, Words, decimal, number_between
 
 HELP = f"""\
 Report a day of a fleet: which machines came, what can't count and why, and whether the table drifts; for a nightly job.
@@ -21,31 +21,34 @@ Usage: fleet_day --day DAY [--hosts FILE] [--table FILE --limit-percent X] [--re
                                           (standard input for `-`)
 
 ROWS are those of the day, and of earlier days too: what came late, and what a drift is compared with. fleet_profiles --help has
-their form. Each line of the report that begins with `!` is a fault:
+their form. Each line of the report that begins with `!` is something to look at:
 
   - rows that can't count, with their reason: of a day that does not exist, of a clock in 1970, cut, or not in the form
-  - loads that came again
   - machines that are expected and did not come, or that came and are not expected
+  - machines with absurd counts, that are cut
   - lines of a result that can't count, as of another unit than KiB, and those that did not come
   - the table is past the limit: by drift, if the same machines were within it on an earlier day, or because of the machines that are
     missing, if those that came were past it then too
 
+What came late, or again, is a line without `!`.
+
   --day DAY          the day of the report, as 2026-01-31
   --hosts FILE       the machines that are expected: lines of a program and a machine, with a tab between, or what fleet_trial assign
-                     prints; where it is left out, those that came on any day of the rows
+                     prints; of MACHINE/POD the machine; where it is left out, those that came on any day of the rows
   --table FILE       the table in use: its first line is a class line
   --limit-percent X  how far it may be above the bound, as of fleet_regret
   --resample N       of how many draws of machines the interval of a percentage is, 20 to 10,000; 100 where it is left out
   --result FILE      the lines of a trial, as of fleet_trial read; those who are expected have a group by --hosts
-  --faults FILE      write the rows and lines that can't count into FILE: why, the file and its line, with tabs between, and the row
+  --suspects FILE    write the rows and lines that can't count into FILE: why, the file and its line, with tabs between, and the row
   --json             print all as JSON
 {bounds.AMONG_HELP}
+{caps.HELP}
 
 MTE_TOOL=PATH in the environment takes the program at PATH in place of the built one.
 
 Exit status:
-  0  the report is printed, and it has no fault
-  1  it has one
+  0  the report is printed, and there is nothing to look at
+  1  there is
   2  the words or a table are refused
   3  the program mte_tool could not run, or the output can't be written
 
@@ -74,21 +77,32 @@ class Drift(NamedTuple):
 
 
 def day_of(word: str) -> str:
-    if wrong := rows.day_fault(word):
+    if wrong := rows.day_refusal(word):
         raise argparse.ArgumentTypeError(f"takes a day as 2026-01-31, and not {wrong}: {word}")
     return word
 
 
-def came(found: Iterable[tuple], day: str, hosts: "dict[tuple[str, str], str]") -> "list[Came]":
-    """The machines of each program."""
-    keys = [key for key, _ in found]
-    expected = hosts.keys() if hosts else {(key.program, key.machine) for key in keys}
-    there = {(key.program, key.machine) for key in keys if key.day == day}
-    of = lambda pairs, program: {machine for name, machine in pairs if name == program}
-    return [Came(name, of(there, name), of(expected, name)) for name in sorted({name for name, _ in {*expected, *there}})]
+def came(
+    found: "list[tuple[rows.Key, row_reader.Load]]", day: str, hosts: "dict[tuple[str, str], str]"
+) -> "list[Came]":
+    """The machines of each program, whatever their containers are called; one that is expected by its whole name has
+    that."""
+    keys = {(key.program, key.machine): (key.program, rows.host_of(key.machine)) for key, _ in found}
+    own = {pair: pair if pair in hosts else host for pair, host in keys.items()}
+    expected = hosts.keys() if hosts else set(own.values())
+    there = {own[key.program, key.machine] for key, _ in found if key.day == day}
+    here, wanted = machines_by_program(there), machines_by_program(expected)
+    return [Came(name, here.get(name, set()), wanted.get(name, set())) for name in sorted({**here, **wanted})]
 
 
-def some_of(machines: set) -> str:
+def machines_by_program(pairs: "Iterable[tuple[str, str]]") -> "dict[str, set]":
+    found: "dict[str, set]" = {}
+    for program, machine in pairs:
+        found.setdefault(program, set()).add(machine)
+    return found
+
+
+def machine_names(machines: set) -> str:
     """The first machines by name."""
     names = sorted(machines)
     more = f" and {len(names) - NAMED:,} more" if len(names) > NAMED else ""
@@ -100,19 +114,24 @@ def absent(found: "list[Came]") -> "list[str]":
     for each in found:
         missing, strange = each.expected - each.machines, each.machines - each.expected
         if missing:
-            said.append(f"{each.program}: {len(missing):,} of {len(each.expected):,} machines did not come: {some_of(missing)}")
+            said.append(
+                f"{each.program}: {len(missing):,} of {len(each.expected):,} machines did not come: "
+                f"{machine_names(missing)}"
+            )
         if strange:
-            said.append(f"{each.program}: {len(strange):,} machines came that are not expected: {some_of(strange)}")
+            said.append(
+                f"{each.program}: {len(strange):,} machines came that are not expected: {machine_names(strange)}"
+            )
     return said
 
 
-def drifts(found: "list[tuple[rows.Key, reading.Load]]", given: argparse.Namespace) -> "list[Drift]":
+def drifts(found: "list[tuple[rows.Key, row_reader.Load]]", given: argparse.Namespace) -> "list[Drift]":
     """The table beside the bounds of the day."""
-    among, classes = bounds.Among.of(given), texts.class_line(given.table)
-    percent = lambda load: regret.compared(load, bounds.of(load, among), classes).above
+    among, classes = bounds.TableLimits.of(given), certificate_texts.class_line(given.table)
+    percent = lambda load: regret.regret_of(load, bounds.bound_of(load, among), classes).above
     of_days: "dict[tuple[str, str], list]" = {}
     for key, record in found:
-        of_days.setdefault((key.program, key.day), []).append((key.machine, record))
+        of_days.setdefault((key.program, key.day), []).append((rows.host_of(key.machine), record))
     made = []
     for program in sorted({name for name, day in of_days if day == given.day}):
         for load in loads.of_records(program, given.day, [own for _, own in of_days[program, given.day]]):
@@ -150,28 +169,31 @@ def percent_of(records: list, load: loads.Load, day: str, percent: resampling.Pe
     return math.inf if same and found is None else found
 
 
-def result_of(given: argparse.Namespace, found: Faults) -> "list[str]":
+def result_of(given: argparse.Namespace, found: Suspicions) -> "list[str]":
     """What is to be said of the day's lines of a trial."""
     values = results.values_of(given.result, found, given.hosts)
     return [f"result: {each}" for each in values.missing]
 
 
-def text_of(day: str, machines: "list[Came]", late: int, shown: "list[Drift]", said: "list[str]") -> str:
-    cells: "list[tuple]" = [("Program", "machines", "expected", "above the best", "95% of the draws")]
+def text_of(day: str, machines: "list[Came]", late: int, shown: "list[Drift]", remarks: "list[str]",
+            said: "list[str]") -> str:
+    cells: "list[tuple]" = [("Program", "machines", "expected", "above the bound", "95% of the draws")]
     by_program = {each.load.program: each for each in shown}
     for each in machines:
         drift = by_program.get(each.program)
         percent = "" if drift is None else "not served" if drift.percent is None else f"{drift.percent:,.2f}%"
         interval = f"{drift.interval.low:,.2f} to {drift.interval.high:,.2f}%" if drift and drift.interval else ""
-        cells.append((texts.printable(each.program), f"{len(each.machines):,}", f"{len(each.expected):,}", percent, interval))
-    lines = [f"{day}\n\n", *(f"{line}\n" for line in texts.columns(cells))]
-    if late:
-        lines.append(f"\n{late:,} loads are of other days.\n")
-    lines += ["\n"] * bool(said) + [regret.wrapped(f"! {texts.printable(each)}") for each in said]
+        cells.append((printable(each.program), f"{len(each.machines):,}", f"{len(each.expected):,}", percent, interval))
+    lines = [f"{day}\n\n", *(f"{line}\n" for line in text_layout.columns(cells))]
+    lines += ["\n"] * bool(late or remarks)
+    lines += [f"{late:,} loads are of other days.\n"] * bool(late)
+    lines += [regret.wrap_paragraph(f"{each}.") for each in remarks]
+    lines += ["\n"] * bool(said) + [regret.wrap_paragraph(f"! {printable(each)}") for each in said]
     return "".join(lines)
 
 
-def as_json(day: str, machines: "list[Came]", late: int, shown: "list[Drift]", said: "list[str]") -> str:
+def as_json(day: str, machines: "list[Came]", late: int, shown: "list[Drift]", remarks: "list[str]",
+            said: "list[str]") -> str:
     end = lambda value: None if value is None or value == math.inf else value
     programs = [
         {"program": each.program, "machines": len(each.machines), "missing": sorted(each.expected - each.machines)} for each in machines
@@ -181,36 +203,41 @@ def as_json(day: str, machines: "list[Came]", late: int, shown: "list[Drift]", s
          "verdict": each.verdict}
         for each in shown
     ]
-    return json.dumps({"day": day, "programs": programs, "other_days": late, "loads": found, "faults": said}, indent=1) + "\n"
+    whole = {"day": day, "programs": programs, "other_days": late, "loads": found, "remarks": remarks, "suspicions": said}
+    return json.dumps(whole, indent=1) + "\n"
 
 
 def main(words: list) -> int:
-    kinds: dict = {"day": day_of, "limit_percent": decimal(0, 1_000_000, "a percentage"), "resample": between(20, 10_000), **TABLES}
-    given = Words(HELP, "names", {"resample": 100, **bounds.AMONG_DEFAULTS}, **kinds).take(words, once=True)
+    percentage, draws = decimal(0, 1_000_000, "a percentage"), number_between(20, 10_000)
+    kinds: dict = {"day": day_of, "limit_percent": percentage, "resample": draws, "cap": caps.NUMBER, **TABLES}
+    defaults = {"resample": 100, "cap": caps.MOST, **bounds.AMONG_DEFAULTS}
+    given = Words(HELP, "names", defaults, **kinds).take(words, once=True)
     if not given.day or not given.names or given.names.count("-") > 1:
-        raise Refused(2, "give --day and the rows; --help says more")
+        raise Refusal(2, "give --day and the rows; --help says more")
     if given.limit_percent is not None and not given.table:
-        raise Refused(2, "--limit-percent is of a table: name it by --table")
-    texts.refuse_over([("--faults", given.faults)], [*given.names, given.hosts, given.table, given.result])
-    faults = Faults(given.faults)
-    hosts = results.groups_of(given.hosts, faults) if given.hosts else {}
-    store = reading.Store(faults)
+        raise Refusal(2, "--limit-percent is of a table: name it by --table")
+    text_files.refuse_over([("--suspects", given.suspects)], [*given.names, given.hosts, given.table, given.result])
+    suspicions = Suspicions(given.suspects)
+    hosts = results.groups_of(given.hosts, suspicions) if given.hosts else {}
+    store = row_reader.Store(suspicions)
     for path in given.names:
         store.read(path)
-    found = store.items()
+    capped = caps.cap_machines(store.items(), given.cap)
+    caps.note(capped, f"its counts are cut at {given.cap:,} times the median", suspicions, given.day)
+    found = capped.found
     machines = came(found, given.day, hosts)
     shown = drifts(found, given) if given.table else []
-    said = result_of(given, faults) if given.result else []
+    said = result_of(given, suspicions) if given.result else []
     past = [
-        f"{each.load.name}: {regret_text(each.percent)} above the best, past the limit of {given.limit_percent:g}%; {each.verdict}"
+        f"{each.load.name}: {regret_text(each.percent)} above the bound, past the limit of {given.limit_percent:g}%; {each.verdict}"
         for each in shown if each.verdict
     ]
-    said = [*absent(machines), *past, *said, *faults.text()]
+    said = [*absent(machines), *past, *said, *suspicions.wrong()]
     if not found:
         said.insert(0, "no row can count")
-    faults.end()
+    suspicions.end()
     late = sum(key.day != given.day for key, _ in found)
-    texts.write((as_json if given.json else text_of)(given.day, machines, late, shown, said))
+    text_files.write((as_json if given.json else text_of)(given.day, machines, late, shown, suspicions.harmless(), said))
     return 1 if said else 0
 
 

@@ -3,62 +3,113 @@ And what a table takes there, in bytes of blocks: by a profile all requests with
 footprint, over several machines the sum of each one's by itself, times its weight."""
 
 import bisect
+import copy
+import operator
 import os
+import struct
 import sys
 from collections import Counter
 from collections.abc import Iterable
 from typing import Optional
 
-from mte_scripts import texts
-from mte_scripts.fleet import reading, rows
-from mte_scripts.fleet.faults import Faults
+from mte_scripts import claim_words, count_texts, text_files
+from mte_scripts.entry_point import Refusal, printable
+from mte_scripts.fleet import caps, row_reader, rows
+from mte_scripts.fleet.suspicions import Suspicions
+from mte_scripts.formats import LARGEST_CLASS, LARGEST_SIZE
 from mte_scripts.recording import timelines
 from mte_scripts.tables import figures
-from mte_scripts.texts import LARGEST_SIZE, Refused
+
 
 GRANULE = figures.GRANULE
-FORCED = texts.LARGEST_CLASS
+FORCED = LARGEST_CLASS
+WORD = 8  # bytes of a number that struct reads
+SPARSE = 16  # times the sizes of a machine: so many in a load are packed anew each time
+
+
+class Places:
+    """Where each size of a load has its field in a number that holds the blocks of all sizes, so that one sum adds them
+    up. No field overflows, as no sum is above MOST."""
+
+    def __init__(self, sizes: "list[int]", most: int) -> None:
+        self.wide = max(most.bit_length() // 8 + 1, WORD)
+        self.length = self.wide * len(sizes)
+        self.begins = dict(zip(sizes, range(0, self.length, self.wide)))
+
+    def pack(self, counts: "dict[int, int]") -> int:
+        data = bytearray(self.length)
+        for size, count in counts.items():
+            begin = self.begins[size]
+            data[begin : begin + self.wide] = count.to_bytes(self.wide, "little")
+        return int.from_bytes(data, "little")
+
+    def unpack(self, number: int) -> "dict[int, int]":
+        """The counts that are not 0."""
+        data = number.to_bytes(self.length, "little")
+        if self.wide == WORD:
+            words = struct.unpack(f"<{len(self.begins)}Q", data)
+            return {size: count for size, count in zip(self.begins, words) if count}
+        fields = ((size, data[begin : begin + self.wide]) for size, begin in self.begins.items())
+        return {size: int.from_bytes(field, "little") for size, field in fields if any(field)}
 
 
 class Member:
     """A machine's history, or a timeline of which some moments are known; and for how many machines it stands."""
 
-    def __init__(self, weight: int, history: texts.History, timeline: Optional[bytes] = None) -> None:
+    def __init__(self, weight: int, history: count_texts.History, timeline: Optional[bytes] = None) -> None:
         self.weight, self.timeline = weight, timeline
         self.take(history)
 
-    def take(self, history: texts.History) -> None:
+    def take(self, history: count_texts.History) -> None:
         """These moments, with sums from which the blocks of a span of needs follow."""
         self.history = history
         by_need: dict[int, list] = {}
         for size, counts in history.counts.items():
             if size != "large":
-                texts.add_row(by_need, timelines.need_of(size), counts)
+                count_texts.add_row(by_need, timelines.need_of(size), counts)
         self.needs = sorted(by_need)
-        sums = [0] * history.snapshots
-        self.sums = [sums]
+        self.sums = [[0] * history.snapshots]
         for need in self.needs:
-            sums = [one + other for one, other in zip(sums, by_need[need])]
-            self.sums.append(sums)
+            self.sums.append(list(map(operator.add, self.sums[-1], by_need[need])))
+        self.most: int = max((max(counts) for counts in history.counts.values()), default=0)
+        self.known_peaks: "dict[tuple[int, int], tuple[int, int]]" = {}
+        self.packed: "dict[int, int]" = {}
 
-    def spans(self, classes: list) -> Iterable[tuple]:
-        """For each class of a table its blocks at each moment."""
-        begin = 0
-        for each in classes:
-            end = bisect.bisect_right(self.needs, each)
-            yield each, [one - other for one, other in zip(self.sums[end], self.sums[begin])] if end > begin else None
-            begin = end
+    def times(self, number: int) -> "Member":
+        """The same, standing for so many times as many machines."""
+        found = copy.copy(self)
+        found.weight *= number
+        return found
+
+    def sizes(self) -> set:
+        """The sizes of which it has blocks, at whatever moment."""
+        counts = self.history.counts if self.timeline is None else timelines.requests_of(self.timeline)
+        return counts.keys() - {"large"}
+
+    def peaks(self, classes: list) -> "list[tuple[int, int]]":
+        """For each class of a table the most of its blocks at a moment, and the first moment of so many."""
+        ends = [bisect.bisect_right(self.needs, each) for each in classes]
+        return [self.peak(begin, end) if end > begin else (0, 0) for begin, end in zip([0, *ends], ends)]
+
+    def peak(self, begin: int, end: int) -> "tuple[int, int]":
+        """The same of a class that serves the needs from one place up to another; as many are kept as there are
+        counts."""
+        if (begin, end) not in self.known_peaks:
+            if len(self.known_peaks) >= len(self.needs) * self.history.snapshots:
+                self.known_peaks.clear()
+            counts = list(map(operator.sub, self.sums[end], self.sums[begin]))
+            self.known_peaks[begin, end] = max(counts), counts.index(max(counts))
+        return self.known_peaks[begin, end]
 
     def footprint(self, classes: list) -> int:
         """Of a table that serves it: at each class the block times the most of its blocks at a moment."""
         if self.timeline is not None:
-            status, answer = figures.run(["footprint"], texts.joined(figures.class_text(classes), self.timeline))
-            return int(answer.split()[-1])
+            return int(figures.run(["footprint"], self.timeline, classes)[1].split()[-1])
         return self.at_moments(classes)
 
     def at_moments(self, classes: list) -> int:
         """The same, at the moments that are known."""
-        return sum(GRANULE * each * max(counts) for each, counts in self.spans(classes) if counts)
+        return sum(GRANULE * each * most for each, (most, _) in zip(classes, self.peaks(classes)))
 
     def refine(self, classes: list) -> None:
         """Of a timeline: also the moments at which the classes of this table have the most blocks."""
@@ -69,44 +120,55 @@ class Member:
             size: [*self.history.counts.get(size, [0] * self.history.snapshots), *more.counts.get(size, [0] * more.snapshots)]
             for size in {**self.history.counts, **more.counts}
         }
-        self.take(texts.History(self.history.snapshots + more.snapshots, both))
+        self.take(count_texts.History(self.history.snapshots + more.snapshots, both))
 
     def count_bound(self) -> int:
         """No size has more blocks at any moment."""
-        if self.timeline is not None:
-            return self.timeline.count(b"\n")
-        return max(max(counts) for counts in self.history.counts.values())
+        return self.most if self.timeline is None else self.timeline.count(b"\n")
 
-    def at_peaks(self, classes: list) -> list:
-        """For each class of a table the live blocks, by size, at the moment at which the class has the most; none for one without a block."""
-        found = []
-        for _, counts in self.spans(classes):
-            at = counts.index(max(counts)) if counts and max(counts) else None
-            counts_at = self.history.counts.items() if at is not None else ()
-            found.append({size: row[at] for size, row in counts_at if size != "large" and row[at]})
-        return found
+    def at(self, moment: int, places: Places) -> int:
+        """The live blocks at a moment, as they are packed for its load; that is kept where the load has not many more
+        sizes."""
+        if moment not in self.packed:
+            counts = self.history.counts
+            live = places.pack({size: row[moment] for size, row in counts.items() if size != "large" and row[moment]})
+            if len(places.begins) > SPARSE * len(counts):
+                return live
+            self.packed[moment] = live
+        return self.packed[moment]
 
 
 class Load:
     """A profile, or the members of which each has a history or a timeline."""
 
     def __init__(self, name: str, kind: str, counts: Optional[dict] = None, members: Iterable[Member] = (), text: bytes = b"",
-                 program: str = "", day: str = "") -> None:
-        self.name, self.kind, self.text, self.program, self.day = name, kind, text, program, day or name
+                 program: str = "", day: str = "", places: Optional[Places] = None) -> None:
+        self.name, self.kind, self.program, self.day = name, kind, program, day or name
+        self.text = text  # what a certificate can be of as it stands, where it is not empty
         self.members = list(members)
         served = {size: count for size, count in (counts or {}).items() if size != "large" and count}
         self.counts = dict(sorted(served.items()))
-        sizes = set(self.counts).union(*(member.history.counts.keys() - {"large"} for member in self.members))
-        if kind == "timeline":
-            sizes = timelines.requests_of(text).keys() - {"large"}
+        sizes = set(self.counts).union(*(member.sizes() for member in self.members))
         if not any(sizes):
-            raise Refused(3, f"{name}: {figures.NOTHING}")
+            raise Refusal(3, f"{name}: {figures.NOTHING}")
         self.sizes = sorted(sizes)
         # of a profile, what every table takes: headers and requests
         self.fixed = sum((GRANULE + size) * count for size, count in self.counts.items())
         self.machines = sum(member.weight for member in self.members)
         self.known_peaks: dict[tuple, list] = {}
+        # also of its machines drawn anew, of which one may be there as often as there are machines
+        self.places = places or Places(self.sizes, self.count_bound() * len(self.members))
         self.hosts: list = []  # of rows, what each machine counted
+        self.capped, self.cap = 0, 0  # how many machines are cut, and at how many times the median
+
+    def drawn(self, counts: Optional[dict] = None, members: Iterable[Member] = ()) -> "Load":
+        """The same of machines that are drawn anew of its own."""
+        return Load(self.name, self.kind, counts, members, b"", self.program, self.day, self.places)
+
+    @property
+    def how(self) -> str:
+        """How its counts came of the rows, for a claim."""
+        return claim_words.capped_words(self.capped, self.cap)
 
     def unserved(self, classes: list) -> Optional[int]:
         """The least size here that a table does not serve, None where it serves all."""
@@ -122,16 +184,18 @@ class Load:
         return sum(figures.block_of(classes, size) * count for size, count in self.counts.items())
 
     def at_peaks(self, classes: list) -> list:
-        """For each class of a table, by size, the blocks of all members, each at its own moment of the most blocks of the class, times
-        its weight. So over these columns this table takes what it takes over the members, and no table takes more."""
+        """For each class of a table, by size, the blocks of all members, each at its own moment of the most blocks of
+        the class, times its weight; none where it has no block. So over these columns this table takes what it takes
+        over the members, and no table takes more."""
         key = tuple(classes)
         if key not in self.known_peaks:
-            sums: list[Counter] = [Counter() for _ in classes]
+            sums = [0] * len(classes)
             for member in self.members:
                 member.refine(classes)
-                for column, live in zip(sums, member.at_peaks(classes)):
-                    texts.add_counts(column, live, member.weight)
-            self.known_peaks[key] = sums
+                for at, (most, moment) in enumerate(member.peaks(classes)):
+                    if most:
+                        sums[at] += member.weight * member.at(moment, self.places)
+            self.known_peaks[key] = [*map(self.places.unpack, sums)]
         return self.known_peaks[key]
 
     def count_bound(self) -> int:
@@ -139,27 +203,36 @@ class Load:
         return max([*self.counts.values(), sum(member.weight * member.count_bound() for member in self.members)])
 
 
-def read(paths: Iterable[str], found_faults: Optional[Faults] = None) -> list[Load]:
-    """The loads of files: of rows one for each program and day, and of such a file's profiles and histories each."""
+def read(paths: Iterable[str], cap: int = caps.MOST) -> list[Load]:
+    """The loads of files: of rows one for each program and day, and of such a file's profiles and histories each, with
+    each machine capped."""
     found: list[Load] = []
-    store = reading.Store(found_faults)
+    store = row_reader.Store()
     for path in paths:
-        with texts.opened(path) as file:
-            begin = texts.next_piece(file, path)
+        with text_files.open_input(path) as file:
+            begin = text_files.next_piece(file, path)
             if rows.is_rows(begin):
                 store.take(file, path, begin)
                 continue
-            data = begin + texts.next_piece(file, path, None)
+            data = begin + text_files.next_piece(file, path, None)
         if not data:
-            raise Refused(3, f"{texts.named(path)} is empty: did the command that writes it fail?")
+            raise Refusal(3, f"{text_files.input_name(path)} is empty: did the command that writes it fail?")
         found.append(of_text(data, path))
-    for (program, day), records in rows.grouped(store.items(), ("program", "day")):
-        found += of_records(program, day, records)
-    if not found_faults:
-        store.faults.say(sys.argv[0])
+    capped = caps.cap_machines(store.items(), cap)
+    for (program, day), records in rows.group_records(capped.found, ("program", "day")):
+        for load in of_records(program, day, records):
+            load.capped, load.cap = capped.number(caps.Group(program, day, load.kind != "profile")), cap
+            found.append(load)
+    caps.note(capped, f"its counts are cut at {cap:,} times the median", store.suspicions)
+    store.suspicions.say(sys.argv[0])
     if not found:
-        wrong = store.faults.text()
-        raise Refused(2, f"no row can count: {wrong[0]}" if wrong else "name a profile, a history, a timeline or rows; --help says more")
+        wrong = store.suspicions.text()
+        raise Refusal(
+            2,
+            f"no row can count: {wrong[0]}"
+            if wrong
+            else "name a profile, a history, a timeline or rows; --help says more",
+        )
     return found
 
 
@@ -167,21 +240,29 @@ def of_text(data: bytes, path: str) -> Load:
     """Of a file that is no text of rows. Its folder is the program, where it lies in one, and its name the day."""
     name = figures.without_ending(path, ".profile", ".history", ".timeline")
     program = os.path.basename(os.path.dirname(path))
-    shown = texts.printable(texts.named(path))
-    if texts.is_timeline(data):
+    shown = printable(text_files.input_name(path))
+    if count_texts.is_timeline(data):
         figures.refuse_timeline(data, shown)
-        return Load(shown, "timeline", members=[Member(1, texts.History(0, {}), data)], text=data, program=program, day=name)
-    if texts.is_history(data):
-        history = texts.parse_history(data, shown)
+        return Load(shown, "timeline", members=[Member(1, count_texts.History(0, {}), data)], text=data, program=program, day=name)
+    if count_texts.is_history(data):
+        history = count_texts.parse_history(data, shown)
         if not history.counts.keys() - {"large"}:
-            raise Refused(3, f"{shown} counts no block of at most {LARGEST_SIZE:,} bytes")
-        return Load(shown, "history", members=[Member(1, history)], text=texts.history_text(history).encode(), program=program, day=name)
-    return Load(shown, "profile", texts.parse_profile(data, path), program=program, day=name)
+            raise Refusal(3, f"{shown} counts no block of at most {LARGEST_SIZE:,} bytes")
+        return Load(shown, "history", members=[Member(1, history)], text=text_of(history), program=program, day=name)
+    profile = count_texts.parse_profile(data, path)
+    return Load(shown, "profile", profile, text=text_of(profile), program=program, day=name)
+
+
+def text_of(found: "dict | count_texts.History") -> bytes:
+    """The text of a profile or a history in its one form; empty where a text can't have its counts."""
+    if count_texts.divisor_of(found) > 1:
+        return b""
+    return (count_texts.history_text(found) if isinstance(found, count_texts.History) else count_texts.profile_text(found)).encode()
 
 
 def of_records(program: str, day: str, records: list) -> list[Load]:
     """What the machines of a program counted on a day: their profiles together, and their histories."""
-    name, found = texts.printable(f"{program} {day}"), []
+    name, found = printable(f"{program} {day}"), []
     profile = rows.profile_of(records)
     if any(size != "large" for size in profile):
         found.append(Load(name, "profile", profile, program=program, day=day))

@@ -4,22 +4,26 @@ import argparse
 import functools
 import re
 
-from mte_scripts import texts
-from mte_scripts.fleet import reading, rows
-from mte_scripts.fleet.faults import Faults
-from mte_scripts.texts import LARGEST_SIZE, MOST_SNAPSHOTS, Refused
-from mte_scripts.words import Words, between
+from mte_scripts import count_texts, text_files
+from mte_scripts.entry_point import Refusal, say
+from mte_scripts.fleet import caps, row_reader, rows
+from mte_scripts.fleet.suspicions import Suspicions
+from mte_scripts.formats import LARGEST_SIZE, MOST_SNAPSHOTS
+
+from mte_scripts.words import Words, number_between
 
 HELP = f"""\
 Make profiles and histories of the rows of a fleet's database, each count times its weight; or rows of a profile or a history.
 
-Usage: fleet_profiles [--by COLUMNS] [--program NAME] [--days FIRST..LAST] [--output FOLDER | --arrays] [--faults FILE] [ROWS..]
+Usage: fleet_profiles [--by COLUMNS] [--program NAME] [--days FIRST..LAST] [--cap N] [--output FOLDER | --arrays]
+                      [--suspects FILE] [ROWS..]
        fleet_profiles --rows PROGRAM,BUILD,MACHINE,DAY[,WEIGHT] [--load N] [PROFILE|HISTORY]
                                           (standard input for `-`, or where there is no file)
 
 A row is a line of nine fields with tabs between:
 
-  program build machine day   what was counted where: three names, and a day as 2026-01-31; these four are the key of a load
+  program build machine day   what was counted where: three names, and a day as 2026-01-31; these four are the key of a load.
+                              Several containers on a machine have names as MACHINE/POD: of one name, one is dropped
   load                        its number: of all loads with one key the one with the greatest number counts, whatever came first
   weight                      for how many it stands, itself included: of one machine in n, or one request in n, it is n
   moment                      0 in a profile; in a history the number of the moment, from 1 to {MOST_SNAPSHOTS:,}
@@ -32,17 +36,20 @@ a machine with any name, and the weight 1.
 Earlier releases wrote rows without the load. Of these the load that stands last counts, if its rows are in the order in which they were
 written; of rows in another order, the last of those that are equal but for their counts.
 
-A row that can't count, as one of a day that does not exist, is left out. Standard error says of each fault how many rows have it.
+A row that can't count, as one of a day that does not exist, is left out. Standard error says of each suspicion how many rows have it.
 
   --by COLUMNS       a profile for each program,build or other columns of program, build, machine and day; program,day where it is
                      left out
   --program NAME     only the rows of this program
   --days FIRST..LAST
                      only the rows of these days
+  --cap N            cut the counts of a machine with over N times the bytes of the median of its program and day at N
+                     times the median of each size; where it is left out, only name those above {caps.MOST} times
   --output FOLDER    make a new folder, with a folder in it for each value of the columns but the last, and in that a file for each
                      value of the last one: FOLDER/redis/2026-01-31.profile, or .history of moments
-  --arrays           print each load as one row, with its moments, sizes and counts as arrays: for PostgreSQL and ClickHouse
-  --faults FILE      write the rows that can't count into FILE: why, the file and the line, with tabs between, and the row
+  --arrays           print each load as one row, with its moments, sizes and counts as arrays: for PostgreSQL and ClickHouse, which read
+                     two backslashes as one
+  --suspects FILE    write the rows that can't count into FILE: why, the file and the line, with tabs between, and the row
   --rows KEY         print the rows of one profile or history for the database; the weight is 1 where it is left out
   --load N           the number of the load; the milliseconds since 1970 where it is left out
 
@@ -83,9 +90,14 @@ def texts_of(records: list) -> list:
     found = []
     profile, histories = rows.profile_of(records), rows.histories_of(records)
     if profile:
-        found.append((".profile", texts.profile_text(profile)))
+        found.append((".profile", count_texts.fitting_text(profile, functools.partial(say, "fleet_profiles"))))
     if histories:
-        found.append((".history", texts.history_text(rows.added(histories))))
+        found.append(
+            (
+                ".history",
+                count_texts.fitting_text(rows.add_histories(histories), functools.partial(say, "fleet_profiles")),
+            )
+        )
     return found
 
 
@@ -99,30 +111,31 @@ def write_folder(folder: str, groups: list) -> int:
     """A file for each group, where no file was before. All texts are made before the first is written."""
     every = [(values, ending, text) for values, records in groups for ending, text in texts_of(records)]
     made = [([*map(name_of, values)], ending, text) for values, ending, text in every]
-    with texts.new_folder(folder, "--output") as place:
+    with text_files.new_folder(folder, "--output") as place:
         for names, ending, text in made:
             place.make_below(names[:-1])
             place.write("/".join(names) + ending, text.encode(errors="surrogateescape"))
     return len(made)
 
 
-def write_arrays(found: "list[tuple[rows.Key, reading.Load]]") -> int:
-    """Each load as one row with arrays, in the order of the keys."""
+def write_arrays(found: "list[tuple[rows.Key, row_reader.Load]]") -> int:
+    """Each load as one row with arrays, in the order of the keys. The databases read a backslash as the begin of an escape."""
     lines: "list[str]" = []
     for key, load in sorted(found, key=lambda each: each[0]):
         parts = [(*cells_of(part.moment, part.sizes), part.counts.replace(b" ", b",").decode()) for part in load.parts]
         arrays = (f"[{','.join(column)}]" for column in zip(*parts))
-        lines.append("\t".join([*key, str(load.number), str(load.weight), *arrays]) + "\n")
+        names = (name.replace("\\", r"\\") for name in key)
+        lines.append("\t".join([*names, str(load.number), str(load.weight), *arrays]) + "\n")
         if len(lines) == LINES:
-            texts.write("".join(lines))
+            text_files.write("".join(lines))
             lines.clear()
-    return texts.write("".join(lines))
+    return text_files.write("".join(lines))
 
 
 @functools.lru_cache(256)
 def cells_of(moment: int, sizes: bytes) -> "tuple[str, str]":
     """The elements of the arrays of moments and sizes."""
-    found = reading.unpacked(sizes)
+    found = row_reader.unpack_sizes(sizes)
     return ",".join([str(moment)] * len(found)), ",".join(map(str, found))
 
 
@@ -130,48 +143,54 @@ def write_rows(word: str, load: "int | None", files: list) -> int:
     """The rows of one profile or history."""
     values = word.split(",")
     if len(values) not in (4, 5) or len(values) == 5 and not re.fullmatch("[0-9]{1,10}", values[4]):
-        raise Refused(2, f"--rows takes PROGRAM,BUILD,MACHINE,DAY and perhaps a weight, with commas between, and not {word}")
+        raise Refusal(
+            2, f"--rows takes PROGRAM,BUILD,MACHINE,DAY and perhaps a weight, with commas between, and not {word}"
+        )
     if len(files) > 1:
-        raise Refused(2, f"--rows takes one profile or history, so there is no place for {files[1]}")
-    found = texts.read_either(files[0])
-    if isinstance(found, texts.History):
+        raise Refusal(2, f"--rows takes one profile or history, so there is no place for {files[1]}")
+    found = count_texts.read_either(files[0])
+    if isinstance(found, count_texts.History):
         moments = {at + 1: {size: counts[at] for size, counts in found.counts.items()} for at in range(found.snapshots)}
     else:
         moments = {0: found}
     number = int(rows.clock() * 1000) if load is None else load
     text = rows.text_of(rows.Key(*values[:4]), rows.Record(int(values[4]) if len(values) == 5 else 1, moments, number))
     if not text:
-        raise Refused(3, "there is no request to count")
+        raise Refusal(3, "there is no request to count")
     try:
-        for line in texts.lines_of(text.encode(errors="surrogateescape")):
+        for line in text_files.lines_of(text.encode(errors="surrogateescape")):
             rows.row_of(line, 0)
-    except rows.Faulty as fault:
-        raise Refused(2, f"--rows: {fault.reason}: {fault.what}") from None
-    return texts.write(text)
+    except rows.Suspicion as suspicion:
+        raise Refusal(2, f"--rows: {suspicion.reason}: {suspicion.what}") from None
+    return text_files.write(text)
 
 
 def main(words: list) -> int:
-    kinds: "dict" = {"by": columns, "days": days, "load": between(1, rows.MOST_LOAD)}
+    kinds: "dict" = {"by": columns, "days": days, "load": number_between(1, rows.MOST_LOAD), "cap": caps.NUMBER}
     given = Words(HELP, "files", {"by": ["program", "day"]}, **kinds).take(words, once=True)
     files = given.files or ["-"]
     if not given.files:
-        texts.say_reading("fleet_profiles")
+        text_files.say_reading("fleet_profiles")
     if given.rows:
         return write_rows(given.rows, given.load, files)
-    texts.refuse_over([("--output", given.output), ("--faults", given.faults)], files)
-    found = reading.read(files, Faults(given.faults))
+    text_files.refuse_over([("--output", given.output), ("--suspects", given.suspects)], files)
+    found = row_reader.read(files, Suspicions(given.suspects))
     first, last = given.days or ("", "~")
     kept = [(key, load) for key, load in found.items() if given.program in (None, key.program) and first <= key.day <= last]
-    found.faults.say("fleet_profiles")
+    capped = caps.cap_machines(kept, given.cap or caps.MOST)
+    cut = f"its counts are cut at {given.cap:,} times the median" if given.cap else ""
+    caps.note(capped, cut or f"--cap {caps.MOST} would cut its counts", found.suspicions)
+    kept = capped.found if given.cap else kept
+    found.suspicions.say("fleet_profiles")
     if not kept:
-        raise Refused(3, f"none of the {len(found)} loads is of this program and these days")
+        raise Refusal(3, f"none of the {len(found)} loads is of this program and these days")
     if given.arrays:
         return write_arrays(kept)
     if given.output:
-        made = write_folder(given.output, rows.grouped(kept, given.by))
-        texts.say("fleet_profiles", f"{made} files in {given.output}")
+        made = write_folder(given.output, rows.group_records(kept, given.by))
+        say("fleet_profiles", f"{made} files in {given.output}")
         return 0
     whole = texts_of([load for _, load in kept])
     if len(whole) > 1:
-        raise Refused(2, "there are rows of profiles and of histories: --output makes a file of each")
-    return texts.write(whole[0][1])
+        raise Refusal(2, "there are rows of profiles and of histories: --output makes a file of each")
+    return text_files.write(whole[0][1])

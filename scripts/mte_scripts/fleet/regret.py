@@ -5,16 +5,17 @@ import math
 from collections.abc import Iterable, Sequence
 from typing import NamedTuple, Optional
 
-from mte_scripts import claims, texts
-from mte_scripts.fleet import bounds, loads, resampling
+from mte_scripts import certificate_texts, claim_words, claims, program_runs, text_files, text_layout
+from mte_scripts.entry_point import Refusal, printable
+from mte_scripts.fleet import bounds, caps, loads, resampling
 from mte_scripts.reports import pictures
 from mte_scripts.tables import figures
-from mte_scripts.texts import Refused
-from mte_scripts.words import TABLES, Words, between, decimal
+
+from mte_scripts.words import TABLES, Words, decimal, number_between
 
 HELP = f"""\
-Say {claims.TEMPLATES["regret.help"]}, by a certificate for
-each day; for a nightly job.
+Say how far a table of size classes is at most above a bound of all tables of each day, by a certificate for each day; for a
+nightly job.
 
 Usage: fleet_regret [OPTION..] TABLE LOAD..       (standard input for `-`)
 
@@ -26,6 +27,7 @@ TABLE is a file whose first line is a class line: a sheet, a fit, what fleet_tab
     histories, the footprint is the sum of each machine's by itself, times its weight
 
 {bounds.AMONG_HELP}
+{caps.HELP}
   --limit-percent X  end with status 1 where the table is more than X percent above the bound of a load, or does not serve one
   --resample N       of rows, say how far the percentage depends on which machines came: draw machines from them N times, with repeats,
                      and print what the middle 95% come to; 100 gives a fair interval
@@ -73,9 +75,10 @@ class Regret(NamedTuple):
         return None if self.above == math.inf else self.above
 
     def sentences(self, name: str) -> str:
-        """What is known of the load's bound, and of the table beside it."""
-        said = claims.regret(self.bound.judged, name, self.own, self.above, self.unserved)
-        return f"{claims.sentence(self.bound.judged, texts.trust())} {said}"
+        """What is known of the load's bound, and of the table beside it, which may have a name."""
+        bound = claims.bound(self.bound.claim, self.load.name, self.bound.divisor, self.bound.is_own)
+        table = claim_words.quote_name(name) if name else "The table"
+        return f"{bound} {claims.regret(self.bound.claim, self.load.name, table, self.own, self.above, self.unserved)}"
 
 
 def percent_above(cost: int, bound: int) -> float:
@@ -83,15 +86,17 @@ def percent_above(cost: int, bound: int) -> float:
     return -((bound - cost) * HUNDREDTHS // bound) / 100 if bound > 0 else math.inf
 
 
-def compared(load: loads.Load, bound: bounds.Bound, classes: list) -> Regret:
+def regret_of(load: loads.Load, bound: bounds.Bound, classes: list) -> Regret:
     """A table beside the bound of a load."""
     cost = load.cost(classes)
     return Regret(load, bound, cost, None if cost is None else percent_above(cost, bound.amount), load.unserved(classes))
 
 
-def interval_of(load: loads.Load, classes: list, among: bounds.Among, times: int) -> Optional[resampling.Interval]:
+def interval_of(
+    load: loads.Load, classes: list, among: bounds.TableLimits, times: int
+) -> Optional[resampling.Interval]:
     """How far the percentage of a load of rows depends on which machines came."""
-    return resampling.interval(load, lambda each: compared(each, bounds.of(each, among), classes).above, times)
+    return resampling.interval(load, lambda each: regret_of(each, bounds.bound_of(each, among), classes).above, times)
 
 
 def resampled_text(found: list, intervals: list, times: int) -> str:
@@ -113,50 +118,53 @@ def farthest(found: Iterable[Regret]) -> Regret:
     return max(found, key=lambda each: math.inf if each.above is None else each.above)
 
 
-def shown(each: Regret) -> str:
+def percent_cell(each: Regret) -> str:
     """Its percentage, as a cell."""
     return "not served" if each.above is None else f"{each.above:,.2f}%"
 
 
 def table_text(found: list, held_out: Sequence[Regret] = ()) -> str:
     """The loads in columns; the last has what a table came to that was made without the load's day."""
-    rows: list[tuple] = [("Load", "table, bytes", "bound, bytes", claims.TEMPLATES["regret.column"])]
+    rows: list[tuple] = [("Load", "table, bytes", "bound, bytes", "above the bound")]
     for each in found:
         cost = "not served" if each.cost is None else figures.number(each.cost)
-        rows.append((each.load.name, cost, figures.number(each.bound.amount), shown(each)))
+        rows.append((each.load.name, cost, figures.number(each.bound.amount), percent_cell(each)))
     if held_out:
-        rows = [(*row, cell) for row, cell in zip(rows, ["held out", *map(shown, held_out)])]
-    return "".join(f"{line}\n" for line in texts.columns(rows, most=WIDTH))
+        rows = [(*row, cell) for row, cell in zip(rows, ["held out", *map(percent_cell, held_out)])]
+    return "".join(f"{line}\n" for line in text_layout.columns(rows, most=WIDTH))
 
 
 def summary(found: list, name: str, limit: Optional[float]) -> str:
-    lines = [table_text(found), "\n", wrapped(farthest(found).sentences(name))]
+    lines = [table_text(found), "\n", wrap_paragraph(farthest(found).sentences(name))]
     if len(found) > 1:
         lines.append("Each line has its own certificate; --json has its sentence.\n")
     for each in found if limit is not None else []:
         if not is_within([each], limit):
             why = "it does not serve all sizes" if each.above is None else f"{each.above:,.2f}% is above the limit of {limit:g}%"
-            lines.append(wrapped(f"! {each.load.name}: {why}"))
+            lines.append(wrap_paragraph(f"! {each.load.name}: {why}"))
     return "".join(lines)
 
 
-def wrapped(text: str) -> str:
-    return "".join(f"{line}\n" for line in texts.wrapped(text))
+def wrap_paragraph(text: str) -> str:
+    return "".join(f"{line}\n" for line in text_layout.wrap_text(text))
 
 
-def as_json(found: list, name: str, classes: list, among: bounds.Among, limit: Optional[float], intervals: Sequence = ()) -> str:
-    trust = texts.trust()
+def as_json(
+    found: list, name: str, classes: list, among: bounds.TableLimits, limit: Optional[float], intervals: Sequence = ()
+) -> str:
+    trust = program_runs.trust()
     each_load = [
         {
             "name": each.load.name, "program": each.load.program, "day": each.load.day, "kind": each.load.kind,
             "table_bytes": each.cost, "bound_bytes": each.bound.amount, "above_percent": each.percent(),
-            "unserved_bytes": each.unserved, "sentences": each.sentences(name),
-            "machines": len(each.load.hosts), "interval_percent": ends_of(interval),
+            "unserved_bytes": each.unserved, "sentences": each.sentences(name), "bound_sha256": each.bound.claim.digest,
+            "machines": len(each.load.hosts), "capped_machines": each.load.capped,
+            "interval_percent": ends_of(interval),
         }
         for each, interval in zip(found, intervals or [None] * len(found))
     ]
     whole = {
-        "table": name, "classes": classes, "among": among._asdict(), "is_proved": trust.is_proved, "why_not": trust.why,
+        "table": printable(name) or "the table", "classes": classes, "among": among._asdict(), "is_proved": trust.is_proved, "why_not": trust.why,
         "limit_percent": limit, "is_within": is_within(found, limit), "loads": each_load,
     }
     return json.dumps(whole, indent=1) + "\n"
@@ -181,7 +189,7 @@ def picture(title: str, points: list, limit: Optional[float], note: str) -> str:
     for day in days[:: max(-(-len(days) // MOST_DAYS), 1)]:
         drawing.tick(across(day), day)
     if limit is not None:
-        y = pictures.shown(drawing.y(limit, top))
+        y = pictures.coordinate(drawing.y(limit, top))
         drawing.parts.append(f'<path class="limit" d="M{drawing.left} {y}H{drawing.right}"><title>the limit, {limit:g}%</title></path>')
     for at, program in enumerate(programs):
         own = sorted((day, percent) for name, day, percent in points if name == program)
@@ -193,25 +201,26 @@ def picture(title: str, points: list, limit: Optional[float], note: str) -> str:
 
 
 def main(words: list) -> int:
-    percentage = decimal(0, 1_000_000, "a percentage")
-    given = Words(HELP, "names", bounds.AMONG_DEFAULTS, limit_percent=percentage, resample=between(20, 10_000), **TABLES).take(words, once=True)
+    percentage, draws = decimal(0, 1_000_000, "a percentage"), number_between(20, 10_000)
+    kinds: dict = {"limit_percent": percentage, "resample": draws, "cap": caps.NUMBER, **TABLES}
+    given = Words(HELP, "names", {"cap": caps.MOST, **bounds.AMONG_DEFAULTS}, **kinds).take(words, once=True)
     if len(given.names) < 2:
-        raise Refused(2, "name a table, and then the loads of its days; --help says more")
+        raise Refusal(2, "name a table, and then the loads of its days; --help says more")
     if given.names.count("-") > 1:
-        raise Refused(2, "standard input can be named once")
-    texts.refuse_over([("--plot", given.plot)], given.names)
-    among = bounds.Among.of(given)
-    classes = texts.class_line(given.names[0])
-    name = texts.printable(figures.without_ending(given.names[0], ".classes", ".sheet", ".fit"))
-    found = [compared(load, bounds.of(load, among), classes) for load in loads.read(given.names[1:])]
+        raise Refusal(2, "standard input can be named once")
+    text_files.refuse_over([("--plot", given.plot)], given.names)
+    among = bounds.TableLimits.of(given)
+    classes = certificate_texts.class_line(given.names[0])
+    name = figures.without_ending(given.names[0], ".classes", ".sheet", ".fit")
+    found = [regret_of(load, bounds.bound_of(load, among), classes) for load in loads.read(given.names[1:], given.cap)]
     if given.plot:
-        title = claims.TEMPLATES["regret.title"].format(table=name)
+        title = f"{claim_words.quote_name(name)}: at most so far above the bound of each day"
         points = [(each.load.program, each.load.day, each.above) for each in found if each.above is not None]
-        note = "" if texts.trust().is_proved else claims.not_proved(texts.trust())
-        texts.write_file(given.plot, picture(title, points, given.limit_percent, note))
+        note = "" if program_runs.trust().is_proved else claims.unproved_note(program_runs.trust())
+        text_files.write_file(given.plot, picture(title, points, given.limit_percent, note))
     intervals = [interval_of(each.load, classes, among, given.resample) if given.resample else None for each in found]
     if given.json:
-        texts.write(as_json(found, name, classes, among, given.limit_percent, intervals))
+        text_files.write(as_json(found, name, classes, among, given.limit_percent, intervals))
     else:
-        texts.write(summary(found, name, given.limit_percent) + (resampled_text(found, intervals, given.resample) if given.resample else ""))
+        text_files.write(summary(found, name, given.limit_percent) + (resampled_text(found, intervals, given.resample) if given.resample else ""))
     return 0 if is_within(found, given.limit_percent) else 1

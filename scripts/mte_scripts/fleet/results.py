@@ -5,11 +5,11 @@ import statistics
 from collections.abc import Callable, Iterator
 from typing import NamedTuple, Optional
 
-from mte_scripts import texts
+from mte_scripts import text_files
+from mte_scripts.entry_point import Refusal
 from mte_scripts.fleet import rows
-from mte_scripts.fleet.faults import Faults
-from mte_scripts.fleet.rows import Faulty
-from mte_scripts.running import Refused
+from mte_scripts.fleet.suspicions import Suspicions
+from mte_scripts.fleet.rows import Suspicion
 
 COLUMNS = "program machine group day resident requests".split()
 GROUPS = ("control", "tuned", "before")
@@ -41,20 +41,20 @@ class Values(NamedTuple):
     missing: "list[str]"  # what is to be said of lines that did not come
 
 
-def fields_of(path: str, form: "dict[int, str]", found: Faults) -> "Iterator[tuple[int, bytes, list[str]]]":
-    """The lines of a file that have one of these numbers of fields, none of them empty; the others are faults."""
-    with texts.opened(path) as file:
-        lines = texts.lines_of(texts.next_piece(file, path, None))
+def fields_of(path: str, form: "dict[int, str]", found: Suspicions) -> "Iterator[tuple[int, bytes, list[str]]]":
+    """The lines of a file that have one of these numbers of fields, none of them empty; the others are suspicions."""
+    with text_files.open_input(path) as file:
+        lines = text_files.lines_of(text_files.next_piece(file, path, None))
     if not lines:
-        raise Refused(3, f"{texts.named(path)} has no line: did the command that writes it fail?")
+        raise Refusal(3, f"{text_files.input_name(path)} has no line: did the command that writes it fail?")
     for at, line in enumerate(lines, 1):
         try:
             words = rows.fields_of(line, at)
             if len(words) not in form or not all(words):
                 most = max(form)
-                raise Faulty(f"not the {most} fields {form[most]}, with tabs between", line.decode())
-        except Faulty as fault:
-            found.add(fault, path, at, line)
+                raise Suspicion(f"not the {most} fields {form[most]}, with tabs between", line.decode())
+        except Suspicion as suspicion:
+            found.add(suspicion, path, at, line)
             continue
         yield at, line, words
 
@@ -62,30 +62,30 @@ def fields_of(path: str, form: "dict[int, str]", found: Faults) -> "Iterator[tup
 def line_of(words: "list[str]", at: int, text: bytes) -> Line:
     program, machine, group, day, *amounts = words
     if group not in GROUPS:
-        raise Faulty(f"a group that is none of {', '.join(GROUPS)}", group)
-    if wrong := rows.day_fault(day):
-        raise Faulty(wrong, day)
+        raise Suspicion(f"a group that is none of {', '.join(GROUPS)}", group)
+    if wrong := rows.day_refusal(day):
+        raise Suspicion(wrong, day)
     if not all(re.fullmatch(r"[0-9]{1,15}(\.[0-9]{1,9})?", amount) for amount in amounts):
-        raise Faulty("no numbers of KiB and requests", " ".join(amounts))
+        raise Suspicion("no numbers of KiB and requests", " ".join(amounts))
     resident, requests = map(float, amounts)
     return Line(program, machine, group, day, resident, requests, at, text)
 
 
-def lines_of(path: str, found: Faults) -> "list[Line]":
+def lines_of(path: str, found: Suspicions) -> "list[Line]":
     """The lines that can count: of two of a machine, a group and a day the last one."""
     lines = []
     for at, text, words in fields_of(path, {len(COLUMNS): ", ".join(COLUMNS)}, found):
         try:
             lines.append(line_of(words, at, text))
-        except Faulty as fault:
-            found.add(fault, path, at, text)
+        except Suspicion as suspicion:
+            found.add(suspicion, path, at, text)
     lines = in_one_unit(lines, path, found)
     last = {line[:4]: line for line in lines}
-    found.count(AGAIN, len(lines) - len(last))
+    found.count_again(AGAIN, len(lines) - len(last))
     return list(last.values())
 
 
-def in_one_unit(lines: "list[Line]", path: str, found: Faults) -> "list[Line]":
+def in_one_unit(lines: "list[Line]", path: str, found: Suspicions) -> "list[Line]":
     """Without the lines that are far from the median of their program: their resident sets are in bytes, or in MiB."""
     by_program: "dict[str, list[float]]" = {}
     for line in lines:
@@ -99,17 +99,17 @@ def in_one_unit(lines: "list[Line]", path: str, found: Faults) -> "list[Line]":
             continue
         times = f"over {OTHER_UNIT} times" if line.resident > median else f"less than a {OTHER_UNIT}th of"
         what = f"{line.resident:,.0f} KiB of {line.machine}, and the median is {median:,.0f}"
-        found.add(Faulty(f"a resident set {times} the median of its program: in another unit than KiB", what), path, line.at, line.text)
+        found.add(Suspicion(f"a resident set {times} the median of its program: in another unit than KiB", what), path, line.at, line.text)
     return kept
 
 
-def groups_of(path: str, found: Faults) -> "dict[tuple[str, str], str]":
+def groups_of(path: str, found: Suspicions) -> "dict[tuple[str, str], str]":
     """The group of each program and machine, as `assign` prints them; empty where the lines have none."""
     form = {2: "program and machine", 3: "program, machine and group"}
     return {(words[0], words[1]): "".join(words[2:]) for _, _, words in fields_of(path, form, found)}
 
 
-def values_of(path: str, found: Faults, groups: "Optional[str]" = None) -> Values:
+def values_of(path: str, found: Suspicions, groups: "Optional[str]" = None) -> Values:
     """The means over the days of each machine. GROUPS is the file of those that were assigned."""
     assigned = groups_of(groups, found) if groups else {}
     lines = lines_of(path, found)
@@ -120,28 +120,28 @@ def values_of(path: str, found: Faults, groups: "Optional[str]" = None) -> Value
     for line in lines:
         try:
             in_its_group(line, assigned.get(line[:2], ""), len(in_groups[line[:2]] - {"before"}) > 1)
-        except Faulty as fault:
-            found.add(fault, path, line.at, line.text)
+        except Suspicion as suspicion:
+            found.add(suspicion, path, line.at, line.text)
             continue
         kept.append(line)
     if not kept:
         found.end()
-        raise Refused(2, f"no line of {texts.named(path)} can count: {found.text()[0]}")
+        raise Refusal(2, f"no line of {text_files.input_name(path)} can count: {found.text()[0]}")
     sums: dict = {}
     for line in kept:
         sums.setdefault(line[:2], {}).setdefault(line.group, {})[line.day] = (line.resident, line.requests)
-    return compared(sums, missing_of(kept, assigned))
+    return compare_groups(sums, missing_lines(kept, assigned))
 
 
 def in_its_group(line: Line, assigned: str, is_in_both: bool) -> None:
     """Refuses a line of another group than the machine was assigned to, or of a machine in both where that is not known."""
     if assigned and line.group not in (assigned, "before"):
-        raise Faulty("a group that is not the assigned one", f"{line.machine} of {line.program}")
+        raise Suspicion("a group that is not the assigned one", f"{line.machine} of {line.program}")
     if not assigned and is_in_both:
-        raise Faulty("a machine that is in both groups", f"{line.machine} of {line.program}")
+        raise Suspicion("a machine that is in both groups", f"{line.machine} of {line.program}")
 
 
-def missing_of(lines: "list[Line]", assigned: "dict[tuple[str, str], str]") -> "list[str]":
+def missing_lines(lines: "list[Line]", assigned: "dict[tuple[str, str], str]") -> "list[str]":
     """Of each group how many lines did not come: one for each of its machines on each day of the trial."""
     said = []
     days = {line.day for line in lines if line.group != "before"}
@@ -155,7 +155,7 @@ def missing_of(lines: "list[Line]", assigned: "dict[tuple[str, str], str]") -> "
     return said
 
 
-def compared(sums: dict, missing: "list[str]") -> Values:
+def compare_groups(sums: dict, missing: "list[str]") -> Values:
     """The values of machines; of a pilot, which has no other group, those before. Where most machines have days before, those that have
     none are left out."""
     mean: Callable = lambda days, at: sum(day[at] for day in days.values()) / len(days)

@@ -7,8 +7,10 @@ import time
 from collections.abc import Iterable
 from typing import NamedTuple
 
-from mte_scripts import texts
-from mte_scripts.texts import LARGEST_SIZE, MOST_COUNT, MOST_SNAPSHOTS, Refused
+from mte_scripts import count_texts
+from mte_scripts.entry_point import Refusal
+from mte_scripts.formats import LARGEST_SIZE, MOST_COUNT, MOST_SNAPSHOTS
+
 
 COLUMNS = "program build machine day weight moment size count".split()
 NUMBERED = "program build machine day load weight moment size count".split()
@@ -42,13 +44,18 @@ class Record(NamedTuple):
     load: int = 0
 
 
+def host_of(machine: str) -> str:
+    """The machine, without the container that its name may have after a slash."""
+    return machine.partition("/")[0] or machine
+
+
 def is_rows(data: bytes) -> bool:
     """Whether a text that begins with these bytes has such rows: one of its first lines has as many fields."""
     return any(line.count(b"\t") + 1 in (len(COLUMNS), len(NUMBERED)) for line in data.split(b"\n", 9)[:9])
 
 
-class Faulty(Exception):
-    """A row that can't count: why, in words that rows with the same fault have alike; and what of the row shows it."""
+class Suspicion(Exception):
+    """A row that can't count: why, in words that rows with the same suspicion have alike; and what of the row shows it."""
 
     def __init__(self, reason: str, what: str = "") -> None:
         super().__init__(reason)
@@ -60,7 +67,7 @@ def clock() -> float:
     return time.time()
 
 
-def day_fault(day: str) -> str:
+def day_refusal(day: str) -> str:
     """What is wrong with a day; empty if nothing is."""
     try:
         if not DAY.fullmatch(day):
@@ -78,12 +85,12 @@ def head_of(words: list) -> tuple:
     is_numbered = len(words) == len(NUMBERED)
     for column, word in zip(COLUMNS[:3], words):
         if not word.strip() or len(word) > LONGEST_NAME:
-            raise Faulty(f"no {column} of 1 to {LONGEST_NAME} characters", word)
-    if wrong := day_fault(words[3]):
-        raise Faulty(wrong, words[3])
+            raise Suspicion(f"no {column} of 1 to {LONGEST_NAME} characters", word)
+    if wrong := day_refusal(words[3]):
+        raise Suspicion(wrong, words[3])
     load = number(words[4], "load") if is_numbered else 0
     if load > (clock() + 86400 * EARLY) * 1000:
-        raise Faulty("a load that is not yet: a clock that is ahead", words[4])
+        raise Suspicion("a load that is not yet: a clock that is ahead", words[4])
     return Key(*words[:4]), load, number(words[-4], "weight"), number(words[-3], "moment")
 
 
@@ -91,16 +98,16 @@ def number(word: str, column: str) -> int:
     """The number in a column."""
     least, most = RANGES[column]
     if not re.fullmatch("[0-9]{1,19}", word) or not least <= int(word) <= most:
-        raise Faulty(f"a {column} that is no number from {least:,} to {most:,}", word)
+        raise Suspicion(f"a {column} that is no number from {least:,} to {most:,}", word)
     return int(word)
 
 
 def fields_of(line: bytes, at: int) -> "list[str]":
     """The fields of line AT of a file. A byte order mark comes also where files that have one are joined."""
     if line.startswith(BOM):
-        raise Faulty(r"a line that begins with a byte order mark (BOM): remove it by `sed 's/^\xef\xbb\xbf//'`")
-    if wrong := texts.encoding(line, at):
-        raise Faulty(wrong.replace(f"line {at} ", "a line that "))
+        raise Suspicion(r"a line that begins with a byte order mark (BOM): remove it by `sed 's/^\xef\xbb\xbf//'`")
+    if wrong := count_texts.encoding(line, at):
+        raise Suspicion(wrong.replace(f"line {at} ", "a line that "))
     return line.decode().split("\t")
 
 
@@ -108,7 +115,7 @@ def row_of(line: bytes, at: int) -> tuple:
     """The key, load, weight, moment, size and count of a row, which is line AT of its file. Large sizes are one above the largest."""
     words = fields_of(line, at)
     if len(words) not in (len(COLUMNS), len(NUMBERED)):
-        raise Faulty(f"not the {len(NUMBERED)} fields of a row, with tabs between: {FORM}", f"{len(words)} fields")
+        raise Suspicion(f"not the {len(NUMBERED)} fields of a row, with tabs between: {FORM}", f"{len(words)} fields")
     head = head_of(words)
     return *head, LARGE if words[-2] == "large" else number(words[-2], "size"), number(words[-1], "count")
 
@@ -123,7 +130,7 @@ def text_of(key: Key, record: Record) -> str:
     return "".join(lines)
 
 
-def grouped(found: Iterable[tuple], by: Iterable[str]) -> "list[tuple]":
+def group_records(found: Iterable[tuple], by: Iterable[str]) -> "list[tuple]":
     """Of keys with their records: the records by the values of these columns, in the order of the values."""
     groups: dict[tuple, list] = {}
     for key, record in found:
@@ -136,7 +143,7 @@ def profile_of(records: Iterable) -> dict:
     unbiased."""
     sums: dict = {}
     for record in records:
-        texts.add_counts(sums, record.moments.get(0, {}), record.weight)
+        count_texts.add_counts(sums, record.moments.get(0, {}), record.weight)
     return sums
 
 
@@ -146,21 +153,23 @@ def histories_of(records: Iterable) -> list:
     return [(record.weight, history_of(record)) for record in decoded if any(record.moments)]
 
 
-def history_of(record: Record) -> texts.History:
+def history_of(record: Record) -> count_texts.History:
     """The moments from 1 to the last; one of which there is no row has no block."""
     moments = max(record.moments)
     sizes = set().union(*(record.moments[moment] for moment in record.moments if moment))
     rows = {size: [record.moments.get(moment, {}).get(size, 0) for moment in range(1, moments + 1)] for size in sizes}
-    return texts.History(moments, rows)
+    return count_texts.History(moments, rows)
 
 
-def added(histories: list) -> texts.History:
+def add_histories(histories: list) -> count_texts.History:
     """The histories added moment by moment, each count times its weight; the machines took them at the same stages."""
     longest = max(history.snapshots for _, history in histories)
     if any(history.snapshots != longest for _, history in histories):
-        raise Refused(2, f"the machines have different numbers of moments, up to {longest}: they can't be added moment by moment")
+        raise Refusal(
+            2, f"the machines have different numbers of moments, up to {longest}: they can't be added moment by moment"
+        )
     rows: dict = {}
     for weight, history in histories:
         for size, counts in history.counts.items():
-            texts.add_row(rows, size, counts, weight)
-    return texts.History(longest, rows)
+            count_texts.add_row(rows, size, counts, weight)
+    return count_texts.History(longest, rows)

@@ -1,6 +1,7 @@
-"""Two groups of machines: means, intervals of their difference, and how many machines show a saving. The standard library has the normal
-distribution; that of Student follows from it."""
+"""Two groups of machines: means, intervals of their difference, and how many machines show a saving. The standard library has no distribution
+of Student; it is computed here."""
 
+import functools
 import math
 import statistics
 from collections.abc import Iterable, Sequence
@@ -9,18 +10,34 @@ from typing import NamedTuple
 NORMAL = statistics.NormalDist()
 
 
+def beta_part(at: float, first: float, second: float) -> float:
+    """The regularized incomplete beta function, by its continued fraction (NIST's Digital Library of Mathematical Functions, 8.17.22)."""
+    if at in (0, 1):
+        return at
+    if at > (first + 1) / (first + second + 2):
+        return 1 - beta_part(1 - at, second, first)
+    value, both = 0.0, first + second
+    for term in range(200, -1, -1):
+        odd = -(first + term) * (both + term) * at / ((first + 2 * term) * (first + 2 * term + 1))
+        even = (term + 1) * (second - term - 1) * at / ((first + 2 * term + 1) * (first + 2 * term + 2))
+        value = odd / (1 + even / (1 + value))
+    scale = math.lgamma(both) - math.lgamma(first) - math.lgamma(second) + first * math.log(at) + second * math.log1p(-at)
+    return math.exp(scale) / (first * (1 + value))
+
+
+@functools.lru_cache(maxsize=None)
 def student(share: float, freedom: float) -> float:
-    """The quantile of Student's distribution with so many degrees of freedom, 4 or more, by the expansion of Cornish and Fisher
-    (Abramowitz and Stegun, 26.7.5)."""
-    z = NORMAL.inv_cdf(share)
-    terms = (
-        z,
-        (z**3 + z) / 4,
-        (5 * z**5 + 16 * z**3 + 3 * z) / 96,
-        (3 * z**7 + 19 * z**5 + 17 * z**3 - 15 * z) / 384,
-        (79 * z**9 + 776 * z**7 + 1482 * z**5 - 1920 * z**3 - 945 * z) / 92_160,
-    )
-    return sum(term / freedom**power for power, term in enumerate(terms))
+    """The quantile of Student's distribution with so many degrees of freedom, for a share between 0 and 1."""
+    if share < 0.5:
+        return -student(1 - share, freedom)
+    low, high = 0.0, 1e6
+    for _ in range(60):
+        middle = (low + high) / 2
+        if beta_part(freedom / (freedom + middle**2), freedom / 2, 0.5) > 2 * (1 - share):
+            low = middle
+        else:
+            high = middle
+    return high
 
 
 class Group(NamedTuple):
@@ -59,7 +76,7 @@ def difference(pairs: Iterable[tuple], level: float) -> Difference:
     return Difference(mean, mean - wide, mean + wide)
 
 
-def adjusted(groups: dict, beside: dict) -> dict:
+def adjust_for_covariate(groups: dict, beside: dict) -> dict:
     """The values of some groups, as they would be if each machine had the same of what is beside them: less what grows with that, by
     the slope that the groups have in common."""
     means = {name: (statistics.fmean(values), statistics.fmean(beside[name])) for name, values in groups.items()}
@@ -70,7 +87,7 @@ def adjusted(groups: dict, beside: dict) -> dict:
     return {name: [y - slope * (x - middle) for x, y in zip(beside[name], values)] for name, values in groups.items()}
 
 
-def needed(saving: float, spread: float, level: float, power: float) -> int:
+def sample_size(saving: float, spread: float, level: float, power: float) -> int:
     """How many machines each group wants, so that with the chance POWER the interval of the level shows a saving. SAVING and the
     SPREAD, the standard deviation of one machine, are shares of the mean."""
     number = 2.0 * ((NORMAL.inv_cdf((1 + level) / 2) + NORMAL.inv_cdf(power)) * spread / saving) ** 2
@@ -80,7 +97,7 @@ def needed(saving: float, spread: float, level: float, power: float) -> int:
     return max(math.ceil(number - 1e-9), 5)
 
 
-def shown_by(number: int, spread: float, level: float, power: float) -> float:
+def detectable_saving(number: int, spread: float, level: float, power: float) -> float:
     """The saving, as a share of the mean, that so many machines in each group show with the chance POWER."""
     freedom = max(2.0 * number - 2, 4.0)
     return (student((1 + level) / 2, freedom) + student(power, freedom)) * spread * math.sqrt(2 / number)

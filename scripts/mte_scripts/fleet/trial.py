@@ -8,13 +8,13 @@ import random
 from collections.abc import Iterable
 from typing import NamedTuple, Optional
 
-from mte_scripts import texts
+from mte_scripts import certificate_texts, text_files, text_layout
+from mte_scripts.entry_point import Refusal, printable
 from mte_scripts.fleet import loads, regret, results, samples
-from mte_scripts.fleet.faults import Faults
+from mte_scripts.fleet.suspicions import Suspicions
 from mte_scripts.fleet.results import FEWEST, GROUPS, Values, values_of
 from mte_scripts.fleet.samples import Difference, Group
-from mte_scripts.running import Refused
-from mte_scripts.words import Words, between, decimal
+from mte_scripts.words import Words, decimal, number_between
 
 HELP = """\
 Plan the trial of a new table on some machines beside others, and read its result: difference, interval and verdict.
@@ -22,7 +22,7 @@ Plan the trial of a new table on some machines beside others, and read its resul
 Usage: fleet_trial assign [--seed N] [MACHINES]
        fleet_trial predict [--json] OLD NEW LOAD..
        fleet_trial plan --saving PERCENT (--spread PERCENT | --pilot RESULT) [--adjust] [--machines N] [--level P] [--power P]
-       fleet_trial read [--predicted PERCENT] [--adjust] [--groups FILE] [--faults FILE] [--level P] [--json] [RESULT]
+       fleet_trial read [--predicted PERCENT] [--adjust] [--groups FILE] [--suspects FILE] [--level P] [--json] [RESULT]
                                           (standard input for `-`, or where there is no file)
 
 assign takes lines of a program and a machine, with a tab between, and adds a third field, `control` or `tuned`: by chance, half of
@@ -38,7 +38,7 @@ falls by that. plan says how many machines each group wants. read says what a re
   --predicted PERCENT
                      read: says also whether the predicted saving is within the interval
   --groups FILE      read: what assign printed; a line with another group can't count, and a machine without a line is missing
-  --faults FILE      read: write the lines that can't count into FILE: why, the file and its line, with tabs between, and the line
+  --suspects FILE    read: write the lines that can't count into FILE: why, the file and its line, with tabs between, and the line
   --json             predict, read: print all as JSON
   --adjust           plan, read: compare at the same requests: of each program, less what the resident set grows with the requests,
                      by the slope that both groups have in common. It narrows the interval where jobs differ; choose it before the
@@ -69,12 +69,12 @@ Examples:
   fleet_trial read --predicted 3.4 result.tsv
 """
 
-def assigned(machines: Iterable[list], seed: int) -> str:
+def assign_groups(machines: Iterable[list], seed: int) -> str:
     """Each program's machines, half of them tuned; an odd one out goes to either group by chance."""
     by_program: dict[str, list] = {}
     for program, machine in machines:
         if machine in by_program.setdefault(program, []):
-            raise Refused(2, f"the machine {machine} of {program} is there twice")
+            raise Refusal(2, f"the machine {machine} of {program} is there twice")
         by_program[program].append(machine)
     lines = []
     for program in sorted(by_program):
@@ -93,7 +93,11 @@ def strata(values: dict) -> list:
         groups = values[program]
         for group in GROUPS[:2]:
             if len(groups.get(group, ())) < FEWEST:
-                raise Refused(3, f"the group {group} of {program} has {len(groups.get(group, ()))} machines, and wants {FEWEST} or more")
+                raise Refusal(
+                    3,
+                    f"the group {group} of {program} has {len(groups.get(group, ()))} machines, and wants {FEWEST} or "
+                    "more",
+                )
         found.append((program, sum(map(len, groups.values())), samples.group_of(groups["control"]), samples.group_of(groups["tuned"])))
     whole = sum(machines for _, machines, _, _ in found)
     return [(program, machines / whole, first, second) for program, machines, first, second in found]
@@ -101,7 +105,10 @@ def strata(values: dict) -> list:
 
 def at_same_requests(values: Values) -> Values:
     """The values that each machine would have with the mean requests of its program."""
-    resident = {program: samples.adjusted(groups, values.requests[program]) for program, groups in values.resident.items()}
+    resident = {
+        program: samples.adjust_for_covariate(groups, values.requests[program])
+        for program, groups in values.resident.items()
+    }
     return values._replace(resident=resident)
 
 
@@ -157,34 +164,34 @@ def verdict(result: Read) -> str:
     return "No saving is shown: the interval has 0."
 
 
-def text_of(result: Read, predicted: Optional[float], is_change: bool, is_adjusted: bool, faults: "list[str]") -> str:
+def text_of(result: Read, predicted: Optional[float], is_change: bool, is_adjusted: bool, suspicions: "list[str]") -> str:
     what = ("change since before, KiB" if is_change else "resident set, KiB") + ", at the same requests" * is_adjusted
     rows = [("Program", "machines", f"control: {what}", "tuned", "saving, KiB", f"{100 * result.level:g}% interval")]
     for program, first, second, each in result.rows:
         interval = f"{each.low:,.0f} to {each.high:,.0f}"
         cells = (f"{first.number} + {second.number}", f"{first.mean:,.0f}", f"{second.mean:,.0f}", f"{each.mean:,.0f}", interval)
-        rows.append((texts.printable(program), *cells))
-    lines = [f"{line}\n" for line in texts.columns(rows)]
+        rows.append((printable(program), *cells))
+    lines = [f"{line}\n" for line in text_layout.columns(rows)]
     said = f"Over all, each program with its share of the machines: the tuned ones take {result.whole.mean:,.0f} KiB less of "
     said += f"{result.mean:,.0f}, {percents(result.shares)}. {verdict(result)}"
-    lines += ["\n", regret.wrapped(said)]
+    lines += ["\n", regret.wrap_paragraph(said)]
     if predicted is not None:
         where = "within" if result.shares.low <= predicted <= result.shares.high else "below" if predicted < result.shares.low else "above"
-        lines.append(regret.wrapped(f"Predicted: {100 * predicted:.2f}%, which is {where} the interval."))
-    lines.append(regret.wrapped(f"Requests: the tuned machines differ by {percents(result.more)}."))
+        lines.append(regret.wrap_paragraph(f"Predicted: {100 * predicted:.2f}%, which is {where} the interval."))
+    lines.append(regret.wrap_paragraph(f"Requests: the tuned machines differ by {percents(result.more)}."))
     if not result.is_load_alike:
         also = "" if is_adjusted else ": what is measured may be of that, unless it is read with --adjust"
-        lines.append(regret.wrapped(f"! The groups did not serve alike{also}."))
-    return "".join([*lines, *(regret.wrapped(f"! {texts.printable(each)}") for each in faults)])
+        lines.append(regret.wrap_paragraph(f"! The groups did not serve alike{also}."))
+    return "".join([*lines, *(regret.wrap_paragraph(f"! {printable(each)}") for each in suspicions)])
 
 
-def as_json(result: Read, predicted: Optional[float], is_adjusted: bool, faults: "list[str]") -> str:
+def as_json(result: Read, predicted: Optional[float], is_adjusted: bool, suspicions: "list[str]") -> str:
     whole = {
         "is_adjusted": is_adjusted, "level_percent": 100 * result.level, "control_kib": result.mean, "saving_kib": result.whole._asdict(),
         "saving_percent": {name: 100 * value for name, value in result.shares._asdict().items()},
         "more_requests_percent": {name: 100 * value for name, value in result.more._asdict().items()},
         "predicted_percent": None if predicted is None else 100 * predicted, "is_saving": result.is_saving,
-        "is_load_alike": result.is_load_alike, "verdict": verdict(result), "faults": faults,
+        "is_load_alike": result.is_load_alike, "verdict": verdict(result), "suspicions": suspicions,
         "programs": [
             {"program": program, "control": first._asdict(), "tuned": second._asdict(), "saving_kib": each._asdict()}
             for program, first, second, each in result.rows
@@ -199,7 +206,9 @@ def spread_of(values: Values) -> tuple[float, float]:
     for program, by_group in values.resident.items():
         for group, own in by_group.items():
             if len(own) < 2:
-                raise Refused(3, f"the pilot has {len(own)} machine of {program} in the group {group}: the spread wants more")
+                raise Refusal(
+                    3, f"the pilot has {len(own)} machine of {program} in the group {group}: the spread wants more"
+                )
             groups.append(samples.group_of(own))
     whole = sum(group.number for group in groups)
     mean = values.before or sum(group.number * group.mean for group in groups) / whole
@@ -209,17 +218,21 @@ def spread_of(values: Values) -> tuple[float, float]:
 def plan_text(saving: float, spread: float, given: argparse.Namespace) -> str:
     lines = [f"{'Saving':>8}  machines in each group\n"]
     for each in (saving / 2, saving, 2 * saving):
-        lines.append(f"{100 * each:>7.2f}%  {samples.needed(each, spread, given.level / 100, given.power / 100):,}\n")
+        lines.append(
+            f"{100 * each:>7.2f}%  {samples.sample_size(each, spread, given.level / 100, given.power / 100):,}\n"
+        )
     said = f"With these, a trial shows the saving with a chance of {given.power:g}% by an interval of {given.level:g}%, if the spread of a "
     said += f"machine is {100 * spread:.2f}% of the mean in both groups, chance alone chooses them, and they do not depend on each other."
-    lines.append(regret.wrapped(said))
+    lines.append(regret.wrap_paragraph(said))
     if given.machines:
-        shown = samples.shown_by(given.machines, spread, given.level / 100, given.power / 100)
-        lines.append(regret.wrapped(f"{given.machines:,} machines in each group show a saving of {100 * shown:.2f}%."))
+        shown = samples.detectable_saving(given.machines, spread, given.level / 100, given.power / 100)
+        lines.append(
+            regret.wrap_paragraph(f"{given.machines:,} machines in each group show a saving of {100 * shown:.2f}%.")
+        )
     return "".join(lines)
 
 
-class Predicted(NamedTuple):
+class Prediction(NamedTuple):
     """Of a program: for how many machines it is, and what one takes with the old and with the new table, in KiB."""
 
     program: str
@@ -228,26 +241,29 @@ class Predicted(NamedTuple):
     new: float
 
 
-def predicted(old: list, new: list, given: Iterable[loads.Load]) -> list[Predicted]:
+def predict_programs(old: list, new: list, given: Iterable[loads.Load]) -> list[Prediction]:
     """The means of the machines of each program, over all days."""
     sums: dict[str, list] = {}
     for load in given:
         if load.kind == "profile":
-            raise Refused(2, f"{load.name} is a profile, which has no footprint: give histories or timelines")
+            raise Refusal(2, f"{load.name} is a profile, which has no footprint: give histories or timelines")
         costs = [load.cost(classes) for classes in (old, new)]
         if None in costs:
-            raise Refused(2, f"a table does not serve all sizes of {load.name}")
+            raise Refusal(2, f"a table does not serve all sizes of {load.name}")
         own = sums.setdefault(load.program, [0, 0, 0])
         sums[load.program] = [own[0] + load.machines, own[1] + (costs[0] or 0), own[2] + (costs[1] or 0)]
-    return [Predicted(name, machines, was / machines / 1024, now / machines / 1024) for name, (machines, was, now) in sorted(sums.items())]
+    return [
+        Prediction(name, machines, was / machines / 1024, now / machines / 1024)
+        for name, (machines, was, now) in sorted(sums.items())
+    ]
 
 
 def options_of(words: list, rest: str, *names: str) -> argparse.Namespace:
     """The options of a step: those of these names, and other words as REST."""
     chance = decimal(50, 99.9999, "a chance in percent")
     kinds = {
-        "seed": between(0, 10**9),
-        "machines": between(FEWEST, 10**9),
+        "seed": number_between(0, 10**9),
+        "machines": number_between(FEWEST, 10**9),
         "saving": decimal(0.001, 99, "a percentage"),
         "spread": decimal(0.001, 10_000, "a percentage"),
         "predicted": decimal(0, 99, "a percentage"),
@@ -260,66 +276,66 @@ def options_of(words: list, rest: str, *names: str) -> argparse.Namespace:
 def predict(words: list) -> int:
     given = options_of(words, "names", "json")
     if len(given.names) < 3 or given.names.count("-") > 1:
-        raise Refused(2, "predict takes the old table, the new one and the loads; --help says more")
-    old, new = (texts.class_line(name) for name in given.names[:2])
-    found = predicted(old, new, loads.read(given.names[2:]))
+        raise Refusal(2, "predict takes the old table, the new one and the loads; --help says more")
+    old, new = (certificate_texts.class_line(name) for name in given.names[:2])
+    found = predict_programs(old, new, loads.read(given.names[2:]))
     machines = sum(each.machines for each in found)
     whole_old, whole_new = sum(each.machines * each.old for each in found), sum(each.machines * each.new for each in found)
-    whole = Predicted("all", machines, whole_old / machines, whole_new / machines)
+    whole = Prediction("all", machines, whole_old / machines, whole_new / machines)
     if given.json:
         each_row = [{**each._asdict(), "saving_kib": each.old - each.new} for each in (*found, whole)]
-        return texts.write(json.dumps({"programs": each_row[:-1], "all": each_row[-1]}, indent=1) + "\n")
+        return text_files.write(json.dumps({"programs": each_row[:-1], "all": each_row[-1]}, indent=1) + "\n")
     rows: list[tuple] = [("Program", "machines", "old, KiB", "new, KiB", "saving, KiB")]
     for each in (*found, whole):
-        rows.append((texts.printable(each.program), *(f"{value:,.0f}" for value in (each.machines, each.old, each.new, each.old - each.new))))
-    return texts.write("".join(f"{line}\n" for line in texts.columns(rows)))
+        rows.append((printable(each.program), *(f"{value:,.0f}" for value in (each.machines, each.old, each.new, each.old - each.new))))
+    return text_files.write("".join(f"{line}\n" for line in text_layout.columns(rows)))
 
 
 def file_of(given: argparse.Namespace) -> str:
     if len(given.names) > 1:
-        raise Refused(2, f"there is one file, so no place for {given.names[1]}")
+        raise Refusal(2, f"there is one file, so no place for {given.names[1]}")
     return given.names[0] if given.names else "-"
 
 
 def assign(words: list) -> int:
     given = options_of(words, "names", "seed")
-    path, found = file_of(given), Faults()
+    path, found = file_of(given), Suspicions()
     machines = [words for _, _, words in results.fields_of(path, {2: "program and machine"}, found)]
     if found.rows:
-        raise Refused(2, found.text()[0])
-    return texts.write(assigned(machines, given.seed))
+        raise Refusal(2, found.text()[0])
+    return text_files.write(assign_groups(machines, given.seed))
 
 
 def plan(words: list) -> int:
     given = options_of(words, "", "saving", "spread", "pilot", "adjust", "machines", "power", "level")
     if given.saving is None or (given.spread is None) == (given.pilot is None):
-        raise Refused(2, "plan takes --saving, and --spread or --pilot; --help says more")
+        raise Refusal(2, "plan takes --saving, and --spread or --pilot; --help says more")
     spread, begin = (given.spread or 0) / 100, ""
     if given.pilot:
-        found = Faults()
+        found = Suspicions()
         values = values_of(given.pilot, found)
         found.say("fleet_trial")
         mean, spread = spread_of(at_same_requests(values) if given.adjust else values)
         begin = f"The pilot: a mean of {mean:,.0f} KiB, and a spread of {100 * spread:.2f}%.\n"
         if not spread:
-            raise Refused(3, "all machines of the pilot take the same: there is no spread to plan with")
-    return texts.write(begin + plan_text(given.saving / 100, spread, given))
+            raise Refusal(3, "all machines of the pilot take the same: there is no spread to plan with")
+    return text_files.write(begin + plan_text(given.saving / 100, spread, given))
 
 
 def read_result(words: list) -> int:
-    given = options_of(words, "names", "predicted", "adjust", "json", "level", "groups", "faults")
-    texts.refuse_over([("--faults", given.faults)], [file_of(given), given.groups])
-    found = Faults(given.faults)
+    given = options_of(words, "names", "predicted", "adjust", "json", "level", "groups", "suspects")
+    text_files.refuse_over([("--suspects", given.suspects)], [file_of(given), given.groups])
+    found = Suspicions(given.suspects)
     values = values_of(file_of(given), found, given.groups)
     found.end()
     if not any(group in groups for groups in values.resident.values() for group in GROUPS[:2]):
-        raise Refused(2, "the result has no machine in the groups control and tuned")
+        raise Refusal(2, "the result has no machine in the groups control and tuned")
     if given.adjust:
         values = at_same_requests(values)
     predicted = None if given.predicted is None else given.predicted / 100
     result = read(values, given.level / 100)
     is_change, said = values.before is not None, [*values.missing, *found.text()]
-    texts.write(as_json(result, predicted, given.adjust, said) if given.json else text_of(result, predicted, is_change, given.adjust, said))
+    text_files.write(as_json(result, predicted, given.adjust, said) if given.json else text_of(result, predicted, is_change, given.adjust, said))
     return 0 if result.is_saving else 1
 
 
@@ -328,5 +344,5 @@ def main(words: list) -> int:
     if words[:1] in (["-h"], ["--help"], ["-V"], ["--version"]):
         Words(HELP).take(words[:1])
     if not words or words[0] not in steps:
-        raise Refused(2, "the first word is assign, predict, plan or read; --help says more")
+        raise Refusal(2, "the first word is assign, predict, plan or read; --help says more")
     return steps[words[0]](words[1:])

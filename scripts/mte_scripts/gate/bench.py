@@ -1,4 +1,4 @@
-"""Compare mte_tool with bench/plain, which does the same in plain Rust, and print a table in Markdown.
+"""Compare mte_tool with scripts/tests/plain, which does the same in plain Rust, and print a table in Markdown.
 
 Usage: bench [--instructions] [--branches] [--runs N] [--seed N] [--keep FOLDER] [ROW..]
        bench --growth [--seed N]
@@ -42,10 +42,10 @@ import subprocess
 from collections.abc import Callable
 from pathlib import Path
 
-from mte_scripts import formats, places, private_folder, texts
+from mte_scripts import formats, places, private_folder, program_runs, text_files
+from mte_scripts.entry_point import Refusal
 from mte_scripts.gate import growth
-from mte_scripts.running import Refused
-from mte_scripts.words import Words, between
+from mte_scripts.words import Words, number_between
 
 ROOT = Path(places.ROOT)
 OURS = ROOT / "crates/mte_tool/out/mte_tool"
@@ -90,12 +90,14 @@ ROWS: "dict[str, tuple]" = {
 
 
 def options_of(words: "list[str]") -> dict:
-    seed = between(1, formats.OPTIONS["seed"].most)
-    options = vars(Words(__doc__, "rows", {"runs": 20, "seed": 1}, runs=between(1, 10_000), seed=seed).take(words))
+    seed = number_between(1, formats.OPTIONS["seed"].most)
+    options = vars(
+        Words(__doc__, "rows", {"runs": 20, "seed": 1}, runs=number_between(1, 10_000), seed=seed).take(words)
+    )
     if unknown := [row for row in options["rows"] if row not in ROWS]:
-        raise Refused(2, f"there is no row {unknown[0]}; --help says what there is")
+        raise Refusal(2, f"there is no row {unknown[0]}; --help says what there is")
     if options["growth"] and (options["rows"] or options["keep"] or options["instructions"] or options["branches"]):
-        raise Refused(2, "--growth takes no row and no option but --seed")
+        raise Refusal(2, "--growth takes no row and no option but --seed")
     return options
 
 
@@ -105,23 +107,23 @@ def check_tools(options: dict) -> None:
         tools.append((GNU_TIME, "the memory"))
     for tool, purpose in tools:
         if not shutil.which(tool):
-            raise Refused(3, f"there is no {tool}, which is needed for {purpose}")
+            raise Refusal(3, f"there is no {tool}, which is needed for {purpose}")
 
 
 def build(folder: Path) -> "dict[str, Path]":
     """The two programs, built."""
     if subprocess.run([ROOT / "scripts/mte_tool", "--version"], stdout=subprocess.DEVNULL).returncode != 0:
-        raise Refused(3, "mte_tool could not be built")
+        raise Refusal(3, "mte_tool could not be built")
     plain = folder / "plain"
-    source = ROOT / "bench/plain/main.rs"
+    source = ROOT / "scripts/tests/plain/main.rs"
     if subprocess.run([RUSTC, "-O", "--edition", "2021", source, "-o", plain]).returncode != 0:
-        raise Refused(3, "rustc could not build bench/plain")
+        raise Refusal(3, "rustc could not build scripts/tests/plain")
     return {"mte_tool": OURS, "plain": plain}
 
 
 def output_of(command: list, source: Path) -> bytes:
     with open(source, "rb") as given:
-        return texts.output_of(command, stdin=given)
+        return text_files.output_of(command, stdin=given)
 
 
 def make_inputs(folder: Path, seed: int, plain: Path) -> None:
@@ -132,26 +134,26 @@ def make_inputs(folder: Path, seed: int, plain: Path) -> None:
         return f"{size} {chance.randint(1, 10**9)}\n"
 
     sizes = "".join(line(size) for size in range(1, formats.LARGEST_SIZE + 1))
-    (folder / "score.in").write_bytes(texts.joined(SCORED, sizes))
+    (folder / "score.in").write_bytes(program_runs.join_texts(SCORED, sizes))
     needs = "".join(line(chance.randint(16 * need - 31, 16 * need - 16)) for need in range(2, 1025))
     (folder / "tune.in").write_text(needs)
     sheet = output_of([plain, "tune", "--limit", "32"], folder / "tune.in")
-    (folder / "check.in").write_bytes(texts.joined(sheet, needs))
+    (folder / "check.in").write_bytes(program_runs.join_texts(sheet, needs))
     counts = ("".join(f" {chance.randint(0, 10**6)}" for _ in range(63)) + f" {chance.randint(1, 10**6)}" for _ in range(formats.LARGEST_SIZE))
     history = "snapshots 64\n" + "".join(f"{size}{numbers}\n" for size, numbers in enumerate(counts, 1))
-    (folder / "footprint.in").write_bytes(texts.joined(SCORED, history))
+    (folder / "footprint.in").write_bytes(program_runs.join_texts(SCORED, history))
     (folder / "fit.in").write_text(history)
     fit = output_of([plain, "fit", "--limit", "32"], folder / "fit.in")
-    (folder / "check-fit.in").write_bytes(texts.joined(fit, history))
-    events = texts.output_of([plain, "events", "--seed", str(seed)])
+    (folder / "check-fit.in").write_bytes(program_runs.join_texts(fit, history))
+    events = text_files.output_of([plain, "events", "--seed", str(seed)])
     (folder / "events.trace").write_bytes(events)
-    (folder / "replay.in").write_bytes(texts.joined(growth.TABLE, events))
+    (folder / "replay.in").write_bytes(program_runs.join_texts(growth.TABLE, events))
     make_traces(folder, chance)
     timeline = timeline_of(chance)
     (folder / "run.timeline").write_text(timeline)
-    (folder / "footprint-over.in").write_bytes(texts.joined(SCORED, timeline))
+    (folder / "footprint-over.in").write_bytes(program_runs.join_texts(SCORED, timeline))
     fit = output_of([plain, "fit", "--limit", "32"], folder / "run.timeline")
-    (folder / "check-fit-over.in").write_bytes(texts.joined(fit, timeline))
+    (folder / "check-fit-over.in").write_bytes(program_runs.join_texts(fit, timeline))
 
 
 def timeline_of(chance: random.Random) -> str:
@@ -197,7 +199,7 @@ def instructions(command: "list[str]", source: Path, target: Path, branches: boo
     status, errors = run(valgrind + ["--branch-sim=yes"] * branches + command, source, target)
     collected = re.search(r"Collected : ([\d ]+)", errors)
     if not collected:
-        raise Refused(3, f"valgrind did not count {' '.join(command)}: {errors.strip()}")
+        raise Refusal(3, f"valgrind did not count {' '.join(command)}: {errors.strip()}")
     # instructions; with branches: conditional ones, mispredicted, indirect ones, mispredicted
     numbers = [int(number) for number in collected[1].split()]
     return numbers[0], sum(numbers[2::2]), status
@@ -244,9 +246,11 @@ def size_of(file: Path) -> str:
 def compare(words: str, statuses: "list[int]", targets: "list[Path]") -> None:
     """Ends the script where the two programs disagree."""
     if statuses != [0, 0]:
-        raise Refused(1, f"`{words}` ended with status {statuses[0]} of mte_tool and {statuses[1]} of the plain program")
+        raise Refusal(
+            1, f"`{words}` ended with status {statuses[0]} of mte_tool and {statuses[1]} of the plain program"
+        )
     if len({target.read_bytes() for target in targets}) > 1:
-        raise Refused(1, f"`{words}`: the outputs of mte_tool and of the plain program differ")
+        raise Refusal(1, f"`{words}`: the outputs of mte_tool and of the plain program differ")
 
 
 def print_table(options: dict, folder: Path) -> None:
@@ -263,7 +267,7 @@ def print_table(options: dict, folder: Path) -> None:
 
 def print_growth(options: dict, folder: Path) -> None:
     programs = build(folder)
-    events = texts.output_of([programs["plain"], "events", "--seed", str(options["seed"])]).decode().splitlines(keepends=True)
+    events = text_files.output_of([programs["plain"], "events", "--seed", str(options["seed"])]).decode().splitlines(keepends=True)
 
     print("| What grows | values | before | for each | instructions | memory in MiB |")
     print("|---|---:|---:|---|---:|---:|")
@@ -281,7 +285,7 @@ def growth_of(program: str, trial: growth.Trial, folder: Path) -> "tuple[str, st
         (folder / "given").write_text(text)
         count, _, status = instructions(command, folder / "given", folder / "out")
         if status != 0:
-            raise Refused(3, f"{' '.join(command)} ended with status {status}")
+            raise Refusal(3, f"{' '.join(command)} ended with status {status}")
         counts.append(count)
     before, whole = counts
     return f"{before / 1e6:.2f} M", f"{(whole - before) / trial.count:,.0f}", f"{memory(command, folder / 'given') / 2**20:.1f}"
@@ -296,4 +300,4 @@ def bench(words: "list[str]") -> None:
         with contextlib.nullcontext(os.path.realpath(options["keep"])) if options["keep"] else private_folder.temporary() as folder:
             (print_growth if options["growth"] else print_table)(options, Path(folder))
     except OSError as error:
-        raise Refused(3, f"{error.filename or 'standard output'}: {error.strerror or error}")
+        raise Refusal(3, f"{error.filename or 'standard output'}: {error.strerror or error}")

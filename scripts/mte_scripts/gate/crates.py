@@ -12,8 +12,9 @@ Rattle kit that they use. docs/LIBRARIES.md says which NAME serves which use.
 import os
 import shutil
 
-from mte_scripts import texts
+from mte_scripts import text_files
 from mte_scripts.builds.crate_list import CrateList
+from mte_scripts.entry_point import Refusal
 from mte_scripts.places import ROOT
 from mte_scripts.words import Words
 
@@ -36,11 +37,11 @@ def copy(crates: CrateList, names: list[str], folder: str) -> None:
     try:
         os.makedirs(folder, exist_ok=True)
         if os.listdir(folder):
-            raise texts.Refused(2, f"{folder} is not empty")
+            raise Refusal(2, f"{folder} is not empty")
         crates.copy(names, folder)
         shutil.copy(os.path.join(ROOT, "LICENSE"), folder)
     except (OSError, shutil.Error) as error:
-        raise texts.Refused(3, f"{folder} can't be written: {error}") from None
+        raise Refusal(3, f"{folder} can't be written: {error}") from None
 
 
 def main(words: "list[str]") -> int:
@@ -50,9 +51,9 @@ def main(words: "list[str]") -> int:
     unknown = [it for it in words if it not in crates.stands_on]
     if unknown or not words:
         what = f"{unknown[0]} is no crate of this repository" if unknown else "no crate is named"
-        raise texts.Refused(2, f"{what}; `crates --help` says more")
+        raise Refusal(2, f"{what}; `crates --help` says more")
     names = list(crates.below(words))
     if folder is None:
-        return texts.write(listing(crates, names))
+        return text_files.write(listing(crates, names))
     copy(crates, names, folder)
     return 0

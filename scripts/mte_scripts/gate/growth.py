@@ -4,7 +4,7 @@ import random
 from collections import namedtuple
 from collections.abc import Sequence
 
-from mte_scripts import texts
+from mte_scripts import program_runs
 
 # mixed events that are the same in each series, but for the series of events
 EVENTS = 100_000
@@ -35,19 +35,21 @@ def all_series(events: "list[str]", seed: int) -> "list[Series]":
     ]
 
 
-def after(table: str, events: str) -> str:
+def prepend_table(table: str, events: str) -> str:
     """Events after a class line, if there is one."""
-    return texts.joined(table, events).decode() if table else events
+    return program_runs.join_texts(table, events).decode() if table else events
 
 
 def over_events(title: str, words: "list[str]", before: str, events: "list[str]") -> Series:
     values = [10_000, 100_000, 1_000_000]
-    trials = [Trial(words, after(before, "".join(events[:count])), before, count) for count in values]
+    trials = [Trial(words, prepend_table(before, "".join(events[:count])), before, count) for count in values]
     return Series(title, "event", values, trials)
 
 
 def over_options(title: str, name: str, values: "list[int]", mixed: str, others: "Sequence[str]" = ()) -> Series:
-    trials = [Trial(["replay", name, str(value), *others], after(TABLE, mixed), TABLE, EVENTS) for value in values]
+    trials = [
+        Trial(["replay", name, str(value), *others], prepend_table(TABLE, mixed), TABLE, EVENTS) for value in values
+    ]
     return Series(title, "event", values, trials)
 
 
@@ -55,7 +57,12 @@ def over_tables(mixed: str) -> Series:
     values = [1, 2, 8, 32]
     tables = [f"classes {' '.join(str(2 + 63 * place // count) for place in range(1, count + 1))}\n" for count in values]
     words = ["replay", "--granules", "262144"]
-    return Series("`replay`, classes", "event", values, [Trial(words, after(table, mixed), table, EVENTS) for table in tables])
+    return Series(
+        "`replay`, classes",
+        "event",
+        values,
+        [Trial(words, prepend_table(table, mixed), table, EVENTS) for table in tables],
+    )
 
 
 def over_live_blocks(mixed: str) -> Series:
@@ -63,7 +70,9 @@ def over_live_blocks(mixed: str) -> Series:
     values = [0, 1_000, 10_000, 60_000]
     blocks = ["malloc 1023 16\n" * count for count in values]
     words, table = ["replay", "--granules", "262144"], "classes 2 65\n"
-    trials = [Trial(words, after(table, before + mixed), after(table, before), EVENTS) for before in blocks]
+    trials = [
+        Trial(words, prepend_table(table, before + mixed), prepend_table(table, before), EVENTS) for before in blocks
+    ]
     return Series("`replay`, live blocks besides", "event", values, trials)
 
 

@@ -10,10 +10,10 @@ import subprocess
 import threading
 from collections import namedtuple
 
-from mte_scripts import private_folder, running
+from mte_scripts import entry_point, private_folder
 from mte_scripts.builds.crate_list import CrateList
-from mte_scripts.gate import planted
-from mte_scripts.gate.planted import Plant
+from mte_scripts.gate import plant_files
+from mte_scripts.gate.plant_files import Plant
 from mte_scripts.places import ROOT
 
 SECONDS = 900  # of one check, before its plants are tried in halves
@@ -36,7 +36,7 @@ REFUSED, PASSES, BAD, BLOCKED = "refused", "passes", "bad", "blocked"
 Verdict = namedtuple("Verdict", "kind why")
 
 
-def linked(folder: str, to: str) -> None:
+def link_folder(folder: str, to: str) -> None:
     """Copies a folder that rt made, what was proved by links where these can be made: a check replaces such a file, and changes none."""
     def copied(one: str, other: str) -> str:
         if one.endswith(".oantt"):
@@ -73,17 +73,17 @@ class Copy:
             out = os.path.join(crates.folder(name), "out")
             for part in ("rlib", "incremental") if name == crate else ("rlib",):
                 if os.path.isdir(os.path.join(out, part)):
-                    linked(os.path.join(out, part), os.path.join(folder, "crates", name, "out", part))
+                    link_folder(os.path.join(out, part), os.path.join(folder, "crates", name, "out", part))
         self.crate, self.log = crate, log
         self.folder = os.path.join(folder, "crates", crate)
 
     def write(self, plants: "list[Plant]") -> None:
         """Writes the files with these wrong bodies, and every other file as it is."""
         texts: dict[str, str] = {}
-        for path in {it.path for it in planted.plants_of(self.crate)}:
-            texts[path] = planted.source(Plant(self.crate, path, *[""] * 6))
+        for path in {it.path for it in plant_files.plants_of(self.crate)}:
+            texts[path] = plant_files.source(Plant(self.crate, path, *[""] * 6))
         for plant in plants:
-            texts[plant.path] = planted.planted(texts[plant.path], plant)
+            texts[plant.path] = plant_files.plant_body(texts[plant.path], plant)
         for path, text in texts.items():
             with open(os.path.join(self.folder, path), "w", encoding="utf-8") as file:
                 file.write(text)
@@ -91,7 +91,7 @@ class Copy:
     def check(self, plants: "list[Plant]") -> "str | None":
         """What a check says of the functions with these wrong bodies, or None if it takes too long."""
         if ENDED.is_set():
-            raise running.Refused(3, "the run was ended")
+            raise entry_point.Refusal(3, "the run was ended")
         self.write(plants)
         names = sorted({self.asked(it) for it in plants})
         command = ["rt", "check", *(word for name in names for word in ("--only", name)), "--jobs", "1"]
@@ -109,7 +109,7 @@ class Copy:
 
     def asked(self, plant: Plant) -> str:
         """What a check calls the function, its module left out for a method: that is the one of the type, which may be in another file."""
-        it = planted.function_of(planted.source(plant), plant.of)
+        it = plant_files.function_of(plant_files.source(plant), plant.of)
         return f"{it.owner}{it.trait if it.trait != 'Drop' else ''}::{it.name}" if it.owner or it.trait else f"{module_of(plant)}::{it.name}"
 
     def symbol(self, plant: Plant) -> "re.Pattern":
@@ -122,7 +122,7 @@ class Copy:
             text = file.read()
         place = len("".join(text.splitlines(True)[: line - 1]))
         for plant in plants:
-            it = planted.function_of(text, plant.of) if plant.path == path else None
+            it = plant_files.function_of(text, plant.of) if plant.path == path else None
             if it and it.start <= place < it.end:
                 return plant
         return None
@@ -163,7 +163,7 @@ def verdict(symbol: "re.Pattern", lines: list, errors: dict) -> Verdict:
     return Verdict(BLOCKED if CALLS.search(words) else REFUSED, words)
 
 
-def tried(copy: Copy, plants: "list[Plant]") -> "dict[Plant, Verdict]":
+def try_plants(copy: Copy, plants: "list[Plant]") -> "dict[Plant, Verdict]":
     """Tries wrong bodies, at most one in each function, in one check; those that the compiler rejects are left out of a second one."""
     found: dict[Plant, Verdict] = {}
     left = list(plants)
@@ -178,7 +178,7 @@ def tried(copy: Copy, plants: "list[Plant]") -> "dict[Plant, Verdict]":
         rejected.pop(None, None)
         if not rejected and len(left) > 1:
             half = len(left) // 2
-            return found | tried(copy, left[:half]) | tried(copy, left[half:])
+            return found | try_plants(copy, left[:half]) | try_plants(copy, left[half:])
         last = "the check takes too long" if said is None else said.strip()[-200:]
         for plant in rejected or left:
             found[plant] = Verdict(BAD, rejected.get(plant, last))
@@ -198,7 +198,7 @@ def rounds(plants: "list[Plant]", most: int = MOST) -> "list[list[Plant]]":
     return turns
 
 
-def judged(crate: str, plants: "list[Plant]", log: "str | None" = None) -> "dict[Plant, Verdict]":
+def judge_plants(crate: str, plants: "list[Plant]", log: "str | None" = None) -> "dict[Plant, Verdict]":
     """The verdict on each of these wrong bodies of a crate."""
     found: dict[Plant, Verdict] = {}
     with private_folder.temporary() as folder:
@@ -207,10 +207,10 @@ def judged(crate: str, plants: "list[Plant]", log: "str | None" = None) -> "dict
         while turns:
             blocked: list[Plant] = []
             for turn in turns:
-                of_turn = tried(copy, turn)
+                of_turn = try_plants(copy, turn)
                 again = [it for it in turn if of_turn[it].kind == BLOCKED]
                 if len(again) == len(turn) == 1:
-                    raise running.Refused(3, f"{crate}: {turn[0].name} can't be judged: {of_turn[turn[0]].why}")
+                    raise entry_point.Refusal(3, f"{crate}: {turn[0].name} can't be judged: {of_turn[turn[0]].why}")
                 blocked += again
                 found.update({it: of_turn[it] for it in turn if it not in again})
             # no two of one turn may stand in each other's way for ever

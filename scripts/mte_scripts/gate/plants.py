@@ -2,6 +2,7 @@
 
 Usage: plants [--jobs N] [--log FILE] [--part N] [CRATE..]
        plants --tool [--minutes N] [CRATE..]
+       plants --definitions [--jobs N] [--write]
        plants --check | --table | --write
 
 The wrong bodies are crates/CRATE/plants/*.plant. Many are tried in one check of a copy of the crate, one in each function. With no CRATE it is
@@ -12,22 +13,24 @@ it a line is printed for
   GONE     one that is refused, and has such a line
   BAD      one that can't be tried: it does not compile, or a proof names what it took away
 
-  --part N      those of one part of the checks alone, for about five minutes of processor time: the Nth from 0 on, and the first one again
-                after the last one. It prints which part it is, and of how many
+  --part N      those that name what they break, and of the others one part of the checks, for about five minutes of processor time: the Nth
+                from 0 on, and the first one again after the last one. It prints which part it is, and of how many
   --jobs N      so many crates are tried side by side, 1 if left out
   --log FILE    what the checks said
   --tool        tries the wrong bodies of `rt plant` instead. What it lets through is compared with scripts/mte_scripts/gate/plants.txt, where
                 each has a reason: a line `NEW` has one that is not there, and `GONE` one that is there and is refused
   --minutes N   the most minutes of `rt plant` in a crate, 10 if left out; what is not tried by then is counted
+  --definitions  tries changes of definitions in agreement with the code, scripts/tests/definition_changes.txt, in the plain program, and
+                 prints for each which answer shows it, and their table; with --write also into docs/MUST_FAIL.md
   --check       tries nothing, and says of each wrong body that could not be tried what is wrong
   --table       prints the table of docs/MUST_FAIL.md and the list below it
   --write       writes them
 
 Exit status:
-  0  each wrong body that is let through has a reason
-  1  a line was printed that has a wrong body
+  0  each wrong body that is let through has a reason, and each change that no answer shows
+  1  a line was printed that has a wrong body, or `WRONG`
   2  the words are refused
-  3  a crate can't be tried
+  3  a crate can't be tried, or the changed program can't be compiled
 """
 
 import collections
@@ -40,12 +43,12 @@ from collections import namedtuple
 from collections.abc import Iterator
 from concurrent.futures import ThreadPoolExecutor
 
-from mte_scripts import running
+from mte_scripts import entry_point
 from mte_scripts.builds.crate_list import CrateList
-from mte_scripts.gate import plant_rounds, planted
-from mte_scripts.gate.planted import Plant
+from mte_scripts.gate import definition_changes, plant_files, plant_rounds, planted_functions
+from mte_scripts.gate.plant_files import Plant
 from mte_scripts.places import ROOT
-from mte_scripts.words import Words, between
+from mte_scripts.words import Words, number_between
 
 KNOWN = os.path.join(os.path.dirname(os.path.realpath(__file__)), "plants.txt")
 ROW = re.compile(r"^(proves|no-ensures) +(\S+?):\d+ (.*?)(?:  \(and in \d+ more impls\))?$")
@@ -58,7 +61,7 @@ HEAD = "| Crate | Planted | Refused | Equivalent | Open |\n|---|---:|---:|---:|-
 Known = namedtuple("Known", "figures seconds reasons")
 
 
-def known() -> Known:
+def read_known() -> Known:
     """Of each crate the figures of `rt plant` and the processor time that one of our wrong bodies takes, and the reason of each wrong body of
     `rt plant` that is known, by crate and body."""
     figures, seconds, reasons = {}, {}, {}
@@ -75,22 +78,22 @@ def known() -> Known:
     return Known(figures, seconds, reasons)
 
 
-def planted_by_tool(crate: str, minutes: int) -> "tuple[list[str], list[str]]":
+def run_rt_plant(crate: str, minutes: int) -> "tuple[list[str], list[str]]":
     """What `rt plant` says of a crate: the wrong bodies that are proved, and its figures."""
     command = ["rt", "plant", "--minutes", str(minutes), "--max", "2000", "--jobs", "1"]
     done = subprocess.run(command, cwd=os.path.join(ROOT, "crates", crate), stdout=subprocess.PIPE, stderr=subprocess.STDOUT, text=True)
     last = re.search(r"(?m)^plants crate=.*$", done.stdout)
     if done.returncode or not last:
-        raise running.Refused(3, f"{crate}: `rt plant` gave no figures: {done.stdout.strip()[-300:]}")
+        raise entry_point.Refusal(3, f"{crate}: `rt plant` gave no figures: {done.stdout.strip()[-300:]}")
     figures = dict(it.split("=", 1) for it in last[0].split()[1:])
     bodies = [f"{found[2]} {found[3]}" for found in map(ROW.match, done.stdout.split("\n")) if found]
     return bodies, [figures[it] for it in FIGURES]
 
 
 def by_tool(names: "list[str]", minutes: int) -> int:
-    its, new = known(), 0
+    its, new = read_known(), 0
     for crate in names:
-        bodies, figures = planted_by_tool(crate, minutes)
+        bodies, figures = run_rt_plant(crate, minutes)
         for body in bodies:
             if (crate, body) not in its.reasons:
                 new += 1
@@ -122,11 +125,11 @@ def by_hand(plants: "dict[str, list[Plant]]", jobs: int, log: "str | None") -> i
 def verdicts(plants: "dict[str, list[Plant]]", jobs: int, log: "str | None") -> "Iterator[tuple[str, dict]]":
     """The verdicts on the wrong bodies of each crate. One job is done in this thread, which an interrupt ends at once."""
     if jobs == 1:
-        yield from ((crate, plant_rounds.judged(crate, its, log)) for crate, its in plants.items())
+        yield from ((crate, plant_rounds.judge_plants(crate, its, log)) for crate, its in plants.items())
         return
     with ThreadPoolExecutor(max_workers=jobs) as pool:
         try:
-            yield from zip(plants, pool.map(lambda it: plant_rounds.judged(it, plants[it], log), plants))
+            yield from zip(plants, pool.map(lambda it: plant_rounds.judge_plants(it, plants[it], log), plants))
         except BaseException:
             plant_rounds.ENDED.set()
             pool.shutdown(wait=False, cancel_futures=True)
@@ -151,11 +154,13 @@ def parts_of(plants: "dict[str, list[Plant]]", seconds: "dict[str, float]") -> "
 
 
 def part_of(plants: "dict[str, list[Plant]]", number: int) -> "dict[str, list[Plant]]":
-    """The wrong bodies of one part, which it prints."""
-    parts = parts_of(plants, known().seconds)
+    """The wrong bodies of one part, which it prints, and those that each part has."""
+    always = {crate: found for crate, its in plants.items() if (found := [it for it in its if it.breaks])}
+    parts = parts_of({crate: [it for it in its if not it.breaks] for crate, its in plants.items()}, read_known().seconds)
     number %= len(parts)
-    print(f"part {number} of 0 to {len(parts) - 1}: {', '.join(f'{crate} {len(its)}' for crate, its in parts[number].items())}", flush=True)
-    return parts[number]
+    print(f"part {number} of 0 to {len(parts) - 1}: {', '.join(f'{crate} {len(its)}' for crate, its in parts[number].items())}; "
+          f"and {sum(map(len, always.values()))} that each part has", flush=True)
+    return {crate: found for crate in plants if (found := always.get(crate, []) + parts[number].get(crate, []))}
 
 
 def is_to_try(crate: str) -> bool:
@@ -164,7 +169,7 @@ def is_to_try(crate: str) -> bool:
     for place, _, files in os.walk(os.path.join(ROOT, "crates", crate, "src")):
         for name in files:
             with open(os.path.join(place, name), encoding="utf-8") as file:
-                names += [it.name for it in planted.functions(file.read())]
+                names += [it.name for it in plant_files.functions(file.read())]
     return any(not re.match(r"law_|fmt$", it) for it in names) and not re.search(r"_(tests|trials)$", crate)
 
 
@@ -174,10 +179,10 @@ def sums(rows: "list[list[int]]") -> "list[int]":
 
 def text() -> str:
     """The table of the crates of which a wrong body is let through, and of all others, and a line for each that is open."""
-    its, open_ones = known(), []
+    its, open_ones = read_known(), []
     rows: list[tuple[str, list[int]]] = []
     for crate in sorted(CrateList(ROOT).stands_on):
-        plants = planted.plants_of(crate)
+        plants = plant_files.plants_of(crate)
         tool = collections.Counter(its.figures.get(crate, {}))
         let = [(it.kind, f"{it.name}, {it.what}", it.why) for it in plants if it.kind]
         let += [(reason.partition(": ")[0], body, reason.partition(": ")[2]) for (of, body), reason in its.reasons.items() if of == crate]
@@ -193,7 +198,8 @@ def text() -> str:
     rows = [row for row in rows if row[1] not in whole] + [(f"the {len(whole)} others", sums(whole))]
     rows.append(("all", sums([counts for _, counts in rows])))
     table = "".join(f"| {name} | " + " | ".join(f"{it:,}" for it in counts) + " |\n" for name, counts in rows)
-    return f"{HEAD}{table}\nOpen:\n\n{''.join(open_ones)}" if open_ones else f"{HEAD}{table}"
+    functions = planted_functions.summary(sorted(CrateList(ROOT).stands_on))
+    return f"{HEAD}{table}\n{functions}\nOpen:\n\n{''.join(open_ones)}" if open_ones else f"{HEAD}{table}\n{functions}"
 
 
 def write() -> int:
@@ -205,20 +211,31 @@ def write() -> int:
 
 
 def check(names: "list[str]") -> int:
-    seconds = known().seconds
-    found = [fault for crate in names for fault in planted.faults(crate)]
-    found += [f"{it}: plants.txt has no seconds for it" for it in names if it not in seconds and planted.plants_of(it)]
+    seconds = read_known().seconds
+    found = [fault for crate in names for fault in (*plant_files.faults(crate), *planted_functions.faults(crate))]
+    found += [
+        f"{it}: plants.txt has no seconds for it" for it in names if it not in seconds and plant_files.plants_of(it)
+    ]
     for fault in found:
         print(f"plants: {fault}", file=sys.stderr)
     return int(bool(found))
 
 
 def plants(words: "list[str]") -> int:
-    parser = Words(__doc__, "crates", {"minutes": 10, "jobs": 1}, minutes=between(1, 10_000), jobs=between(1, 64), part=between(0, 10_000_000))
+    parser = Words(
+        __doc__,
+        "crates",
+        {"minutes": 10, "jobs": 1},
+        minutes=number_between(1, 10_000),
+        jobs=number_between(1, 64),
+        part=number_between(0, 10_000_000),
+    )
     options = parser.take(words)
     crates = CrateList(ROOT)
     if unknown := [it for it in options.crates if it not in crates.stands_on]:
-        raise running.Refused(2, f"there is no crate {unknown[0]} (--help says more)")
+        raise entry_point.Refusal(2, f"there is no crate {unknown[0]} (--help says more)")
+    if options.definitions:
+        return definition_changes.run(options.jobs, options.write)
     if options.table:
         print(text(), end="")
         return 0
@@ -230,7 +247,7 @@ def plants(words: "list[str]") -> int:
         libraries = [it for it in crates.stands_on if os.path.exists(os.path.join(crates.folder(it), "src", "lib.rt"))]
         return by_tool(options.crates or libraries, options.minutes)
     try:
-        plants = {crate: its for crate in options.crates or crates.stands_on if (its := planted.plants_of(crate))}
+        plants = {crate: its for crate in options.crates or crates.stands_on if (its := plant_files.plants_of(crate))}
         return by_hand(plants if options.part is None else part_of(plants, options.part), options.jobs, options.log)
-    except planted.Unread as unread:
-        raise running.Refused(3, str(unread)) from None
+    except plant_files.Unread as unread:
+        raise entry_point.Refusal(3, str(unread)) from None

@@ -7,7 +7,7 @@ Usage: statement [--html] NAME
   --count    how many definitions, lines and modules each NAME has, in a table
 
 NAME is a command of mte_tool (score, tune, check, footprint, fit, check-fit, peaks, profile, replay, run), a promise of README.md
-(safe, least-waste, headline, hardening, bounded), or `program`: the whole program on its own streams.
+(safe, least-waste, headline, hardening, bounded, own-footprint), or `program`: the whole program on its own streams.
 
 It is read from the top. A module of definitions, or a file with types and constants that they name, comes after all that cite it; in it a
 definition comes where it is cited first. A line `-- laws:` has the laws that name a definition, where these are four at most: theorems
@@ -26,9 +26,9 @@ Examples:
 
 import argparse
 
-from mte_scripts import texts
+from mte_scripts import text_files, text_layout
+from mte_scripts.entry_point import Refusal
 from mte_scripts.gate import statement_page, statements
-from mte_scripts.running import Refused
 from mte_scripts.words import Words
 
 
@@ -36,24 +36,26 @@ def table() -> str:
     """The counts of all topics."""
     rows: list = [("", "definitions", "lines", "modules", "types and constants")]
     rows += [(topic, *map(str, statements.statement(topic).counts)) for topic in statements.TOPICS]
-    return "".join(f"{line}\n" for line in texts.columns(rows))
+    return "".join(f"{line}\n" for line in text_layout.columns(rows))
 
 
-def printed(options: argparse.Namespace) -> str:
+def answer_text(options: argparse.Namespace) -> str:
     if options.count:
         if options.html or options.names:
-            raise Refused(2, "--count takes no name; --help says what there is")
+            raise Refusal(2, "--count takes no name; --help says what there is")
         return table()
     if len(options.names) != 1:
-        raise Refused(2, "it wants one name, of a command or a promise; --help lists them")
+        raise Refusal(2, "it wants one name, of a command or a promise; --help lists them")
     if options.names[0] not in statements.TOPICS:
-        raise Refused(2, f"there is no command or promise {options.names[0]}; the names are {', '.join(statements.TOPICS)}")
+        raise Refusal(
+            2, f"there is no command or promise {options.names[0]}; the names are {', '.join(statements.TOPICS)}"
+        )
     found = statements.statement(options.names[0])
     return statement_page.page(found) if options.html else statements.as_text(found)
 
 
 def statement(words: "list[str]") -> int:
     try:
-        return texts.write(printed(Words(__doc__, "names").take(words)))
-    except statements.Unresolved as error:
-        raise Refused(1, str(error)) from None
+        return text_files.write(answer_text(Words(__doc__, "names").take(words)))
+    except statements.UnresolvedName as error:
+        raise Refusal(1, str(error)) from None

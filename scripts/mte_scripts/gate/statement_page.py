@@ -31,7 +31,7 @@ def ids(found: Statement) -> "dict[Key, str]":
     return {key: f"d{at}" for at, key in enumerate(dict.fromkeys(it.key for it in found.definitions), 1)}
 
 
-def linked(each: Definition, places: "dict[Key, str]") -> str:
+def link_names(each: Definition, places: "dict[Key, str]") -> str:
     """A definition's text, in which a name leads to its definition; a word of the kit's says so."""
     parts, last = [], 0
     for start, end, key in sorted(each.links, key=lambda link: link[:2]):
@@ -50,7 +50,7 @@ def plain(code: str) -> str:
     return re.sub(r"(?m)(^ *|  )((?:--|//).*)$", r'\1<span class="comment">\2</span>', escape(code))
 
 
-def said(comment: str) -> str:
+def comment_paragraphs(comment: str) -> str:
     """A comment's words, in paragraphs."""
     lines = [line.lstrip("-/").strip() for line in comment.split("\n")]
     paragraphs = "\n".join(lines).split("\n\n") if comment else []
@@ -58,19 +58,20 @@ def said(comment: str) -> str:
     return "".join(f"<p>{each}</p>\n" for each in shown)
 
 
-def worked(example: "Example | None") -> str:
+def example_details(example: "Example | None") -> str:
     if not example:
         return ""
     return f'<details><summary class="soft">worked out</summary>\n<pre>{escape(example.text)}</pre>\n</details>\n'
 
 
-def folded(each: Definition, places: "dict[Key, str]", example: "Example | None" = None) -> str:
+def fold_definition(each: Definition, places: "dict[Key, str]", example: "Example | None" = None) -> str:
     place = f' id="{places[each.key]}"' if each.key in places else ""
     where, laws = escape(statements.short(each.key)), escape(statements.laws_on(each).removeprefix("-- "))
     told = f'<p class="soft">{laws}</p>\n' if laws else ""
     return (
         f'<details open{place}><summary><code>{escape(each.key.name)}</code> <span class="soft">{where}</span></summary>\n'
-        f"{said(each.comment)}<pre>{linked(each, places)}</pre>\n{told}{worked(example)}</details>\n"
+        f"{comment_paragraphs(each.comment)}<pre>{link_names(each, places)}</pre>\n"
+        f"{told}{example_details(example)}</details>\n"
     )
 
 
@@ -84,9 +85,20 @@ def page(found: Statement) -> str:
     """The statement in HTML, with its policy."""
     places, examples = ids(found), statements.examples()
     title = found.title.replace("`", "")
-    lead = f"{statements.counted(found)}. A module stands after all that cite it." if found.contracts else statements.NO_CONTRACT
-    sections = [("The contract" if len(found.contracts) == 1 else "The contracts", "".join(folded(it, places) for it in found.contracts))]
-    sections.append(("The definitions", "".join(folded(it, places, examples.get(it.key)) for it in found.definitions)))
+    lead = (
+        f"{statements.counts_text(found)}. A module stands after all that cite it."
+        if found.contracts
+        else statements.NO_CONTRACT
+    )
+    sections = [
+        (
+            "The contract" if len(found.contracts) == 1 else "The contracts",
+            "".join(fold_definition(it, places) for it in found.contracts),
+        )
+    ]
+    sections.append(
+        ("The definitions", "".join(fold_definition(it, places, examples.get(it.key)) for it in found.definitions))
+    )
     of_kit = (f"<p>{escape(crate)}: <code>{escape(words)}</code></p>\n" for crate, words in found.kit_words.items())
     sections.append(("Words that the kit defines", "".join(of_kit)))
     body = "".join(f"<h2>{heading}</h2>\n{text}" for heading, text in sections if text)

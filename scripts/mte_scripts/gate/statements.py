@@ -11,8 +11,8 @@ import re
 from collections.abc import Iterable
 from dataclasses import dataclass, field
 
+from mte_scripts.entry_point import Refusal
 from mte_scripts.places import ROOT
-from mte_scripts.running import Refused
 
 CRATES = os.path.join(ROOT, "crates")
 
@@ -30,6 +30,7 @@ PROMISES = {
         "Canonical and bounded",
         [("mte_engine", "law_one_answer"), *(("class_tuner", name) for name in ("fill_rows", "fill_places", "tune", "fit", "fit_over"))],
     ),
+    "own-footprint": ("The heap's own footprint", [("footprint_theory", "laws")]),
 }
 PROGRAM = {"program": ("The whole program, on its own streams", [("mte_tool", "program.run"), ("mte_tool", "laws.law_exit_status")])}
 TOPICS: dict = {**COMMANDS, **PROMISES, **PROGRAM}
@@ -109,7 +110,7 @@ class Source:
     uses: dict  # name -> its path, of Rust's
 
 
-class Unresolved(Exception):
+class UnresolvedName(Exception):
     """A name that is neither defined, nor declared, nor the kit's."""
 
 
@@ -122,9 +123,9 @@ def read(path: str) -> str:
         with open(path, encoding="utf-8") as file:
             return file.read()
     except FileNotFoundError:
-        raise Unresolved(f"there is no file {os.path.relpath(path, ROOT)}") from None
+        raise UnresolvedName(f"there is no file {os.path.relpath(path, ROOT)}") from None
     except (OSError, ValueError) as error:
-        raise Refused(3, f"{path} can't be read: {error}") from error
+        raise Refusal(3, f"{path} can't be read: {error}") from error
 
 
 def imports_in(text: str) -> dict:
@@ -182,7 +183,7 @@ def module(name: str) -> Module:
         elif outside:
             comment = []
         else:
-            raise Unresolved(f"{os.path.relpath(file, ROOT)}: this line belongs to no definition: {line}")
+            raise UnresolvedName(f"{os.path.relpath(file, ROOT)}: this line belongs to no definition: {line}")
     return found
 
 
@@ -222,14 +223,14 @@ def signature_end(text: str, start: int, indent: str) -> int:
     return body.start() if body else len(text)
 
 
-def commented(text: str, start: int) -> str:
+def comment_above(text: str, start: int) -> str:
     """The comment above an item; attributes are left out."""
     lines = [line.strip() for line in text[:start].split("\n")[:-1]]
     above = itertools.takewhile(lambda line: line.startswith(("//", "#[")) and not line.startswith("//!"), reversed(lines))
     return "\n".join([line for line in above if line.startswith("//")][::-1])
 
 
-def dedented(text: str, indent: str) -> str:
+def remove_indent(text: str, indent: str) -> str:
     return "\n".join(line.removeprefix(indent) for line in text.split("\n"))
 
 
@@ -243,15 +244,15 @@ def item(crate: str, name: str, within: str = "") -> "tuple | None":
         if not (found := item_at(text, name)):
             continue
         if item_at(text[found.end() :], name):
-            raise Unresolved(f"{os.path.relpath(file, ROOT)} has two items {name}")
-        shown = dedented(text[found.start() : item_end(text, found.start())].rstrip(), found[1])
+            raise UnresolvedName(f"{os.path.relpath(file, ROOT)} has two items {name}")
+        shown = remove_indent(text[found.start() : item_end(text, found.start())].rstrip(), found[1])
         model = re.search(rf"(?m)^impl(?:<[^\n]*>)? Model for {re.escape(name)}\b[^\n]*", text)
         block = text[model.start() : item_end(text, model.start())] if model else ""
         if "    ghost Value" in block:
             start = block.index("    ghost Value")
             value = block[start : item_end(block, start)]
             shown = f"{shown.split('{')[0].rstrip()} {{ .. }}\n\n{model[0]}\n{value};\n    ..\n}}"
-        return file, commented(text, found.start()), shown
+        return file, comment_above(text, found.start()), shown
     return None
 
 
@@ -268,7 +269,7 @@ def source_key(crate: str, name: str, within: str = "", seen: tuple = ()) -> "Ke
     return None
 
 
-def declared(crate: str, name: str, folders: list) -> "Key | None":
+def declared_item(crate: str, name: str, folders: list) -> "Key | None":
     """The item of a crate that one of its modules, in these folders, declares."""
     path = os.path.join(CRATES, crate, "src", *(folders or ["lib"]))
     for file in (f"{path}.rt", os.path.join(path, "mod.rt")):
@@ -293,12 +294,12 @@ def target(place: str, name: str) -> "Key | Foreign":
         at = next((at for at, part in enumerate(parts) if part.startswith("The")), None)
         wanted = name if at is None or parts[at] == "TheConstants" else parts[at - 1]
         folders = [part for part in parts if part[0].islower()]
-        if found := declared(crate, wanted, folders):
+        if found := declared_item(crate, wanted, folders):
             return found
-        raise Unresolved(f"{place}.{name} is declared in no source")
+        raise UnresolvedName(f"{place}.{name} is declared in no source")
     try:
         there = module(place)
-    except Unresolved:
+    except UnresolvedName:
         place, _, data = place.rpartition(".")
         there = module(place)
         if there.constructors.get(name) != data:
@@ -310,7 +311,7 @@ def target(place: str, name: str) -> "Key | Foreign":
         return Key(place, there.constructors[name])
     if name in there.imports:  # handed on by `pub use`
         return target(*there.imports[name])
-    raise Unresolved(f"{place} does not define {name}")
+    raise UnresolvedName(f"{place} does not define {name}")
 
 
 def operators(names: "Iterable[str]") -> dict:
@@ -318,7 +319,7 @@ def operators(names: "Iterable[str]") -> dict:
     return {part: name for name in names if "◌" in name and name != "◌" for part in name.split("◌") if part}
 
 
-def known_in(imports: dict, blocks: "Iterable[str]", constructors: dict, place: str) -> dict:
+def word_meanings(imports: dict, blocks: "Iterable[str]", constructors: dict, place: str) -> dict:
     """What each word means in a module or a source: a Key, a Foreign, or where it is imported from."""
     known = dict(imports)
     known.update({name: Key(place, name) for name in blocks})
@@ -363,7 +364,7 @@ def tokens_of(text: str, start: int = 0) -> list:
     return [(it[0], start + it.start(), start + it.end()) for it in TOKEN.finditer(text) if it["mark"] or it["word"]]
 
 
-def cited(text: str, start: int, known: dict, bound: set, is_clause: bool, where: str) -> list:
+def spec_links(text: str, start: int, known: dict, bound: set, is_clause: bool, where: str) -> list:
     """The links of a text of antt; the text begins at START of its definition. What is BOUND has none."""
     tokens, links = tokens_of(text, start), []
     bound = bound | bound_in(tokens, is_clause, known)
@@ -375,7 +376,7 @@ def cited(text: str, start: int, known: dict, bound: set, is_clause: bool, where
         if word in "(){}[],;:." or (word in OWN and word not in known) or is_field or is_label or NUMBER.match(word) or word in bound:
             continue
         if not (found := meaning(known, word)):
-            raise Unresolved(f"{where}: nothing says what {word} is")
+            raise UnresolvedName(f"{where}: nothing says what {word} is")
         links.append((begin, end, found))
     return links
 
@@ -390,13 +391,13 @@ def chunks(text: str) -> "list[tuple[int, str, bool]]":
 def spec_definition(key: Key) -> Definition:
     there = module(key.place)
     comment, text = there.blocks[key.name]
-    known = known_in(there.imports, there.blocks, there.constructors, key.place)
+    known = word_meanings(there.imports, there.blocks, there.constructors, key.place)
     found = Definition(key, there.file, comment, text)
     inner = own_words(key.name) | {name for name, data in there.constructors.items() if data == key.name}
     for start, part, is_clause in chunks(text):
         if part.startswith(("unfolding ", "infix")):
             continue
-        found.links += cited(part, start, known, inner, is_clause, short(key))
+        found.links += spec_links(part, start, known, inner, is_clause, short(key))
         if text.startswith("pub record "):  # a record's parameters, and the fields before, are known in a field
             inner = inner | bound_in(tokens_of(part), False, known) | set(re.findall(r"^  pub (\S+) :", part))
     return found
@@ -410,7 +411,7 @@ def own_words(name: str) -> set:
 def source_links(file: str, text: str, own: str) -> list:
     """The links of an item of the source: those of its clauses, and then those of its types."""
     there = source(file)
-    known = known_in(there.imports, (), {}, "")
+    known = word_meanings(there.imports, (), {}, "")
     # where its clauses stand, and what else is ghost
     ghosts = [(match.end() - 1, item_end(text, match.end() - 1)) for match in GHOST.finditer(text)]
     plain = list(text)
@@ -428,7 +429,7 @@ def source_links(file: str, text: str, own: str) -> list:
         if not word or not word[0].isupper() or is_here:
             continue
         if not (found := rust_meaning(there, word, before)):
-            raise Unresolved(f"{os.path.relpath(file, ROOT)}, {own}: nothing says what {word} is")
+            raise UnresolvedName(f"{os.path.relpath(file, ROOT)}, {own}: nothing says what {word} is")
         types.append((match.start(), match.end(), found))
     for start, end in ghosts:
         part = text[start:end]
@@ -437,7 +438,7 @@ def source_links(file: str, text: str, own: str) -> list:
             if found := rust_meaning(there, word, ""):
                 scope[word] = found
         bound = names | generics | (RUST_OWN - set(scope)) | own_words(own)
-        links += cited(part, start, scope, bound, False, f"{os.path.relpath(file, ROOT)}, {own}")
+        links += spec_links(part, start, scope, bound, False, f"{os.path.relpath(file, ROOT)}, {own}")
     return links + types
 
 
@@ -528,14 +529,14 @@ def function(crate: str, name: str) -> Definition:
         found = re.search(rf"(?m)^({indent})pub fn {name}\b", text)
         if not found or within and not file.endswith(f"{os.sep}{within}.rt"):
             continue
-        shown = dedented(text[found.start() : signature_end(text, found.end(), found[1])].rstrip(), found[1])
+        shown = remove_indent(text[found.start() : signature_end(text, found.end(), found[1])].rstrip(), found[1])
         links = source_links(file, shown, name)
         if found[1]:
             owner = re.findall(r"(?m)^impl (\w+) ", text[: found.start()])[-1]
             at = shown.index("self")
             links.append((at, at + len("self"), rust_meaning(source(file), owner, "")))
-        return Definition(Key(file, name, True), file, commented(text, found.start()), shown, links)
-    raise Unresolved(f"crate {crate} has no public function {name}")
+        return Definition(Key(file, name, True), file, comment_above(text, found.start()), shown, links)
+    raise UnresolvedName(f"crate {crate} has no public function {name}")
 
 
 def laws(crate: str) -> list:
@@ -547,7 +548,7 @@ def laws(crate: str) -> list:
 
 
 @functools.lru_cache(maxsize=None)
-def named_by_laws() -> dict:
+def laws_by_definition() -> dict:
     """The laws of all crates whose statement names a definition, by the definition."""
     found: dict = {}
     for crate in sorted(os.listdir(CRATES)):
@@ -665,7 +666,7 @@ def short(key: Key) -> str:
     return f"{crate}::{path}"
 
 
-def counted(found: Statement) -> str:
+def counts_text(found: Statement) -> str:
     """The counts, in words."""
     definitions, lines, modules, items = found.counts
     return f"{definitions} definitions, {lines} lines in {modules} modules, and {items} types and constants of the source"
@@ -673,13 +674,13 @@ def counted(found: Statement) -> str:
 
 def laws_on(found: Definition) -> str:
     """The line with the laws that say more of a definition of specs/; empty without one, or where so many name it that it is a common word."""
-    names = [] if found.key.is_source else named_by_laws().get(found.key, [])
+    names = [] if found.key.is_source else laws_by_definition().get(found.key, [])
     return f"-- laws: {', '.join(names)}" if 1 <= len(names) <= FEW_LAWS else ""
 
 
 def as_text(found: Statement) -> str:
     """The statement, to be read from the top."""
-    parts = [f"{found.title}: {counted(found) if found.contracts else NO_CONTRACT}"]
+    parts = [f"{found.title}: {counts_text(found) if found.contracts else NO_CONTRACT}"]
     for file, its in itertools.groupby(found.contracts + found.definitions, lambda it: it.file):
         shown = ("\n".join(filter(None, (it.comment, laws_on(it), it.text))) for it in its)
         parts.append(f"==== {os.path.relpath(file, ROOT)}\n" + "\n\n".join(shown))

@@ -36,7 +36,7 @@ fi
 """
 
 
-def valued(help_: Help) -> "list[str]":
+def value_options(help_: Help) -> "list[str]":
     """The options whose value is the next word."""
     return [name for option in help_.options() if option.value and not option.joined for name in option.names]
 
@@ -61,7 +61,9 @@ def bash_options(help_: Help, indent: int) -> str:
     """The value after an option, else the options; files where there is nothing else to say."""
     pad, lines, program = " " * indent, [], []
     if help_.runs_program():
-        program = [f"{pad}{line}\n" for line in BASH_PROGRAM.format(valued=" | ".join(valued(help_))).splitlines()]
+        program = [
+            f"{pad}{line}\n" for line in BASH_PROGRAM.format(valued=" | ".join(value_options(help_))).splitlines()
+        ]
     for option in help_.options():
         if not option.value or option.joined:
             continue
@@ -156,5 +158,5 @@ def fish(name: str, help_: Help, commands: "dict[str, Help] | None" = None) -> s
     else:
         lines += fish_options(name, help_)
         if help_.runs_program():
-            lines.append(f"complete -c {name} -x -a '(__fish_complete_subcommand -- {' '.join(valued(help_))})'")
+            lines.append(f"complete -c {name} -x -a '(__fish_complete_subcommand -- {' '.join(value_options(help_))})'")
     return "\n".join(lines) + "\n"

@@ -5,49 +5,55 @@ import json
 import os
 import re
 
-from mte_scripts import texts
+from mte_scripts import text_files
+from mte_scripts.entry_point import Refusal
 from mte_scripts.packaging import provenance
-from mte_scripts.packaging.packaging import MULTIARCH, Parts
-from mte_scripts.packaging.tree import Tree, source, tracked, write_tar
-from mte_scripts.texts import Refused
+from mte_scripts.packaging.packaging import Parts
+from mte_scripts.packaging.tree import Tree, source, tracked_files, write_tar
+
 
 CRATES = ("mte-tool-sys", "mte-tool")
-LIBRARY = "lib/libmte_tool.a"  # where build.rs of mte-tool-sys looks
+LIBRARY = "lib/{}/libmte_tool.a"  # where build.rs of mte-tool-sys looks, for a machine
 
 
-def published(text: str, name: str) -> str:
+def standalone_manifest(text: str, name: str) -> str:
     """The Cargo.toml of a crate that is alone: a dependency has its version, and no folder."""
     text = re.sub(r'(?m)^([\w-]+ = \{.*?), *path = "[^"]*"', r"\1", text)
     text = re.sub(r'(?m)^([\w-]+ = \{ *)path = "[^"]*", *', r"\1", text)
     if re.search(r"(?m)^[\w-]+ = \{.*\bpath *=", text):
-        raise Refused(3, f"{name}/Cargo.toml has a dependency with a folder and no version")
+        raise Refusal(3, f"{name}/Cargo.toml has a dependency with a folder and no version")
     return text
 
 
-def crate(name: str, usr: Tree, parts: Parts, folder: str, work: str) -> str:
+def crate(name: str, archives: "dict[str, bytes]", every: "list[Parts]", folder: str, work: str) -> str:
     """Writes one crate into the folder; its path."""
+    parts = every[0]
     tree = Tree(os.path.join(work, name))
-    for each in tracked(f"rust/{name}"):
+    for each in tracked_files(f"rust/{name}"):
         tree.copy(source(each), each.removeprefix(f"rust/{name}/"))
-    text = texts.read(tree.path("Cargo.toml")).decode()
+    text = text_files.read(tree.path("Cargo.toml")).decode()
     tree.write("Cargo.toml.orig", text)
-    tree.write("Cargo.toml", published(text, f"rust/{name}"))
+    manifest = standalone_manifest(text, f"rust/{name}")
+    if parts.repository:
+        manifest = manifest.replace("\nreadme = ", f'\nrepository = "{parts.repository}"\nreadme = ')
+    tree.write("Cargo.toml", manifest)
     of_git: "dict[str, object]" = {"sha1": parts.commit.split(",")[0]}
     if parts.is_changed:
         of_git["dirty"] = True
     tree.write(".cargo_vcs_info.json", json.dumps({"git": of_git, "path_in_vcs": f"rust/{name}"}, indent=2))
     if name == CRATES[0]:
-        tree.copy(usr.path("lib", MULTIARCH, "libmte_tool.a"), LIBRARY)
+        for machine, data in archives.items():
+            tree.write(LIBRARY.format(machine), data)
     if not tree.has("LICENSE"):
         tree.copy(source("LICENSE"), "LICENSE")
     if f'\nversion = "{parts.number}"\n' not in text:
-        raise Refused(3, f"rust/{name}/Cargo.toml has not the version of the program, {parts.number}")
-    tree.write(provenance.NAME, provenance.text_of(tree, parts, name))
+        raise Refusal(3, f"rust/{name}/Cargo.toml has not the version of the program, {parts.number}")
+    tree.write(provenance.NAME, provenance.text_of(tree, parts, name, every[1:]))
     path = os.path.join(folder, f"{name}-{parts.number}.crate")
     write_tar(tree, path, f"{name}-{parts.number}", parts.seconds(), folders=False)
     return path
 
 
-def build(usr: Tree, parts: Parts, folder: str, work: str) -> "list[str]":
-    """Writes the crates into the folder; their paths."""
-    return [crate(name, usr, parts, folder, work) for name in CRATES]
+def build(archives: "dict[str, bytes]", every: "list[Parts]", folder: str, work: str) -> "list[str]":
+    """Writes the crates into the folder, with the static library of each machine; their paths."""
+    return [crate(name, archives, every, folder, work) for name in CRATES]

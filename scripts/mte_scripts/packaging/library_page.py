@@ -4,7 +4,7 @@ import re
 import textwrap
 from collections.abc import Iterator
 
-from mte_scripts.packaging.manual import escaped, prose
+from mte_scripts.packaging.manual import escape_roff, prose
 
 WIDTH = 74
 # what is of the compiler alone
@@ -30,14 +30,14 @@ def paragraphs(words: str) -> "Iterator[str]":
 
 
 def example(lines: "list[str]") -> "list[str]":
-    return [".PP", ".RS 2", ".EX", *map(escaped, lines), ".EE", ".RE"]
+    return [".PP", ".RS 2", ".EX", *map(escape_roff, lines), ".EE", ".RE"]
 
 
 def members(code: str) -> "Iterator[str]":
     """What an enumeration, a structure or a row of numbers has, each with its words."""
     for term, words in re.findall(r"(?m)^ *([^/\n]*?[,;]?) *(?:/\*((?:[^*]|\*(?!/))*)\*/)?$", code):
         if term:
-            shown = f"\\fB{escaped(term.rstrip(','))}\\fR"
+            shown = f"\\fB{escape_roff(term.rstrip(','))}\\fR"
             yield from (".TP", shown, prose(" ".join(words.split()))) if words else (".PP", shown)
 
 
@@ -68,7 +68,7 @@ def page(header: str, date: str, version: str) -> str:
     for kind, text in items(header):
         if text.startswith("---- "):
             title, _, rest = text[5:].partition("\n")
-            out += [f".SS {escaped(title[0].upper() + title[1:])}", *(paragraphs(rest) if rest.strip() else [])]
+            out += [f".SS {escape_roff(title[0].upper() + title[1:])}", *(paragraphs(rest) if rest.strip() else [])]
         else:
             out += lines_of(text) if kind == "code" else paragraphs(text)
     out += [".SH SEE ALSO", ".BR mte_tool (1)"]

@@ -8,7 +8,7 @@ from mte_scripts.helps import Block, Help
 SECTIONS = ["DESCRIPTION", "COMMANDS", "OPTIONS", "EXIT STATUS", "EXAMPLES"]
 
 
-def escaped(text: str) -> str:
+def escape_roff(text: str) -> str:
     """A line of text for roff, as it stands: a hyphen stays one that can be copied, and no line begins a request."""
     for old, new in (("\\", "\\e"), ("-", "\\-"), ("'", "\\(aq"), ("`", "\\(ga"), ("^", "\\(ha"), ("~", "\\(ti")):
         text = text.replace(old, new)
@@ -19,8 +19,8 @@ def prose(text: str) -> str:
     """The same; words between backquotes are bold."""
     parts = text.split("`")
     if len(parts) % 2 == 0:
-        return escaped(text)
-    marked = "".join(f"\\fB{escaped(part)}\\fR" if at % 2 else escaped(part) for at, part in enumerate(parts))
+        return escape_roff(text)
+    marked = "".join(f"\\fB{escape_roff(part)}\\fR" if at % 2 else escape_roff(part) for at, part in enumerate(parts))
     return "\\&" + marked if marked.startswith(("\\.", ".")) else marked
 
 
@@ -29,22 +29,22 @@ def lines_of(block: Block) -> "Iterator[str]":
         yield from (".PP", prose(block.content))
     elif block.kind == "terms":
         for term, text in block.content:
-            yield from (".TP", f"\\fB{escaped(term)}\\fR", prose(text))
+            yield from (".TP", f"\\fB{escape_roff(term)}\\fR", prose(text))
     elif block.kind == "items":
         for item in block.content:
             yield from (".IP \\(bu 2", prose(item))
     else:
-        yield from (".PP", ".RS 4", ".EX", *map(escaped, block.content), ".EE", ".RE")
+        yield from (".PP", ".RS 4", ".EX", *map(escape_roff, block.content), ".EE", ".RE")
 
 
 def page(name: str, help_: Help, date: str, version: str, also: "list[str]", files: "Sequence[tuple[str, str]]" = ()) -> str:
     """The manual page of a command. ALSO names other pages, FILES are (path, what it is)."""
     title = name.replace(" ", "-")
-    out = [f'.TH "{escaped(title.upper())}" 1 "{date}" "{version}" "User Commands"', ".nh"]
-    out += [".SH NAME", f"{escaped(title)} \\- {prose(help_.what())}", ".SH SYNOPSIS", ".nf"]
+    out = [f'.TH "{escape_roff(title.upper())}" 1 "{date}" "{version}" "User Commands"', ".nh"]
+    out += [".SH NAME", f"{escape_roff(title)} \\- {prose(help_.what())}", ".SH SYNOPSIS", ".nf"]
     for line in help_.usage:
         word, space, rest = line.partition(" ")
-        out += [f"\\fB{escaped(word)}\\fR{space}{prose(rest)}"]
+        out += [f"\\fB{escape_roff(word)}\\fR{space}{prose(rest)}"]
     out += [".fi"]
     for section in SECTIONS:
         blocks = help_.blocks(section)
@@ -58,7 +58,10 @@ def page(name: str, help_: Help, date: str, version: str, also: "list[str]", fil
     if files:
         out += [".SH FILES"]
         for path, what in files:
-            out += [".TP", f"\\fI{escaped(path)}\\fR", prose(what)]
+            out += [".TP", f"\\fI{escape_roff(path)}\\fR", prose(what)]
     if also:
-        out += [".SH SEE ALSO", *(f".BR {escaped(other)} (1){',' if at < len(also) else ''}" for at, other in enumerate(also, 1))]
+        out += [
+            ".SH SEE ALSO",
+            *(f".BR {escape_roff(other)} (1){',' if at < len(also) else ''}" for at, other in enumerate(also, 1)),
+        ]
     return "\n".join(out) + "\n"

@@ -1,21 +1,22 @@
 """What scripts/package puts where: the tree `usr` of an installed package, made of the repository's files and what was built of them."""
 
 import ast
-import base64
 import datetime
-import json
 import os
 import re
 import shutil
 from pathlib import Path
 from typing import NamedTuple
 
-from mte_scripts import helps, manifest, running, texts
+from mte_scripts import entry_point, helps, manifest, text_files
 from mte_scripts.builds import library, web_page
+from mte_scripts.entry_point import Refusal, say
 from mte_scripts.packaging import completions, library_page, manual
-from mte_scripts.packaging.tree import Tree, run, source, tracked
+from mte_scripts.packaging.machines import Machine
+from mte_scripts.packaging.tree import Tree, run, source, tracked_files
+from mte_scripts.places import SCRIPTS, SOURCES
 from mte_scripts.recording.recording import ENDINGS, FLAGS
-from mte_scripts.texts import Refused
+
 
 NAME = "mte-tool"
 ABOUT = """\
@@ -24,12 +25,11 @@ sizes for the requests of your program: one tuned to lose little, and one that t
 which anybody can check how good it is. It also replays the calls of a program on a hardened heap with memory tags, modelled after Arm's
 Memory Tagging Extension."""
 # what only the repository can do
-AT_HOME = "bench crates edits library mte_tool package plants refuse_memory release statement step".split()
-COMMANDS = sorted(name for name in os.listdir(texts.SCRIPTS) if re.fullmatch(r"[a-z_]+(\+\+)?", name)
-                  and os.path.isfile(os.path.join(texts.SCRIPTS, name)) and name not in AT_HOME)
+AT_HOME = "bench crates edits library modules mte_tool package plants refuse_memory release statement step".split()
+COMMANDS = sorted(name for name in os.listdir(SCRIPTS) if re.fullmatch(r"[a-z_]+(\+\+)?", name)
+                  and os.path.isfile(os.path.join(SCRIPTS, name)) and name not in AT_HOME)
 RECORDERS = {name: f"{name}{ending}" for name, ending in ENDINGS.items()}
-MULTIARCH = "x86_64-linux-gnu"  # what the toolchain builds for
-SHARE, PRIVATE, LIBRARIES = f"usr/share/{NAME}", f"usr/lib/{NAME}", f"usr/lib/{MULTIARCH}"
+SHARE, PRIVATE = f"usr/share/{NAME}", f"usr/lib/{NAME}"
 DOCUMENTS = f"usr/share/doc/{NAME}"
 # Debian's flags for what other programs load
 HARDENED = "-fstack-protector-strong -D_FORTIFY_SOURCE=2 -Wformat -Werror=format-security -Wl,-z,relro -Wl,-z,now".split()
@@ -37,7 +37,9 @@ HARDENED = "-fstack-protector-strong -D_FORTIFY_SOURCE=2 -Wformat -Werror=format
 
 class Parts(NamedTuple):
     """What is packed, where it comes from, and the names that it has."""
+    machine: Machine
     program: str
+    spoken: "str | None"  # a program that can be run here, where that one can't
     manifest: manifest.Manifest
     library: "str | None"  # the folder of scripts/library
     unproved: str  # why the library is not known to be proved; empty if it is
@@ -51,9 +53,15 @@ class Parts(NamedTuple):
     time: datetime.datetime
     kit: str
     maintainer: str
+    repository: str  # where it is published; empty where that is not known
 
     def seconds(self) -> int:
         return int(self.time.timestamp())
+
+
+def libraries_of(machine: Machine) -> str:
+    """The folder of libraries, where Debian has it."""
+    return f"usr/lib/{machine.triple}"
 
 
 def put_program(tree: Tree, parts: Parts) -> None:
@@ -70,23 +78,26 @@ def libraries_in(folder: str) -> "list[str]":
     below = os.path.join(folder, "lib")
     found = [os.path.join(below, name) for name in sorted(os.listdir(below)) if re.fullmatch(r"libmte_tool\.(a|so\.\d+)", name)]
     if len(found) != 2:
-        raise Refused(2, f"{folder} has not one static and one shared library: it is no folder of scripts/library")
+        raise Refusal(2, f"{folder} has not one static and one shared library: it is no folder of scripts/library")
     return found
 
 
 def library_unproved(folder: str) -> str:
     """Why a library in this folder is not known to be proved, or an empty text."""
     for path in libraries_in(folder):
-        if why := manifest.why_unproved(path, texts.ROOT):
+        if why := manifest.why_unproved(path, SOURCES):
             return why.replace("the program", os.path.basename(path))
     return ""
 
 
-def trusted(parts: Parts) -> str:
+def trust_text(parts: Parts) -> str:
     """What is known of the program and the library, for the packages' descriptions."""
     tested = "The scripts, the page, the heap of the page in WebAssembly and what other languages call are tested, and not proved."
-    if parts.manifest.proofs != "proved":
+    if parts.manifest.proofs == "unproved":
         return "Nothing shows that this build of the program is proved."
+    if parts.manifest.proofs == "by-project":
+        return ("The program and the library are native code of engines that the project has proved, as WebAssembly: every function is proved to be"
+                f" safe, to return and to meet its contract, and not that it was translated right. {tested}")
     of_library = " and of the library's engines" if parts.library and not parts.unproved else ""
     return f"Every function of the program{of_library} is proved to be safe, to return and to meet its contract. {tested}"
 
@@ -96,13 +107,13 @@ def modules_of_commands() -> "list[str]":
     found: "set[str]" = set()
     left = [f"scripts/{name}" for name in COMMANDS]
     while left:
-        for node in ast.walk(ast.parse(texts.read(source(left.pop())))):
+        for node in ast.walk(ast.parse(text_files.read(source(left.pop())))):
             module, names = "", []
             if isinstance(node, ast.ImportFrom) and node.module:
                 module, names = node.module, [each.name for each in node.names]
-            elif isinstance(node, ast.Call) and ast.unparse(node.func) == "running.run" and len(node.args) > 1:
+            elif isinstance(node, ast.Call) and ast.unparse(node.func) == "entry_point.run" and len(node.args) > 1:
                 module = f"mte_scripts.{ast.literal_eval(node.args[1]).rpartition('.')[0]}"
-            elif isinstance(node, ast.Call) and ast.unparse(node.func) == "running.part":
+            elif isinstance(node, ast.Call) and ast.unparse(node.func) == "entry_point.part":
                 module, _, name = f"mte_scripts.{ast.literal_eval(node.args[0])}".rpartition(".")
                 names = [name]
             if module.split(".")[0] == "mte_scripts":
@@ -114,16 +125,20 @@ def modules_of_commands() -> "list[str]":
     return sorted(found)
 
 
-def beside(modules: "list[str]") -> "list[str]":
+def data_files(modules: "list[str]") -> "list[str]":
     """What is no Python in the folders of these modules."""
     folders = {os.path.dirname(name) for name in modules}
-    return [name for name in tracked("scripts/mte_scripts") if os.path.dirname(name) in folders and not name.endswith(".py")]
+    return [
+        name
+        for name in tracked_files("scripts/mte_scripts")
+        if os.path.dirname(name) in folders and not name.endswith(".py")
+    ]
 
 
 def put_scripts(tree: Tree) -> None:
     """The scripts with what they use. Each is called by a name of its own."""
     modules = modules_of_commands()
-    for name in [*modules, *beside(modules), *tracked("scripts/shims")]:
+    for name in [*modules, *data_files(modules), *tracked_files("scripts/shims")]:
         tree.copy(source(name), f"{PRIVATE}/{name}")
     for name in ["mte_tool", *COMMANDS]:
         first, rest = Path(source(f"scripts/{name}")).read_text(encoding="utf-8").split("\n", 1)
@@ -152,7 +167,7 @@ def put_recorders(tree: Tree) -> "str | None":
 
 def put_reader(tree: Tree, folder: "str | None") -> "str | None":
     """The program by which find_faults asks the heap, compiled with the library that scripts/library laid out."""
-    heap_reader = running.part("faults.heap_reader")
+    heap_reader = entry_point.part("faults.heap_reader")
     if heap_reader is None:
         return None  # there is no find_faults
     if not folder:
@@ -170,58 +185,59 @@ def put_reader(tree: Tree, folder: "str | None") -> "str | None":
     return None
 
 
-def put_library(tree: Tree, folder: str, number: str) -> None:
+def put_library(tree: Tree, folder: str, number: str, machine: Machine) -> None:
     """What scripts/library laid out, where Debian has it."""
+    libraries = libraries_of(machine)
     for name in sorted(os.listdir(f"{folder}/include")):
         tree.copy(f"{folder}/include/{name}", f"usr/include/{name}")
     for name in sorted(os.listdir(f"{folder}/lib")):
         path = f"{folder}/lib/{name}"
         if os.path.islink(path):
-            tree.link(f"{LIBRARIES}/{name}", f"{LIBRARIES}/{os.readlink(path)}")
+            tree.link(f"{libraries}/{name}", f"{libraries}/{os.readlink(path)}")
         elif os.path.isfile(path) and not name.endswith(".manifest"):
-            tree.copy(path, f"{LIBRARIES}/{name}")
+            tree.copy(path, f"{libraries}/{name}")
             if name.endswith(".a"):
-                run(["strip", "-D", "--strip-debug", tree.path(f"{LIBRARIES}/{name}")])
+                run(["strip", "-D", "--strip-debug", tree.path(f"{libraries}/{name}")])
             else:
-                tree.stripped(f"{LIBRARIES}/{name}")
-    tree.write(f"{LIBRARIES}/pkgconfig/mte_tool.pc", pkg_config(f"{folder}/lib/pkgconfig/mte_tool.pc"))
-    for name, text in library.cmake_files("../..", soname_of(tree), number).items():
-        tree.write(f"{LIBRARIES}/cmake/mte_tool/{name}", text)
+                tree.stripped(f"{libraries}/{name}")
+    tree.write(f"{libraries}/pkgconfig/mte_tool.pc", pkg_config(f"{folder}/lib/pkgconfig/mte_tool.pc", machine))
+    for name, text in library.cmake_files("../..", soname_of(tree, machine), number).items():
+        tree.write(f"{libraries}/cmake/mte_tool/{name}", text)
 
 
-def pkg_config(path: str) -> str:
+def pkg_config(path: str, machine: Machine) -> str:
     """The file for pkg-config of scripts/library, with the folder of libraries that Debian has."""
-    text = re.sub(r"(?m)^libdir=.*\n", "", texts.read(path).decode())
-    text = re.sub(r"(?m)^prefix=.*$", f"prefix=${{pcfiledir}}/../../..\nlibdir=${{prefix}}/lib/{MULTIARCH}", text)
+    text = re.sub(r"(?m)^libdir=.*\n", "", text_files.read(path).decode())
+    text = re.sub(r"(?m)^prefix=.*$", f"prefix=${{pcfiledir}}/../../..\nlibdir=${{prefix}}/lib/{machine.triple}", text)
     if not ("\nlibdir=" in text and "-L${libdir} " in text):
-        raise Refused(3, f"{path} has no prefix or no libdir: scripts/library and scripts/package differ")
+        raise Refusal(3, f"{path} has no prefix or no libdir: scripts/library and scripts/package differ")
     return text
 
 
-def soname_of(tree: Tree) -> str:
+def soname_of(tree: Tree, machine: Machine) -> str:
     """The name by which the loader knows the shared library."""
-    dynamic = run(["readelf", "-W", "-d", tree.path(LIBRARIES, "libmte_tool.so")])
+    dynamic = run(["readelf", "-W", "-d", tree.path(libraries_of(machine), "libmte_tool.so")])
     if found := re.search(r"\(SONAME\).*\[(libmte_tool\.so\.[0-9]+)\]", dynamic):
         return found[1]
-    raise Refused(2, "the shared library has no name libmte_tool.so.N: it is not one of scripts/library")
+    raise Refusal(2, "the shared library has no name libmte_tool.so.N: it is not one of scripts/library")
 
 
 def put_documents(tree: Tree, parts: Parts) -> None:
-    for name in tracked("README.md", "docs"):
+    for name in tracked_files("README.md", "docs"):
         if not name.startswith("docs/page.html"):  # the package has a page of its own
             tree.copy(source(name), f"{DOCUMENTS}/{name}")
-    for name in tracked("examples"):
+    for name in tracked_files("examples"):
         mode = 0o755 if os.access(source(name), os.X_OK) else 0o644
         tree.copy(source(name), f"{SHARE}/{name}", mode)
     for name, folder in (("docs", DOCUMENTS), ("examples", SHARE), ("web", SHARE)):
         tree.link(f"{PRIVATE}/{name}", f"{folder}/{name}")
     tree.link(f"{DOCUMENTS}/examples", f"{SHARE}/examples")
-    tree.write(f"{DOCUMENTS}/README.Debian", about(parts))
+    tree.write(f"{DOCUMENTS}/README.Debian", package_readme(parts))
 
 
 def put_page(tree: Tree, modules: "dict[str, bytes] | None") -> None:
     """The sources of the page with its engines, and the page that the package's own script prints of them."""
-    for name in tracked("web"):
+    for name in tracked_files("web"):
         if not name.endswith(".c"):
             tree.copy(source(name), f"{SHARE}/{name}")
     if modules:
@@ -239,12 +255,13 @@ def help_of(tree: Tree, command: str, *words: str) -> helps.Help:
 def put_words(tree: Tree, parts: Parts) -> None:
     """Manual pages and completions, all from what the commands themselves say."""
     scripts = {f"mte_{name}": help_of(tree, f"mte_{name}", "--help") for name in COMMANDS}
-    own = help_of(tree, "mte_tool", "-h")
-    commands = {term: help_of(tree, "mte_tool", term, "-h") for term, _ in own.terms("COMMANDS") if term != "help"}
+    program = parts.spoken or tree.path("usr/bin/mte_tool")
+    own = helps.Help(run([program, "-h"]))
+    commands = {term: helps.Help(run([program, term, "-h"])) for term, _ in own.terms("COMMANDS") if term != "help"}
     date = f"{parts.time:%Y-%m-%d}"
     version = f"mte_tool {parts.number}"
     if parts.library:
-        header = texts.read(f"{parts.library}/include/mte_tool.h").decode()
+        header = text_files.read(f"{parts.library}/include/mte_tool.h").decode()
         tree.packed("usr/share/man/man3/mte_tool.3", library_page.page(header, date, version))
     files = [(f"/{DOCUMENTS}/docs", "the documents; FORMATS.md has all formats and codes"),
              (f"/{SHARE}/examples", "profiles, traces and programs to try")]
@@ -264,7 +281,7 @@ def put_words(tree: Tree, parts: Parts) -> None:
     tree.write("usr/share/zsh/vendor-completions/_mte_tool", completions.zsh(scripts, "mte_tool", own, commands))
 
 
-def about(parts: Parts) -> str:
+def package_readme(parts: Parts) -> str:
     """The package's own README."""
     origins = "\n".join(f"- {line}" for line in parts.origins)
     left_out = "\n".join(f"- {line}" for line in parts.left_out) or "- nothing"
@@ -292,7 +309,7 @@ What is not here
 ----------------
 
 - the proofs: they are in the repository, with the contracts and the crates. Links of the documents to `crates` lead there.
-- the scripts that build and test: `library`, `package`, `release`, `bench`, `edits`, `refuse_memory` and `tests`; and `statement`, which
+- the scripts that build and test: `library`, `modules`, `package`, `release`, `bench`, `edits`, `refuse_memory` and `tests`; and `statement`, which
   reads the crates.
 
 Left out of this package, because it could not be made or was not wanted:
@@ -301,27 +318,16 @@ Left out of this package, because it could not be made or was not wanted:
 """
 
 
-def modules_of(page: str) -> "dict[str, bytes]":
-    """The engines in a page that scripts/page printed."""
-    text = texts.read(page).decode(errors="replace")
-    found = re.search(r'<script type="application/json" id="data">\s*(.*?)</script>', text, re.S)
-    try:
-        data = json.loads(found[1])
-        return {name: base64.b64decode(data[name]) for name in web_page.MODULES}
-    except (TypeError, ValueError, KeyError):
-        raise Refused(2, f"{page} is no page of scripts/page") from None
-
-
 def stage(folder: str, parts: Parts) -> Tree:
     """The whole tree in this folder."""
     tree = Tree(folder)
     put_program(tree, parts)
     put_scripts(tree)
     for missing in filter(None, (put_recorders(tree), put_reader(tree, parts.library))):
-        texts.say("package", f"left out: {missing}")
+        say("package", f"left out: {missing}")
         parts.left_out.append(missing)
     if parts.library:
-        put_library(tree, parts.library, parts.number)
+        put_library(tree, parts.library, parts.number, parts.machine)
     put_documents(tree, parts)
     put_page(tree, parts.modules)
     put_words(tree, parts)

@@ -7,6 +7,7 @@ import shutil
 import subprocess
 import sys
 import zlib
+from collections.abc import Iterable
 
 from mte_scripts import manifest
 from mte_scripts.packaging import packaging
@@ -29,13 +30,13 @@ def tools() -> "list[tuple[str, str]]":
     return [*found, ("tool", f"python3: {sys.version.split()[0]}, zlib {zlib.ZLIB_RUNTIME_VERSION}")]
 
 
-def built(parts: Parts) -> "list[tuple[str, str]]":
+def build_hashes(parts: Parts) -> "list[tuple[str, str]]":
     """What was built before it was packed and stripped."""
     found = [("program", manifest.hash_of(parts.program))]
     if parts.library:
         found += [("library", f"{manifest.hash_of(path)}  {os.path.basename(path)}") for path in packaging.libraries_in(parts.library)]
-        found.append(("library-proofs", "unproved" if parts.unproved else "proved"))
         own = None if parts.unproved else manifest.read(packaging.libraries_in(parts.library)[0])
+        found.append(("library-proofs", own.proofs if own else "unproved"))
         if own and own.verdict:
             found.append(("library-verdict", own.verdict))
     for name, data in sorted((parts.modules or {}).items()):
@@ -43,12 +44,19 @@ def built(parts: Parts) -> "list[tuple[str, str]]":
     return found
 
 
-def text_of(tree: Tree, parts: Parts, package: str) -> str:
-    """The manifest of a package that has the files of this tree: lines of a name and a value."""
+def text_of(tree: Tree, parts: Parts, package: str, others: "Iterable[Parts]" = ()) -> str:
+    """The manifest of a package that has the files of this tree: lines of a name and a value. It is of the parts for one machine, and has
+    a line for what is of others."""
     lines = [("package", f"{package} {parts.version}"), ("commit", parts.commit), ("sources", parts.manifest.sources), ("kit", parts.kit),
              ("proofs", parts.manifest.proofs)]
     if parts.manifest.verdict:
         lines.append(("verdict", parts.manifest.verdict))
-    lines += [*(("origin", each) for each in parts.origins), *(("without", each) for each in parts.left_out), *built(parts), *tools()]
+    lines += [
+        *(("origin", each) for each in parts.origins),
+        *(("without", each) for each in parts.left_out),
+        *build_hashes(parts),
+        *(("also", f"for {each.machine.name}: {origin}") for each in others for origin in each.origins[:2]),
+        *tools(),
+    ]
     lines += [("file", f"{manifest.hash_of(tree.path(name))}  {name}") for name in tree.files()]
     return "".join(f"{name} {value}\n" for name, value in lines)

@@ -4,6 +4,7 @@ import base64
 import gzip
 import hashlib
 import io
+import json
 import os
 import re
 import shutil
@@ -13,22 +14,37 @@ import typing
 import zipfile
 from pathlib import Path
 
-from mte_scripts import texts
-from mte_scripts.texts import Refused
+from mte_scripts import text_files
+from mte_scripts.entry_point import Refusal
+from mte_scripts.places import ROOT
+
+
+
+COMMIT = "COMMIT"  # which an sdist has of the clone that it was made of
 
 
 def run(words: "list[str]", **how: typing.Any) -> str:
     """What a command prints; a failure ends the script."""
-    return texts.output_of(words, **how).decode(errors="replace")
+    return text_files.output_of(words, **how).decode(errors="replace")
 
 
-def tracked(*paths: str) -> "list[str]":
+def of_sdist() -> "dict[str, typing.Any] | None":
+    """Where an unpacked sdist is from; None of a clone."""
+    path = source(COMMIT)
+    return json.loads(Path(path).read_bytes()) if os.path.isfile(path) else None
+
+
+def tracked_files(*paths: str) -> "list[str]":
     """The repository's files below these paths."""
-    return run(["git", "-C", texts.ROOT, "ls-files", "-z", "--", *paths]).split("\0")[:-1]
+    if of_sdist():
+        walks = [(folder, names) for path in paths for folder, _, names in os.walk(source(path))]
+        found = [os.path.relpath(os.path.join(folder, name), ROOT) for folder, names in walks for name in names]
+        return sorted([*found, *(path for path in paths if os.path.isfile(source(path)))])
+    return run(["git", "-C", ROOT, "ls-files", "-z", "--", *paths]).split("\0")[:-1]
 
 
 def source(name: str) -> str:
-    return os.path.join(texts.ROOT, name)
+    return os.path.join(ROOT, name)
 
 
 class Tree:
@@ -55,7 +71,7 @@ class Tree:
         try:
             shutil.copyfile(source, self.path(name))
         except OSError as error:
-            raise Refused(3, f"{source} can't be read: {error.strerror}") from None
+            raise Refusal(3, f"{source} can't be read: {error.strerror}") from None
         os.chmod(self.path(name), mode)
 
     def link(self, name: str, to: str) -> None:
@@ -93,6 +109,10 @@ class Tree:
             if os.path.isdir(path) and not os.path.islink(path):
                 os.chmod(path, 0o755)
             os.utime(path, (seconds, seconds), follow_symlinks=False)
+
+    def has_loader(self, name: str) -> bool:
+        """Whether a program names a loader: one that is linked statically does not."""
+        return " INTERP " in run(["readelf", "-W", "-l", self.path(name)])
 
     def least_glibc(self) -> "tuple[int, int]":
         """The version of glibc that the objects here need."""

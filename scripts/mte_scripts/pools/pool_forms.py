@@ -5,10 +5,10 @@ includes within an enumeration."""
 
 from typing import Callable, NamedTuple
 
-from mte_scripts import texts
+from mte_scripts import shell_words, text_layout
+from mte_scripts.entry_point import Refusal
 from mte_scripts.pools.pool_runs import Block
 from mte_scripts.pools.pool_sets import Pool, bytes_of
-from mte_scripts.running import Refused
 
 WIDTH = 120
 
@@ -23,7 +23,7 @@ class Form(NamedTuple):
 
 def comment(said: list[str]) -> str:
     """Sentences as a comment of C."""
-    lines = [line for text in said for line in texts.wrapped(text.replace("*/", "* /"), WIDTH - 3)]
+    lines = [line for text in said for line in text_layout.wrap_text(text.replace("*/", "* /"), WIDTH - 3)]
     return "/* " + "\n * ".join(lines) + " */\n"
 
 
@@ -127,14 +127,22 @@ FORMS = {
 }
 
 
-def written(form: str, name: str, block: Block, pools: list[Pool], said: list[str]) -> str:
+def form_text(form: str, name: str, block: Block, pools: list[Pool], said: list[str]) -> str:
     """The text of this form; SAID are sentences for its comment."""
     its = FORMS[form]
     if its.has_pointer and (block.overhead < 4 or block.overhead % 4):
-        raise Refused(2, f"--as {form}: each block has a pointer, so --overhead is its bytes, 4 or 8, and not {block.overhead}")
+        raise Refusal(
+            2, f"--as {form}: each block has a pointer, so --overhead is its bytes, 4 or 8, and not {block.overhead}"
+        )
     if form == "freertos" and block.overhead % block.unit:
         why = f"--overhead {block.overhead} has to be a multiple of --unit {block.unit}"
-        raise Refused(2, f"--as freertos: the pointer stands apart from its block, so {why}")
+        raise Refusal(2, f"--as freertos: the pointer stands apart from its block, so {why}")
     if its.has_pointer and pools[0].block == block.overhead:
-        raise Refused(2, f"--as {form}: blocks of {pools[0].block} bytes hold nothing beside their overhead: leave requests of 0 bytes out")
-    return comment([f"Made by {texts.called('pools')}: blocks of {bytes_of(pools):,} bytes in all.", *said]) + its.write(name, block, pools)
+        raise Refusal(
+            2,
+            f"--as {form}: blocks of {pools[0].block} bytes hold nothing beside their overhead: leave requests of 0 "
+            "bytes out",
+        )
+    return comment(
+        [f"Made by {shell_words.command_name('pools')}: blocks of {bytes_of(pools):,} bytes in all.", *said]
+    ) + its.write(name, block, pools)

@@ -13,9 +13,9 @@ from collections import Counter
 from collections.abc import Callable, Iterable, Iterator
 from typing import NamedTuple, Union
 
-from mte_scripts import texts
+from mte_scripts import count_texts, text_files, text_layout
+from mte_scripts.entry_point import Refusal, printable
 from mte_scripts.formats import GRANULE_BYTES, LARGEST_CLASS, LARGEST_SIZE, MOST_COUNT, MOST_INPUT, MOST_SNAPSHOTS
-from mte_scripts.running import Refused
 from mte_scripts.tables import figures
 
 UNITS = (4, 8, 16, 32)
@@ -117,7 +117,7 @@ class History:
 
     is_sampled = True
 
-    def __init__(self, name: str, history: texts.History) -> None:
+    def __init__(self, name: str, history: count_texts.History) -> None:
         self.name = name
         self.snapshots = history.snapshots
         self.has_large = "large" in history.counts
@@ -125,7 +125,7 @@ class History:
         self.sizes = set(self.counts)
 
     def text(self) -> bytes:
-        return texts.history_text(texts.History(self.snapshots, self.counts)).encode()
+        return count_texts.history_text(count_texts.History(self.snapshots, self.counts)).encode()
 
     def most(self, holds: list[int]) -> list[int]:
         return [max(counts) for counts in self.summed(lambda size: bisect_left(holds, size), range(len(holds) + 1)).values()]
@@ -134,14 +134,14 @@ class History:
         """The counts of all sizes of one key, added up."""
         sums: dict[int, list[int]] = {each: [0] * self.snapshots for each in keys}
         for size, counts in self.counts.items():
-            texts.add_row(sums, key(size), counts)
+            count_texts.add_row(sums, key(size), counts)
         return sums
 
 
 Run = Union[Timeline, History]
 
 
-class Given(NamedTuple):
+class ToolInput(NamedTuple):
     """The text for the program: how many granules a unit stands for there, and which sizes its requests have."""
 
     text: bytes
@@ -157,44 +157,54 @@ def runs_of(paths: list[str]) -> list[Run]:
     runs = [run_of(path) for path in paths]
     if len({type(run) for run in runs}) > 1:
         names = [next(run.name for run in runs if run.is_sampled is sampled) for sampled in (False, True)]
-        raise Refused(2, f"{names[0]} is a timeline, and {names[1]} a history: give timelines alone, or histories alone")
+        raise Refusal(
+            2, f"{names[0]} is a timeline, and {names[1]} a history: give timelines alone, or histories alone"
+        )
     if not any(run.sizes for run in runs):
-        raise Refused(3, f"there is no request of at most {LARGEST_SIZE:,} bytes in {' and '.join(run.name for run in runs)}")
+        raise Refusal(
+            3, f"there is no request of at most {LARGEST_SIZE:,} bytes in {' and '.join(run.name for run in runs)}"
+        )
     return runs
 
 
 def run_of(path: str) -> Run:
-    data, name = texts.read_some(path), texts.printable(texts.named(path))
+    data, name = text_files.read_some(path), printable(text_files.input_name(path))
     first = data.split(b"\n", 1)[0]
     if first == b"timeline":
         figures.refuse_timeline(data, name)
         return Timeline(name, data)
-    if texts.is_history(data):
-        return History(name, texts.parse_history(data, name))
-    if wrong := texts.encoding(first):
-        raise Refused(2, f"{name}: {wrong}")
-    kind = "a profile, which has no moments" if texts.counted(first) else "no timeline and no history"
-    raise Refused(2, f"{name}: line 1 is of {kind}: `timeline` or `snapshots T` has to stand there, and not {texts.shown(first)}")
+    if count_texts.is_history(data):
+        return History(name, count_texts.parse_history(data, name))
+    if wrong := count_texts.encoding(first):
+        raise Refusal(2, f"{name}: {wrong}")
+    kind = "a profile, which has no moments" if count_texts.parse_count_line(first) else "no timeline and no history"
+    raise Refusal(
+        2,
+        f"{name}: line 1 is of {kind}: `timeline` or `snapshots T` has to stand there, and not "
+        f"{text_layout.shorten_line(first)}",
+    )
 
 
-def ordered(runs: list[Run]) -> list[Run]:
+def order_runs(runs: list[Run]) -> list[Run]:
     """The runs in the order in which a certificate has them: by what they are, and not by how they are given."""
     return sorted(runs, key=lambda run: run.text())
 
 
-def joined(runs: list[Run], block: Block) -> Given:
+def join_runs(runs: list[Run], block: Block) -> ToolInput:
     """The text of all runs for the program, one after the other."""
     sizes = sorted(set().union(*(run.sizes for run in runs)))
     scale = 2 if block.units(sizes[0]) == 1 else 1
     most = LARGEST_CLASS // scale
     if block.units(sizes[-1]) > most:
-        raise Refused(2, out_of_range(sizes, scale, most, block))
+        raise Refusal(2, out_of_range(sizes, scale, most, block))
     given = {size: GRANULE_BYTES * scale * block.units(size) - GRANULE_BYTES for size in sizes}
     timeline = (run.mapped(given, run is runs[-1]) for run in runs if isinstance(run, Timeline))
     text = joined_histories(runs, given) if runs[0].is_sampled else b"timeline\n" + b"".join(timeline)
     if len(text) > MOST_INPUT:
-        raise Refused(2, f"all runs together have {len(text):,} bytes, and mte_tool reads {MOST_INPUT:,}: leave a run out")
-    return Given(text, scale)
+        raise Refusal(
+            2, f"all runs together have {len(text):,} bytes, and mte_tool reads {MOST_INPUT:,}: leave a run out"
+        )
+    return ToolInput(text, scale)
 
 
 def out_of_range(sizes: list[int], scale: int, most: int, block: Block) -> str:
@@ -212,11 +222,14 @@ def joined_histories(runs: list, given: dict[int, int]) -> bytes:
     snapshots = sum(run.snapshots for run in runs)
     if snapshots > MOST_SNAPSHOTS:
         merge = "merge them by `merge_profiles` first"
-        raise Refused(2, f"the histories have {snapshots:,} snapshots, and mte_tool reads {MOST_SNAPSHOTS:,}: {merge}")
+        raise Refusal(2, f"the histories have {snapshots:,} snapshots, and mte_tool reads {MOST_SNAPSHOTS:,}: {merge}")
     sums = [run.summed(given.__getitem__) for run in runs]
     rows = {}
     for size in sorted(set().union(*sums)):
         rows[size] = [count for run, its in zip(runs, sums) for count in its.get(size, [0] * run.snapshots)]
         if max(rows[size]) > MOST_COUNT:
-            raise Refused(2, f"{max(rows[size]):,} blocks of one size in units are more than {MOST_COUNT:,}, the most of a history")
-    return texts.history_text(texts.History(snapshots, rows)).encode()
+            raise Refusal(
+                2,
+                f"{max(rows[size]):,} blocks of one size in units are more than {MOST_COUNT:,}, the most of a history",
+            )
+    return count_texts.history_text(count_texts.History(snapshots, rows)).encode()

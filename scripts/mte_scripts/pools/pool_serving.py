@@ -2,7 +2,7 @@
 
 from typing import NamedTuple
 
-from mte_scripts import claims, texts
+from mte_scripts import claim_words, text_layout
 from mte_scripts.pools.pool_runs import History, Run
 from mte_scripts.pools.pool_sets import Pool
 from mte_scripts.tables import figures
@@ -36,7 +36,7 @@ def table(pools: "list[Pool]", needs: "list[Need]") -> "list[str]":
     for at, pool in enumerate(pools):
         used = max(need.blocks[at] for need in needs)
         rows.append([number(pool.block), number(pool.number), number(used), number(used - pool.number) if used > pool.number else ""])
-    return texts.columns(rows, left=4)
+    return text_layout.columns(rows, left=4)
 
 
 def sampled_words(run: Run) -> str:
@@ -49,7 +49,7 @@ def sentences(pools: "list[Pool]", needs: "list[Need]", largest: int) -> "list[s
     for need in needs:
         short = [f"{number(pool.block)} bytes by {number(more)}" for pool, more in need.short(pools)]
         if short:
-            said.append(f"{need.run.name} is not served: short are the pools of {claims.listed(short)}.")
+            said.append(f"{need.run.name} is not served: short are the pools of {claim_words.join_words(short)}.")
         if need.without:
             said.append(f"{need.run.name} is not served: it has requests of more than {number(largest)} bytes, for which there is no pool.")
         if need.is_served(pools):

@@ -9,11 +9,10 @@ import re
 from collections.abc import Iterator
 from typing import NamedTuple, Optional
 
-from mte_scripts import claims, texts
+from mte_scripts import certificate_texts, claim_words, claims, count_texts, text_files
+from mte_scripts.entry_point import Refusal, printable
 from mte_scripts.pools import pool_runs
-from mte_scripts.pools.pool_runs import Block, Given, Run
-from mte_scripts.running import Refused
-from mte_scripts.tables import figures
+from mte_scripts.pools.pool_runs import Block, Run, ToolInput
 
 # the first line, the second one, and each further one
 LINES = [re.compile(form) for form in ("unit (0|[1-9][0-9]{0,4})", "overhead (0|[1-9][0-9]{0,4})", "pool ([1-9][0-9]{0,5}) ([1-9][0-9]{0,9})")]
@@ -31,14 +30,14 @@ class Pool(NamedTuple):
 
 
 class PoolSet(NamedTuple):
-    """Pools, and the fit that judges them; an empty text where there is none. BOUND is then what no pools take less than, in bytes. GIVEN
-    are the runs in units, of pools that were found."""
+    """Pools, and the fit that judges them; an empty text where there is none. Of pools that were found, GIVEN are the runs in units, and the claim
+    is of these: of the fit, or of a bound."""
 
     block: Block
     pools: list[Pool]
     fit: str
-    bound: int = 0
-    given: Optional[Given] = None
+    claim: Optional[claims.Claim] = None
+    given: Optional[ToolInput] = None
 
     @property
     def bytes(self) -> int:
@@ -58,20 +57,32 @@ def bytes_of(pools: list[Pool]) -> int:
     return sum(pool.block * pool.number for pool in pools)
 
 
-def found(runs: list[Run], block: Block, limit: int) -> PoolSet:
+def find_pools(runs: list[Run], block: Block, limit: int) -> PoolSet:
     """The pools for these runs, at most so many."""
-    given = pool_runs.joined(pool_runs.ordered(runs), block)
-    step = ["--step", str(given.scale)] if given.scale > 1 else []
-    status, text = figures.run(["fit", "--limit", str(limit), *step], given.text)
-    lines = text.split("\n")
-    classes = texts.parse_class_line(lines[0], "the answer of `mte_tool fit`")
+    given = pool_runs.join_runs(pool_runs.order_runs(runs), block)
+    text, claim = claims.fit_counts(
+        given.text, names_of(runs), (limit, given.scale, False), claim_words.how("units", unit=block.unit)
+    )
+    classes = certificate_texts.parse_class_line(text.split("\n")[0], "the answer of `mte_tool fit`")
     footprint = int(re.search(r"(?m)^footprint (\d+)$", text)[1])
     pools = pools_of(runs, [each // given.scale for each in classes], block)
     if bytes_of(pools) != given.bytes_of(footprint, block):
-        raise Refused(3, f"the pools take {bytes_of(pools):,} bytes, and `mte_tool fit` has {given.bytes_of(footprint, block):,}: please report it")
-    if status == 0:
-        return PoolSet(block, pools, f"{text}\n", 0, given)
-    return PoolSet(block, pools, "", given.bytes_of(int(lines[2].split()[-1]), block), given)
+        raise Refusal(
+            3,
+            f"the pools take {bytes_of(pools):,} bytes, and `mte_tool fit` has {given.bytes_of(footprint, block):,}: "
+            "please report it",
+        )
+    return PoolSet(block, pools, "" if claim.is_bound else text, claim, given)
+
+
+def names_of(runs: list[Run]) -> str:
+    return claim_words.join_words(run.name for run in runs)
+
+
+def pools_sentence(pools: PoolSet, claim: claims.Claim, runs: list[Run]) -> str:
+    """What is known of pools, by a claim of the runs in units."""
+    cost = pools.given.bytes_of(claim.cost, pools.block) if claim.is_bound and pools.given else pools.bytes
+    return claims.pools(claim, [run.name for run in runs], runs[0].is_sampled, (pools.block.unit, pools.block.overhead), cost)
 
 
 def pools_of(runs: list[Run], units: list[int], block: Block) -> list[Pool]:
@@ -87,8 +98,8 @@ def text_of(pools: PoolSet) -> str:
 
 
 def read(path: str) -> PoolSet:
-    """The pools in a file. They have the form; only `judged` says whether they are right."""
-    name, data = texts.printable(texts.named(path)), texts.read_some(path)
+    """The pools in a file. They have the form; only `judge_pools` says whether they are right."""
+    name, data = printable(text_files.input_name(path)), text_files.read_some(path)
     lines = data.decode("utf-8", "replace").removesuffix("\n").split("\n")
     at = next((at for at, line in enumerate(lines) if line.startswith("classes")), len(lines))
     values = []
@@ -96,66 +107,68 @@ def read(path: str) -> PoolSet:
         kind = min(number, 3) - 1
         match = LINES[kind].fullmatch(line)
         if not match:
-            wrong = texts.encoding(os.fsencode(line), number) or f"line {number} is no line of pools, `{FORMS[kind]}`: {line[:60]}"
-            raise Refused(2, f"{name}: {wrong}")
+            wrong = count_texts.encoding(os.fsencode(line), number) or f"line {number} is no line of pools, `{FORMS[kind]}`: {line[:60]}"
+            raise Refusal(2, f"{name}: {wrong}")
         values.append(tuple(map(int, match.groups())))
     if at < 3 or at == len(lines):
-        raise Refused(2, f"{name}: these are no whole pools: did the command that writes them fail?")
+        raise Refusal(2, f"{name}: these are no whole pools: did the command that writes them fail?")
     block = Block(*values[0], *values[1])
     if block.unit not in pool_runs.UNITS or block.overhead > pool_runs.MOST_OVERHEAD:
-        raise Refused(2, f"{name}: no pools have a unit of {block.unit} bytes with {block.overhead} of overhead")
+        raise Refusal(2, f"{name}: no pools have a unit of {block.unit} bytes with {block.overhead} of overhead")
     return PoolSet(block, [Pool(*pair) for pair in values[2:]], "".join(f"{line}\n" for line in lines[at:]))
 
 
 class Verdict(NamedTuple):
-    """What is found of pools in a file: what is claimed of them; why they are refused, or an empty text; and the names of the runs in the
-    order of the certificate, where it is another one than that of this release."""
+    """What is found of pools in a file: what is claimed of the runs in units, and the limit; why they are refused, or an empty text; and the names
+    of the runs in the order of the certificate, where it is another one than that of this release."""
 
-    judged: claims.Pools
+    claim: claims.Claim
+    limit: int
     why: str
     order: str = ""
 
 
-def judged(pools: PoolSet, runs: list[Run]) -> Verdict:
+def judge_pools(pools: PoolSet, runs: list[Run]) -> Verdict:
     """Whether the pools are those of their fit, and have as many blocks as these runs need; and what `check-fit` says of the fit."""
     rows, moments, _ = pools.fit.partition("\nmoments ")
     if bool(moments) == runs[0].is_sampled:
         kinds = ("timelines", "histories")
-        raise Refused(2, f"the pools are of {kinds[not moments]}, and these runs are {kinds[runs[0].is_sampled]}")
-    fit = texts.parse_fit(rows, "the fit of the pools")
-    names = claims.listed(run.name for run in runs)
-    of = lambda verdict: claims.Pools(verdict, fit.limit, pools.block.unit, pools.block.overhead, names, pools.bytes, runs[0].is_sampled)
-    first = ""
+        raise Refusal(2, f"the pools are of {kinds[not moments]}, and these runs are {kinds[runs[0].is_sampled]}")
+    fit = certificate_texts.parse_fit(rows, "the fit of the pools")
+    first: Optional[claims.Claim] = None
     for order in orders(runs):
-        given = pools.given or pool_runs.joined(order, pools.block)
-        _, verdict = figures.run(["check-fit"], texts.joined(pools.fit, given.text, "the fit of the pools"))
-        if verdict == "optimal":
-            listed = "" if order == pool_runs.ordered(runs) else claims.listed(run.name for run in order)
-            return Verdict(of(verdict), difference(pools, runs, given, fit), listed)
-        first = first or verdict
+        given = pools.given or pool_runs.join_runs(order, pools.block)
+        how = claim_words.how("units", unit=pools.block.unit)
+        claim = pools.claim or claims.check_certificate(
+            pools.fit, given.text, names_of(order), how, "the fit of the pools"
+        )
+        if claim.holds:
+            listed = "" if order == pool_runs.order_runs(runs) else names_of(order)
+            return Verdict(claim, fit.limit, difference(pools, runs, given, fit), listed)
+        first = first or claim
         if pools.given:
             break
-    return Verdict(of(first), claims.pools_refusal(of(first)))
+    return Verdict(first, fit.limit, first.sentence())
 
 
 def orders(runs: list[Run]) -> "Iterator[list[Run]]":
     """The runs in their order; and in those in which earlier releases may have written the certificate, as far as they are few."""
     tried: list[list[Run]] = []
     few = [list(order) for order in itertools.permutations(runs)] if len(runs) <= MOST_PERMUTED else [runs]
-    for order in (pool_runs.ordered(runs), *few):
+    for order in (pool_runs.order_runs(runs), *few):
         if order not in tried:
             tried.append(order)
             yield order
 
 
-def difference(pools: PoolSet, runs: list[Run], given: Given, fit: texts.Fit) -> str:
+def difference(pools: PoolSet, runs: list[Run], given: ToolInput, fit: certificate_texts.Fit) -> str:
     """How the pools differ from the table of a fit that is right; empty where they do not."""
     if fit.step != given.scale:
         return f"the fit has step {fit.step}, and for these runs it is {given.scale}: it is of other runs"
     blocks = [pool.block for pool in pools.pools]
     wanted = [pools.block.unit * each // given.scale for each in fit.classes]
     if blocks != wanted:
-        return f"the fit is of pools with blocks of {claims.listed(wanted)} bytes"
+        return f"the fit is of pools with blocks of {claim_words.join_words(wanted)} bytes"
     for pool, its in zip(pools.pools, pools_of(runs, [each // given.scale for each in fit.classes], pools.block)):
         if pool != its:
             return f"the pool of {pool.block:,} bytes has {pool.number:,} blocks, and the runs need {its.number:,}"

@@ -7,11 +7,12 @@ import textwrap
 from collections.abc import Iterator
 from typing import Any
 
-from mte_scripts import claims, texts
+from mte_scripts import claim_words, shell_words, text_files, text_layout
+from mte_scripts.entry_point import Refusal, printable, say
+from mte_scripts.formats import LARGEST_SIZE, MOST_CLASSES
 from mte_scripts.pools import pool_forms, pool_runs, pool_serving, pool_sets
-from mte_scripts.running import Refused
 from mte_scripts.tables.figures import number, percent
-from mte_scripts.words import Words, between, named, one_of
+from mte_scripts.words import Words, name_among, number_among, number_between
 
 HELP = f"""\
 Find static pools for the runs of a program: which sizes of blocks, and how many of each. Pools are what firmware has in place
@@ -52,10 +53,10 @@ Several runs, as of a test suite, get pools that serve each of them, one run at 
 freed, so the runs one after the other are a timeline. At each of its moments the blocks of one run alone are live: it has the
 moments of all runs, and a pool needs the most blocks that it has live in any run. The summary says which run that is.
 
-{claims.TEMPLATES["pools.help"]}
+{claim_words.general_sentence("pools")}
 
 A request takes (S + O) / U units, rounded up, and at least one. The limit is 1,024 units, or 512 where a request takes one
-unit; a request above {texts.LARGEST_SIZE:,} bytes has no pool, which is said.
+unit; a request above {LARGEST_SIZE:,} bytes has no pool, which is said.
 
 Exit status:
   0  the pools are printed, or the checked ones are right, or all runs are served
@@ -75,9 +76,13 @@ WIDTH = 100
 
 class Options(argparse.Namespace):
     def __init__(self, words: list[str]) -> None:
-        kinds: dict[str, Any] = {"limit": between(1, texts.MOST_CLASSES), "unit": one_of(*pool_runs.UNITS), "today": today_of}
-        kinds |= {"overhead": between(0, pool_runs.MOST_OVERHEAD), "reserve": between(0, 1000)}
-        kinds |= {"as_": named(*pool_forms.FORMS), "name": name_in_c}
+        kinds: dict[str, Any] = {
+            "limit": number_between(1, MOST_CLASSES),
+            "unit": number_among(*pool_runs.UNITS),
+            "today": today_of,
+        }
+        kinds |= {"overhead": number_between(0, pool_runs.MOST_OVERHEAD), "reserve": number_between(0, 1000)}
+        kinds |= {"as_": name_among(*pool_forms.FORMS), "name": name_in_c}
         parser = Words(HELP, "runs", {"reserve": 0, "today": [], "name": "app"}, **kinds)
         parser.take(words, into=self)
         self.agree(parser.given(words))
@@ -87,18 +92,23 @@ class Options(argparse.Namespace):
                              ("--serve", "--reserve")):
             others = [other for other in given if other not in (one, *beside)]
             if one in given and others:
-                raise Refused(2, f"{one} takes the pools of a file: {others[0]} has no place beside it")
+                raise Refusal(2, f"{one} takes the pools of a file: {others[0]} has no place beside it")
         if self.read is not None:
             if self.as_ is None or self.runs:
-                raise Refused(2, "--read prints the pools of a file by --as FORM, and reads no run: --check compares them with runs")
+                raise Refusal(
+                    2,
+                    "--read prints the pools of a file by --as FORM, and reads no run: --check compares them with runs",
+                )
         elif not self.runs:
-            raise Refused(2, "name a timeline, or several; --help says more")
+            raise Refusal(2, "name a timeline, or several; --help says more")
         elif self.check is None and self.serve is None and not self.units and self.limit is None:
-            raise Refused(2, "--limit K is wanted: at most how many pools?")
+            raise Refusal(2, "--limit K is wanted: at most how many pools?")
         if self.each and (self.as_ or self.certificate or self.today or self.reserve or self.units):
-            raise Refused(2, "--each prints what pools take, and no pools: it goes with --limit, --unit and --overhead alone")
+            raise Refusal(
+                2, "--each prints what pools take, and no pools: it goes with --limit, --unit and --overhead alone"
+            )
         if self.runs.count("-") > 1:
-            raise Refused(2, "standard input can be read once")
+            raise Refusal(2, "standard input can be read once")
 
     def block(self) -> pool_runs.Block:
         return pool_runs.Block(self.unit or 8, self.overhead or 0)
@@ -127,78 +137,81 @@ def pools(words: list[str]) -> int:
     options = Options(words)
     if options.read is not None:
         its = pool_sets.read(options.read)
-        name = texts.printable(texts.named(options.read))
-        said = [f"{name} has their certificate, which `{texts.called('pools')} --check` checks.", *reserve_words(options, its)]
-        return texts.write(pool_forms.written(options.as_, options.name, its.block, its.with_reserve(options.reserve), said))
+        name = printable(text_files.input_name(options.read))
+        said = [
+            f"{name} has their certificate, which `{shell_words.command_name('pools')} --check` checks.",
+            *reserve_words(options, its),
+        ]
+        return text_files.write(
+            pool_forms.form_text(options.as_, options.name, its.block, its.with_reserve(options.reserve), said)
+        )
     if options.check is not None:
         return check(options)
     if options.serve is not None:
         return serve(options)
-    texts.refuse_over([("--certificate", options.certificate)], options.runs)
+    text_files.refuse_over([("--certificate", options.certificate)], options.runs)
     runs = pool_runs.runs_of(options.runs)
     if options.units:
-        return texts.write(pool_runs.joined(pool_runs.ordered(runs), options.block()).text)
+        return text_files.write(pool_runs.join_runs(pool_runs.order_runs(runs), options.block()).text)
     if options.each:
         return each_number(options, runs)
-    its = pool_sets.found(runs, options.block(), options.limit)
+    its = pool_sets.find_pools(runs, options.block(), options.limit)
     if its.fit and options.certificate is not None:
-        texts.write_file(options.certificate, pool_sets.text_of(its))
-    known = known_of(runs, its)
+        text_files.write_file(options.certificate, pool_sets.text_of(its))
+    known = checked_sentence(runs, its)
     notes = list(warnings(runs))
     if options.as_ is None:
-        texts.write(summary(options, runs, its, known, notes))
+        text_files.write(summary(options, runs, its, known, notes))
     else:
         said = [known, *notes, *reserve_words(options, its)]
-        texts.write(pool_forms.written(options.as_, options.name, its.block, its.with_reserve(options.reserve), said))
+        text_files.write(pool_forms.form_text(options.as_, options.name, its.block, its.with_reserve(options.reserve), said))
         for note in notes:
-            texts.say("pools", note)
+            say("pools", note)
     return 0 if its.fit else 1
 
 
-def known_of(runs: list, its: pool_sets.PoolSet) -> str:
+def checked_sentence(runs: list, its: pool_sets.PoolSet) -> str:
     """What is known of the pools that were found."""
-    if not its.fit:
-        return claims.pools_unshown(its.bound)
-    found = pool_sets.judged(its, runs)
-    if found.why:
-        raise Refused(3, f"the pools that were found are not those of their certificate: {found.why}")
-    return claims.pools_sentence(found.judged, texts.trust())
+    found = pool_sets.judge_pools(its, runs) if its.fit else None
+    if found and found.why:
+        raise Refusal(3, f"the pools that were found are not those of their certificate: {found.why}")
+    return pool_sets.pools_sentence(its, its.claim, runs)
 
 
 def each_number(options: Options, runs: list) -> int:
     """What the pools take for each limit from 1 to K, each found and checked by itself."""
-    rows, its, known = [[claims.TEMPLATES["pools.each.limit"], claims.TEMPLATES["pools.each.bytes"]]], None, ""
+    rows, its, known = [["At most", "Bytes"]], None, ""
     for limit in range(1, options.limit + 1):
-        its = pool_sets.found(runs, options.block(), limit)
-        known = known_of(runs, its)
+        its = pool_sets.find_pools(runs, options.block(), limit)
+        known = checked_sentence(runs, its)
         rows.append([number(limit), number(its.bytes)])
         if not its.fit:
             break
-    so = claims.TEMPLATES["pools.each.so"] if its.fit and options.limit > 1 else ""
-    lines = [*texts.columns(rows, left=2), "", *wrapped(f"{known} {so}")]
+    so = claim_words.claim_sentence("pools.each.so") if its.fit and options.limit > 1 else ""
+    lines = [*text_layout.columns(rows, left=2), "", *wrap_text(f"{known} {so}")]
     for note in warnings(runs):
-        lines += wrapped(f"! {note}", "  ")
-    texts.write("".join(f"{line}\n" for line in lines))
+        lines += wrap_text(f"! {note}", "  ")
+    text_files.write("".join(f"{line}\n" for line in lines))
     return 0 if its.fit else 1
 
 
 def check(options: Options) -> int:
     its = pool_sets.read(options.check)
-    name = texts.printable(options.check)
+    name = printable(options.check)
     runs = pool_runs.runs_of(options.runs)
-    texts.write(f"the pools are {len(its.pools)}, of {number(its.bytes)} bytes\n")
-    found = pool_sets.judged(its, runs)
-    asked = {"limit": found.judged.limit, "unit": its.block.unit, "overhead": its.block.overhead}
+    text_files.write(f"the pools are {len(its.pools)}, of {number(its.bytes)} bytes\n")
+    found = pool_sets.judge_pools(its, runs)
+    asked = {"limit": found.limit, "unit": its.block.unit, "overhead": its.block.overhead}
     for option, value in asked.items():
         if getattr(options, option) not in (None, value):
-            raise Refused(1, f"{name} is for --{option} {value}, and not for --{option} {getattr(options, option)}")
+            raise Refusal(1, f"{name} is for --{option} {value}, and not for --{option} {getattr(options, option)}")
     if found.why:
-        raise Refused(1, f"{name}: {found.why}")
+        raise Refusal(1, f"{name}: {found.why}")
     if found.order:
-        texts.say("pools", f"{name} is of the runs in another order, as an earlier release wrote it: {found.order}")
+        say("pools", f"{name} is of the runs in another order, as an earlier release wrote it: {found.order}")
     for note in warnings(runs):
-        texts.say("pools", note)
-    return texts.write(claims.pools_sentence(found.judged, texts.trust()) + "\n")
+        say("pools", note)
+    return text_files.write(pool_sets.pools_sentence(its, found.claim, runs) + "\n")
 
 
 def serve(options: Options) -> int:
@@ -206,13 +219,22 @@ def serve(options: Options) -> int:
     its = pool_sets.read(options.serve)
     pools, holds = its.with_reserve(options.reserve), its.holds()
     if holds != sorted(set(holds)) or holds[0] < 0:
-        raise Refused(2, f"{texts.printable(options.serve)}: the blocks of the pools do not ascend")
+        raise Refusal(2, f"{printable(options.serve)}: the blocks of the pools do not ascend")
     needs = [pool_serving.need_of(run, holds) for run in pool_runs.runs_of(options.runs)]
     said = pool_serving.sentences(pools, needs, holds[-1])
-    texts.write("".join(f"{line}\n" for line in [*pool_serving.table(pools, needs), "", *(each for text in said for each in wrapped(text, "  "))]))
+    text_files.write(
+        "".join(
+            f"{line}\n"
+            for line in [
+                *pool_serving.table(pools, needs),
+                "",
+                *(each for text in said for each in wrap_text(text, "  ")),
+            ]
+        )
+    )
     short = [need.run.name for need in needs if not need.is_served(pools)]
     if short:
-        raise Refused(1, f"{texts.printable(options.serve)} does not serve {claims.listed(short)}")
+        raise Refusal(1, f"{printable(options.serve)} does not serve {claim_words.join_words(short)}")
     return 0
 
 
@@ -222,7 +244,7 @@ def warnings(runs: list) -> "Iterator[str]":
         if run.is_sampled:
             yield f"{run.name} is a history, which is sampled: what was live between its {run.snapshots} snapshots may have no block."
         if run.has_large:
-            yield f"{run.name} has requests of more than {number(texts.LARGEST_SIZE)} bytes, which have no pool."
+            yield f"{run.name} has requests of more than {number(LARGEST_SIZE)} bytes, which have no pool."
 
 
 def reserve_words(options: Options, its: pool_sets.PoolSet) -> list[str]:
@@ -233,20 +255,22 @@ def reserve_words(options: Options, its: pool_sets.PoolSet) -> list[str]:
 
 
 def summary(options: Options, runs: list, its: pool_sets.PoolSet, known: str, notes: list[str]) -> str:
-    names = claims.listed(run.name for run in runs)
-    lines = wrapped(f"Pools for {names}, in units of {its.block.unit} bytes, {its.block.overhead} of overhead in each block", "  ")
+    names = claim_words.join_words(run.name for run in runs)
+    lines = wrap_text(
+        f"Pools for {names}, in units of {its.block.unit} bytes, {its.block.overhead} of overhead in each block", "  "
+    )
     lines += ["", *table(options, runs, its), ""]
     if options.today:
         lines += [*today_lines(options, runs, its), ""]
     for text in [known, *reserve_words(options, its)]:
-        lines += wrapped(text)
+        lines += wrap_text(text)
     for note in notes:
-        lines += wrapped(f"! {note}", "  ")
+        lines += wrap_text(f"! {note}", "  ")
     return "".join(f"{line}\n" for line in lines)
 
 
-def wrapped(text: str, indent: str = "") -> list[str]:
-    return texts.wrapped(text, WIDTH, indent)
+def wrap_text(text: str, indent: str = "") -> list[str]:
+    return text_layout.wrap_text(text, WIDTH, indent)
 
 
 def table(options: Options, runs: list, its: pool_sets.PoolSet) -> list[str]:
@@ -260,7 +284,7 @@ def table(options: Options, runs: list, its: pool_sets.PoolSet) -> list[str]:
         rows[-1] += [names[0] + (f" and {len(names) - 1} more" if len(names) > 1 else "")] * (len(runs) > 1)
     total = pool_sets.bytes_of(its.with_reserve(options.reserve))
     rows.append(["", "", "", *[""] * bool(options.reserve), number(total), *[""] * (len(runs) > 1)])
-    return texts.columns(rows, left=4 + bool(options.reserve))
+    return text_layout.columns(rows, left=4 + bool(options.reserve))
 
 
 def short_names(runs: list) -> list[str]:
@@ -276,15 +300,15 @@ def today_lines(options: Options, runs: list, its: pool_sets.PoolSet) -> list[st
     rows = [["Today", "Blocks", "Used", "Bytes"]]
     rows += [list(map(number, (pool.block, pool.number, used, pool.block * pool.number))) for pool, used in zip(options.today, most)]
     total, own = pool_sets.bytes_of(options.today), its.bytes
-    lines = texts.columns([*rows, ["", "", "", number(total)]], left=4)
+    lines = text_layout.columns([*rows, ["", "", "", number(total)]], left=4)
     short = [f"{number(pool.block)} by {number(used - pool.number)}" for pool, used in zip(options.today, most) if used > pool.number]
     change = f"{number(abs(total - own))} bytes {'less' if own <= total else 'more'}"
     change += f", {percent(abs(total - own), total)}" if total else ""
     these = "Without their reserve the pools above" if options.reserve else "The pools above"
-    lines += wrapped(f"Today's pools take {number(total)} bytes. {these} take {change}.")
+    lines += wrap_text(f"Today's pools take {number(total)} bytes. {these} take {change}.")
     if short:
-        lines += wrapped(f"! Today's pools are short of blocks: those of {claims.listed(short)}.", "  ")
+        lines += wrap_text(f"! Today's pools are short of blocks: those of {claim_words.join_words(short)}.", "  ")
     above = [size for run in runs for size in run.sizes if size > holds[-1]]
     if above:
-        lines += wrapped(f"! Today's pools have no block for a request of {number(min(above))} bytes.", "  ")
+        lines += wrap_text(f"! Today's pools have no block for a request of {number(min(above))} bytes.", "  ")
     return lines

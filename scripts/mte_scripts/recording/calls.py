@@ -68,7 +68,7 @@ class Names:
                 self.unsure.add(os.path.basename(path))
             if not unknown:
                 break
-        for each, name in named_at(path, unknown).items():
+        for each, name in function_names(path, unknown).items():
             self.frames[each] = (Frame(f"{name} in {os.path.basename(path)}", "", 0),)
 
 
@@ -97,7 +97,7 @@ def lines_at(tool: str, path: str, places: dict[Any, int]) -> "dict[Any, list[tu
     return found
 
 
-def named_at(path: str, places: dict[Any, int]) -> dict[Any, str]:
+def function_names(path: str, places: dict[Any, int]) -> dict[Any, str]:
     """The function of each place in an object that one holds, by its symbols."""
     named, found = symbols(path) if places and shutil.which("nm") else [], {}
     for each, place in places.items():

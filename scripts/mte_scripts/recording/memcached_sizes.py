@@ -1,14 +1,16 @@
 """Prints a class table as the chunk sizes that memcached takes. `memcached_sizes --help` says all."""
 
-from mte_scripts import texts
-from mte_scripts.words import Words, between
+from mte_scripts import certificate_texts, text_files
+from mte_scripts.entry_point import Refusal, say
+from mte_scripts.formats import LARGEST_SIZE
+from mte_scripts.words import Words, number_between
 
 HELP = f"""Print the class table of a sheet as the chunk sizes of memcached: the value of its option `-o slab_sizes=`.
 
 Usage: memcached_sizes [--memory MB] < SHEET        (a fit, or a line `classes C1 C2 ..` alone, will do)
 
 The sheet is of a profile of items, as memcached_profile makes it. Class C holds 16 C - 16 bytes, so its chunk has as many. After
-the tuned chunks come memcached's own above {texts.LARGEST_SIZE:,} bytes; it adds the last itself, half of its page.
+the tuned chunks come memcached's own above {LARGEST_SIZE:,} bytes; it adds the last itself, half of its page.
 
   --memory MB   memcached's option -m: says on standard error if it is small for so many classes. A class that is used takes at
                 least a page of 1 MiB, even past -m
@@ -30,20 +32,26 @@ PAGES_A_CLASS = 4  # of 1 MiB; examples/memcached has the measurement
 
 
 def chunk_sizes(words: list[str]) -> None:
-    memory = Words(HELP, memory=between(1, 1_000_000_000)).take(words).memory
-    texts.say_reading("memcached_sizes", ", a sheet")
-    classes = texts.class_line("-")
+    memory = Words(HELP, memory=number_between(1, 1_000_000_000)).take(words).memory
+    text_files.say_reading("memcached_sizes", ", a sheet")
+    classes = certificate_texts.class_line("-")
     rooms = [16 * number - 16 for number in classes]
     if not rooms:
-        raise texts.Refused(2, "the table has no class: was the profile empty?")
+        raise Refusal(2, "the table has no class: was the profile empty?")
     if rooms[0] < LEAST_CHUNK:
-        raise texts.Refused(2, f"class {classes[0]} holds {rooms[0]} bytes, and memcached takes no chunk below {LEAST_CHUNK}: tune a "
-                            "profile of items, of memcached_profile")
+        raise Refusal(
+            2,
+            f"class {classes[0]} holds {rooms[0]} bytes, and memcached takes no chunk below {LEAST_CHUNK}: tune a "
+            "profile of items, of memcached_profile",
+        )
     chunks = rooms + LARGER
     if len(chunks) > MOST_CHUNKS:
-        raise texts.Refused(2, f"{len(rooms)} classes and memcached's {len(LARGER)} larger ones are more than {MOST_CHUNKS}: tune with "
-                            f"`--limit {MOST_CHUNKS - len(LARGER)}`")
+        raise Refusal(
+            2,
+            f"{len(rooms)} classes and memcached's {len(LARGER)} larger ones are more than {MOST_CHUNKS}: tune with "
+            f"`--limit {MOST_CHUNKS - len(LARGER)}`",
+        )
     if memory is not None and memory < PAGES_A_CLASS * len(rooms):
-        texts.say("memcached_sizes", f"warning: {memory} MB are few for {len(rooms)} classes, as each takes pages of 1 MiB of its own. "
+        say("memcached_sizes", f"warning: {memory} MB are few for {len(rooms)} classes, as each takes pages of 1 MiB of its own. "
                   f"Try `--limit {max(1, memory // PAGES_A_CLASS)}` too, and compare the hits")
-    texts.write("-".join(map(str, chunks)) + "\n")
+    text_files.write("-".join(map(str, chunks)) + "\n")

@@ -2,6 +2,7 @@
 
 import argparse
 import contextlib
+import errno
 import os
 import re
 import signal
@@ -9,24 +10,26 @@ import stat
 import struct
 import time
 
-from mte_scripts import private_folder, running, texts
+from mte_scripts import certificate_texts, count_texts, entry_point, private_folder, text_files
+from mte_scripts.entry_point import Refusal
+from mte_scripts.formats import LARGEST_SIZE, MOST_INPUT, MOST_SNAPSHOTS
 from mte_scripts.private_folder import NotPrivate
 from mte_scripts.recording import SNAPSHOTS, TABLES, WINDOWS, recording, timelines
 from mte_scripts.recording.notes import Notes, Texts
-from mte_scripts.running import Refused
-from mte_scripts.texts import MOST_SNAPSHOTS
-from mte_scripts.words import ProgramWords, between, named, some
+
+from mte_scripts.words import ProgramWords, name_among, nonempty_word, number_between
 
 USUAL_WINDOWS = 64
-importing = running.part("recording.imports.importing")
-FORMATS = importing.HELP if importing else "  none: what reads them is not here"
+CLOCK_EACH = 1 << 14  # calls, in shims/blocks.h
+importers = entry_point.part("recording.imports.importers")
+FORMATS = importers.HELP if importers else "  none: what reads them is not here"
 
 HELP = f"""\
 Run a program, and print how often it requested each size: a profile, the input of `mte_tool tune`.
 
 Usage: profile_program [--live] [--only NAME] [--said FILE] PROGRAM ARGS..
        profile_program --timeline|--history[=T]|--windows[=N]|--classes TABLE [--peak FILE] [--upper FILE] [--measured FILE]
-                       [--stacks FILE] [--processes FILE] [--again FILE] [--only NAME] PROGRAM ARGS..
+                       [--stacks FILE] [--blocks FILE] [--processes FILE] [--again FILE] [--only NAME] PROGRAM ARGS..
        profile_program --library [DIR]
        profile_program --follow STREAM [the options above]
        profile_program --read STREAM
@@ -48,11 +51,15 @@ Usage: profile_program [--live] [--only NAME] [--said FILE] PROGRAM ARGS..
   --peak FILE    with these four: write the profile of the blocks live at the peak into FILE too, as --live counts them
   --measured FILE
                  with these and --live: write into FILE what the process took of memory at most, in bytes, as lines
-                 `large N`, blocks above {texts.LARGEST_SIZE:,} bytes, and `resident N`, its resident set without what the recorder takes;
-                 how many requests and frees there were, `events N`; of each TABLE `footprint N`, what it takes over the whole run,
-                 or `footprint none` where it does not serve a size; and of each moment of --windows `moment N`, after N events
+                 `large N`, blocks above {LARGEST_SIZE:,} bytes, and `resident N`, its resident set without what the recorder takes;
+                 how many requests and frees there were, `events N`, and requests of other processes, `others N`; of each TABLE
+                 `footprint N`, what it takes over the whole run, or `footprint none` where it does not serve a size; and of each
+                 moment of --windows `moment N`, after N events
   --stacks FILE  with --timeline of a run: write into FILE, for tune_program --who, which calls made each request. The run takes
                  more time, by the depth of the calls. FILE is empty where the run is too long for a timeline
+  --blocks FILE  with --timeline of a run: write into FILE, for tune_program, which block each free gives back, and each
+                 {CLOCK_EACH:,} calls the time and how much of files is resident. FILE is empty where that would be more than
+                 {MOST_INPUT:,} bytes, or the run is too long for a timeline
   --processes FILE
                  with these and --live: write into FILE a line for each program that requested, that of the counted one first:
                  how many, their requests, the most resident memory of one in bytes, 0 where none was seen, and the name
@@ -69,17 +76,21 @@ Usage: profile_program [--live] [--only NAME] [--said FILE] PROGRAM ARGS..
 
 The program is run with a library (LD_PRELOAD) that notes its calls of malloc, calloc, realloc, free, memalign, aligned_alloc,
 valloc, pvalloc and posix_memalign, and so C++'s new, in memory that a reader outside the program follows: nothing is called for
-that, no lock is taken, and nothing changes in the blocks. The program runs as ever: its standard input is its own, its standard
-output goes to standard error; where that is a terminal, a line there says each second how far it is. It may have threads, fork, and
-be killed. Without --live all processes that it starts are counted with it, also those of a script; with --live only the first
-process is, with what it runs in its own place. A calloc that overflows counts as a large request, and so does any other above
-{texts.LARGEST_SIZE:,} bytes; a realloc to 0 bytes is a free. An aligned request counts as its bytes plus its alignment minus 16. A program
-that fills its blocks up to malloc_usable_size, as redis does, requests what the sizes of its present allocator leave it.
+that, no lock is taken, and nothing changes in the blocks. Where it is far ahead of the reader it sleeps until that goes on. If all
+requests are counted, the library adds to counters alone, which are read when a process has ended, and a free is not seen. The
+program runs as ever: its standard input is its own, its standard output goes to standard error; where that is a terminal, a line
+there says each second how far it is. It may have threads, fork, and be killed. Without --live all processes that it starts are
+counted with it, also those of a script; with --live only the first process is, with what it runs in its own place. A calloc that
+overflows counts as a large request, and so does any other above {LARGEST_SIZE:,} bytes; a realloc to 0 bytes is a free. An aligned request
+counts as its bytes plus its alignment minus 16. A program that fills its blocks up to malloc_usable_size, as redis does, requests
+what the sizes of its present allocator leave it.
 
 A timeline is the input of `mte_tool fit`, which then counts each moment of the run. Its events are in an order in which the calls
 could have come one after the other, of all threads: a request as soon as it has its block, a free before the block is given back, a
-realloc as a free and a request. Where its text would have more than {timelines.MOST_TEXT:,} bytes, some 15 million events, what
---windows prints is in its place, and standard error says so. All else is as with --live.
+realloc as a free and a request. The calls of each thread are in their order, and so are those on each block; a call may stand
+before an earlier one of another thread where its own thread has made fewer than 32 calls since. Where the text would have more than
+{timelines.MOST_TEXT:,} bytes, some 15 million events, what --windows prints is in its place, and standard error says so. All else
+is as with --live.
 
 A history is an input of `fit` too. Its snapshots are in the order of time. One is of the peak, the others are taken at evenly
 spaced requests: where T are full, every second one goes, and the spacing doubles. So at the end they are about T/2 to T, and fewer
@@ -95,14 +106,18 @@ takes what it takes over the whole run. Another table may take more than the his
 before by merge_profiles, and `mte_tool fit` finds the table for all of them.
 
 A program with another allocator, such as jemalloc, keeps it, and its calls are counted. Where it gets blocks in other ways too,
-such as by mallocx, nothing of it is counted, and standard error names the file that has the allocator. Not seen are a static or
-set-user-id program, a C library other than glibc, and an allocator inside the program (Go, jemalloc linked in). Standard error
-says which forks can't be followed: after a chroot, under seccomp, or with an address space that leaves no room. Nothing is counted
-of a program that overwrites the stream, or requests faster than the machine can follow.
+such as by mallocx, nothing of it is counted, and standard error names the file that has the allocator. An allocator inside the
+program (Go, jemalloc linked in) is not seen. Before each program is run it is asked whether it can be followed. One that is static,
+of another C library than this machine's glibc, set-user-id, or with file capabilities, or that is run after system calls were
+given up (seccomp), runs as ever, without the library, as does what it starts; standard error names it with the reason, and the
+status is 3 where it is the one that was to be counted. Standard error says which forks can't be followed: after a chroot, under
+seccomp, or with an address space that leaves no room. Nothing is counted of a program that overwrites the stream, or requests
+faster than the machine can follow.
 
 For a service that something else starts: run `profile_program --follow STREAM` as the service's user, with what is to be counted.
-STREAM is a new file in /run or /dev/shm, where it takes 1 MB for each process; a disk will do. Start the service with LD_PRELOAD
-set to the path that --library DIR prints, and MTE_STREAM to STREAM's. Meanwhile --read STREAM prints what is there.
+STREAM is a new file in /run or /dev/shm, where it takes 1.3 MB for each process; a disk will do. Start the service with LD_PRELOAD
+set to the path that --library DIR prints, and MTE_STREAM to STREAM's. Meanwhile --read STREAM prints what is there. A service that
+begins under seccomp (systemd's SystemCallFilter= and the like) is not followed: leave that out while you record.
 
 --import takes these formats, packed by gzip or zstd or not:
 {FORMATS}
@@ -124,7 +139,7 @@ Examples:
 """
 
 LIBRARY = "mte_tool_stream.so"  # for services
-FORM, HEAD = b"STREAM2\0", struct.Struct("<8sQQ")  # of shims/stream.h: the form, the reader and its descriptor of what it found
+FORM, HEAD = b"STREAM3\0", struct.Struct("<8sQQ")  # of shims/stream.h: the form, the reader and its descriptor of what it found
 ANSWERED = 20  # seconds
 CLOSED_PLACE = "choose a place that only you and root can change, such as /usr/local/lib"
 OPEN_PLACE = "choose a place that all can reach, such as /usr/local/lib"
@@ -135,29 +150,39 @@ class Options(argparse.Namespace):
     live: "str | None"
 
     def __init__(self, words: list[str]) -> None:
-        kinds: dict = {"history": {"type": between(1, SNAPSHOTS), "nargs": "?", "const": 32}, "live": {"action": "store_const", "const": "--live"}}
-        kinds["windows"] = {"type": between(1, WINDOWS), "nargs": "?", "const": USUAL_WINDOWS}
-        kinds["classes"] = {"action": "append", "type": some, "default": []}
-        ProgramWords(HELP, as_=named(*importing.NAMES) if importing else some, **kinds).take(words, into=self)
-        written = [(f"--{name}", getattr(self, name)) for name in ("follow", "said", "measured", "peak", "upper", "stacks", "processes")]
-        texts.refuse_over(written, [self.import_, self.again, self.read, *self.classes], [*self.words, *["-"] * bool(self.words)])
-        self.tables = [texts.class_line(path) for path in self.classes]
+        kinds: dict = {
+            "history": {"type": number_between(1, SNAPSHOTS), "nargs": "?", "const": 32},
+            "live": {"action": "store_const", "const": "--live"},
+        }
+        kinds["windows"] = {"type": number_between(1, WINDOWS), "nargs": "?", "const": USUAL_WINDOWS}
+        kinds["classes"] = {"action": "append", "type": nonempty_word, "default": []}
+        ProgramWords(HELP, as_=name_among(*importers.NAMES) if importers else nonempty_word, **kinds).take(
+            words, into=self
+        )
+        names = "follow said measured peak upper stacks blocks processes".split()
+        written = [(f"--{name}", getattr(self, name)) for name in names]
+        text_files.refuse_over(written, [self.import_, self.again, self.read, *self.classes], [*self.words, *["-"] * bool(self.words)])
+        self.tables = [certificate_texts.class_line(path) for path in self.classes]
         self.moments = [] if self.again is None else moments_in(self.again)
         if not all(self.tables):
-            raise Refused(2, "the table of --classes has no class")
+            raise Refusal(2, "the table of --classes has no class")
         self.choose()
         if self.import_ is not None:
             self.refuse_beside_import()
         elif self.as_ is not None:
-            raise Refused(2, "--as goes with --import")
+            raise Refusal(2, "--as goes with --import")
 
     def choose(self) -> None:
         """What is printed, and what does not go with that."""
         over_time = [f"--{name}" for name in ("timeline", "history", "windows") if getattr(self, name)]
         if len(over_time) > 1 or (self.tables and over_time == ["--history"]):
-            raise Refused(2, f"take one of {' and '.join([*over_time, *['--classes'] * (len(over_time) < 2)])}")
+            raise Refusal(2, f"take one of {' and '.join([*over_time, *['--classes'] * (len(over_time) < 2)])}")
         if len(self.tables) > (TABLES if over_time else 1):
-            raise Refused(2, f"there are {len(self.tables)} tables of --classes: it takes {TABLES if over_time else 'one without --windows'}")
+            raise Refusal(
+                2,
+                f"there are {len(self.tables)} tables of --classes: it takes "
+                f"{TABLES if over_time else 'one without --windows'}",
+            )
         over_time += ["--classes"] * bool(self.tables)
         self.live = over_time[0] if over_time else self.live
         goes_with = {
@@ -165,22 +190,23 @@ class Options(argparse.Namespace):
             "upper": (self.read or self.live in ("--timeline", "--windows"), "--windows, --timeline or --read"),
             "again": (self.live == "--windows", "--windows"),
             "stacks": (self.live == "--timeline" and self.words, "--timeline and a program to run"),
+            "blocks": (self.live == "--timeline" and (self.words or self.follow), "--timeline and a program or --follow"),
             **dict.fromkeys(("measured", "as_scudo", "processes"), (self.live, "--live, --timeline, --history, --windows or --classes")),
         }
         for name, (is_there, what) in goes_with.items():
             if getattr(self, name) and not is_there:
-                raise Refused(2, f"--{name.replace('_', '-')} goes with {what}")
+                raise Refusal(2, f"--{name.replace('_', '-')} goes with {what}")
 
     def refuse_beside_import(self) -> None:
         others = {"--read": self.read, "--follow": self.follow, "--only": self.only, "--as-scudo": self.as_scudo, "--library": self.library}
         if not self.is_timeline():
             others |= {"--measured": self.measured, "--classes": self.tables, "--upper": self.upper}
         if given := [name for name, value in others.items() if value]:
-            raise Refused(2, f"--import reads a file, and {given[0]} is for a run")
+            raise Refusal(2, f"--import reads a file, and {given[0]} is for a run")
         if self.words:
-            raise Refused(2, f"--import takes one file, and runs no program: there is no place for {self.words[0]}")
+            raise Refusal(2, f"--import takes one file, and runs no program: there is no place for {self.words[0]}")
         if self.as_ and self.is_timeline():
-            raise Refused(2, f"{self.live} takes a timeline, and no file of {self.as_}")
+            raise Refusal(2, f"{self.live} takes a timeline, and no file of {self.as_}")
 
     def is_timeline(self) -> bool:
         """Whether what --import names is a timeline."""
@@ -191,17 +217,20 @@ class Options(argparse.Namespace):
 
     def wanted(self) -> str:
         """What the reader is asked for."""
-        kinds = {None: "all", "--live": "live", "--history": f"history {self.history}", "--timeline": "timeline", "--classes": "classes",
+        kinds = {None: "all", "--live": "live", "--history": f"history {self.history}", "--classes": "classes",
+                 "--timeline": "timeline blocks" if self.blocks else "timeline",
                  "--windows": " ".join(map(str, ["windows", self.windows, *self.moments]))}
         return ("-" if self.as_scudo else "") + kinds[self.live]
 
 
 def moments_in(path: str) -> "list[int]":
     """The moments that a file of --measured names."""
-    lines = texts.read(path).decode(errors="replace").splitlines()
+    lines = text_files.read(path).decode(errors="replace").splitlines()
     found = [line.removeprefix("moment ") for line in lines if line.startswith("moment ")]
     if not 0 < len(found) <= MOST_SNAPSHOTS or not all(re.fullmatch("[1-9][0-9]{0,17}", each) for each in found):
-        raise Refused(2, f"{texts.named(path)} does not name 1 to {MOST_SNAPSHOTS:,} moments: --measured of --windows does")
+        raise Refusal(
+            2, f"{text_files.input_name(path)} does not name 1 to {MOST_SNAPSHOTS:,} moments: --measured of --windows does"
+        )
     return sorted({int(each) for each in found})
 
 
@@ -209,11 +238,11 @@ def moments_in(path: str) -> "list[int]":
 
 def print_found(options: Options, speaker: recording.Speaker, notes: Notes, found: Texts) -> bool:
     """Prints what was counted. False where that is nothing."""
-    write_beside(options.measured, "".join(f"{line}\n" for line in measured(options, notes, found.moments)))
+    write_beside(options.measured, "".join(f"{line}\n" for line in measurement_lines(options, notes, found.moments)))
     if notes.is_cut:
         instead = f"a history of {notes.snapshots} of its moments is made in its place"
         speaker.say(f"the timeline of {notes.events:,} events would have more than {timelines.MOST_TEXT:,} bytes: {instead}")
-    profile = texts.profile_text(texts.parse_profile(found.profile, "the profile"))  # its counts may be above what a text may have
+    profile = count_texts.fitting_text(count_texts.parse_profile(found.profile, "the profile"), speaker.say)
     if found.wanted:
         recording.write("the history" if notes.snapshots else "the timeline", found.wanted)
         write_beside(options.peak, profile)
@@ -224,9 +253,9 @@ def print_found(options: Options, speaker: recording.Speaker, notes: Notes, foun
     return bool(found.wanted or profile)
 
 
-def measured(options: Options, notes: Notes, moments: bytes) -> "list[str]":
+def measurement_lines(options: Options, notes: Notes, moments: bytes) -> "list[str]":
     """What was measured of the run. The footprints are counted where there is a history."""
-    found = {"large": notes.large, "resident": notes.resident, "events": notes.events}
+    found = {"large": notes.large, "resident": notes.resident, "events": notes.events, "others": notes.other_requests}
     lines = [f"{name} {value}" for name, value in found.items() if value]
     taken = notes.taken[: len(options.tables)] if notes.snapshots else []
     return [*lines, *(f"footprint {'none' if each < 0 else each}" for each in taken), *(f"moment {each}" for each in moments.decode().split())]
@@ -234,7 +263,7 @@ def measured(options: Options, notes: Notes, moments: bytes) -> "list[str]":
 
 def write_beside(path: "str | None", text: "str | bytes") -> None:
     if path:
-        texts.write_file(path, text)
+        text_files.write_file(path, text)
 
 
 def say_uncounted(speaker: recording.Speaker, notes: Notes, live: str, program: str) -> None:
@@ -262,52 +291,90 @@ def print_run(options: Options, speaker: recording.Speaker, notes: Notes, found:
 def follow(options: Options, speaker: recording.Speaker, work: private_folder.Folder) -> int:
     """Follows what something else starts, until it is told to end."""
     if options.words:
-        raise Refused(2, "--follow takes one file, and runs no program")
+        raise Refusal(2, "--follow takes one file, and runs no program")
     with recording.Run(speaker, work, options.wanted(), options.only, options.table_words()) as run:
         status, notes = run.follow(os.path.abspath(options.follow), "", []), run.found.notes()
         if status or not notes.version:
-            raise Refused(3, f"{options.follow} can't be followed: {notes.why or 'the reader was ended'}")
+            raise Refusal(3, f"{options.follow} can't be followed: {notes.why or 'the reader was ended'}")
+        write_beside(options.processes, "".join(f"{line}\n" for line in notes.programs()))
+        write_beside(options.blocks, run.found.texts().blocks)
         return print_service(options, speaker, run.found, options.follow)
 
 
-def print_service(options: Options, speaker: recording.Speaker, run: recording.Found, stream: str) -> int:
+def print_service(options: Options, speaker: recording.Speaker, run: recording.ReaderResult, stream: str) -> int:
     if print_run(options, speaker, run.notes(), run.texts(), "the service"):
         return 0
     if run.notes().untouched:
         recording.refuse_nothing("the service", run.notes(), "counted")
-    raise Refused(3, f"nothing was counted in {stream} yet")
+    raise Refusal(3, f"nothing was counted in {stream} yet")
 
 
 def read_only(options: Options, speaker: recording.Speaker) -> int:
     """Prints what the reader of --read's stream has so far."""
     if options.words:
-        raise Refused(2, "--read takes one file, and runs no program")
-    path = os.path.realpath(options.read)
+        raise Refusal(2, "--read takes one file, and runs no program")
     try:
-        with open(path, "rb", opener=private_folder.look_at) as file:
+        with open(options.read, "rb", opener=private_folder.look_at) as file:
             form, reader, descriptor = HEAD.unpack(file.read(HEAD.size))
-        is_followed = False
-        with contextlib.suppress(FileNotFoundError, ProcessLookupError), open(f"/proc/{reader}/maps", "rb") as maps:  # it may have been killed
-            is_followed = form == FORM and os.fsencode(path) in maps.read()
-        if not is_followed:
-            raise Refused(3, f"{options.read} is no stream, or nobody follows it: `profile_program --follow` does")
-        with open(f"/proc/{reader}/fd/{descriptor}", "rb") as shared:
-            return print_service(options, speaker, asked(reader, recording.Found(shared.fileno()), options.read), options.read)
+            path = os.path.join(os.path.realpath(os.path.dirname(options.read) or "."), os.path.basename(options.read))
+            with Reader(reader, descriptor) as found:
+                if form != FORM or not found.follows(os.fstat(file.fileno()), path):
+                    raise Refusal(
+                        3, f"{options.read} is no stream, or nobody follows it: `profile_program --follow` does"
+                    )
+                with open(found.path(descriptor), "rb") as shared:
+                    run = recording.ReaderResult(shared.fileno())
+                    return print_service(options, speaker, found.asked(run, options.read), options.read)
     except OSError as error:
-        raise Refused(3, f"{options.read} can't be read: {error.strerror}") from None
+        if error.errno == errno.ELOOP:
+            raise Refusal(3, f"{options.read} is a link: name the file itself") from None
+        raise Refusal(3, f"{options.read} can't be read: {error.strerror}") from None
     except struct.error:
-        raise Refused(3, f"{options.read} is no stream") from None
+        raise Refusal(3, f"{options.read} is no stream") from None
 
 
-def asked(reader: int, run: recording.Found, stream: str) -> recording.Found:
-    """What a reader found, once it has written that anew."""
-    before, end = run.notes().version, time.monotonic() + ANSWERED
-    os.kill(reader, signal.SIGUSR1)
-    while run.notes().version == before:
-        if time.monotonic() > end:
-            raise Refused(3, f"the reader of {stream} does not answer")
-        time.sleep(0.01)
-    return run
+class Reader:
+    """The process that a stream names as its reader. Anybody may have written the stream: nothing is sent to a process that does not hold
+    this very file, and what a reader has."""
+
+    def __init__(self, process: int, descriptor: int) -> None:
+        self.process, self.descriptor = process, descriptor
+        self.opened = -1
+
+    def __enter__(self) -> "Reader":
+        with contextlib.suppress(OSError, OverflowError):  # it may have been killed
+            self.opened = os.pidfd_open(self.process)
+        return self
+
+    def __exit__(self, *_: object) -> None:
+        if self.opened >= 0:
+            os.close(self.opened)
+
+    def path(self, descriptor: "int | str") -> str:
+        return f"/proc/{self.process}/fd/{descriptor}"
+
+    def follows(self, status: os.stat_result, path: str) -> bool:
+        """Whether it holds the file of a stream by its path, and the file is of nobody else but root."""
+        if self.opened < 0 or not stat.S_ISREG(status.st_mode) or (os.geteuid() and status.st_uid not in (0, os.geteuid())):
+            return False
+        held, shared = os.listdir(f"/proc/{self.process}/fd"), self.path(self.descriptor)
+        return os.path.islink(shared) and os.readlink(shared).startswith("/memfd:mte_found") and any(self.is_at(each, status, path) for each in held)
+
+    def is_at(self, descriptor: str, status: os.stat_result, path: str) -> bool:
+        with contextlib.suppress(OSError):
+            own = os.stat(self.path(descriptor))
+            return (own.st_dev, own.st_ino) == (status.st_dev, status.st_ino) and os.readlink(self.path(descriptor)) == path
+        return False
+
+    def asked(self, run: recording.ReaderResult, stream: str) -> recording.ReaderResult:
+        """What it found, once it has written that anew."""
+        before, end = run.notes().version, time.monotonic() + ANSWERED
+        signal.pidfd_send_signal(self.opened, signal.SIGUSR1)
+        while run.notes().version == before:
+            if time.monotonic() > end:
+                raise Refusal(3, f"the reader of {stream} does not answer")
+            time.sleep(0.01)
+        return run
 
 
 def import_file(options: Options, speaker: recording.Speaker) -> int:
@@ -317,11 +384,15 @@ def import_file(options: Options, speaker: recording.Speaker) -> int:
             of_reader = recording.of_timeline(options.import_, work, options.wanted(), options.table_words())
         if print_found(options, speaker, *of_reader):
             return 0
-        raise Refused(3, f"{texts.named(options.import_)}: it counts nothing")
-    if not importing:
-        raise Refused(3, f"{options.import_} can't be read: the files of other tools want scripts/mte_scripts/recording/imports, which is not here")
-    wanted = options.live.removeprefix("--") if options.live else importing.found.ALL
-    got = importing.imported(options.import_, options.as_, wanted, options.history)
+        raise Refusal(3, f"{text_files.input_name(options.import_)}: it counts nothing")
+    if not importers:
+        raise Refusal(
+            3,
+            f"{options.import_} can't be read: the files of other tools want scripts/mte_scripts/recording/imports, "
+            "which is not here",
+        )
+    wanted = options.live.removeprefix("--") if options.live else importers.import_result.ALL
+    got = importers.import_file(options.import_, options.as_, wanted, options.history)
     for line in got.told:
         speaker.say(line)
     for piece in got.text:
@@ -334,11 +405,11 @@ def import_file(options: Options, speaker: recording.Speaker) -> int:
 
 def print_library(options: Options, speaker: recording.Speaker) -> int:
     if len(options.words) > 1:
-        raise Refused(2, "--library takes one folder, and runs no program")
+        raise Refusal(2, "--library takes one folder, and runs no program")
     with private_folder.temporary_folder() as work:
         library = recording.make("stream", work)
         if options.words:
-            library = installed(library, options.words[0])
+            library = install_library(library, options.words[0])
         if library.startswith(f"{work.path}/"):
             work.keep()
     if not recording.is_plain(library):
@@ -347,24 +418,28 @@ def print_library(options: Options, speaker: recording.Speaker) -> int:
     return 0
 
 
-def installed(library: str, folder: str) -> str:
+def install_library(library: str, folder: str) -> str:
     """Puts the library where a service may read it."""
     if not os.path.isdir(folder):
-        raise Refused(3, f"there is no folder {folder}")
+        raise Refusal(3, f"there is no folder {folder}")
     refuse_unreachable(os.path.realpath(folder))
     try:
-        with private_folder.closed(folder) as place:
+        with private_folder.open_private_folder(folder) as place:
             if not recording.is_plain(place.path):
-                raise Refused(3, f"the loader takes no path with a space, a colon or a dollar sign, as in {place.path}: choose another place")
+                raise Refusal(
+                    3,
+                    f"the loader takes no path with a space, a colon or a dollar sign, as in {place.path}: choose "
+                    "another place",
+                )
             with place.new_file(LIBRARY) as new, open(new, "wb") as file:
-                file.write(texts.read(library))
+                file.write(text_files.read(library))
             path = place.file(LIBRARY)
     except NotPrivate as found:
-        raise Refused(3, f"{found}: {CLOSED_PLACE}") from None
+        raise Refusal(3, f"{found}: {CLOSED_PLACE}") from None
     except OSError as error:
-        raise Refused(3, f"{folder} can't be written: {error.strerror}") from None
-    if recording.tried("stream", path):
-        raise Refused(3, f"the library can't be loaded from {folder}: perhaps it is mounted with noexec")
+        raise Refusal(3, f"{folder} can't be written: {error.strerror}") from None
+    if recording.try_loading("stream", path):
+        raise Refusal(3, f"the library can't be loaded from {folder}: perhaps it is mounted with noexec")
     return path
 
 
@@ -373,7 +448,7 @@ def refuse_unreachable(path: str) -> None:
     folder, below = path, ""
     while folder != below:
         if not os.stat(folder).st_mode & stat.S_IXOTH:
-            raise Refused(3, f"no other user can enter {folder}: {OPEN_PLACE}")
+            raise Refusal(3, f"no other user can enter {folder}: {OPEN_PLACE}")
         folder, below = os.path.dirname(folder), folder
 
 
@@ -390,9 +465,13 @@ def say_left(speaker: recording.Speaker, options: Options, notes: Notes) -> None
 
 def run_program(options: Options, speaker: recording.Speaker, path: str, work: private_folder.Folder) -> int:
     program = options.words[0]
-    with recording.Run(speaker, work, options.wanted(), options.only, options.table_words(), bool(options.stacks)) as run:
+    wanted, recorder = options.wanted(), "stacks" if options.stacks else "stream"
+    if wanted == "all":
+        wanted, recorder = "counts", "counts"
+    with recording.Run(speaker, work, wanted, options.only, options.table_words(), recorder) as run:
         notes, found = run.run(options.words, path), run.found.texts()
         write_beside(options.stacks, found.sites)
+        write_beside(options.blocks, found.blocks)
         write_beside(options.processes, "".join(f"{line}\n" for line in notes.programs()))
         if notes.left:
             say_left(speaker, options, notes)
@@ -421,11 +500,12 @@ def profile(words: list[str], speaker: recording.Speaker) -> int:
     if not options.words:
         return recording.print_usage(HELP)
     path = recording.find_program(options.words[0])
-    texts.refuse_unwritable([options.measured, options.peak, options.upper, options.stacks, options.processes, options.said])
+    beside = [options.upper, options.stacks, options.blocks, options.processes]
+    text_files.refuse_unwritable([options.measured, options.peak, *beside, options.said])
     if options.live and not options.only:
         recording.say_script(speaker, options.words[0], path, f"{options.live} counts {recording.INTERPRETER}; --only NAME counts")
     with private_folder.temporary_folder() as work:
         return run_program(options, speaker, path, work)
 
 
-main = recording.spoken("profile_program", profile)
+main = recording.with_speaker("profile_program", profile)

@@ -3,7 +3,7 @@
 import os
 
 from mte_scripts import places, private_folder
-from mte_scripts.running import Refused
+from mte_scripts.entry_point import Refusal
 
 try:
     from _sha1 import sha1  # hashlib loads OpenSSL, which takes longer than all else here
@@ -35,4 +35,4 @@ def compile_alone(words: list, refusal: str) -> None:
 
     with private_folder.temporary() as folder:
         if subprocess.run(words, stdin=subprocess.DEVNULL, stdout=2, env={**os.environ, "TMPDIR": folder}).returncode:
-            raise Refused(3, refusal)
+            raise Refusal(3, refusal)

@@ -4,7 +4,7 @@ import struct
 from array import array
 from typing import NamedTuple
 
-from mte_scripts import texts
+from mte_scripts.entry_point import Refusal
 
 HEAD = struct.Struct("<5Q")
 MODULE = struct.Struct("<4Q")
@@ -36,21 +36,21 @@ def words_of(kind: str, data: bytes) -> array:
     return found
 
 
-def parsed(data: bytes) -> Sites:
+def parse_sites(data: bytes) -> Sites:
     """The record; refused where it is not whole."""
     try:
         number, sites, words, modules, width = HEAD.unpack_from(data)
     except struct.error:
-        raise texts.Refused(3, "the stacks of the run were not recorded") from None
+        raise Refusal(3, "the stacks of the run were not recorded") from None
     lengths, at, parts = (8 * words, width * modules, 8 * sites, 4 * sites, 4 * number), HEAD.size, []
     if len(data) != at + sum(lengths):
-        raise texts.Refused(3, "the record of the stacks is cut off")
+        raise Refusal(3, "the record of the stacks is cut off")
     for length in lengths:
         parts.append(data[at : at + length])
         at += length
     stack_words, begins = words_of("Q", parts[0]), words_of("Q", parts[2])
     if any(begin > words for begin in begins):
-        raise texts.Refused(3, "the record of the stacks is damaged")
+        raise Refusal(3, "the record of the stacks is damaged")
     return Sites(
         words_of("I", parts[4]), words_of("I", parts[3]), [stack_at(stack_words, begin) for begin in begins],
         [module_of(parts[1][place : place + width]) for place in range(0, len(parts[1]), width)],

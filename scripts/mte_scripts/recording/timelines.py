@@ -7,16 +7,17 @@ from array import array
 from collections.abc import Callable, Iterable, Iterator
 from typing import Any
 
-from mte_scripts import private_folder, texts
+from mte_scripts import count_texts, private_folder
+from mte_scripts.formats import LARGEST_CLASS, LARGEST_SIZE, MOST_INPUT
 
 FREED, SIZE = 1 << 15, (1 << 14) - 1  # the parts of an event
 CODES = 1 << 16  # more than each event's number
 PIECE = 1 << 20  # events
-LARGE = texts.LARGEST_SIZE + 1
-MOST_TEXT = texts.MOST_INPUT - (1 << 20)  # in bytes: a command takes a table or a fit beside it
+LARGE = LARGEST_SIZE + 1
+MOST_TEXT = MOST_INPUT - (1 << 20)  # in bytes: a command takes a table or a fit beside it
 
 
-def named(by_counter: dict) -> dict:
+def counts_by_size(by_counter: dict) -> dict:
     """What counters have, by size, with `large` as the word."""
     return {"large" if size == LARGE else size: found for size, found in by_counter.items() if found}
 
@@ -99,16 +100,16 @@ def by_code(kind: str, of_size: Callable[[int], int], codes: Iterable[int]) -> a
 
 def peaks(events: array, codes: Iterable[int]) -> list[int]:
     """The moments at which a class of 16 bytes has more blocks than at any before, in the order of time."""
-    live, most, at = (zeros("q", texts.LARGEST_CLASS + 1) for _ in range(3))
+    live, most, at = (zeros("q", LARGEST_CLASS + 1) for _ in range(3))
     pass_over("raise_most", events, 0, len(events), by_code("h", need_of, codes), live, most, at)
     return sorted(filter(None, at))
 
 
-def history_of(moments: dict) -> texts.History:
+def history_of(moments: dict) -> count_texts.History:
     """The moments in the order of time, but for those that have no block."""
-    live = [named(moments[at]) for at in sorted(moments) if moments[at]]
+    live = [counts_by_size(moments[at]) for at in sorted(moments) if moments[at]]
     sizes = set().union(*live)
-    return texts.History(len(live), {size: [each.get(size, 0) for each in live] for size in sizes})
+    return count_texts.History(len(live), {size: [each.get(size, 0) for each in live] for size in sizes})
 
 
 # ---- a timeline as a text that `mte_tool` takes
@@ -142,12 +143,12 @@ def read(text: bytes) -> Read:
     return last
 
 
-def parsed(text: bytes) -> array:
+def parse_events(text: bytes) -> array:
     """The events of a timeline."""
     return read(text).events
 
 
-def history_at(text: bytes, moments: list) -> texts.History:
+def history_at(text: bytes, moments: list) -> count_texts.History:
     """The blocks that are live at these ascending moments, each the number of events before it."""
     run = read(text)
     return history_of(live_at(run.events, run.codes, moments))
@@ -155,7 +156,7 @@ def history_at(text: bytes, moments: list) -> texts.History:
 
 def requests_of(text: bytes) -> dict:
     """The profile of all requests."""
-    return named(requests(read(text).codes))
+    return counts_by_size(requests(read(text).codes))
 
 
 def place_in(classes: list) -> Callable[[int], int]:

@@ -4,11 +4,11 @@ import argparse
 from collections.abc import Iterator
 
 from mte_scripts import private_folder
+from mte_scripts.entry_point import Refusal
 from mte_scripts.formats import MOST_EVENTS
 from mte_scripts.recording import recording
 from mte_scripts.recording.notes import Notes
-from mte_scripts.running import Refused
-from mte_scripts.words import ProgramWords, between
+from mte_scripts.words import ProgramWords, number_between
 
 HELP = """\
 Run a program, and print what it does with its allocator as a trace, the input of `mte_tool run`, `replay` and `profile`.
@@ -88,7 +88,7 @@ def run_program(options: argparse.Namespace, speaker: recording.Speaker, path: s
 
 
 def trace(words: list[str], speaker: recording.Speaker) -> int:
-    options = ProgramWords(HELP, first=between(3, MOST_EVENTS)).take(words)
+    options = ProgramWords(HELP, first=number_between(3, MOST_EVENTS)).take(words)
     if not options.words:
         return recording.print_usage(HELP)
     path = recording.find_program(options.words[0])
@@ -98,4 +98,4 @@ def trace(words: list[str], speaker: recording.Speaker) -> int:
         return run_program(options, speaker, path, work)
 
 
-main = recording.spoken("trace_program", trace)
+main = recording.with_speaker("trace_program", trace)

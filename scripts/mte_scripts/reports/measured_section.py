@@ -1,30 +1,34 @@
 """The part of report.html on what was measured in the real allocators."""
 
-from mte_scripts.reports.pictures import escape, shown
+from typing import Optional
+
+from mte_scripts.reports.pictures import coordinate, escape
 from mte_scripts.tables.figures import kibibytes
 from mte_scripts.tables.verdict import DEFAULT, Row
 
 LINE, BAR = 40, 12
 
 
-def section(verdict: str, rows: list[Row], tuned: str, falls: int) -> str:
-    """The verdict, and a bar for each allocator. FALLS is by how many bytes the table was predicted to take less than Scudo's default."""
+def section(rows: list[Row], tuned: str, falls: Optional[int], is_simulated: bool) -> str:
+    """A bar for each allocator. FALLS is by how many bytes the table was predicted to take less than Scudo's default, if it
+    was: as Scudo gives memory back, where that IS_SIMULATED."""
     default = next(row for row in rows if row.name == DEFAULT)
-    foreseen = {tuned: default.peak() - falls}
+    foreseen = {} if falls is None else {tuned: default.peak() - falls}
+    how = "simulated page by page" if is_simulated else "where it gives nothing back"
+    dashed = f" The dashed line is what was predicted of the table, from Scudo's default, {how}."
     return f"""<h2>Measured</h2>
-<p id="verdict">{escape(verdict)}</p>
-<figure>{bars(rows, foreseen, "wide", 760)}{bars(rows, foreseen, "narrow", 340)}
+<figure>{bars(rows, tuned, foreseen, "wide", 760)}{bars(rows, tuned, foreseen, "narrow", 340)}
 <figcaption>A bar is the peak of the resident set, the middle of {len(default.peaks)} runs; the line at its end is where the peak of a further run lies with 95%,
-if peaks are normally distributed. The dashed line is what was predicted of the table, from Scudo's default where it gives nothing back.</figcaption></figure>
+if peaks are normally distributed.{dashed * bool(foreseen)}</figcaption></figure>
 """
 
 
-def bars(rows: list[Row], foreseen: dict[str, int], kind: str, width: int) -> str:
+def bars(rows: list[Row], tuned: str, foreseen: dict[str, int], kind: str, width: int) -> str:
     top = 1.02 * max([row.interval()[1] for row in rows] + list(foreseen.values()))
-    forms, parts = {next(reversed(foreseen)): 'fill="var(--c0)"', DEFAULT: 'fill="var(--c1)"'}, []
+    forms, parts = {tuned: 'fill="var(--c0)"', DEFAULT: 'fill="var(--c1)"'}, []
 
     def x(size: int) -> str:
-        return shown(width * size / top)
+        return coordinate(width * size / top)
 
     for at, row in enumerate(rows):
         y = LINE * at

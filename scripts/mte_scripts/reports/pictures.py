@@ -9,10 +9,10 @@ from mte_scripts import html_safe
 
 def escape(text: object) -> str:
     """A text within a page or a picture. A name from outside may have any byte: what is no text in it is shown escaped."""
-    return html.escape(html_safe.shown(text))
+    return html.escape(html_safe.escape_unprintable(text))
 
 
-def shown(value: float) -> str:
+def coordinate(value: float) -> str:
     """A coordinate."""
     return f"{value:.1f}".removesuffix(".0")
 
@@ -37,7 +37,9 @@ class Picture:
         self.text(0, 12, title)
 
     def text(self, x: float, y: float, words: object, anchor: str = "start") -> None:
-        self.parts.append(f'<text x="{shown(x)}" y="{shown(y)}" text-anchor="{anchor}">{escape(words)}</text>')
+        self.parts.append(
+            f'<text x="{coordinate(x)}" y="{coordinate(y)}" text-anchor="{anchor}">{escape(words)}</text>'
+        )
 
     def x(self, share: float) -> float:
         """The place after this share of the width."""
@@ -53,11 +55,11 @@ class Picture:
         self.base = first * step * unit
         for at in range(first, int(top / unit / step) + 1):
             y = self.y(step * at * unit, top)
-            self.parts.append(f'<path class="grid" d="M{self.left} {shown(y)}H{self.right}"/>')
+            self.parts.append(f'<path class="grid" d="M{self.left} {coordinate(y)}H{self.right}"/>')
             self.text(self.left - 6, y + 4, words(step * at), "end")
 
     def tick(self, x: float, words: object) -> None:
-        self.parts.append(f'<path class="axis" d="M{shown(x)} {self.bottom}v4"/>')
+        self.parts.append(f'<path class="axis" d="M{coordinate(x)} {self.bottom}v4"/>')
         self.text(x, self.bottom + 17, words, "middle")
 
     def svg(self, name: str) -> str:
@@ -87,9 +89,10 @@ class Drawing(Picture):
 
     def curve(self, at: int, points: "list[tuple[float, float, str]]") -> None:
         """Curve number AT, over (x, y, title); what is above the picture is cut off."""
-        line = " ".join(f"{shown(x)},{shown(max(y, -10 * self.height))}" for x, y, _ in points)
+        line = " ".join(f"{coordinate(x)},{coordinate(max(y, -10 * self.height))}" for x, y, _ in points)
         marks = "".join(
-            f'<circle class="mark" cx="{shown(x)}" cy="{shown(y)}" r="2.6"><title>{escape(title)}</title></circle>'
+            f'<circle class="mark" cx="{coordinate(x)}" cy="{coordinate(y)}" '
+            f'r="2.6"><title>{escape(title)}</title></circle>'
             for x, y, title in points
             if y >= self.top
         )
@@ -97,13 +100,15 @@ class Drawing(Picture):
 
     def square(self, at: int, x: float, y: float, title: str) -> None:
         """A point beside curve number AT."""
-        box = f'x="{shown(x - 4)}" y="{shown(y - 4)}" width="8" height="8"'
+        box = f'x="{coordinate(x - 4)}" y="{coordinate(y - 4)}" width="8" height="8"'
         self.parts.append(f'<g class="c{at % len(LIGHT)}"><rect class="mark" {box}><title>{escape(title)}</title></rect></g>')
 
     def key(self, at: int, x: float, y: float, words: str, anchor: str = "start") -> None:
         """The name of curve number AT, after a piece of it or before it."""
         begin = x if anchor == "start" else x - 44
-        self.parts.append(f'<g class="c{at % len(LIGHT)}"><path class="curve" d="M{shown(begin)} {shown(y - 4)}h44"/></g>')
+        self.parts.append(
+            f'<g class="c{at % len(LIGHT)}"><path class="curve" d="M{coordinate(begin)} {coordinate(y - 4)}h44"/></g>'
+        )
         self.text(x + 52 if anchor == "start" else x - 52, y, words, anchor)
 
     def svg(self, name: str) -> str:

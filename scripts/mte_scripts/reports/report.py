@@ -1,8 +1,9 @@
 """Makes a page of a profile and its sheet. `report --help` says all."""
 
-import os
 
-from mte_scripts import texts
+from mte_scripts import claim_words, count_texts, shell_words, text_files
+from mte_scripts.entry_point import Refusal
+from mte_scripts.formats import MOST_INPUT
 from mte_scripts.reports import report_page
 from mte_scripts.tables import figures
 from mte_scripts.words import Words
@@ -39,18 +40,21 @@ def report(words: list[str]) -> int:
     options = Words(HELP, "names", title=str, against={"action": "append", "default": []}).take(words)
     names, title = options.names, options.title
     if len(names) != 2:
-        raise texts.Refused(2, "it wants a profile and a sheet: report PROFILE SHEET; --help says more")
+        raise Refusal(2, "it wants a profile and a sheet: report PROFILE SHEET; --help says more")
     profile, sheet = names
     others = figures.other_tables(options.against)
-    given = "the profile" if profile == "-" else os.path.basename(profile)
-    found = figures.Figures(texts.read_profile(profile), texts.read(sheet, texts.MOST_INPUT + 1).decode(errors="replace"), others, given=given)
-    name = title or ("the profile" if profile == "-" else figures.without_ending(profile, ".profile"))
-    texts.write(report_page.page(found, name, "in the profile", [], [check_command(profile, sheet)]))
+    data = text_files.read(profile)
+    counts, name = count_texts.parse_profile(data, profile), text_files.input_name(profile)
+    is_plain = data == count_texts.profile_text(counts).encode()
+    how = "" if is_plain else claim_words.how("merged")
+    found = figures.Figures(counts, text_files.read(sheet, MOST_INPUT + 1).decode(errors="replace"), others, given=name, how=how)
+    title = title or ("the profile" if profile == "-" else figures.without_ending(profile, ".profile"))
+    text_files.write(report_page.page(found, title, "in the profile", [], [check_command(profile, sheet, found.certificate.step, is_plain)]))
     return 1 if found.unheld() else 0
 
 
-def check_command(profile: str, sheet: str) -> str:
+def check_command(profile: str, sheet: str, step: int, is_plain: bool) -> str:
     """The shell's words that check the sheet again. merge_profiles brings the lines of any profile into their order."""
-    names = ["PROFILE" if profile == "-" else texts.path_word(profile), "SHEET" if sheet == "-" else texts.path_word(sheet)]
-    merged = f"{texts.script_word('merge_profiles')} -- {names[0]}"
-    return f"{merged} | cat {names[1]} - | {texts.script_word('mte_tool')} check"
+    names = ["SHEET" if sheet == "-" else shell_words.path_word(sheet), "PROFILE" if profile == "-" else shell_words.path_word(profile)]
+    check = f"{shell_words.script_word('check_sheet')}{f' --step {step}' if step > 1 else ''} {names[0]}"
+    return f"{check} {names[1]}" if is_plain else f"{shell_words.script_word('merge_profiles')} -- {names[1]} | {check} -"

@@ -3,9 +3,10 @@
 import math
 from collections.abc import Iterable
 
-from mte_scripts import claims, html_safe, texts
-from mte_scripts.claims import numbered
-from mte_scripts.reports.pictures import Picture, escape, shown
+from mte_scripts import claims, html_safe
+from mte_scripts.claim_words import count_text
+from mte_scripts.formats import LARGEST_CLASS, LARGEST_SIZE
+from mte_scripts.reports.pictures import Picture, coordinate, escape
 from mte_scripts.tables.figures import GRANULE, Figures, Table, byte_text, class_text, kibibytes, number, percent
 
 STYLE = """\
@@ -69,25 +70,26 @@ FIRST_OCTAVE, OCTAVES = 3, 11  # the sizes from 8 bytes to 16 KiB
 
 
 def page(figures: Figures, name: str, counted: str, warnings: list[str], checks: list[str], tables: "str | None" = None,
-         measured: str = "") -> str:
+         measured: str = "", verdict: str = "") -> str:
     """The page for a program or a profile of this name. COUNTED says what was counted, CHECKS are the commands that check the sheet or the fit of
     the first table, and that of the other one, if there is one. TABLES is the file beside it with the page of scripts/page, if that is made, and
-    MEASURED the part on what was measured."""
+    MEASURED the part on what was measured, of which the VERDICT comes first."""
     title = f"Size classes for {escape(name)}"
     parts = (
-        head_section(figures, title, warnings, tables), cards(figures, counted), measured, tables_section(figures), curve_section(figures),
+        head_section(figures, title, warnings, tables, verdict), cards(figures, counted), measured, tables_section(figures), curve_section(figures),
         over_time_section(figures), sizes_section(figures), classes_section(figures), check_section(figures, checks),
     )
     return html_safe.document(title, STYLE, "".join(parts))
 
 
-def head_section(figures: Figures, title: str, warnings: list[str], tables: "str | None") -> str:
-    """What the table costs, and what is known of it."""
-    known, judged = figures.known(), figures.judged[0]
-    proved = int(claims.holds(judged) and texts.trust().is_proved)
+def head_section(figures: Figures, title: str, warnings: list[str], tables: "str | None", verdict: str) -> str:
+    """What was measured, what the table costs, and what is known of it."""
+    known, claim = figures.known(), figures.claims[0]
+    proved = int(claim.holds and claim.trust.is_proved)
     return f"""<h1>{title}</h1>
+{f'<p class="lead" id="verdict">{escape(verdict)}</p>' * bool(verdict)}
 <p class="lead">{escape(lead(figures))}</p>
-<p id="proof" data-verdict="{escape(judged.verdict)}" data-proved="{proved}">{with_code(known[0])}</p>
+<p id="proof" data-verdict="{escape(claim.verdict)}" data-proved="{proved}">{with_code(known[0])}</p>
 {lines(f'<p id="proof-other">{with_code(words)}</p>' for words in known[1:])}
 {lines(f'<p>{escape(words)}</p>' for words in figures.interval())}
 {lines(f'<p class="warning">{escape(text)}</p>' for text in warnings)}
@@ -97,12 +99,12 @@ def head_section(figures: Figures, title: str, warnings: list[str], tables: "str
 
 def cards(figures: Figures, counted: str) -> str:
     """What was counted, in numbers."""
-    judged = figures.judged[0]
+    made = figures.certificate
     return f"""<dl>
 {card("requests", "Requests counted", figures.requests, escape(counted))}
 {card("bytes", "Bytes requested", figures.bytes, byte_text(figures.bytes))}
-{card("large", "Large requests", figures.large, f"above {texts.LARGEST_SIZE:,} bytes; in no other figure here")}
-{card("limit", "Limit of classes", judged.limit, f"in steps of {GRANULE * judged.step} bytes")}
+{card("large", "Large requests", figures.large, f"above {LARGEST_SIZE:,} bytes; in no other figure here")}
+{card("limit", "Limit of classes", made.limit, f"in steps of {GRANULE * made.step} bytes")}
 </dl>
 """
 
@@ -121,14 +123,15 @@ waste. Its share is of the requested bytes. What is saved of it has its share of
 
 
 def curve_section(figures: Figures) -> str:
-    judged = figures.judged[0]
-    caption = claims.curve_caption(judged.kind, judged.step, judged.given, judged.forced)
+    made = figures.certificate
+    caption = claims.curve(figures.claims[0], made.step, LARGEST_CLASS * made.forced)
+    cost = "Waste, bytes" if figures.objective == "waste" else "Footprint, bytes"
     return f"""<h2>How many classes?</h2>
 <figure>{curve(figures, "wide", 760, 340)}{curve(figures, "narrow", 340, 260)}
 {curve_key(figures)}
 <figcaption>{escape(caption)} Where it leaves the picture, it goes on upwards.</figcaption></figure>
 <details><summary>The line in numbers</summary><div class="scroll"><table id="curve">
-{headings("Classes", claims.TEMPLATES[f"{judged.kind}.curve.column"])}
+{headings("Classes", cost)}
 <tbody>{lines(least_row(figures, *row) for row in enumerate(figures.least, 1))}</tbody>
 </table></div></details>
 """
@@ -159,7 +162,9 @@ def check_section(figures: Figures, checks: list[str]) -> str:
 <pre id="class-line">{class_text(figures.first.classes)}</pre>
 <p>Its certificate is checked by this, in the folder in which the page was made:</p>
 <pre id="check">{escape(checks[0])}</pre>
-{lines(other_section(*each) for each in zip(figures.made()[1:], checks[1:]))}"""
+{lines(other_section(*each) for each in zip(figures.made()[1:], checks[1:]))}
+<p>What was counted, by <code>sha256sum</code>:</p>
+<pre id="digests">{lines(escape(f"{each.digest}  {each.name}") for each in figures.claims)}</pre>"""
 
 
 def lead(figures: Figures) -> str:
@@ -167,19 +172,24 @@ def lead(figures: Figures) -> str:
     first, default = figures.first, figures.others[0]
     begin = f"A table of {len(first.classes)} size classes"
     if figures.objective == "waste":
-        words = f"{begin} loses {numbered(first.waste, 'byte')} by rounding, {share(figures, first)} of what was requested."
+        words = (
+            f"{begin} loses {count_text(first.waste, 'byte')} by rounding, {share(figures, first)} of what was "
+            "requested."
+        )
         if default.waste is not None:
-            words += f" {default.name} loses {numbered(default.waste, 'byte')}, {share(figures, default)}."
+            words += f" {default.name} loses {count_text(default.waste, 'byte')}, {share(figures, default)}."
         return words
-    seen = "every moment of the run" if figures.timed.kind == "timeline" else numbered(figures.timed.history.snapshots, "moment")
-    most = ""
+    seen = (
+        "every moment of the run"
+        if figures.timed.kind == "timeline"
+        else count_text(figures.timed.history.snapshots, "moment")
+    )
     if interval := figures.timed.interval:
-        seen, most = numbered(interval.events, "event") if interval.events else "the whole run", "at most "
-    words = f"{begin} takes {most}{numbered(first.footprint, 'byte')} over {seen}."
-    if default.footprint is not None:
-        saving = figures.saving(default)
+        seen = count_text(interval.events, "event") if interval.events else "the whole run"
+    words = f"{begin} takes {first.is_known} {count_text(first.footprint, 'byte')} over {seen}.".replace("  ", " ")
+    if (saving := figures.saving(default)) is not None:
         less = f"{percent(abs(saving), default.footprint)} {'less' if saving >= 0 else 'more'}"
-        words += f" {default.name} takes {numbered(default.footprint, 'byte')}; so the table takes {less}."
+        words += f" {default.name} takes {count_text(default.footprint, 'byte')}; so the table takes {less}."
     return words
 
 
@@ -240,7 +250,8 @@ def footprint_cells(figures: Figures, table: Table) -> str:
     """What it takes over time, and what the first table saves of that."""
     if table.footprint is None:
         return "<td></td><td></td>"
-    cells, saving = cell("footprint", table.footprint, kibibytes(table.footprint)), figures.saved_footprint(table)
+    cells = cell("footprint", table.footprint, f"{table.is_known} {kibibytes(table.footprint)}".lstrip())
+    saving = figures.saved_footprint(table)
     if saving is None or table is figures.first:
         return cells + "<td></td>"
     return cells + cell("saved", saving, with_share(kibibytes(saving), saving, table.footprint))
@@ -252,7 +263,7 @@ def least_row(figures: Figures, classes: int, cost: int) -> str:
 
 
 def class_row(figures: Figures, block: int, least: int, most: int, count: int, cost: int) -> str:
-    whole = figures.cost(figures.first)
+    whole = figures.seen(figures.first)
     names = ("requests", "lost") if figures.objective == "waste" else ("blocks", "taken")
     cells = f'<th scope="row">{number(block)}</th><td>{number(least)}–{number(most)}</td>'
     cells += cell(names[0], count, number(count)) + cell(names[1], cost, number(cost))
@@ -274,7 +285,7 @@ MARKS = [
 
 def mark(style: int, x: float, y: float, title: str = "") -> str:
     """The mark of a table: its shape tells it from others where its color does not."""
-    points = " ".join(f"{shown(x + right)},{shown(y + down)}" for right, down in MARKS[style])
+    points = " ".join(f"{coordinate(x + right)},{coordinate(y + down)}" for right, down in MARKS[style])
     return f'<polygon points="{points}" fill="var(--c{style})"><title>{escape(title)}</title></polygon>'
 
 
@@ -291,17 +302,20 @@ def key(entries: Iterable[tuple[int, str]]) -> str:
     return f'<ul class="key">{"".join(items)}</ul>'
 
 
-def served(figures: Figures) -> list[tuple[int, Table]]:
+def serving_tables(figures: Figures) -> list[tuple[int, Table]]:
     """The tables that serve what is given, each with its style."""
-    return [(style, table) for style, table in styles(figures) if figures.cost(table) is not None]
+    return [(style, table) for style, table in styles(figures) if figures.seen(table) is not None]
 
 
 def curve_key(figures: Figures) -> str:
-    return key((style, f"{table.name}: {len(table.classes)} classes, {cost_text(figures, table)}") for style, table in served(figures))
+    return key(
+        (style, f"{table.name}: {len(table.classes)} classes, {cost_text(figures, table)}")
+        for style, table in serving_tables(figures)
+    )
 
 
 def cost_text(figures: Figures, table: Table) -> str:
-    return share(figures, table) if figures.objective == "waste" else kibibytes(table.footprint)
+    return share(figures, table) if figures.objective == "waste" else kibibytes(table.seen)
 
 
 def byte_levels(picture: Picture, top: float, most: int, low: float = 0) -> None:
@@ -312,12 +326,12 @@ def byte_levels(picture: Picture, top: float, most: int, low: float = 0) -> None
 
 
 def curve(figures: Figures, kind: str, width: int, height: int) -> str:
-    """The least cost by the number of classes, and each table as a point."""
-    words, is_waste = claims.TEMPLATES, figures.objective == "waste"
-    picture = Picture(kind, width, height, 46 if is_waste else 70, words[f"{figures.judged[0].kind}.curve.axis"])
-    most = max([len(figures.least)] + [len(table.classes) for _, table in served(figures)])
+    """The least cost by the number of classes, and each table as a point; all over what was recorded."""
+    is_waste = figures.objective == "waste"
+    picture = Picture(kind, width, height, 46 if is_waste else 70, "waste, share of requested bytes" if is_waste else "footprint, bytes")
+    most = max([len(figures.least)] + [len(table.classes) for _, table in serving_tables(figures)])
     # as high as the worst table, or as 8 classes, and some more: tables of very few classes cost far more; from 0, or near the lowest
-    costs = [figures.least[-1]] + [figures.cost(table) for _, table in served(figures)]
+    costs = [figures.least[-1]] + [figures.seen(table) for _, table in serving_tables(figures)]
     highest = max(figures.least[:8][-1], *costs)
     low = min(costs) if highest / 2 < min(costs) < highest else 0
     top = low + 1.15 * (highest - low) or figures.bytes / 100
@@ -335,13 +349,13 @@ def curve(figures: Figures, kind: str, width: int, height: int) -> str:
     picture.text(picture.middle, height - 6, "classes in the table", "middle")
     area = f'x="{picture.left}" y="{picture.top - 6}" width="{picture.right - picture.left}" height="{picture.bottom - picture.top + 8}"'
     points = [at(classes, cost) for classes, cost in enumerate(figures.least, 1)]
-    drawn = " ".join(f"{shown(x)},{shown(max(y, -10 * height))}" for x, y in points)
+    drawn = " ".join(f"{coordinate(x)},{coordinate(max(y, -10 * height))}" for x, y in points)
     picture.parts.append(f'<clipPath id="area-{kind}"><rect {area}/></clipPath>')
     picture.parts.append(f'<polyline class="curve" clip-path="url(#area-{kind})" points="{drawn}"/>')
-    for style, table in reversed(served(figures)):
-        title = f"{table.name}: {len(table.classes)} classes, {number(figures.cost(table))} bytes"
-        picture.parts.append(mark(style, *at(len(table.classes), figures.cost(table)), title))
-    return picture.svg(words[f"{figures.judged[0].kind}.curve"])
+    for style, table in reversed(serving_tables(figures)):
+        title = f"{table.name}: {len(table.classes)} classes, {number(figures.seen(table))} bytes"
+        picture.parts.append(mark(style, *at(len(table.classes), figures.seen(table)), title))
+    return picture.svg(f"{'Waste' if is_waste else 'Footprint'} by the number of classes")
 
 
 def border_key(figures: Figures) -> str:
@@ -385,17 +399,17 @@ def live_blocks(figures: Figures, layers: list, kind: str, width: int, height: i
     top = 1.05 * footprint
     byte_levels(picture, top, 5)
     columns = len(layers[0][2])
-    x = [shown(picture.x(at / columns)) for at in range(columns + 1)]
+    x = [coordinate(picture.x(at / columns)) for at in range(columns + 1)]
     below = [0] * columns
     for words, form, values, most in layers:
         above = [one + other for one, other in zip(below, values)]
-        up = "".join(f"H{x[at]}V{shown(picture.y(value, top))}" for at, value in enumerate(above))
-        down = "".join(f"H{x[at + 1]}V{shown(picture.y(below[at], top))}" for at in reversed(range(columns)))
-        title = f"{words}: at most {numbered(most, 'byte')}"
-        begin = shown(picture.y(below[0], top))
+        up = "".join(f"H{x[at]}V{coordinate(picture.y(value, top))}" for at, value in enumerate(above))
+        down = "".join(f"H{x[at + 1]}V{coordinate(picture.y(below[at], top))}" for at in reversed(range(columns)))
+        title = f"{words}: at most {count_text(most, 'byte')}"
+        begin = coordinate(picture.y(below[0], top))
         picture.parts.append(f'<path {form} d="M{x[0]} {begin}{up}H{x[-1]}{down}Z"><title>{title}</title></path>')
         below = above
-    y, title = shown(picture.y(footprint, top)), f"footprint: {numbered(footprint, 'byte')}"
+    y, title = coordinate(picture.y(footprint, top)), f"footprint: {count_text(footprint, 'byte')}"
     picture.parts.append(f'<path class="level" d="M{picture.left} {y}H{picture.right}"><title>{title}</title></path>')
     of = "events of the run" if figures.timed.kind == "timeline" else "recorded moments"
     for share_ in (0, 25, 50, 75, 100):
@@ -429,15 +443,21 @@ def histogram(figures: Figures, kind: str, width: int, height: int, per_octave: 
         return picture.x((math.log2(max(size, 2**FIRST_OCTAVE)) - FIRST_OCTAVE) / OCTAVES)
 
     def borders(table: Table, y: float, down: float, form: str) -> None:
-        lines = "".join(f"M{shown(x(GRANULE * granules - GRANULE))} {y}V{down}" for granules in table.classes)
+        lines = "".join(f"M{coordinate(x(GRANULE * granules - GRANULE))} {y}V{down}" for granules in table.classes)
         picture.parts.append(f'<path d="{lines}" fill="none" {form}/>')
 
     byte_levels(picture, top, 4)
     wide = (picture.right - picture.left) / (OCTAVES * per_octave)
     for place, (least, most, requests, total) in sorted(groups.items()):
         y = picture.y(total, top)
-        form = f'x="{shown(picture.left + place * wide)}" y="{shown(y)}" width="{shown(wide - 0.5)}" height="{shown(picture.bottom - y)}"'
-        title = f"{number(least)} to {number(most)} bytes: {numbered(requests, 'request')}, {numbered(total, 'byte')} in all"
+        form = (
+            f'x="{coordinate(picture.left + place * wide)}" y="{coordinate(y)}" width="{coordinate(wide - 0.5)}" '
+            f'height="{coordinate(picture.bottom - y)}"'
+        )
+        title = (
+            f"{number(least)} to {number(most)} bytes: {count_text(requests, 'request')}, {count_text(total, 'byte')} "
+            "in all"
+        )
         picture.parts.append(f'<rect class="bars" {form}><title>{title}</title></rect>')
     for size, words in SIZE_TICKS:
         picture.tick(x(size), words)

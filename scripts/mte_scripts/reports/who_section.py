@@ -2,12 +2,12 @@
 
 from mte_scripts.reports import flames
 from mte_scripts.reports.pictures import escape
-from mte_scripts.tables.who import Who
+from mte_scripts.tables.site_costs import SiteCosts
 
 HEADS = ("Place", "Taken", "Share", "Lost", "Blocks", "Their bytes")
 
 
-def section(who: Who) -> str:
+def section(who: SiteCosts) -> str:
     """The places that take most, what fewer bytes there save, and the flame graphs: readable without a script."""
     rows = "\n".join(f'<tr><th scope="row">{escape(place)}</th>{"".join(f"<td>{escape(cell)}</td>" for cell in cells)}</tr>' for *cells, place in who.rows())
     tried = "\n".join(f"<li>{escape(each.said())}</li>" for each in who.what_ifs)

@@ -2,9 +2,12 @@
 
 import os
 
-from mte_scripts import claims, texts
+from mte_scripts import certificate_texts, claims, count_texts, program_runs, text_files
+from mte_scripts.entry_point import Refusal
+from mte_scripts.formats import MOST_INPUT
+from mte_scripts.places import EXAMPLES
 from mte_scripts.reports import pictures
-from mte_scripts.texts import Refused
+
 from mte_scripts.words import Words
 
 HELP = """\
@@ -41,22 +44,23 @@ class Curve:
 
     def __init__(self, path: str, name: "str | None" = None) -> None:
         self.name = os.path.basename(path).removesuffix(".profile") if name is None else name
-        given = texts.read(path, texts.MOST_INPUT + 1)
-        requested = sum(size * count for size, count in texts.parse_profile(given, path).items() if size != "large")
+        given = text_files.read(path, MOST_INPUT + 1)
+        requested = sum(size * count for size, count in count_texts.parse_profile(given, path).items() if size != "large")
         if not requested:
-            raise Refused(2, f"{texts.named(path)} counts no bytes")
-        sheet = texts.parse_sheet(answer(path, ["tune", "--limit", str(LIMIT)], given))
-        scudo = answer(path, ["score"], texts.joined(texts.read(os.path.join(texts.EXAMPLES, "scudo.classes")), given))
+            raise Refusal(2, f"{text_files.input_name(path)} counts no bytes")
+        sheet = certificate_texts.parse_sheet(answer(path, ["tune", "--limit", str(LIMIT)], given))
+        option, line = program_runs.border(text_files.read(os.path.join(EXAMPLES, "scudo.classes")))
+        scudo = answer(path, ["score", *option], line, given)
         self.shares = [100.0 * row[0] / requested for row in sheet.rows]
         self.scudo = 100.0 * int(scudo.split()[1]) / requested
 
 
-def answer(path: str, words: list[str], given: bytes) -> bytes:
-    status, out, error = texts.mte_tool(words, given)
+def answer(path: str, words: list[str], *given: bytes) -> bytes:
+    status, out, error = program_runs.mte_tool(words, *given)
     if status == 2:
-        raise Refused(2, f"{path} is refused, {error}: `merge_profiles` makes a profile of lines in any order")
+        raise Refusal(2, f"{path} is refused, {error}: `merge_profiles` makes a profile of lines in any order")
     if status != 0:
-        raise Refused(3, f"mte_tool {words[0]} ended with status {status} on {path}: {error}")
+        raise Refusal(3, f"mte_tool {words[0]} ended with status {status} on {path}: {error}")
     return out
 
 
@@ -69,7 +73,7 @@ def table(curves: list[Curve]) -> str:
 
 
 def picture(curves: list[Curve]) -> str:
-    drawing = pictures.Drawing(WIDTH, HEIGHT, BELOW, claims.TEMPLATES["profile.curve.axis"])
+    drawing = pictures.Drawing(WIDTH, HEIGHT, BELOW, "waste, share of requested bytes")
     # the picture is as high as the largest share at 8 classes or of Scudo's, and some more
     top = 1.6 * max(max(curve.shares[7], curve.scudo) for curve in curves) or 1.0
     last = LIMIT + 1.2 + 0.25 * len(curves)
@@ -89,17 +93,17 @@ def picture(curves: list[Curve]) -> str:
         name = curve.name if len(curve.name) <= LONGEST_NAME else curve.name[: LONGEST_NAME - 2] + ".."
         drawing.key(at, drawing.right - 10, drawing.top + 20 + 20 * at, name, "end")
     notes = ["squares: Scudo's 32 default classes"]
-    if not texts.trust().is_proved:
-        notes.append(claims.not_proved(texts.trust()))
+    if not program_runs.trust().is_proved:
+        notes.append(claims.unproved_note(program_runs.trust()))
     for at, note in enumerate(notes, len(curves)):
         drawing.text(drawing.right - 10, drawing.top + 20 + 20 * at, note, "end")
-    return drawing.svg(claims.TEMPLATES["profile.curve"])
+    return drawing.svg("Waste of the tuned tables by the number of classes")
 
 
 def draw(words: list[str]) -> int:
     options = Words(HELP, "profiles", name=str).take(words)
     if not options.profiles:
-        raise Refused(2, "there is no profile; --help says how it is used")
+        raise Refusal(2, "there is no profile; --help says how it is used")
     first, *others = options.profiles
     curves = [Curve(first, options.name), *map(Curve, others)]
-    return texts.write(table(curves)) if options.table else texts.write(picture(curves).encode())
+    return text_files.write(table(curves)) if options.table else text_files.write(picture(curves).encode())

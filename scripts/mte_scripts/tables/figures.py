@@ -9,33 +9,24 @@ import re
 from collections.abc import Callable, Iterator
 from typing import NamedTuple, Optional
 
-from mte_scripts import claims, texts
-from mte_scripts.formats import CODES
+from mte_scripts import certificate_texts, claims, count_texts, program_runs, text_files, text_layout
+from mte_scripts.certificate_texts import tuner_options as options
+from mte_scripts.claim_words import GRANULE  # a block begins with a header of one
+from mte_scripts.entry_point import Refusal
+from mte_scripts.formats import CODES, LARGEST_CLASS, LARGEST_SIZE, MOST_CLASSES, MOST_COUNT
+from mte_scripts.places import EXAMPLES
 from mte_scripts.recording import timelines
-from mte_scripts.tables import scudo_map, scudo_memory
+from mte_scripts.tables import release_model, scudo_map, scudo_memory
 
-GRANULE = claims.GRANULE  # bytes; a block begins with a header of one granule
-WORTH = 0.005  # a saving that is worth a word, as a share of the process
+WORTH, LEAST = 0.005, 1 << 19  # a saving that is worth a word: as a share of the process, and in bytes
+NO_HELP = "a table is not worth it here; "
 NARROW = 100  # an interval is narrow where its width is at most a hundredth of its lower end
 Classes = tuple[int, ...]
-NOTHING = f"no bytes are counted in requests of at most {texts.LARGEST_SIZE:,} bytes: there is nothing to tune"
+NOTHING = f"no bytes are counted in requests of at most {LARGEST_SIZE:,} bytes: there is nothing to tune"
 OTHERS = [("Scudo's default", "scudo.classes"), ("Scudo's for Android", "scudo_android.classes")]
 
 
-def profile_text(profile: dict) -> str:
-    """A profile as FORMATS.md has it."""
-    lines = sorted((size, count) for size, count in profile.items() if size != "large" and count)
-    if profile.get("large"):
-        lines.append(("large", profile["large"]))
-    return "".join(f"{size} {count}\n" for size, count in lines)
-
-
-def options(limit: int, step: int, largest: bool) -> "list[str]":
-    """The options of `tune` and `fit`: for tables with class 1024 where it is wanted."""
-    return ["--limit", str(limit), "--step", str(step), "--largest-class", str(int(largest))]
-
-
-def at_peak(history: texts.History) -> dict:
+def at_peak(history: count_texts.History) -> dict:
     """The snapshot of the most requested bytes, large ones left out, as a profile."""
     sizes = history.counts.keys() - {"large"}
     most = max(range(history.snapshots), key=lambda at: sum(size * history.counts[size][at] for size in sizes))
@@ -46,17 +37,21 @@ def class_text(classes: list[int]) -> str:
     return " ".join(["classes", *map(str, classes)])
 
 
-def run(words: list[str], *given: "str | bytes") -> tuple[int, str]:
-    """The output of the program, and its status, 0 or 1: a verdict. Any other ends the script."""
-    status, out, error = texts.mte_tool(words, *map(os.fsencode, given))
+def run(words: list[str], text: "str | bytes", classes: "list[int] | None" = None) -> tuple[int, str]:
+    """The output of the program over a text, which comes after the line of these CLASSES; and its status, 0 or 1: a verdict. Any other ends the
+    script."""
+    given = os.fsencode(text)
+    status, out, error = program_runs.mte_tool(words, given) if classes is None else program_runs.over_two(words, class_text(classes), given)
     if status not in (0, 1):
-        raise texts.Refused(2 if status == 2 else 3, f"`mte_tool {' '.join(words)}` failed: {error or f'its status is {status}'}")
+        raise Refusal(
+            2 if status == 2 else 3, f"`mte_tool {' '.join(words)}` failed: {error or f'its status is {status}'}"
+        )
     return status, out.decode("ascii", "replace").strip()
 
 
 def footprint(classes: "list[int]", text: bytes) -> "int | None":
     """What a table takes over a history or a timeline; None where it does not serve a size."""
-    status, answer = run(["footprint"], texts.begin_of(class_text(classes), text), text)
+    status, answer = run(["footprint"], text, classes)
     return int(answer.split()[-1]) if status == 0 else None
 
 
@@ -76,12 +71,12 @@ class Peaks(NamedTuple):
 
 def peaks(classes: list[int], text: bytes) -> Optional[Peaks]:
     """What a table comes to over a timeline; None where it does not serve a size. A class above the largest one counts as that."""
-    return peaks_of(tuple(min(each, texts.LARGEST_CLASS) for each in classes), text)
+    return peaks_of(tuple(min(each, LARGEST_CLASS) for each in classes), text)
 
 
 @functools.lru_cache(maxsize=8)
 def peaks_of(classes: Classes, text: bytes) -> Optional[Peaks]:
-    status, answer = run(["peaks"], texts.begin_of(class_text(list(classes)), text), text)
+    status, answer = run(["peaks"], text, list(classes))
     if status:
         return None
     most, moments, (live,), (freed,) = ([int(word) for word in line.split()[1:]] for line in answer.split("\n"))
@@ -90,15 +85,17 @@ def peaks_of(classes: Classes, text: bytes) -> Optional[Peaks]:
 
 def refuse_timeline(data: bytes, name: str) -> None:
     """Refuses a timeline at its first faulty line, which the program finds."""
-    status, _, error = texts.mte_tool(["footprint"], texts.joined(class_text([texts.LARGEST_CLASS]), data))
+    status, _, error = program_runs.over_two(["footprint"], class_text([LARGEST_CLASS]), data)
     if match := re.fullmatch(r"error (\d+) (\w+) line (\d+)", error):
         at = int(match[3]) - 1
-        line = texts.lines_of(data)[at - 1]
+        line = text_files.lines_of(data)[at - 1]
         forms = ", `SIZE`, `-SIZE`, `large` and `-large`" if match[2] == "BadTimeline" else ""
-        why = texts.encoding(line, at) or CODES[int(match[1])].words + forms
-        raise texts.Refused(2, f"{name}: {match[1]} {match[2]} line {at}: {why}: {texts.shown(line)}")
+        why = count_texts.encoding(line, at) or CODES[int(match[1])].words + forms
+        raise Refusal(2, f"{name}: {match[1]} {match[2]} line {at}: {why}: {text_layout.shorten_line(line)}")
     if status not in (0, 1):
-        raise texts.Refused(2 if status == 2 else 3, f"`mte_tool footprint` of {name} failed: {error or f'its status is {status}'}")
+        raise Refusal(
+            2 if status == 2 else 3, f"`mte_tool footprint` of {name} failed: {error or f'its status is {status}'}"
+        )
 
 
 class Interval(NamedTuple):
@@ -115,30 +112,29 @@ class Interval(NamedTuple):
 
 
 class OverTime(NamedTuple):
-    """What was recorded over time, a history or a timeline, and its fit."""
+    """What was recorded over time, a history or a timeline, and its fit, with what is claimed of it."""
 
     kind: str
     text: bytes
-    fit: texts.Fit
+    fit: certificate_texts.Fit
     fit_text: str  # or what `fit` printed in place of one
-    verdict: str
-    history: texts.History  # what was recorded, or of a timeline the moments that its fit names: at these each class has its most blocks
+    claim: claims.Claim
+    history: count_texts.History  # what was recorded, or of a timeline the moments that its fit names: at these each class has its most blocks
     interval: Optional[Interval] = None  # of a run that is longer than a timeline may be, of which the history has some moments
 
 
-def over_time(kind: str, text: bytes, largest: bool, limit: int, step: int) -> OverTime:
-    """The fit of a text, with class 1024 in its table if it is wanted. A timeline may have none: then the verdict is the bound that `fit` proves."""
-    status, answer = run(["fit", *options(limit, step, largest)], text)
-    if status == 1:
-        classes, cost, bound = answer.split("\n")
-        fit = texts.Fit(texts.parse_class_line(classes), limit, step, largest, int(cost.split()[-1]), [], [])
-        moments, verdict = peaks(fit.classes, text).reached(), f"between {bound.split()[-1]}"
+def over_time(kind: str, text: bytes, largest: bool, limit: int, step: int, name: str = "", how: str = "") -> OverTime:
+    """The fit of a text of this name, with class 1024 in its table if it is wanted. A timeline may have none: then the claim is the bound that
+    `fit` proves."""
+    answer, claim = claims.fit_counts(text, name or f"the {kind}", (limit, step, largest), how)
+    if claim.is_bound:
+        fit = certificate_texts.Fit(certificate_texts.parse_class_line(answer.split("\n")[0]), limit, step, largest, claim.numbers["takes"], [], [])
+        moments = peaks(fit.classes, text).reached()
     else:
-        fit = texts.parse_fit(answer)
-        _, verdict = run(["check-fit"], texts.begin_of(answer, text), text)
+        fit = certificate_texts.parse_fit(answer)
         moments = fit.moments or []
-    history = texts.parse_history(text) if kind == "history" else timelines.history_at(text, moments)
-    return OverTime(kind, text, fit, answer + "\n", verdict, history)
+    history = count_texts.parse_history(text) if kind == "history" else timelines.history_at(text, moments)
+    return OverTime(kind, text, fit, answer, claim, history)
 
 
 class Table:
@@ -147,24 +143,27 @@ class Table:
     def __init__(self, name: str, classes: list[int], profile: dict) -> None:
         self.name = name
         self.classes = classes
-        status, answer = run(["score"], texts.joined(class_text(classes), profile_text(profile)))
+        status, answer = run(["score"], count_texts.profile_text(profile), classes)
         number = int(answer.split()[-1])
         self.waste, self.unserved = (number, None) if status == 0 else (None, number)
-        self.footprint: Optional[int] = None  # over a history or a timeline whose sizes it serves
-        self.takes_more = False  # whether it takes that or more over the run
+        # over a history or a timeline whose sizes it serves: what it takes there, and over the run, of which a history may have some moments
+        self.seen: Optional[int] = None
+        self.footprint: Optional[int] = None
+        self.is_known = ""  # how the two differ: it takes that over the run, "at least" that, or "at most"
 
-    def over(self, timed: OverTime, has_peaks: bool) -> None:
-        """What it takes over time. Of a run that is longer than its history, what was counted, or what it takes over the moments. By its peaks,
-        which take longer, where these are asked for later."""
-        counted = timed.interval.counted if timed.interval else {}
-        self.takes_more = bool(timed.interval) and tuple(self.classes) not in counted
-        if tuple(self.classes) in counted:
-            self.footprint = counted[tuple(self.classes)]
-        elif timed.kind == "timeline" and has_peaks:
+    def over(self, timed: OverTime, has_peaks: bool, is_chosen: bool) -> None:
+        """What it takes over time. By its peaks, which take longer, where these are asked for later. Of a run that is longer than its history,
+        what was counted, or what it takes at least, over the moments; the one that IS_CHOSEN takes at most what bounds it."""
+        if timed.kind == "timeline" and has_peaks:
             found = peaks(self.classes, timed.text)
-            self.footprint = found and sum(GRANULE * each * most for each, most in zip(self.classes, found.most))
+            self.seen = found and sum(GRANULE * each * most for each, most in zip(self.classes, found.most))
         else:
-            self.footprint = footprint(self.classes, timed.text)
+            self.seen = footprint(self.classes, timed.text)
+        self.footprint = self.seen
+        if timed.interval and tuple(self.classes) in timed.interval.counted:
+            self.footprint = timed.interval.counted[tuple(self.classes)]
+        elif timed.interval:
+            self.footprint, self.is_known = (timed.interval.high, "at most") if is_chosen else (self.seen, "at least")
 
 
 def block_of(classes: list[int], size: int) -> int:
@@ -176,45 +175,44 @@ def block_of(classes: list[int], size: int) -> int:
 class Figures:
     """The figures of a profile, a sheet of it as text, and other tables as [(name, classes)]; with a record over time, those of its fit's table
     too, and each table's footprint. The objective is waste or footprint: `first` is the table that is the first by it, and what is said of
-    savings, of the curve and of the classes is of this one. GIVEN and TIME_GIVEN are what the profile and the record are called."""
+    savings, of the curve and of the classes is of this one. GIVEN is what the profile is called, and HOW it came of that."""
 
     def __init__(self, profile: dict, sheet: str, others: list[tuple[str, list[int]]], timed: Optional[OverTime] = None, objective: str = "waste",
-                 given: str = "the profile", time_given: str = "the history") -> None:
+                 given: str = "the profile", how: str = "") -> None:
         self.counts = {size: profile[size] for size in sorted(profile.keys() - {"large"}) if profile[size]}
         self.large = profile.get("large", 0)
         self.requests = sum(self.counts.values())
         self.bytes = sum(size * count for size, count in self.counts.items())
         if not self.bytes:
-            raise texts.Refused(3, NOTHING)
-        found = texts.parse_sheet(sheet)
-        self.best = Table(claims.name("profile"), found.classes, profile)
+            raise Refusal(3, NOTHING)
+        found = certificate_texts.parse_sheet(sheet)
+        claim = claims.check_certificate(sheet, count_texts.profile_text(profile).encode(), given, how, "the sheet")
+        self.best = Table(claim.table(), found.classes, profile)
         if self.best.waste is None:
             unserved = f"the sheet's table does not serve {self.best.unserved} bytes, which the profile counts"
-            raise texts.Refused(2, f"{unserved}: is it the sheet of another profile?")
+            raise Refusal(2, f"{unserved}: is it the sheet of another profile?")
         self.profile = profile
-        _, verdict = run(["check"], texts.joined(sheet, profile_text(profile), "the sheet"))
-        judged = [claims.Judged("profile", verdict, found.limit, found.step, found.classes, given, self.best.waste, texts.forced_classes(found))]
         self.others = [Table(name, classes, profile) for name, classes in others]
         self.timed = timed
         self.fitted: Optional[Table] = None
+        self.simulated: Optional[release_model.Saving] = None  # what the map saves in Scudo as it is set
         self.objective = objective
+        certified: list = [(found, claim)]
         if timed is not None:
-            judged.append(self.take_fit(timed, profile, time_given))
-        # of the tables that are made, in their order
-        self.judged = judged[::-1] if objective == "footprint" else judged
+            self.take_fit(timed, profile)
+            certified.append((timed.fit, timed.claim))
+        # of the tables that are made, in their order; and the sheet or the fit of the first
+        certified = certified[::-1] if objective == "footprint" else certified
+        self.claims: list[claims.Claim] = [each for _, each in certified]
+        self.certificate = certified[0][0]
         self.first, *self.rest = self.made() + self.others
         self.least = self.least_by_classes()
 
-    def take_fit(self, timed: OverTime, profile: dict[int, int], given: str) -> claims.Judged:
-        """The table of the fit, the footprint of each, and what is judged of the fit."""
-        fit, interval = timed.fit, timed.interval
-        self.fitted = Table(claims.name(timed.kind), interval.classes if interval else fit.classes, profile)
+    def take_fit(self, timed: OverTime, profile: dict[int, int]) -> None:
+        """The table of the fit, and the footprint of each."""
+        self.fitted = Table(timed.claim.table(), timed.interval.classes if timed.interval else timed.fit.classes, profile)
         for table in (self.best, self.fitted, *self.others):
-            table.over(timed, has_peaks=table in (self.made()[0], *self.others[:1]))
-        cost = interval.low if interval else self.fitted.footprint
-        if interval:
-            self.fitted.footprint, self.fitted.takes_more = interval.high, False
-        return claims.Judged(timed.kind, timed.verdict, fit.limit, fit.step, fit.classes, given, cost, texts.forced_classes(fit))
+            table.over(timed, table in (self.made()[0], *self.others[:1]), table.classes == self.fitted.classes)
 
     def made(self) -> list[Table]:
         """The tables that were made, the first by the objective before the other one."""
@@ -224,16 +222,20 @@ class Figures:
     def least_by_classes(self) -> list[int]:
         """The least cost of at most 1, 2, .. classes that serve what is given, and have the classes that are forced. A timeline is seen at the
         moments of its fit."""
-        words = options(texts.MOST_CLASSES, self.judged[0].step, bool(self.judged[0].forced))
+        words = options(MOST_CLASSES, self.certificate.step, self.certificate.forced)
         if self.objective == "waste":
-            rows = texts.parse_sheet(run(["tune", *words], profile_text(self.profile))[1]).rows
+            rows = certificate_texts.parse_sheet(run(["tune", *words], count_texts.profile_text(self.profile))[1]).rows
         else:
-            rows = texts.parse_fit(run(["fit", *words], texts.history_text(self.timed.history))[1]).rows
+            rows = certificate_texts.parse_fit(run(["fit", *words], count_texts.history_text(self.timed.history))[1]).rows
         return [row[0] if row else 0 for row in rows]
 
     def cost(self, table: Table) -> "int | None":
         """The waste or the footprint of a table, None where it does not serve all sizes."""
         return table.footprint if self.objective == "footprint" else table.waste
+
+    def seen(self, table: Table) -> "int | None":
+        """The same, of the footprint over what was recorded, which all tables are known over."""
+        return table.seen if self.objective == "footprint" else table.waste
 
     def blocks(self, table: Table) -> int:
         """The bytes of the blocks that the counted requests take: headers, requests and waste."""
@@ -244,16 +246,20 @@ class Figures:
         return table.footprint if self.objective == "footprint" else self.blocks(table)
 
     def saving(self, table: Table) -> "int | None":
-        """By how many bytes the first table costs less than this one; None where that does not serve all sizes."""
-        return None if self.cost(table) is None else self.cost(table) - self.cost(self.first)
+        """By how many bytes the first table costs less than this one; None where that does not serve all sizes, or is known in another way."""
+        if self.objective == "footprint":
+            return self.saved_footprint(table)
+        return None if table.waste is None else self.saved_waste(table)
 
     def saved_waste(self, table: Table) -> int:
         """By how many bytes the first table wastes less than this one, of what is counted at one moment."""
         return table.waste - self.first.waste
 
     def saved_footprint(self, table: Table) -> "int | None":
-        """By how many bytes the first table takes less than this one over time; None where one of the two does not serve all sizes."""
-        return None if None in (table.footprint, self.first.footprint) else table.footprint - self.first.footprint
+        """By how many bytes the first table takes less than this one over time; None where one of the two does not serve all sizes, or one is
+        known over the run, and the other in part."""
+        is_alike = table.is_known == self.first.is_known
+        return table.footprint - self.first.footprint if is_alike and None not in (table.footprint, self.first.footprint) else None
 
     def most(self, amount: Callable[[int], int]) -> int:
         """The most of all live blocks together at a moment, each with an amount of its size."""
@@ -289,18 +295,25 @@ class Figures:
         """The bytes that Scudo is predicted to take with a map of these classes while it gives nothing back."""
         if self.timed.kind == "timeline":
             found = peaks(classes, self.timed.text)
-            return scudo_memory.taken(classes, found.most, found.freed)
+            return scudo_memory.bytes_taken(classes, found.most, found.freed)
         most, freed = [0] * len(classes), 0
         for row in self.at_moments(classes):
             most = [max(pair) for pair in zip(most, row)]
             freed = max(freed, sum(most) - sum(row))
-        return scudo_memory.taken(classes, most, freed)
+        return scudo_memory.bytes_taken(classes, most, freed)
 
     @functools.cached_property
     def saved_in_scudo(self) -> int:
         """By how many bytes Scudo is predicted to take less with the map of the first table than with its default, the first of the others,
         while it gives nothing back."""
         return self.in_scudo(self.others[0].classes) - self.in_scudo(scudo_map.in_map(self.first.classes))
+
+    def predicted_saving(self) -> "int | None":
+        """By how many bytes Scudo is predicted to take less with the map than with its default: as it is set, where that was
+        simulated, and else while it gives nothing back; None without a record over time."""
+        if self.simulated:
+            return (self.simulated.low + self.simulated.high) // 2
+        return self.saved_in_scudo if self.timed else None
 
     def requested(self) -> dict:
         """How often each size was requested over time; of a history, which has not all, how many blocks it has."""
@@ -321,7 +334,7 @@ class Figures:
         """The waste of all requests of a timeline, a sum over time; None where a size is not served, or not all requests are known."""
         if self.timed.kind != "timeline":
             return None
-        requests = {size: min(times, texts.MOST_COUNT) for size, times in self.requested().items()}
+        requests = {size: min(times, MOST_COUNT) for size, times in self.requested().items()}
         return Table(table.name, table.classes, requests).waste
 
     def classes(self) -> Iterator[tuple[int, int, int, int, int]]:
@@ -342,31 +355,36 @@ class Figures:
 
     def known(self) -> list[str]:
         """What is known of the table that is the first by the objective, and of the other one that is made."""
-        return [claims.sentence(each, texts.trust()) for each in self.judged]
+        return [each.sentence() for each in self.claims]
 
     def interval(self) -> "list[str]":
         """What is known of the footprint over a run that is longer than its history: in a sentence, and on what that rests."""
         timed = self.timed
-        if not timed or not timed.interval or timed.verdict != "optimal":
+        if not timed or not timed.interval or not timed.claim.holds:
             return []
-        return list(claims.interval(timed.interval.low, timed.interval.high, timed.interval.events, texts.trust()))
+        return list(claims.interval(timed.claim, timed.interval.high, timed.interval.events))
 
     def unheld(self) -> list[str]:
         """What `check` and `check-fit` say where nothing follows."""
-        return [claims.says(each) for each in self.judged if claims.bound(each) is None and not claims.holds(each)]
+        return [each.sentence() for each in self.claims if not each.holds and not each.is_bound]
 
 
 def other_tables(paths: list[str]) -> list[tuple[str, list[int]]]:
     """Scudo's tables and those of the files, each with a name."""
-    named = [(name, os.path.join(texts.EXAMPLES, file)) for name, file in OTHERS]
+    named = [(name, os.path.join(EXAMPLES, file)) for name, file in OTHERS]
     named += [(without_ending(path, ".classes"), path) for path in paths]
-    return [(name, texts.class_line(path)) for name, path in named]
+    return [(name, certificate_texts.class_line(path)) for name, path in named]
 
 
 def without_ending(path: str, *endings: str) -> str:
     """The name of a file, without its folder and such an ending."""
     name = os.path.basename(path)
     return next((name[: -len(ending)] for ending in endings if name.endswith(ending) and name != ending), name)
+
+
+def helps(saving: int, process: int) -> bool:
+    """Whether so many bytes less of a process are worth a word."""
+    return saving >= max(LEAST, WORTH * process)
 
 
 def number(value: int) -> str:

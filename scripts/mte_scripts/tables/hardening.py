@@ -1,17 +1,18 @@
 """What tune_program adds by --verify: the program as it is measured in the real Scudo."""
 
 import os
-from collections.abc import Callable
 from typing import Any
 
-from mte_scripts import texts
+from mte_scripts import shell_words, text_files
+from mte_scripts.entry_point import printable, say
 from mte_scripts.recording import recording
 from mte_scripts.reports import measured_section
-from mte_scripts.tables import scudo_map, settings, verdict, verification
+from mte_scripts.tables import scudo_map, services, settings, verdict, verification
 from mte_scripts.tables.figures import Figures
-from mte_scripts.tables.result_folder import Folder
-from mte_scripts.tables.summary import predicted
-from mte_scripts.texts import printable, wrapped
+from mte_scripts.tables.result_folder import Folder, Folders
+from mte_scripts.tables.summary import prediction
+from mte_scripts.tables.tuning_answer import Answer
+from mte_scripts.text_layout import wrap_text
 
 
 class InScudo:
@@ -26,53 +27,87 @@ class InScudo:
         self.kept = path if verification.keep_input(path) else None
         return self.kept
 
-    def built(self, tuned: str, classes: list[int], program: str, work: str) -> "dict[str, str | None]":
-        """The libraries of all allocators by their names, None for the program's own; Scudo's are built with its own table and with this one."""
+    def build(self, tuned: str, classes: list[int], program: str, work: str, place: str) -> "dict[str, str | None]":
+        """The libraries of all allocators by their names, None for the program's own; Scudo's are built with its own table and with this one. In
+        the folder PLACE each has a name of the same length."""
         own = verdict.present(program)
-        libraries: "dict[str, str | None]" = {own: None, **{name: file for name, file in verdict.installed().items() if name != own}}
+        libraries: "dict[str, str | None]" = {
+            own: None,
+            **{name: file for name, file in verdict.installed_allocators().items() if name != own},
+        }
         for name, file, table, words in ((verdict.DEFAULT, "default.so", None, "its own table"), (tuned, "tuned.so", classes, "this one")):
-            texts.say("tune_program", f"compiling Scudo with {words}; that takes about half a minute")
+            say("tune_program", f"compiling Scudo with {words}; that takes about half a minute")
             libraries[name] = path = os.path.join(work, file)
             verification.build(self.scudo, path, table, work)
-            verification.need_loaded(path)
+        libraries = verification.place_alike(libraries, place)
+        for name in (verdict.DEFAULT, tuned):
+            verification.need_loaded(libraries[name])
         return libraries
 
-    def verify(self, folder: Folder, found: Figures, report: Callable[[str], None], work: str) -> None:
-        """Runs the program in the real Scudo, leaves the tuned one in the folder, and adds to summary and report what was measured."""
-        options, tuned, path = self.options, found.first.name, recording.find_program(self.options.words[0])
-        libraries, made = self.built(tuned, found.first.classes, path, work), f"libscudo_{plain(options.name())}.so"
-        folder.write(made, texts.read(os.path.join(work, "tuned.so")))
+    def verify(self, options: Any, folders: Folders, answer: Answer) -> None:
+        """Runs the program in the real Scudo, leaves the tuned one in the new folder, and adds to summary and report what was measured. OPTIONS
+        are those of the record."""
+        folder, found, work = folders.new, answer.found, folders.work.path
+        tuned, path = found.first.name, recording.find_program(options.words[0])
+        libraries = self.build(tuned, found.first.classes, path, work, folders.shared.path)
+        made = f"libscudo_{plain(options.name())}.so"
+        folder.write(made, text_files.read(os.path.join(work, "tuned.so")))
         folder.write(verification.CONFIG, scudo_map.config(found.first.classes))
-        runner = os.path.join(work, "peak")
+        ended = None
+        if options.load is not None:
+            rounds = services.Rounds(services.server_of(options), libraries, folder, work)
+            ended = rounds.measure()
+            if ended and not rounds.has_rows():
+                services.refuse_end(folder, rounds, ended)
+            rows, further = rounds.rows(), rounds.further()
+        else:
+            rows, further = self.measure(libraries, tuned, path, work)
+        said = f"{options.name()}: {verdict.verdict(rows, tuned)}"
+        measured = measured_section.section(rows, tuned, found.predicted_saving(), found.simulated is not None)
+        answer.report(measured, said)
+        lines = [*measured_lines(found, rows, said, options.load is not None), *further, *next_lines(options, folder, rows, tuned, made)]
+        text = "".join(f"{printable(line)}\n" for line in [*lines, "", "What was recorded, and is predicted of it:"]).encode()
+        folder.write("summary.txt", text + text_files.read(folder.at("summary.txt")))
+        text_files.write(text_files.read(folder.at("summary.txt")))
+        if ended:
+            services.refuse_end(folder, rounds, ended)
+
+    def measure(self, libraries: "dict[str, str | None]", tuned: str, path: str, work: str) -> "tuple[list[verdict.Row], list[str]]":
+        """The rows of a program that ends by itself, and further lines."""
+        runner, words = os.path.join(work, "peak"), self.options.words
         verification.build_runner(self.scudo, runner, work)
-        rows = verdict.measured(runner, options.words, path, libraries, self.kept)
-        said, further = f"{options.name()}: {verdict.verdict(rows, tuned)}", []
-        report(measured_section.section(said, rows, tuned, found.saved_in_scudo))
-        if options.settings:
-            both = [each for each in (libraries[verdict.DEFAULT], libraries[tuned]) if each]
-            further = ["", *settings.lines(settings.measured(runner, options.words, path, both, self.kept), both)]
-        text = "".join(f"{printable(line)}\n" for line in measured_lines(options, folder, found, rows, made, said) + further)
-        folder.write("summary.txt", texts.read(folder.at("summary.txt")) + text.encode())
-        texts.write(text)
+        rows = verdict.measure_allocators(runner, words, path, libraries, self.kept)
+        if not self.options.settings:
+            return rows, []
+        both = [each for each in (libraries[verdict.DEFAULT], libraries[tuned]) if each]
+        return rows, ["", *settings.lines(settings.measure_settings(runner, words, path, both, self.kept), both)]
 
 
 def plain(name: str) -> str:
-    """A name without what ends a name in LD_PRELOAD."""
-    return "".join("_" if each in " :" or not each.isprintable() else each for each in name)
+    """A name without what ends a name in LD_PRELOAD, or in a path."""
+    return "".join("_" if each in " :/" or not each.isprintable() else each for each in name)
 
 
-def measured_lines(options: Any, folder: Folder, found: Figures, rows: "list[verdict.Row]", made: str, said: str) -> list[str]:
-    """The verdict, and what it follows from."""
-    lines = ["", *wrapped(f"Verdict on {said}", indent="  ")]
-    measured = f"Measured, {verdict.RUNS} runs each: the middle peak of the resident set, from where to where a further one lies (95%), and processor time:"
-    lines += ["", *wrapped(measured), *verdict.lines(rows)]
-    lines += wrapped(predicted(found))
+def measured_lines(found: Figures, rows: "list[verdict.Row]", said: str, is_server: bool) -> list[str]:
+    """The verdict, what it follows from, and beside it what was predicted."""
+    lines, runs = wrap_text(said, indent="  "), len(rows[0].peaks)
+    peak = "peak" if is_server else "peak of the resident set"
+    measured = f"Measured, {runs} runs each: the middle {peak}, from where to where a further one lies (95%), and processor time:"
+    lines += ["", *wrap_text(measured), *verdict.lines(rows)]
+    lines += wrap_text(prediction(found)) if found.timed else []
     for row in rows:
         if row.strange:
-            lines += wrapped(f"! With {row.name} the program ended otherwise than with {rows[0].name}.", indent="  ")
-    lines += ["", "To run it in Scudo with this table, which is in the folder beside its header:"]
+            lines += wrap_text(f"! With {row.name} the program ended otherwise than with {rows[0].name}.", indent="  ")
+    return lines
+
+
+def next_lines(options: Any, folder: Folder, rows: "list[verdict.Row]", tuned: str, made: str) -> list[str]:
+    """How the program is run with the table, where that is worth it."""
+    if not verdict.is_worth(rows, tuned):
+        return []
     file = os.path.abspath(folder.file(made))
-    lines.append(f"  LD_PRELOAD={texts.path_word(file)} {texts.path_word(options.words[0])} ..")
+    lines = ["", "To run it in Scudo with this table, which is in the folder beside its header:"]
+    lines.append(f"  LD_PRELOAD={shell_words.path_word(file)} {shell_words.path_word(options.words[0])} ..")
     if plain(file) != file:
         lines.append("! LD_PRELOAD ends a path at a space or a colon: copy the library first.")
     return lines

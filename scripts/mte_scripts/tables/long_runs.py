@@ -10,7 +10,10 @@ import sys
 from collections.abc import Callable, Iterable
 from typing import Any, NamedTuple, Optional
 
-from mte_scripts import private_folder, texts
+from mte_scripts import certificate_texts, claim_words, count_texts, private_folder, text_files
+from mte_scripts.entry_point import Refusal, say
+from mte_scripts.formats import LARGEST_CLASS, MOST_CLASSES, MOST_SNAPSHOTS
+from mte_scripts.places import SCRIPTS
 from mte_scripts.recording import TABLES, children, timelines
 from mte_scripts.tables import figures
 
@@ -18,16 +21,16 @@ MOST_RUNS = 8
 WINDOWS = 64
 MOST_MADE = 24  # tables that are counted over a run, beside those that are compared
 MOST_OTHERS = TABLES - MOST_MADE
-MOST_HELD = texts.MOST_SNAPSHOTS - 300  # moments of a run that the next one has too: there is room for the peaks of new tables
+MOST_HELD = MOST_SNAPSHOTS - 300  # moments of a run that the next one has too: there is room for the peaks of new tables
 GUESSES = 10  # tables that are made for the next run
 SPREAD = 8  # those that are counted before there is a fit
 Span = tuple[int, int]
 
 
-class Recorded(NamedTuple):
+class RunRecord(NamedTuple):
     """A run: its status, 0 or 1; what profile_program said of it; what it measured, by name; and what tables take over it, None where one of
     them does not serve a size. `upper` is the upper history, empty where there is a timeline; `moments` are those of the lower one, by the
-    number of events before them."""
+    number of events before them; `blocks` is the record of blocks beside a timeline, empty where there is none."""
 
     status: int
     notes: list[str]
@@ -35,6 +38,7 @@ class Recorded(NamedTuple):
     counted: dict[figures.Classes, Optional[int]]
     upper: bytes
     moments: tuple[int, ...] = ()
+    blocks: bytes = b""
 
 
 class Runs:
@@ -50,39 +54,43 @@ class Runs:
     def file(self, name: str) -> str:
         return self.work.file(f"run-{name}")
 
-    def record(self, kind: list[str], tables: list[figures.Classes], to: str, moments: Iterable[int] = ()) -> Recorded:
+    def record(self, kind: list[str], tables: list[figures.Classes], to: str, moments: Iterable[int] = ()) -> RunRecord:
         """Runs it once; with these moments in its lower history, if it has them. What is printed goes to the file TO, and the profile at the
         peak to self.file("peak"). The status may be a refusal's."""
         words = [*kind, "--upper", self.file("upper"), "--peak", self.file("peak"), "--measured", self.file("measured")] if kind else []
         for at, table in enumerate(tables):
-            texts.write_file(self.file(f"{at}.classes"), figures.class_text(list(table)) + "\n")
+            text_files.write_file(self.file(f"{at}.classes"), figures.class_text(list(table)) + "\n")
             words += ["--classes", self.file(f"{at}.classes")]
         if moments:
-            texts.write_file(self.file("again"), "".join(f"moment {each}\n" for each in moments))
+            text_files.write_file(self.file("again"), "".join(f"moment {each}\n" for each in moments))
             words += ["--again", self.file("again")]
-        command = [sys.executable, "-ISXutf8", "--", os.path.join(texts.SCRIPTS, "profile_program"), *words, "--said", self.file("said"), *self.words]
+        command = [sys.executable, "-ISXutf8", "--", os.path.join(SCRIPTS, "profile_program"), *words, "--said", self.file("said"), *self.words]
         self.number += 1
         if self.number > 1 and self.offset is not None:
             os.lseek(0, self.offset, os.SEEK_SET)
         with open(to, "wb") as file, open(self.given or os.devnull, "rb") as again:
-            status = children.run(command, signals=self.signals, stdout=file, stdin=again if self.given else None)
+            status = self.run_recorder(command, file.fileno(), again.fileno() if self.given else None)
         measured = [line.split() for line in self.taken("measured").decode().splitlines()]
         taken = [None if value == "none" else int(value) for name, value in measured if name == "footprint"]
         found = {name: int(value) for name, value in measured if name not in ("footprint", "moment")}
         seen = tuple(int(value) for name, value in measured if name == "moment")
         said = [line for line in self.taken("said").decode(errors="replace").splitlines() if line]
-        return Recorded(status, said, found, dict(zip(tables, taken)), self.taken("upper"), seen)
+        return RunRecord(status, said, found, dict(zip(tables, taken)), self.taken("upper"), seen)
+
+    def run_recorder(self, command: list[str], to: int, again: "int | None") -> int:
+        """The status of the recorder, which runs the program; what it prints goes to a descriptor."""
+        return children.run(command, signals=self.signals, stdout=to, stdin=again)
 
     def taken(self, name: str) -> bytes:
         """The text of a file that is no longer needed, empty where there is none."""
         path = self.file(name)
         if not os.path.isfile(path):
             return b""
-        text = texts.read(path)
+        text = text_files.read(path)
         os.remove(path)
         return text
 
-    def why_not(self, last: Recorded, most: int) -> str:
+    def why_not(self, last: RunRecord, most: int) -> str:
         """Why it is not run again; empty where it can be."""
         if last.status or self.signals:
             return "it did not end by itself, with status 0"
@@ -102,47 +110,47 @@ def offset_of_input() -> "int | None":
         return 0
 
 
-def is_within(lower: texts.History, upper: bytes) -> bool:
+def is_within(lower: count_texts.History, upper: bytes) -> bool:
     """Whether each moment of a lower history is in a window of this upper one, which has at least as many blocks of every size."""
-    windows, none = texts.parse_history(upper), [0] * texts.MOST_SNAPSHOTS
+    windows, none = count_texts.parse_history(upper), [0] * MOST_SNAPSHOTS
     most = list(zip(*(windows.counts.get(size, none[: windows.snapshots]) for size in lower.counts)))
     return all(any(all(map(operator.le, moment, each)) for each in most) for moment in zip(*lower.counts.values()))
 
 
-def interval_of(timed: figures.OverTime, run: Recorded) -> "figures.Interval | None":
+def interval_of(timed: figures.OverTime, run: RunRecord) -> "figures.Interval | None":
     """That of a fit over the lower history of a run: of its table and of those that join what was counted, the one that takes least. None where
     nothing bounds one."""
     fitted = tuple(timed.fit.classes)
     taken = run.counted[fitted] if fitted in run.counted else figures.footprint(timed.fit.classes, run.upper)
     above = {} if taken is None else {fitted: taken}
     if not is_within(timed.history, run.upper):
-        raise texts.Refused(2, "the two histories are of different runs: a moment is in no window")
-    cost, classes = joined(Spans(by_need(timed.history)), run.counted, timed.fit)
+        raise Refusal(2, "the two histories are of different runs: a moment is in no window")
+    cost, classes = join_spans(Spans(by_need(timed.history)), run.counted, timed.fit)
     counted = {**run.counted, **({classes: cost} if classes else {})}
     above |= {classes: cost} if classes else {}
     if not above:
         return None
     chosen = min(above, key=lambda table: (above[table], table != fitted))
     if above[chosen] < timed.fit.footprint:
-        raise texts.Refused(2, "the two histories are of different runs")
+        raise Refusal(2, "the two histories are of different runs")
     return figures.Interval(list(chosen), timed.fit.footprint, above[chosen], run.measured.get("events", 0), counted)
 
 
-def by_need(history: texts.History) -> texts.History:
+def by_need(history: count_texts.History) -> count_texts.History:
     """The same to every table, with one size for each need, and no large blocks."""
     rows: dict[int, list] = {}
     for size, counts in history.counts.items():
         if size != "large":
             largest = figures.GRANULE * (timelines.need_of(size) - 1)
             rows[largest] = list(map(operator.add, rows[largest], counts)) if largest in rows else counts
-    return texts.History(history.snapshots, rows)
+    return count_texts.History(history.snapshots, rows)
 
 
 class Spans:
     """Of a history by needs, the most blocks that spans of these have at one snapshot. A span is the needs above the first of two up to the
     second."""
 
-    def __init__(self, history: texts.History) -> None:
+    def __init__(self, history: count_texts.History) -> None:
         self.snapshots = history.snapshots
         self.rows = sorted((timelines.need_of(size), counts) for size, counts in history.counts.items())
         self.needs = [need for need, _ in self.rows]
@@ -174,12 +182,14 @@ def spread_tables(step: int) -> list[figures.Classes]:
     """Tables whose classes grow by the same share, each from another class on."""
     found = []
     for first in range(SPREAD):
-        blocks = (2 * 512 ** ((at + first / SPREAD) / (texts.MOST_CLASSES - 2)) for at in range(texts.MOST_CLASSES - 2))
-        found.append(tuple(sorted({*(math.ceil(block / step) * step for block in blocks), texts.LARGEST_CLASS})))
+        blocks = (2 * 512 ** ((at + first / SPREAD) / (MOST_CLASSES - 2)) for at in range(MOST_CLASSES - 2))
+        found.append(tuple(sorted({*(math.ceil(block / step) * step for block in blocks), LARGEST_CLASS})))
     return list(dict.fromkeys(found))
 
 
-def joined(spans: Spans, counted: dict[figures.Classes, Optional[int]], fit: texts.Fit) -> "tuple[int, figures.Classes]":
+def join_spans(
+    spans: Spans, counted: dict[figures.Classes, Optional[int]], fit: certificate_texts.Fit
+) -> "tuple[int, figures.Classes]":
     """Of the tables that join spans of tables that were counted, and may be that of this fit, the one that takes least, and what it takes over
     the run; no classes where there is none. A span's peak is in the history where its table takes there what was counted."""
     usable = [table for table, taken in counted.items() if sum(map(spans.cost, spans.of(table))) == taken]
@@ -193,11 +203,11 @@ def joined(spans: Spans, counted: dict[figures.Classes, Optional[int]], fit: tex
                 best[at] = min(found, best.get(at, found))
     whole = [found for (need, number), found in best.items() if number and need == spans.needs[-1]]
     if fit.forced:
-        whole = [(cost, tuple(sorted({*classes, texts.LARGEST_CLASS}))) for cost, classes in whole]
+        whole = [(cost, tuple(sorted({*classes, LARGEST_CLASS}))) for cost, classes in whole]
     return min((found for found in whole if len(found[1]) <= fit.limit), default=(0, ()))
 
 
-def with_guesses(history: texts.History, classes: figures.Classes) -> texts.History:
+def with_guesses(history: count_texts.History, classes: figures.Classes) -> count_texts.History:
     """A history with a snapshot more for each class of a table: its blocks at its peak, and as many more as the root of their number."""
     spans, counts = Spans(history), {size: list(each) for size, each in history.counts.items()}
     for span in spans.of(classes):
@@ -206,10 +216,10 @@ def with_guesses(history: texts.History, classes: figures.Classes) -> texts.Hist
         for size, each in counts.items():
             before, whole = whole, whole + each[at] * share * (span[0] < timelines.need_of(size) <= span[1])
             each.append(round(whole) - round(before))
-    return texts.History(history.snapshots + len(classes), counts)
+    return count_texts.History(history.snapshots + len(classes), counts)
 
 
-class Narrowing:
+class IntervalNarrower:
     """Narrows the interval of a run. FIT makes the fit of a history with at most so many classes, or with those of the options for 0. TAKE puts
     the files of another run in the place of those before, OTHERS are tables that are compared, and most so many runs are made.
 
@@ -221,7 +231,7 @@ class Narrowing:
         self.runs, self.fit, self.take, self.others, self.most = runs, fit, take, others[:MOST_OTHERS], most
         self.needed: set[int] = set()  # moments at which a class of a fit's table has the most blocks
 
-    def narrowed(self, first: Recorded, lower: bytes) -> tuple[figures.OverTime, Recorded]:
+    def narrow(self, first: RunRecord, lower: bytes) -> tuple[figures.OverTime, RunRecord]:
         """The fit with its interval, and the run that both are of: the last one."""
         run = first
         made = [table for table in first.counted if table not in self.others]
@@ -234,7 +244,7 @@ class Narrowing:
             if why := self.runs.why_not(run, self.most):
                 return timed, run._replace(notes=[*run.notes, f"The bounds of the footprint differ by more than 1%: {why}."])
             made = self.with_tables(made, timed, run)
-            texts.say("tune_program", f"run {self.runs.number} is too long for a timeline, and is made again to count what a table takes over it")
+            say("tune_program", f"run {self.runs.number} is too long for a timeline, and is made again to count what a table takes over it")
             again = self.runs.record([f"--windows={WINDOWS}"], [*self.others, *made], self.runs.file("history"), self.held(run.moments))
             if again.status or self.runs.signals:
                 return self.kept(timed, run)
@@ -242,14 +252,16 @@ class Narrowing:
             run = with_difference(again, run, self.runs.number)
             self.take(lower, self.runs.taken("peak"))
 
-    def with_tables(self, made: list[figures.Classes], timed: figures.OverTime, run: Recorded) -> list[figures.Classes]:
+    def with_tables(
+        self, made: list[figures.Classes], timed: figures.OverTime, run: RunRecord
+    ) -> list[figures.Classes]:
         """The tables to count next: that of the fit; what would be fitted next if each class of those before had some more blocks than are seen;
         and those of fewer classes and of the upper history. The peaks of their classes are in the next lower history."""
         history, found = by_need(timed.history), [tuple(timed.fit.classes)]
         spans = Spans(history)
-        while len(found) < GUESSES and history.snapshots + len(found[-1]) <= texts.MOST_SNAPSHOTS:
+        while len(found) < GUESSES and history.snapshots + len(found[-1]) <= MOST_SNAPSHOTS:
             history = with_guesses(history, found[-1])
-            found.append(tuple(self.fit(texts.history_text(history).encode(), 0).fit.classes))
+            found.append(tuple(self.fit(count_texts.history_text(history).encode(), 0).fit.classes))
         if len(run.moments) == spans.snapshots:
             self.needed |= {run.moments[spans.peak(span)[1]] for table in found for span in spans.of(table)}
         more = [(run.upper, 0), *[(timed.text, len(found[0]) * 3 // 4)] * (len(found[0]) > 2)]
@@ -264,13 +276,13 @@ class Narrowing:
         spread = others if len(others) <= room else [others[at * len(others) // room] for at in range(max(room, 0))]
         return sorted([*needed[-MOST_HELD:], *spread])
 
-    def kept(self, timed: figures.OverTime, run: Recorded) -> tuple[figures.OverTime, Recorded]:
+    def kept(self, timed: figures.OverTime, run: RunRecord) -> tuple[figures.OverTime, RunRecord]:
         """What there was, where another run failed."""
         note = f"Run {self.runs.number} ended otherwise: what is said is of the one before."
         return timed, run._replace(notes=[*run.notes, note])
 
 
-def with_difference(run: Recorded, before: Recorded, number: int) -> Recorded:
+def with_difference(run: RunRecord, before: RunRecord, number: int) -> RunRecord:
     """The run, with a note where it did something else than the one before."""
     events, others = run.measured.get("events", 0), before.measured.get("events", 0)
     if events == others:
@@ -290,7 +302,7 @@ def runs_of(options: Any, work: private_folder.Folder, kept: "str | None") -> Ru
     return Runs([*words, *([] if options.all else ["--as-scudo"]), "--", *options.words], work, kept)
 
 
-def count(options: Any, folder: Any, runs: Runs, others: list) -> Recorded:
+def count(options: Any, folder: Any, runs: Runs, others: list) -> RunRecord:
     """Runs the program, and writes its profile, and its timeline or its two histories."""
     name = "program.profile" if options.all else "program.timeline"
     printed, shown = folder.at(name), folder.file(name)
@@ -298,36 +310,39 @@ def count(options: Any, folder: Any, runs: Runs, others: list) -> Recorded:
     tables = [] if options.all else list(dict.fromkeys([*[tuple(classes) for _, classes in others][:MOST_OTHERS], *spread_tables(options.step)]))
     try:
         found = runs.record(kind, tables, printed)
-        if not options.all and texts.is_history(texts.read(printed, 100)):
+        if not options.all and count_texts.is_history(text_files.read(printed, 100)):
             os.rename(printed, folder.at("program.history"))
     except OSError as error:
-        raise texts.Refused(3, f"{shown} can't be made: {error.strerror}") from None
+        raise Refusal(3, f"{shown} can't be made: {error.strerror}") from None
     if found.status not in (0, 1):
         # it said why on standard error itself
         kept = f"; what it wrote is in {shown}" if os.path.exists(printed) and os.path.getsize(printed) else ""
-        raise texts.Refused(2 if found.status == 2 else 3, f"there is no profile of {options.name()}, and nothing to tune{kept}")
+        raise Refusal(
+            2 if found.status == 2 else 3, f"there is no profile of {options.name()}, and nothing to tune{kept}"
+        )
     if not options.all:
         folder.write("program.profile", runs.taken("peak"))
     return found
 
 
-def narrowed(options: Any, folder: Any, runs: "Runs | None", found: Recorded,
-             others: list) -> "tuple[figures.OverTime | None, Recorded]":
+def narrow_interval(options: Any, folder: Any, runs: "Runs | None", found: RunRecord,
+                    others: list) -> "tuple[figures.OverTime | None, RunRecord]":
     """Of a run that is longer than a timeline may be, the fit of its moments with its interval; and the run that this is of."""
     if not found.upper or not folder.has("program.history"):
         return None, found
 
     def fit(text: bytes, limit: int) -> figures.OverTime:
-        return figures.over_time("history", text, options.largest, limit or options.limit, options.step)
+        name, how = folder.file("program.history"), claim_words.divisor_words(options.divisor)
+        return figures.over_time("history", text, options.largest, limit or options.limit, options.step, name, how)
 
     def take(history: bytes, peak: bytes) -> None:
         folder.write("program.history", history)
         folder.write("program.profile", peak)
 
-    lower = texts.read(folder.at("program.history"))
+    lower = text_files.read(folder.at("program.history"))
     if runs:
-        narrowing = Narrowing(runs, fit, take, [tuple(classes) for _, classes in others], options.runs)
-        timed, found = narrowing.narrowed(found, lower)
+        narrowing = IntervalNarrower(runs, fit, take, [tuple(classes) for _, classes in others], options.runs)
+        timed, found = narrowing.narrow(found, lower)
     else:
         timed = fit(lower, 0)
         timed = timed._replace(interval=interval_of(timed, found))

@@ -1,10 +1,17 @@
-"""The new folder that tune_program makes."""
+"""The folders of tune_program: the new one that it makes, and those for what is needed meanwhile."""
 
+import contextlib
 import os
+import stat
+from collections.abc import Iterator
+from typing import Any, NamedTuple
 
-from mte_scripts import texts
+from mte_scripts import private_folder, shell_words, text_files
+from mte_scripts.entry_point import Refusal, say
+from mte_scripts.private_folder import NotPrivate
 
 KEPT = ("program.timeline", "program.history", "program.profile")  # the records
+MOST_FOLDERS = 999  # with the same name and a number
 
 
 class Folder:
@@ -13,10 +20,25 @@ class Folder:
     def __init__(self, path: str) -> None:
         kept = next((name for name in KEPT if os.path.isfile(os.path.join(path, name))), None)
         if kept:
-            again = f"--read {texts.path_word(os.path.join(path, kept))} --output ANOTHER"
-            raise texts.Refused(3, f"{path} is there already: name another folder by --output, or tune its record again, without a run: {again}")
-        self.place = texts.new_folder(path, "--output")
+            again = f"--read {shell_words.path_word(os.path.join(path, kept))} --output ANOTHER"
+            raise Refusal(
+                3,
+                f"{path} is there already: name another folder by --output, or tune its record again, without a run: "
+                f"{again}",
+            )
+        self.place = text_files.new_folder(path, "--output")
         self.path = path
+
+    @classmethod
+    def numbered(cls, path: str) -> "Folder":
+        """The folder that nobody named: where it is there already, one with the first number that is free."""
+        for number in range(1, MOST_FOLDERS + 1):
+            numbered = path if number == 1 else f"{path}.{number}"
+            if not os.path.lexists(numbered):
+                if number > 1:
+                    say("tune_program", f"{path} is there already, so this one is {numbered}")
+                return cls(numbered)
+        return cls(path)
 
     def file(self, name: str) -> str:
         """The path of a file, as it is shown."""
@@ -32,7 +54,7 @@ class Folder:
     def write(self, name: str, data: "str | bytes") -> None:
         try:
             self.place.write(name, data if isinstance(data, bytes) else data.encode(errors="surrogateescape"))
-        except texts.Refused:
+        except Refusal:
             if self.has(name):
                 os.remove(self.at(name))  # what is there of it is no use
             raise
@@ -52,3 +74,43 @@ class Folder:
             os.rmdir(self.path)
         except OSError:
             pass  # there is something in it
+
+
+def is_open_to_all(path: str) -> bool:
+    """Whether every user can come to a folder."""
+    path, below = os.path.realpath(path), ""
+    while path != below:
+        if not os.stat(path).st_mode & stat.S_IXOTH:
+            return False
+        path, below = os.path.dirname(path), path
+    return True
+
+
+def shared_folder() -> private_folder.Folder:
+    """A new folder for what a server reads, which may change its user: every user can go through it, and nobody else list or change it."""
+    for where in dict.fromkeys((os.environ.get("TMPDIR") or "/tmp", "/tmp", "/var/tmp", "/dev/shm")):
+        with contextlib.suppress(NotPrivate, OSError):
+            if is_open_to_all(where):
+                return private_folder.new_folder(private_folder.open_folder(where))
+    raise Refusal(3, "there is no folder for libraries that every user can read: set TMPDIR to one")
+
+
+class Folders(NamedTuple):
+    """NEW is the one that stays, WORK has what is needed meanwhile, and SHARED the libraries, which a server reads whose user may be another."""
+
+    new: Folder
+    work: private_folder.Folder
+    shared: private_folder.Folder
+
+
+@contextlib.contextmanager
+def open_folders(options: Any) -> "Iterator[Folders]":
+    """Those of the options of tune_program."""
+    new = Folder(options.output) if options.output else Folder.numbered(options.name() + ".tuned")
+    with private_folder.temporary_folder() as work:
+        if options.load is None:
+            yield Folders(new, work, work)
+            return
+        with shared_folder() as shared:
+            shared.open_to_all()
+            yield Folders(new, work, shared)

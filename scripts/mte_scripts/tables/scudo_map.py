@@ -3,17 +3,22 @@
 
 import textwrap
 
-from mte_scripts import texts
-from mte_scripts.texts import LARGEST_CLASS, Refused
+from mte_scripts import certificate_texts, text_files
+from mte_scripts.entry_point import Refusal, say
+from mte_scripts.formats import LARGEST_CLASS
+from mte_scripts.tables import table_mark
+
 from mte_scripts.words import Words
 
 HELP = r"""Print the class table of a sheet or a fit as a size-class map of LLVM's Scudo: a header that takes the place of its default map.
 
-Usage: scudo_classes [--config] [--] [SHEET]    (a fit is taken as a sheet is)
+Usage: scudo_classes [--config] [--mark VERSION] [--] [SHEET]    (a fit is taken as a sheet is)
                                     (standard input for `-`, or where there is no SHEET; a line `classes C1 C2 ..` alone will do)
 
   --config   print LLVM 19's whole header custom_scudo_config.h, for which no line of Scudo is changed. Put it on the path of
              headers, and compile Scudo with -DSCUDO_USE_CUSTOM_CONFIG
+  --mark VERSION put VERSION and the digest of the table into what is built with it, from which `fleet_rollout running`
+             reads which table a process has
 
 Without --config, and with SCUDO as the folder compiler-rt/lib/scudo/standalone of LLVM's sources:
 
@@ -21,9 +26,10 @@ Without --config, and with SCUDO as the folder compiler-rt/lib/scudo/standalone 
   sed -i 's/^typedef FixedSizeClassMap<DefaultSizeClassConfig> DefaultSizeClassMap;/#include "tuned_map.inc"/' \
     SCUDO/size_class_map.h
 
-The map finds the class of each size exactly, by its granules of 16 bytes. Class 1024, if it is there, is left out. Scudo's own
-classes from 16 to 128 KiB follow, each 16 bytes larger, so that a power of two fits with its header. So the map serves every
-size that Scudo's default map serves. A table without class 1024 is said on standard error: its sizes up to 16 KiB get 16,400 bytes.
+The map finds the class of each size exactly, by its granules of 16 bytes. After the table's classes below 1024 it has Scudo's own
+from 16 KiB, which is class 1024, to 128 KiB, and beside each power of two a class 16 bytes larger, which serves that with its
+header. So the map serves every size that Scudo's default map serves. A table without class 1024 is said on standard error:
+larger sizes get Scudo's own classes.
 The C++ asserts that its classes ascend and are in range, so that a table that was changed into a wrong one does not compile.
 
 Exit status:
@@ -39,14 +45,26 @@ Examples:
 GRANULE = 16  # bytes
 NO_CLASS = f"the table has no class below {LARGEST_CLASS}: was the profile, or the history, empty?"
 # of a table without class 1024: {size} is the largest size that it serves
-NEXT_OWN = "No class is tuned above {size} bytes: larger sizes, up to 16,384 bytes, get Scudo's own class of 16,400 bytes."
+NEXT_OWN = "No class is tuned above {size} bytes: larger sizes get Scudo's own classes, from 16,384 bytes on."
+# The classes above 16 KiB in granules, by steps of a quarter of an octave: Scudo's own, whose blocks begin at pages, so that pages at the end
+# of one that are not written are not resident.
+SCUDO_LARGER = [start // 4 * (4 + step) for start in (1024, 2048, 4096) for step in (1, 2, 3, 4)]
+# Those of the map: from 16 KiB on, and beside each power of two what holds that with its header, which fills no page of Scudo's next class.
+LARGER = sorted([LARGEST_CLASS, *SCUDO_LARGER, *(2**n + 1 for n in range(10, 14))])
+
+
+def class_lines(classes: list[int]) -> str:
+    """Classes as lines of the header."""
+    return textwrap.fill(" ".join(f"{c}," for c in classes), 75, initial_indent=" " * 6, subsequent_indent=" " * 6)
+
 
 MAP = """\
-// A table of COUNT tuned classes, in granules of 16 bytes, and Scudo's own from 16 to 128 KiB.
+// A table of COUNT tuned classes, in granules of 16 bytes, and Scudo's own from 16 to 128 KiB, with one more for each
+// power of two and its header.
 NOTESstruct TunedClasses : DefaultSizeClassConfig {
   static constexpr u16 Granules[] = {
 GRANULES
-      1025, 1281, 1537, 1793, 2049, 2561, 3073, 3585, 4097, 5121, 6145, 7169, 8193};
+LARGER};
 };
 
 // A table that was changed into a wrong one does not compile.
@@ -61,10 +79,10 @@ template <typename C> constexpr uptr lastGranules() {
 }
 static_assert(granulesAscend<TunedClasses>(), "the classes do not ascend");
 static_assert(TunedClasses::Granules[0] >= 2, "a class has no room for a header of 16 bytes and a granule");
-static_assert(TunedClasses::Granules[0] <= 1024, "there is no tuned class");
+static_assert(TunedClasses::Granules[0] < 1024, "there is no tuned class");
 static_assert(lastGranules<TunedClasses>() >= 1024, "the table does not serve the largest requests");
 static_assert(lastGranules<TunedClasses>() <= 8193, "a class is above Scudo's largest");
-static_assert(sizeof(TunedClasses::Granules) <= 2 * (32 + 13), "there are more than 32 tuned classes and Scudo's 13");
+static_assert(sizeof(TunedClasses::Granules) <= 2 * (32 + 17), "there are more than 32 tuned classes and 17 from 16 KiB on");
 
 // The class of a size is looked up by its granules: the least that holds it.
 template <typename C> struct GranuleClassMap : SizeClassMapBase<C> {
@@ -93,7 +111,7 @@ template <typename C> struct GranuleClassMap : SizeClassMapBase<C> {
   }
   static constexpr bool usesCompressedLSBFormat() { return false; }
 };
-"""
+""".replace("LARGER", class_lines(LARGER).removesuffix(","))
 
 AS_DEFAULT = """\
 typedef GranuleClassMap<TunedClasses> DefaultSizeClassMap;
@@ -158,28 +176,27 @@ def warnings(classes: list[int]) -> list[str]:
 
 
 def in_map(classes: list[int]) -> list[int]:
-    """The classes that serve requests up to LARGEST_SIZE bytes in the map of a table: its own below 1024, and Scudo's first."""
-    return [c for c in classes if c < LARGEST_CLASS] + [LARGEST_CLASS + 1]
+    """The classes that serve requests up to LARGEST_SIZE bytes in the map of a table: its own below 1024, and that."""
+    return [c for c in classes if c < LARGEST_CLASS] + [LARGEST_CLASS]
 
 
-def filled(classes: list[int]) -> str:
+def fill_map(classes: list[int]) -> str:
     """The map of a table that ascends from 2 to 1024."""
-    granules = [f"{c}," for c in in_map(classes)[:-1]]
-    if not granules:
-        raise Refused(2, NO_CLASS)
-    lines = textwrap.fill(" ".join(granules), 75, initial_indent=" " * 6, subsequent_indent=" " * 6)
+    tuned = in_map(classes)[:-1]
+    if not tuned:
+        raise Refusal(2, NO_CLASS)
     notes = "".join(f"// {note}\n" for note in warnings(classes))
-    return MAP.replace("COUNT", str(len(granules))).replace("NOTES", notes).replace("GRANULES", lines)
+    return MAP.replace("COUNT", str(len(tuned))).replace("NOTES", notes).replace("GRANULES", class_lines(tuned))
 
 
-def as_default(classes: list[int]) -> str:
+def as_default(classes: list[int], mark: str = "") -> str:
     """The header that takes the place of Scudo's default map."""
-    return filled(classes) + AS_DEFAULT
+    return fill_map(classes) + AS_DEFAULT + mark
 
 
-def config(classes: list[int]) -> str:
+def config(classes: list[int], mark: str = "") -> str:
     """LLVM 19's whole header custom_scudo_config.h."""
-    return CONFIG.replace("MAP", filled(classes), 1)
+    return CONFIG.replace("MAP", fill_map(classes) + mark, 1)
 
 
 def for_page() -> dict[str, str]:
@@ -188,13 +205,14 @@ def for_page() -> dict[str, str]:
 
 
 def print_map(words: "list[str]") -> int:
-    options = Words(HELP, "files").take(words)
+    options = Words(HELP, "files", mark=table_mark.version).take(words)
     if len(options.files) > 1:
-        raise Refused(2, f"there is one sheet, so no argument {options.files[1]}")
+        raise Refusal(2, f"there is one sheet, so no argument {options.files[1]}")
     if not options.files:
-        texts.say_reading("scudo_classes", ", a sheet")
-    classes = texts.class_line(options.files[0] if options.files else "-")
-    made = config(classes) if options.config else as_default(classes)
+        text_files.say_reading("scudo_classes", ", a sheet")
+    classes = certificate_texts.class_line(options.files[0] if options.files else "-")
+    mark = table_mark.cpp_of(options.mark, classes) if options.mark else ""
+    made = config(classes, mark) if options.config else as_default(classes, mark)
     for warning in warnings(classes):
-        texts.say("scudo_classes", warning)
-    return texts.write(made)
+        say("scudo_classes", warning)
+    return text_files.write(made)

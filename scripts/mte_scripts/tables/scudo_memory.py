@@ -18,7 +18,7 @@ BATCH = 8 * (2 + MOST_CACHED)
 FOLLOWED = 1 << 20  # blocks of a class whose sets are followed one by one
 
 
-def cached(block: int) -> int:
+def cached_blocks(block: int) -> int:
     """How many blocks of so many bytes a thread takes at once."""
     return max(1, min(MOST_CACHED, BYTES_CACHED // block))
 
@@ -28,7 +28,7 @@ def cut(block: int, blocks: int) -> tuple[int, int]:
     the blocks that a thread takes at once are left of it; else a set may be smaller. Of very many, those that fill whole pieces of what is
     mapped are left out of this, so that the sets may be others."""
     filling = MAPPED // math.gcd(MAPPED, block)
-    begin, at_once = max(0, blocks - FOLLOWED) // filling * filling, cached(block)
+    begin, at_once = max(0, blocks - FOLLOWED) // filling * filling, cached_blocks(block)
     before = last = mapped = 0
     while begin + before + last < blocks:
         before += last
@@ -50,7 +50,7 @@ def pages(block: int, blocks: int) -> float:
     return found
 
 
-def taken(classes: list[int], most: list[int], freed: int) -> int:
+def bytes_taken(classes: list[int], most: list[int], freed: int) -> int:
     """The bytes for a table, of granules of 16 bytes, whose classes had so many live blocks at most, and of all of which together so many
     blocks were freed and not yet given out again at most."""
     of = [(16 * granules, blocks) for granules, blocks in zip(classes, most) if blocks]

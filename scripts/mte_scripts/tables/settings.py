@@ -4,7 +4,8 @@ import random
 import statistics
 from typing import NamedTuple, Optional
 
-from mte_scripts import texts
+from mte_scripts import text_layout
+from mte_scripts.entry_point import say
 from mte_scripts.tables import verdict, verification
 
 AS_IT_IS = "as it is"
@@ -18,7 +19,7 @@ SETTINGS = {  # words of SCUDO_OPTIONS
 }
 
 
-class Measured(NamedTuple):
+class Measurement(NamedTuple):
     """The runs with a setting and a table: the middle peak in bytes, and the middle processor time in seconds; whether one ended otherwise than
     as it is."""
 
@@ -27,21 +28,31 @@ class Measured(NamedTuple):
     is_strange: bool
 
 
-def measured(runner: str, words: list, path: str, libraries: list[str], given: Optional[str]) -> dict[tuple[str, str], Measured]:
+def measure_settings(
+    runner: str, words: list, path: str, libraries: list[str], given: Optional[str]
+) -> dict[tuple[str, str], Measurement]:
     """Runs the program some times with each setting and each library, each round in a random order."""
     order, found = random.Random(verdict.SEED), {(setting, library): list[verification.Run]() for setting in SETTINGS for library in libraries}
+    most = max(map(len, SETTINGS.values()))
     for made in range(verdict.RUNS):
-        texts.say("tune_program", f"round {made + 1} of {verdict.RUNS}: {words[0]} with {len(SETTINGS)} settings of Scudo")
+        say("tune_program", f"round {made + 1} of {verdict.RUNS}: {words[0]} with {len(SETTINGS)} settings of Scudo")
         for setting, library in order.sample(sorted(found), len(found)):
-            found[setting, library].append(verification.once(runner, words, path, library, given, SETTINGS[setting]))
+            scudo_options = SETTINGS[setting].ljust(most, ":")  # equally long, and Scudo skips colons
+            found[setting, library].append(
+                verification.run_once(runner, words, path, library, given, scudo_options, libraries)
+            )
     usual = {run.status for library in libraries for run in found[AS_IT_IS, library]}
     return {
-        each: Measured(int(statistics.median(run.peak for run in runs)), statistics.median(run.spent for run in runs), any(run.status not in usual for run in runs))
+        each: Measurement(
+            int(statistics.median(run.peak for run in runs)),
+            statistics.median(run.spent for run in runs),
+            any(run.status not in usual for run in runs),
+        )
         for each, runs in found.items()
     }
 
 
-def lines(rows: dict[tuple[str, str], Measured], libraries: list[str]) -> list[str]:
+def lines(rows: dict[tuple[str, str], Measurement], libraries: list[str]) -> list[str]:
     """A line for each setting: the peak with each library, its change against no setting, and the processor time."""
     cells: list[tuple] = [("Settings, KiB and s", "default", "change", "time", "table", "change", "time")]
     for setting in SETTINGS:
@@ -51,4 +62,7 @@ def lines(rows: dict[tuple[str, str], Measured], libraries: list[str]) -> list[s
             row += [f"{one.peak // 1024:,}", "" if setting == AS_IT_IS else f"{100 * (one.peak / usual.peak - 1):+.1f}%", f"{one.time:.2f}"]
         cells.append((setting, *row))
     strange = [setting for setting in SETTINGS if any(rows[setting, library].is_strange for library in libraries)]
-    return [*texts.columns(cells, most=80), *(line for setting in strange for line in texts.wrapped(f"! With {setting} the program ended otherwise."))]
+    return [
+        *text_layout.columns(cells, most=80),
+        *(line for setting in strange for line in text_layout.wrap_text(f"! With {setting} the program ended otherwise.")),
+    ]

@@ -8,10 +8,10 @@ import statistics
 import subprocess
 from typing import NamedTuple, Optional
 
-from mte_scripts import texts
-from mte_scripts.running import Refused
+from mte_scripts import text_layout
+from mte_scripts.entry_point import Refusal, say
 from mte_scripts.tables import verification
-from mte_scripts.tables.figures import WORTH, kibibytes, percent
+from mte_scripts.tables.figures import helps, kibibytes, percent
 
 GLIBC, DEFAULT = "glibc", "Scudo's default"
 OTHERS = (  # an allocator and its file
@@ -23,8 +23,9 @@ OTHERS = (  # an allocator and its file
 LINKED = re.compile(r"lib(jemalloc|mimalloc|tcmalloc|tbbmalloc|hardened_malloc)[^ /]*\.so")
 RUNS, SEED = 5, 1
 STUDENT = 2.7764451  # Student's t with RUNS - 1 degrees of freedom, which 95% do not exceed to either side
+STUDENTS = (12.7062047, 4.3026527, 3.1824463, STUDENT)  # with 1, 2, 3 and 4
 COUNTED = 32 * 4096  # bytes of a process that one processor may have counted apart from the others when Linux is asked for the peak
-LEAST = 1 << 19  # bytes: a difference that is worth a word
+SHORTEST = 0.05  # seconds of processor time, of which a share is worth a word
 
 
 class Row(NamedTuple):
@@ -45,12 +46,12 @@ class Row(NamedTuple):
         """A prediction interval: where the peak of one further run lies with 95%, if peaks are normally distributed, and at least as wide as
         Linux counts."""
         middle, spread = statistics.fmean(self.peaks), statistics.stdev(self.peaks) * math.sqrt(1 + 1 / len(self.peaks))
-        half = max(STUDENT * spread, COUNTED)
+        half = max(STUDENTS[len(self.peaks) - 2] * spread, COUNTED)
         return max(math.floor(middle - half), 0), math.ceil(middle + half)
 
     def is_below(self, other: "Row") -> bool:
         """Whether it takes clearly less: no run took as much as any of the other's, and the middle ones differ by what is worth a word."""
-        return self.peaks[-1] < other.peaks[0] and other.peak() - self.peak() >= max(LEAST, WORTH * other.peak())
+        return self.peaks[-1] < other.peaks[0] and helps(other.peak() - self.peak(), other.peak())
 
 
 class Price(NamedTuple):
@@ -75,7 +76,7 @@ class Price(NamedTuple):
         return min(corners), max(corners)
 
 
-def installed() -> dict[str, str]:
+def installed_allocators() -> dict[str, str]:
     """The other allocators that are there, and their files."""
     try:
         known = subprocess.run(["/sbin/ldconfig", "-p"], capture_output=True, text=True, stdin=subprocess.DEVNULL).stdout
@@ -100,16 +101,22 @@ def present(path: str) -> str:
     return linked[1] if linked else GLIBC
 
 
-def measured(runner: str, words: list, path: str, libraries: dict[str, Optional[str]], given: Optional[str]) -> list[Row]:
+def measure_allocators(
+    runner: str, words: list, path: str, libraries: dict[str, Optional[str]], given: Optional[str]
+) -> list[Row]:
     """Runs the program some times with each library, each round in a random order. The first is the present allocator: no library."""
     order, found = random.Random(SEED), dict[str, list]((name, []) for name in libraries)
     for made in range(RUNS):
-        texts.say("tune_program", f"round {made + 1} of {RUNS}: {words[0]} with {', '.join(libraries)}")
+        say("tune_program", f"round {made + 1} of {RUNS}: {words[0]} with {', '.join(libraries)}")
         for name in order.sample(sorted(libraries), len(libraries)):
-            found[name].append(verification.once(runner, words, path, libraries[name], given))
+            found[name].append(
+                verification.run_once(runner, words, path, libraries[name], given, None, libraries.values())
+            )
     statuses = {run.status for run in found[next(iter(libraries))]}
     if len(statuses) > 1:
-        raise Refused(3, f"{words[0]} does not end the same each time: with status {' or '.join(map(str, sorted(statuses)))}")
+        raise Refusal(
+            3, f"{words[0]} does not end the same each time: with status {' or '.join(map(str, sorted(statuses)))}"
+        )
     return [
         Row(name, sorted(run.peak for run in each), sorted(run.spent for run in each), sum(run.status not in statuses for run in each))
         for name, each in found.items()
@@ -122,23 +129,47 @@ def price_of(rows: list[Row], tuned: str) -> Optional[Price]:
     return Price(rows[0], sound[DEFAULT], sound[tuned]) if DEFAULT in sound and tuned in sound else None
 
 
+def is_worth(rows: list[Row], tuned: str) -> bool:
+    """Whether the table takes clearly less than Scudo's default."""
+    price = price_of(rows, tuned)
+    return price is not None and price.tuned.is_below(price.default)
+
+
 def verdict(rows: list[Row], tuned: str) -> str:
-    """What the program takes, what hardening costs it, what of that the table pays back, and what to do."""
+    """What the table saves or that it is not worth it, what hardening costs in memory, what of that the table pays back, and processor time."""
     now, price = rows[0], price_of(rows, tuned)
-    takes = f"it takes {kibibytes(now.peak())} with {now.name}, as now"
+    takes = f"It takes {kibibytes(now.peak())} with {now.name}, as now"
     if price is None:
-        return f"{takes}. Nothing follows for Scudo, with which it ended otherwise."
+        return f"measured, and nothing follows for Scudo, with which it ended otherwise. {takes}."
+    share = f"in Scudo, {percent(abs(price.back()), price.default.peak())} of the peak"
+    if is_worth(rows, tuned):
+        said = f"measured, the table saves {kibibytes(price.back())} {share}."
+    else:
+        saved = f"saves {kibibytes(price.back())}" if price.back() >= 0 else f"takes {kibibytes(-price.back())} more"
+        said = f"this table is not worth it: take Scudo as it is. Measured, it {saved} {share}."
     takes += f"; {kibibytes(price.default.peak())} with {DEFAULT}; and {kibibytes(price.tuned.peak())} with the table."
-    if not price.plain.is_below(price.default):
-        saved = f"the table saves {kibibytes(price.back())} more" if price.tuned.is_below(price.default) else "the table saves nothing worth a word"
-        return f"{takes} Hardening has no price here that can be told from chance, and {saved}."
+    return f"{said} {payback_text(price, is_worth(rows, tuned))} {takes} {processor_time(price)}"
+
+
+def payback_text(price: Price, is_worth_it: bool) -> str:
+    """What hardening costs in memory, and what of that the table pays back."""
+    now = price.plain
+    if not now.is_below(price.default):
+        return "Hardening has no price here that can be told from chance."
     cost = f"Hardening costs {kibibytes(price.cost())}, {percent(price.cost(), now.peak())}"
-    if not price.tuned.is_below(price.default):
-        return f"{takes} {cost}, and this table is not worth it: take Scudo as it is."
+    if not is_worth_it:
+        return f"{cost}."
     ends = price.range()
     sure = f" ({math.floor(100 * ends[0])} to {math.ceil(100 * ends[1])}%)" if ends else ", as the middle of runs that differ much"
     left = "so that it costs no memory" if not now.is_below(price.tuned) else f"so that it costs {kibibytes(price.tuned.peak() - now.peak())}"
-    return f"{takes} {cost}; the table pays back {100 * price.back() / price.cost():.0f}% of that{sure}, {left}."
+    return f"{cost}; the table pays back {100 * price.back() / price.cost():.0f}% of that{sure}, {left}."
+
+
+def processor_time(price: Price) -> str:
+    """What the middle runs took of processor time, as a sentence."""
+    times = [row.time() for row in price]
+    more = [f" ({100 * (each / times[0] - 1):+.0f}%)" if times[0] >= SHORTEST else "" for each in times]
+    return f"Its processor time is {times[0]:.2f} s now, {times[1]:.2f} s in Scudo{more[1]}, and {times[2]:.2f} s with the table{more[2]}."
 
 
 def lines(rows: list[Row]) -> list[str]:
@@ -150,4 +181,4 @@ def lines(rows: list[Row]) -> list[str]:
         sizes = (f"{each:,}" for each in (row.peak() // 1024, low // 1024, -(-high // 1024)))
         change = "" if row is now else f"{100 * (row.peak() / now.peak() - 1):+.1f}%"
         cells.append((f"{row.name}, now" if row is now else row.name, *sizes, change, f"{row.time():.2f}"))
-    return texts.columns(cells, most=80)
+    return text_layout.columns(cells, most=80)

@@ -1,7 +1,7 @@
 // The runtime of the programs that scripts/traced_cc builds. It gives out blocks, sees loads and stores, and logs both. scripts/find_faults
 // reads the log.
 //
-//   blocks.c   the allocator: no address is given out twice, so an address has one owner for ever: a block, live or freed, or its gap
+//   blocks.c   the allocator: no address is given out again for long, so it has one owner: a block, live or freed, or its gap
 //   shadow.c   what the compiler's own check before each load and store reads
 //   hooks.c    what this check calls where it doesn't know the access
 //   poison.c   the bytes that a program poisons by AddressSanitizer's interface
@@ -47,11 +47,13 @@ typedef uint64_t __attribute__((may_alias, aligned(1))) word;
 #define SHADOW(a) ((unsigned char *)((a) / 8 + SHADOW_OFFSET))
 enum { CLOSED = 0xFF };
 
-enum state { LIVE = 1, FREED };
+// A block is dropped once the log has nothing of it any more. Then its number is unused, until it is another block's.
+enum state { UNUSED, LIVE, FREED, DROPPED };
 struct block {
   address start;
-  size_t size;
-  uint32_t state, chunk;
+  size_t size;  // of an unused number: the next one
+  uint8_t state, has_error, has_request, has_end;  // the last two are records
+  uint32_t chunk;
 };
 
 // where the program calls: the address that the call returns to, and the frame of the function that calls
@@ -81,7 +83,11 @@ static inline address round_up(address a, address to) { return (a + to - 1) & -t
 // blocks.c
 void begin(void);
 void *reserve(address at, size_t size, int mode, int how);
-uint32_t number_of_blocks(void);
+uint32_t number_of_blocks(void);  // the highest number
+extern unsigned long requests;   // of the program
+extern int has_unrecorded;       // whether some have no record
+int drop_block(uint32_t number);  // whether no error can name it any more, nor has
+void end_drop(int is_done);       // all that were dropped are unused, or were not dropped
 int is_asked(void);  // whether the program's requests come to this malloc
 struct block *owner(address);
 int was_given_out(address);
@@ -106,7 +112,7 @@ int logs_right(void);
 int is_right(address, size_t);
 void touch_slowly(address, size_t, int store, struct caller);
 void forget_accesses(void);  // what the thread remembers of its last ones, which are addresses of blocks
-void see_overlap(address, size_t, struct caller);
+void see_overlap(address to, address from, size_t, struct caller);
 void report_access(address, size_t, int store, struct caller);
 
 #define MOST_BYTES ((size_t)PTRDIFF_MAX)  // no object has more: a greater size is a wrong one
@@ -134,6 +140,8 @@ static inline void fill_table(unsigned char *to, int byte, size_t size, int afte
 enum { MOST_NAME = 1024 };
 int has_log(void);     // racy where the lock is not held
 int is_logging(void);  // wants the lock, as all below
+int has_room(void);    // for what is wrong: some of it has room where the log can't grow
+void put_missing(struct block *);  // after the end of the log: what it lacks of a block that an error names
 void put_numbers(char kind, int count, const long *numbers);
 #define put_record(kind, count, ...) put_numbers(kind, count, (const long[]){__VA_ARGS__})
 void put_text(const char *);

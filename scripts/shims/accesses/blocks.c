@@ -1,4 +1,4 @@
-// The allocator. Blocks stand apart, and no address is given out twice: 64 bytes are before a block, and 208 to 2,112 after it, as many as
+// The allocator. Blocks stand apart, and no address is given out again before AGAIN bytes of others were: 64 bytes are before a block, and 208 to 2,112 after it, as many as
 // it has and 64 more where that lies between. So a copy of 256 bytes never reaches from block to block; that matters since gcc looks only
 // at the first and the last byte of a struct. And an address names its block also after the block's free; the rest of a mebibyte is its
 // last block's. The memory of freed blocks goes to new ones or back to the system a mebibyte at a time, once another 64 MiB were freed; then
@@ -7,26 +7,36 @@
 #include "accesses.h"
 #include <dlfcn.h>
 #include <errno.h>
+#include <link.h>
 #include <stdlib.h>
 #include <sys/mman.h>
 #include <sys/syscall.h>
 #include <unistd.h>
 
+#ifndef DELAY
 #define DELAY ((address)64 << 20)
+#endif
+#ifndef AGAIN
+#define AGAIN ((address)64 << 30)
+#endif
 #define SPARE ((address)16 << 20)  // freed bytes in which new blocks may take the memory
-enum { SPARED = 16 /* chunks */, POPULATE_WRITE = 23 /* MADV_POPULATE_WRITE of Linux 5.14 and newer */ };
+#define FORGOTTEN UINT32_MAX       // live blocks of a chunk whose addresses nobody owns any more
+enum { SWEEP = 1 << 22 /* blocks */, SPARED = 16 /* chunks */, POPULATE_WRITE = 23 /* MADV_POPULATE_WRITE of Linux 5.14 and newer */ };
 enum { DONT_UNMAP = 4 /* MREMAP_DONTUNMAP of Linux 5.7 and newer */, MOST_MOVES = 8000 /* each may take four of the 65,530 mappings */ };
 enum { BEFORE = 64, AFTER = 64, LEAST_MORE = 144, MOST_MORE = 2048 };
 
 pthread_mutex_t accesses_lock = PTHREAD_MUTEX_INITIALIZER;
 __thread int busy __attribute__((tls_model("initial-exec")));
-static address next = ARENA + CHUNK, freed_bytes;
-static uint32_t last_block;
+static address next = ARENA + CHUNK, top = ARENA + CHUNK, freed_bytes;  // where the next block goes, and where all end
+static uint32_t last_block, most_block, unused;  // the newest, the highest number, and an unused one
+unsigned long requests;
+int has_unrecorded;
 
 // chunks without a live block, in the order in which they lost their last
 struct empty { uint32_t first, count; address freed_bytes; };
 static uint32_t *live_in_chunk;
 static struct empty *empties;
+#define EMPTY(n) (&empties[(n) % (ARENA_SIZE / CHUNK)])
 static size_t oldest_empty, next_empty;
 static int moves;       // how often a chunk took the memory of another one
 static int is_used;     // whether the chunk of `next` has such memory, which is not zero
@@ -58,16 +68,47 @@ void begin(void) {
   live_in_chunk = reserve_table(0, ARENA_SIZE / CHUNK * sizeof *live_in_chunk);
 }
 
-uint32_t number_of_blocks(void) { return last_block; }
+uint32_t number_of_blocks(void) { return most_block; }
+
+int drop_block(uint32_t number) {
+  struct block *block = &BLOCKS[number];
+  if (block->state != FREED || block->has_error) return 0;
+  if (live_in_chunk[block->chunk] != FORGOTTEN && owner(block->start) == block) return 0;
+  block->state = DROPPED;
+  return 1;
+}
+
+void end_drop(int is_done) {
+  for (uint32_t number = most_block; number; number--) {
+    struct block *block = &BLOCKS[number];
+    if (block->state == DROPPED && !is_done) block->state = FREED;
+    else if (block->state == DROPPED) block->state = UNUSED, block->size = unused, unused = number;
+  }
+}
+
+// Without a log the numbers of old blocks are taken again all the same.
+static uint32_t new_number(void) {
+  static uint32_t next_sweep = SWEEP;
+  if (!unused && most_block >= next_sweep && !has_log()) {
+    for (uint32_t number = 1; number <= most_block; number++) drop_block(number);
+    end_drop(1);
+    next_sweep = most_block + SWEEP;
+  }
+  if (!unused) return ++most_block;
+  uint32_t number = unused;
+  unused = BLOCKS[number].size;
+  return number;
+}
 
 static uint32_t chunk_of(address a) { return (a - ARENA) / CHUNK; }
 
 struct block *owner(address a) {
-  uint32_t number = !is_in_arena(a) ? 0 : a < next ? OWNERS[(a - ARENA) / 16] : next % CHUNK && chunk_of(a) == chunk_of(next) ? last_block : 0;
+  if (!is_in_arena(a) || a >= top) return NULL;
+  uint32_t number = next % CHUNK && a >= next && chunk_of(a) == chunk_of(next) ? last_block : OWNERS[(a - ARENA) / 16];
   return number ? &BLOCKS[number] : NULL;
 }
 
-int was_given_out(address a) { return ARENA + CHUNK <= a && a < next; }
+int was_given_out(address a) { return ARENA + CHUNK <= a && a < top; }
 
 static void own(address from, address to, uint32_t number) {
   uint32_t *at = OWNERS + (from - ARENA) / 16, *end = OWNERS + (to - ARENA) / 16;
@@ -80,7 +121,7 @@ static size_t gap_after(size_t size) {
 }
 
 static void is_empty(uint32_t chunk, address end) {
-  empties[next_empty++] = (struct empty){chunk, (end - 1 - ARENA) / CHUNK - chunk + 1, freed_bytes};
+  *EMPTY(next_empty++) = (struct empty){chunk, (end - 1 - ARENA) / CHUNK - chunk + 1, freed_bytes};
 }
 
 static int waited(const struct empty *empty, address most) { return freed_bytes - empty->freed_bytes >= most; }
@@ -90,14 +131,15 @@ static void forget(const struct empty *old) {
   madvise((void *)(ARENA + at), size, MADV_DONTNEED);
   for (int store = 0; store < 2; store++) madvise(KNOWN(store) + at / 16, size / 16, MADV_DONTNEED);
   madvise(OWNERS + at / 16, size / 16 * sizeof *OWNERS, MADV_DONTNEED);
+  for (uint32_t i = 0; i < old->count; i++) live_in_chunk[old->first + i] = FORGOTTEN;
   forget_poison(ARENA + at, size);
   close_shadow(ARENA + at, ARENA + at + size);
 }
 
 static void return_memory(void) {
   int error = errno;
-  while (oldest_empty < next_empty && waited(&empties[oldest_empty], moves < MOST_MOVES && empties[oldest_empty].count == 1 ? DELAY + SPARE : DELAY))
-    forget(&empties[oldest_empty++]);
+  while (oldest_empty < next_empty && waited(EMPTY(oldest_empty), moves < MOST_MOVES && EMPTY(oldest_empty)->count == 1 ? DELAY + SPARE : DELAY))
+    forget(EMPTY(oldest_empty++));
   errno = error;
 }
 
@@ -106,7 +148,7 @@ static int moved(void *from, void *to, size_t size) { return mremap(from, size, 
 // Gives a new chunk the memory of an old one and of its tables, which is cheaper than new memory. What the tables know of the old one's
 // accesses is all zero, and who owns an address is written again.
 static int take_memory(address chunk) {
-  struct empty *old = &empties[oldest_empty];
+  struct empty *old = EMPTY(oldest_empty);
   if (moves == MOST_MOVES || oldest_empty == next_empty || old->count > 1 || !waited(old, DELAY)) return 0;
   int error = errno;
   size_t from = old->first * CHUNK / 16, to = (chunk - ARENA) / 16;
@@ -125,6 +167,18 @@ static void end_chunk(void) {
   own(next, round_up(next, CHUNK), last_block);
   if (!live_in_chunk[chunk_of(next)]) is_empty(chunk_of(next), next);
   next = round_up(next, CHUNK);
+}
+
+// Where a block goes that begins a chunk: after all others, or once there are many, to chunks whose addresses nobody owns any more.
+static address next_place(uint32_t chunks) {
+  static uint32_t at = 1;
+  uint32_t end = chunk_of(top), count = 0;
+  for (uint32_t tried = 0; top - ARENA >= AGAIN && tried < end; tried++) {
+    if (at >= end) at = 1, count = 0;
+    count = live_in_chunk[at++] == FORGOTTEN ? count + 1 : 0;
+    if (count == chunks) return ARENA + (at - chunks) * CHUNK;
+  }
+  return top;
 }
 
 // no access of the block is logged
@@ -151,22 +205,26 @@ static void populate(address chunk) {
 
 static struct block *new_block(size_t size, size_t alignment) {
   begin();
-  if (size > ARENA_SIZE / 16 || alignment > ARENA_SIZE / 16 || last_block + 1 >= MOST_BLOCKS) return NULL;
+  if (size > ARENA_SIZE / 16 || alignment > ARENA_SIZE / 16 || (!unused && most_block + 1 >= MOST_BLOCKS)) return NULL;
   if (alignment < 16) alignment = 16;
   address most = BEFORE + alignment + round_up(size, 16) + gap_after(size);
   int is_large = most > CHUNK / 2;
   // a small block stands in one chunk, a large one has its own
   if (is_large || chunk_of(next + most) != chunk_of(next)) end_chunk();
+  if (next % CHUNK == 0) next = next_place(round_up(most, CHUNK) / CHUNK);
   if (next + most + CHUNK > ARENA + ARENA_SIZE) return NULL;
   address start = round_up(next + BEFORE, alignment), end = start + round_up(size, 16) + gap_after(size);
   if (next % CHUNK == 0 && !begin_chunks(next, round_up(end, CHUNK))) return NULL;
   if (next % CHUNK == 0) {
+    for (address at = next; at < end; at += CHUNK) live_in_chunk[chunk_of(at)] = 0;
+    if (end > top) top = round_up(end, CHUNK);
     is_used = !is_large && take_memory(next);
     if (!is_large && !is_used) populate(next);
   }
 
-  struct block *block = &BLOCKS[++last_block];
-  *block = (struct block){start, size, LIVE, chunk_of(next)};
+  struct block *block = &BLOCKS[last_block = new_number()];
+  *block = (struct block){start, size, LIVE, 0, 0, 0, chunk_of(next)};
+  requests++;
   live_in_chunk[block->chunk]++;
   address rest = is_large ? round_up(end, CHUNK) : end;
   own(next, rest, last_block);
@@ -181,7 +239,7 @@ static void end_block(struct block *block) {
   else close_shadow(block->start, round_up(block->start + block->size, 8));
   block->state = FREED;
   freed_bytes += BEFORE + block->size + AFTER;
-  if (!--live_in_chunk[block->chunk] && block->chunk != chunk_of(next))
+  if (!--live_in_chunk[block->chunk] && (next % CHUNK == 0 || block->chunk != chunk_of(next)))
     is_empty(block->chunk, block->start + round_up(block->size, 16) + gap_after(block->size));
   return_memory();
 }
@@ -195,11 +253,13 @@ void *request(char kind, size_t size, size_t alignment, struct caller from) {
   struct block *block = new_block(size, alignment);
   if (block && kind == 'c' && is_used) fill_bytes((void *)block->start, 0, size);
   if (block && !is_nested && is_logging()) {
+    block->has_request = 1;
     put_record(kind, 2, (long)(block - BLOCKS), (long)size);
     put_stack(from, &stack);
     if (is_unwatched) put_record('i', 1, (long)(block - BLOCKS)), put_end();
     if (alignment > 16) put_record('a', 2, (long)(block - BLOCKS), (long)alignment), put_end();
   }
+  if (block && is_nested) has_unrecorded = 1;
   if (!is_nested) leave();
   else if (is_held) pthread_mutex_unlock(&accesses_lock);
   if (!block) errno = ENOMEM;
@@ -219,10 +279,11 @@ static struct block *enter_at(address a, struct caller from) {
   enter();
   tell_guess();
   struct block *live = live_block_at(a), *block = owner(a);
-  if (live || !is_logging()) return live;
+  if (live || !has_room()) return live;
   struct wrong found = {.letter = was_given_out(a) ? 'o' : 'n', .at = a};
   if (block) found = (struct wrong){.letter = 'x', .is_freed = block->state == FREED, .number = block - BLOCKS, .offset = (long)(a - block->start),
                                       .block_size = (long)block->size};
+  put_missing(block);
   put_record(found.letter, block ? 2 : 0, found.number, found.offset);
   if (!stack.count) walk(from, (address)__builtin_frame_address(0), &stack);
   put_frames(&stack);
@@ -238,6 +299,7 @@ static void give_back(void *pointer, struct caller from) {
   struct block *block = enter_at((address)pointer, from);
   if (block) {
     if (is_logging()) {
+      block->has_end = 1;
       put_record('f', 1, (long)(block - BLOCKS));
       put_stack(from, &stack);
     }
@@ -255,7 +317,8 @@ static void *resize(void *pointer, size_t size, struct caller from) {
   struct block *block = enter_at((address)pointer, from), *new = new_block(size, 16), *old = owner((address)pointer);
   if (new) {
     if (is_logging()) {
-      if (block) put_record('r', 3, (long)(block - BLOCKS), (long)(new - BLOCKS), (long)size);
+      new->has_request = 1;
+      if (block) block->has_end = 1, put_record('r', 3, (long)(block - BLOCKS), (long)(new - BLOCKS), (long)size);
       else put_record('m', 2, (long)(new - BLOCKS), (long)size);
       put_stack(from, &stack);
     }
@@ -269,12 +332,18 @@ static void *resize(void *pointer, size_t size, struct caller from) {
 
 SHOWN void *malloc(size_t size) { return request('m', size, 16, CALLER); }
 
-// They do not where a program that was linked without the runtime loads a library that has it, or has a malloc of its own.
+// They do not where a program that was linked without the runtime loads a library that has it, or has a malloc of its
+// own. In a program at a fixed address the name may be that of an entry of its linkage table, which is followed.
 int is_asked(void) {
   Dl_info own, first;
+  ElfW(Sym) *symbol = NULL;
   busy++;
-  void *asked = dlsym(RTLD_DEFAULT, "malloc");
-  int is_own = asked && dladdr(asked, &first) && dladdr(&accesses_lock, &own) && first.dli_fbase == own.dli_fbase;
+  void *(*asked)(size_t) = (void *(*)(size_t))dlsym(RTLD_DEFAULT, "malloc"), *made = NULL;
+  int is_found = asked && dladdr1((void *)asked, &first, (void **)&symbol, RTLD_DL_SYMENT) && dladdr(&accesses_lock, &own);
+  int is_own = is_found && first.dli_fbase == own.dli_fbase;
+  if (is_found && !is_own && symbol && symbol->st_shndx == SHN_UNDEF) made = asked(1);
+  if (made && owner((address)made)) is_own = 1;
+  else if (made) ((void (*)(void *))dlsym(RTLD_DEFAULT, "free"))(made);
   busy--;
   return is_own;
 }

@@ -10,9 +10,9 @@ static inline __attribute__((always_inline)) void touch(const void *at, size_t s
 #define STORES(at, size) touch(at, size, 1, CALLER)
 #define ENDLESS ((size_t)-1)
 
-// A copy between two places that overlap: libc may copy in any order.
+// A copy between two places of a block, or of memory that is not the heap's, that overlap: libc may copy in any order.
 static inline __attribute__((always_inline)) void part(const void *to, const void *from, size_t size, struct caller caller) {
-  if (size <= MOST_BYTES && ((address)to - (address)from < size || (address)from - (address)to < size)) see_overlap((address)to, size, caller);
+  if (size <= MOST_BYTES && ((address)to - (address)from < size || (address)from - (address)to < size)) see_overlap((address)to, (address)from, size, caller);
 }
 
 // the bytes of so many things; a product that is too large is a wrong size

@@ -60,7 +60,7 @@ static void log_crash(int number, const siginfo_t *info, const ucontext_t *conte
   find_stack(context, &crash.stack);
   if (was_busy) busy++, drop_begun();
   else enter();
-  if (is_logging()) {
+  if (has_room()) {
     put_record('C', 2, (long)number, (long)info->si_code);
     put_text(" "), put_number(crash.at, 16);
     put_frames(&crash.stack);

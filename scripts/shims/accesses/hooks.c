@@ -52,7 +52,7 @@ static int is_first(struct caller from, uint32_t block, uint32_t part) {
 }
 
 void put_times(void) {
-  for (int i = 0; i < SEEN && number_of_wrong() && is_logging(); i++)
+  for (int i = 0; i < SEEN && number_of_wrong() && has_room(); i++)
     if (seen[i].times > 1) put_record('+', 2, seen[i].record, seen[i].times), put_end();
 }
 
@@ -99,10 +99,11 @@ static void wrong(struct block *block, address a, size_t size, int store, struct
   int is_poison = is_of_poison(a, size);
   struct wrong found = {.letter = is_poison ? "PQ"[store] : "LS"[store], .number = number_of(block), .offset = is_poison ? (long)a : place_of(a), .size = size, .at = a};
   if (block) found.is_freed = block->state == FREED, found.offset = (long)(a - block->start), found.block_size = (long)block->size;
-  if (!is_logging() || !is_first(from, found.number, part_and_kind(block, a, size, store))) return;
+  int is_logged = has_room();
+  if (!has_log() || (is_logged && !is_first(from, found.number, part_and_kind(block, a, size, store)))) return;
   if (!stack->count) walk(from, (address)__builtin_frame_address(0), stack);
-  put_record(found.letter, 3, found.number, found.offset, found.size);
-  put_frames(stack);
+  if (!is_logged) not_logged++;
+  else put_missing(block), put_record(found.letter, 3, found.number, found.offset, found.size), put_frames(stack);
   found.stack = *stack;
   if (to) *to = found;
   else will_tell(&found);
@@ -166,17 +167,21 @@ static int see(address a, size_t size, int store, struct caller from) {
   return is_wrong;
 }
 
-// a copy that overlaps itself; where its bytes may not be touched at all, that is told already
-void see_overlap(address to, size_t size, struct caller from) {
+// A copy that overlaps itself. Where bytes of one of the two places may not be touched at all, that is told already, and is all that is wrong:
+// two places that are right overlap in one block, while past the end of a block come bytes that only this heap has put there.
+void see_overlap(address to, address from, size_t size, struct caller caller) {
   struct stack stack;
   struct block *block = owner(to);
-  if (busy || !has_log() || !is_right(to, size)) return;
-  unwind(from, &stack);
+  if (busy || !has_log() || !is_right(to, size) || !is_right(from, size)) return;
+  unwind(caller, &stack);
   enter();
   tell_guess();
   struct wrong found = {.letter = 'V', .number = number_of(block), .offset = (long)(block ? to - block->start : to), .size = size, .at = to, .stack = stack};
   if (block) found.block_size = (long)block->size;
-  if (is_logging() && is_first(from, found.number, 2 * OVERLAP)) put_record('V', 3, found.number, found.offset, found.size), put_frames(&stack), will_tell(&found);
+  if (has_room() && is_first(caller, found.number, 2 * OVERLAP)) {
+    put_missing(block), put_record('V', 3, found.number, found.offset, found.size), put_frames(&stack);
+    will_tell(&found);
+  }
   leave();
 }
 

@@ -113,9 +113,35 @@ static size_t ask(const struct module *module, address in_file, char *answer, si
 
 static int begins(const char *text, const char *with) { return !strncmp(text, with, strlen(with)); }
 
-// whether a file is the program's, and not the system's
+// the next part of a path, its length in *LENGTH; empty parts and `.` are passed over
+static const char *next_name(const char *at, size_t *length) {
+  do at += strspn(at, "/"), *length = strcspn(at, "/");
+  while (*length == 1 && *at == '.' && (at += 1));
+  return at;
+}
+
+// Whether a file is the program's, and not the system's: one of a system's folders, by whatever way, or a header of a C++ library.
+// scripts/mte_scripts/faults/fault_places.py has the same rule.
 static int is_own(const char *path) {
-  return *path != '?' && !begins(path, "/usr/lib") && !begins(path, "/lib") && !begins(path, "/usr/include") && !strstr(path, "/bits/");
+  static const char *const SYSTEM[] = {"usr/lib", "usr/lib64", "lib", "lib64", "usr/include"};
+  char whole[MOST_NAME];
+  size_t length, end = 0;
+  if (*path == '?') return 0;
+  if (*path != '/' || strlen(path) >= sizeof whole) return !strstr(path, "/include/c++/");
+  for (const char *at = next_name(path, &length); length; at = next_name(at + length, &length)) {
+    if (length == 2 && !memcmp(at, "..", 2)) {
+      while (end && whole[--end] != '/') {}
+      continue;
+    }
+    if (end) whole[end++] = '/';
+    memcpy(whole + end, at, length), end += length;
+  }
+  whole[end] = 0;
+  for (size_t i = 0; i < sizeof SYSTEM / sizeof *SYSTEM; i++) {
+    size_t folder = strlen(SYSTEM[i]);
+    if (!strncmp(whole, SYSTEM[i], folder) && whole[folder] == '/') return 0;
+  }
+  return !strstr(whole, "/include/c++/");
 }
 
 // where a function's parameters begin: those of lambdas' names and of templates' values are before
@@ -135,6 +161,7 @@ static void add_source(struct line *line, char *source, char *function) {
   long length = syscall(SYS_getcwd, here, sizeof here) - 1;
   if (length > 0 && begins(source, here) && source[length] == '/') source += length + 1;
   else if (slash) source = slash + 1;
+  while (begins(source, "./")) source += 2;
   *parameters(function) = 0;
   add(line, source), add(line, " in "), add(line, function);
 }

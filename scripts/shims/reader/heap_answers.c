@@ -116,12 +116,13 @@ static inline __attribute__((always_inline)) struct record read_record(const cha
   int numbers = 0, has_stack = 1;
   switch (*at) {
     case 'l': case 's': numbers = 3, has_stack = 0; break;
-    case '-': case 'i': case 'k': numbers = 1, has_stack = 0; break;
-    case '+': case 'a': numbers = 2, has_stack = 0; break;
+    case '-': case 'g': case 'i': case 'k': case 'd': numbers = 1, has_stack = 0; break;
+    case '+': case 'a': case 'z': numbers = 2, has_stack = 0; break;
+    case 'h': has_stack = 0; break;
     case 'L': case 'S': case 'P': case 'Q': case 'V': case 'p': case 'u': case 'r': numbers = 3; break;
     case 'm': case 'c': case 'x': numbers = 2; break;
     case 'f': numbers = 1; break;
-    case 'o': case 'n': break;
+    case 'o': case 'n': case 't': break;
     case 'C': record.stack = last_word(&record); break;
     case 'M': case 'e': return record;
     default: check(0, "a letter is wrong");
@@ -146,10 +147,12 @@ enum { WANTED = 1, ENDED_ONCE = 2, IN_USE = 4, RECORDED = 8 };  // of a block: i
 static unsigned char *marks, *is_taken_back;
 static uint32_t *sizes, *made_of;  // of a block: its size, as far as the number can say it, and the block that a realloc made it of
 static long known = 1, unrecorded, counts[LARGEST_SIZE + 2], error_count;
+static long left_out;               // blocks that the log has nothing of any more
+static int has_gaps, is_unrecorded;  // records are missing; blocks that were requested never had one
 
 static inline void know(long block) {
   static long room;
-  check(block > 0 && block < MOST_BLOCKS && block <= known + MOST_UNRECORDED - unrecorded, "a block is wrong");
+  check(block > 0 && block < MOST_BLOCKS && block <= known + MOST_UNRECORDED + left_out - unrecorded, "a block is wrong");
   if (block >= room) {
     long more = block + block / 4 + 1024;
     marks = larger(marks, room, more, 1), sizes = larger(sizes, room, more, sizeof *sizes), made_of = larger(made_of, room, more, sizeof *made_of);
@@ -159,8 +162,8 @@ static inline void know(long block) {
 }
 
 static inline void request_of(long block, long size) {
-  check(block >= known && size >= 0 && size < MOST_SIZE, "a request is wrong");
   know(block);
+  check(!(marks[block] & (RECORDED | ENDED_ONCE)) && size >= 0 && size < MOST_SIZE, "a request is wrong");
   unrecorded--;
   marks[block] |= RECORDED, sizes[block] = size < UINT32_MAX ? size : UINT32_MAX;
   counts[size <= LARGEST_SIZE ? size : LARGEST_SIZE + 1]++;
@@ -210,8 +213,18 @@ static void learn(const struct record *record) {
     case 'i': case 'k':
       if (number[0] || record->letter == 'i') know(number[0]);
       return;
-    case '-': case '+':
-      check(number[0] > 0 && number[0] <= error_count && (record->letter == '-' || number[1] > 0), "an error is not there");
+    case 'd':
+      check(number[0] >= 0 && number[0] < MOST_SIZE && left_out < MOST_SIZE, "a gap is wrong");
+      left_out += number[0], has_gaps = 1;
+      return;
+    case 'z':
+      check(number[0] >= 0 && number[0] <= LARGEST_SIZE + 1 && number[1] > 0 && number[1] < MOST_SIZE, "a count is wrong");
+      counts[number[0]] += number[1];
+      check(counts[number[0]] < MOST_SIZE, "a count is wrong");
+      return;
+    case 'h': is_unrecorded = 1; return;
+    case '-': case '+': case 'g':
+      check(number[0] > 0 && number[0] <= error_count && (record->letter != '+' || number[1] > 0), "an error is not there");
       if (record->letter == '-') is_taken_back[number[0] - 1] = 1;
       return;
     case 'L': case 'S': case 'P': case 'Q': case 'V': case 'x': case 'o': case 'n': return learn_error(record);
@@ -274,7 +287,7 @@ static mte_tool_heap *heaps[MOST_SEEDS];
 static int seed_count;
 static uint32_t *held_as;  // of a block: its place among those that are held, which live or have an error to come
 static struct held {
-  long size, requests, small_requests;  // of the log and of the small log at its end
+  long size, requests, small_requests, gaps;  // of the log and of the small log at its end
   uint32_t number, generation, next;  // in the small log, of its slot, of those that are free
   enum { LIVE, FREED, RESIZED } state;
 } *held;
@@ -343,7 +356,7 @@ static void make_heaps(mte_tool_options options, const char *to_profile, const c
 
 static FILE *small;
 static uint32_t new_blocks;
-static long request_count, small_requests;
+static long request_count, small_requests, gap_count;
 static int has_freed;
 
 static void write_text(const char *from, const char *to) { fwrite(from, 1, to - from, small); }
@@ -400,7 +413,7 @@ static void begin_frees(void) {
 }
 
 static void note_end(uint32_t block, int state) {
-  if (held_as[block]) held_of(block)->state = state, held_of(block)->requests = request_count, held_of(block)->small_requests = small_requests;
+  if (held_as[block]) held_of(block)->state = state, held_of(block)->requests = request_count, held_of(block)->small_requests = small_requests, held_of(block)->gaps = gap_count;
 }
 
 // ---- the program's calls, on each heap
@@ -600,13 +613,14 @@ static void do_error(const struct record *record, long number) {
   struct held *own = block ? held_of(block) : NULL;
   if (own && own->state != LIVE && own->requests < request_count && own->small_requests == small_requests) write_filler();
   write_record(record, own_number);
-  if (own && *pointers_of(block) && !is_taken_back[number]) return print_error(record, block);
-  puts("0 0 0 0");
+  int is_unknown = own && own->state != LIVE && own->gaps < gap_count;  // who had its slot since
+  if (own && *pointers_of(block) && !is_taken_back[number] && !is_unknown) return print_error(record, block);
+  puts(is_unknown ? "-1 0 0 0" : "0 0 0 0");
   for (int k = 0; k < seed_count; k++) putchar('\n');
 }
 
 static void do_text(const struct record *record, const char *end, long *error) {
-  uint32_t block = record->count ? record->numbers[0] : 0;
+  uint32_t block = record->count && record->letter != 'd' && record->letter != 'z' ? record->numbers[0] : 0;
   switch (record->letter) {
     case 'r': return resize(record);
     case 'l': case 's': return do_right(record);
@@ -614,8 +628,9 @@ static void do_text(const struct record *record, const char *end, long *error) {
       if (!block || number_of(block)) write_record(record, block ? number_of(block) : 0);
       return;
     case 'C': write_text(record->begin, record->stack - 1), write_stack(record); return;
-    case 'M': case '-': case '+': case 'e': return write_text(record->begin, end);
-    case 'i': case 'k': return;
+    case 'M': case '-': case 'g': case '+': case 'e': return write_text(record->begin, end);
+    case 'd': begin_frees(), request_count += record->numbers[0] + 1, gap_count++; return;
+    case 'i': case 'k': case 'z': case 't': case 'h': return;
   }
   do_error(record, (*error)++);
 }
@@ -623,7 +638,7 @@ static void do_text(const struct record *record, const char *end, long *error) {
 static void perform(void) {
   long error = 0;
   held_as = larger(NULL, 0, known, sizeof *held_as), generations = larger(NULL, 0, granules + 1, sizeof *generations);
-  new_blocks = unrecorded > 0;  // the small log lacks a record, too
+  new_blocks = has_gaps ? is_unrecorded : unrecorded > 0;  // the small log lacks a record, too
   for (const struct step *step = steps; step < steps + step_count; step++) {
     uint32_t kind = step->what >> BLOCK_BITS, block = step->what & (MOST_BLOCKS - 1);
     if (kind == OF_TEXT) {
@@ -686,6 +701,6 @@ int main(int words, char **word) {
   write_log(word[SMALL], small_text, small_length);
   if (!trace) trace = opened(word[TRACE]);  // empty where it has no room
   written(trace);
-  printf("%ld %ld %ld\n", conflicts, events, exhausted);
+  printf("%ld %ld %ld %ld\n", conflicts, events, exhausted, left_out);
   return fflush(stdout) ? 3 : 0;
 }

@@ -2,23 +2,23 @@
 
 import re
 
-from mte_scripts.recording.imports import found, json_text
-from mte_scripts.recording.imports.found import Buckets, Found
+from mte_scripts.recording.imports import import_result, json_text
+from mte_scripts.recording.imports.import_result import Buckets, ImportResult
 from mte_scripts.recording.imports.source import Source, Wrong
 
 NAME = "dhat"
 WHAT = "the JSON of DHAT (valgrind --tool=dhat, or Rust's crate)"
-KINDS = (found.ALL, found.LIVE)
+KINDS = (import_result.ALL, import_result.LIVE)
 
 BEGIN = re.compile(rb'\A\s*\{.*"dhatFileVersion"', re.DOTALL)
 VERSION = 2
 MODES = ("heap", "rust-heap")
 # the names of blocks and bytes
-MEMBERS = {found.ALL: ("tbk", "tb"), found.LIVE: ("gbk", "gb")}
+MEMBERS = {import_result.ALL: ("tbk", "tb"), import_result.LIVE: ("gbk", "gb")}
 
 
-def read(source: Source, kind: str) -> Found:
-    value = json_text.parsed(source.whole())
+def read(source: Source, kind: str) -> ImportResult:
+    value = json_text.parse_json(source.whole())
     version, mode = json_text.member(value, "dhatFileVersion", int), json_text.member(value, "mode", str)
     if version != VERSION or mode not in MODES:
         raise Wrong(f"it is of version {version} and mode {mode[:40]}: read are version {VERSION}, modes {' and '.join(MODES)}")
@@ -30,7 +30,7 @@ def read(source: Source, kind: str) -> Found:
     told = buckets.told("DHAT")
     if known:
         of = "DHAT has the accesses of their stacks, which it follows where all blocks have one size"
-        told.append(f"{found.number(known, 'block')} are exact: {of}")
-    if kind == found.LIVE:
+        told.append(f"{import_result.number(known, 'block')} are exact: {of}")
+    if kind == import_result.LIVE:
         told.append("the live blocks are those when the most bytes were live")
-    return Found(kind, buckets.counts, told)
+    return ImportResult(kind, buckets.counts, told)

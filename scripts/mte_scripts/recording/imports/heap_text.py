@@ -5,14 +5,14 @@ import math
 import re
 from typing import Iterator
 
-from mte_scripts import texts
-from mte_scripts.recording.imports import found
-from mte_scripts.recording.imports.found import Buckets, Found
+from mte_scripts import count_texts, text_layout
+from mte_scripts.recording.imports import import_result
+from mte_scripts.recording.imports.import_result import Buckets, ImportResult
 from mte_scripts.recording.imports.source import Source, Wrong
 
 NAME = "heap-text"
 WHAT = "a heap profile as text, of gperftools, of jemalloc's heap dumps, or of Go"
-KINDS = (found.ALL, found.LIVE)
+KINDS = (import_result.ALL, import_result.LIVE)
 
 BEGIN = re.compile(rb"\Aheap profile:|\Aheap_v2/")
 HEADER = re.compile(rb"heap profile:\s*(\d+):\s*(\d+)\s*\[\s*(\d+):\s*(\d+)\]\s*@\s*(\S+)\s*")
@@ -22,6 +22,7 @@ THREADS = re.compile(rb"\s*t(\*|\d+):\s*(\d+):\s*(\d+)\s*\[\s*(\d+):\s*(\d+)\]\s
 SAMPLING = re.compile(r"(heap|heap_v2|heapz_v2)/(\d{1,19})")
 END = b"MAPPED_LIBRARIES:"
 MOST_DIGITS = 19  # of a number of blocks or bytes
+MOST_STACKS = 1 << 21
 
 
 class Profile:
@@ -35,7 +36,7 @@ class Profile:
         self.has_end = False
 
 
-def read(source: Source, kind: str) -> Found:
+def read(source: Source, kind: str) -> ImportResult:
     lines = (line for some in source.lines() for line in some)
     first = next(lines, b"")
     profile = Profile(kind)
@@ -49,10 +50,10 @@ def read(source: Source, kind: str) -> Found:
         period, form = int(match[1]), "jemalloc"
         read_dump(profile, up_to_end(profile, lines))
     else:
-        raise Wrong(f"its first line is not `heap profile: ..` or `heap_v2/N`: {texts.shown(first)}")
+        raise Wrong(f"its first line is not `heap profile: ..` or `heap_v2/N`: {text_layout.shorten_line(first)}")
     if source.ends_in_line:
         raise Wrong("it ends inside a line: it was cut off")
-    return counted(profile, period, form)
+    return count_stacks(profile, period, form)
 
 
 def numbers(match: re.Match, first: int) -> list:
@@ -86,7 +87,7 @@ def read_stacks(profile: Profile, lines: Iterator[bytes]) -> None:
         if match := STACK.fullmatch(line):
             take(profile, numbers(match, 1))
         elif line.strip() and not line.startswith(b"#"):
-            raise Wrong(texts.encoding(line, at) or f"line {at} is no line of a stack: {texts.shown(line)}")
+            raise Wrong(count_texts.encoding(line, at) or f"line {at} is no line of a stack: {text_layout.shorten_line(line)}")
 
 
 def read_dump(profile: Profile, lines: Iterator[bytes]) -> None:
@@ -103,21 +104,23 @@ def read_dump(profile: Profile, lines: Iterator[bytes]) -> None:
                     take(profile, numbers(match, 2))
                 is_told = True
         elif line.strip():
-            raise Wrong(texts.encoding(line, at) or f"line {at} is no line of a dump: {texts.shown(line)}")
+            raise Wrong(count_texts.encoding(line, at) or f"line {at} is no line of a dump: {text_layout.shorten_line(line)}")
     if not is_told or not has_stack:
         raise Wrong("a stack has no counts: it was cut off" if has_stack else "it has no stack: it was cut off, or nothing was sampled")
 
 
 def take(profile: Profile, counts: list) -> None:
+    if len(profile.stacks) == MOST_STACKS:
+        raise Wrong(f"it has more than {MOST_STACKS:,} stacks")
     profile.sums = [one + other for one, other in zip(profile.sums, counts)]
     profile.stacks.append(counts)
 
 
-def counted(profile: Profile, period: int, form: str) -> Found:
+def count_stacks(profile: Profile, period: int, form: str) -> ImportResult:
     kind = profile.kind
-    if kind == found.ALL and not any(stack[2] for stack in profile.stacks):
-        kind = found.LIVE  # jemalloc counts no others unless prof_accum is set
-    buckets, place = Buckets(), 0 if kind == found.LIVE else 2
+    if kind == import_result.ALL and not any(stack[2] for stack in profile.stacks):
+        kind = import_result.LIVE  # jemalloc counts no others unless prof_accum is set
+    buckets, place = Buckets(), 0 if kind == import_result.LIVE else 2
     for stack in profile.stacks:
         blocks, total = stack[place : place + 2]
         buckets.add(blocks, total, share_of(blocks, total, period))
@@ -125,7 +128,7 @@ def counted(profile: Profile, period: int, form: str) -> Found:
     if period > 1:
         how = f"a block of s bytes is in the sample with the probability 1 - exp(-s/{period:,}), and the counts are scaled up by that"
         told.append(f"sampled, a block in about {period:,} bytes, so the counts are estimates: {how}")
-        told.append(f"! {found.MISSED}")
+        told.append(f"! {import_result.MISSED}")
     if form == "jemalloc":
         told.append("the sizes are of jemalloc's classes, to which it rounds requests up; where it samples, they are off by some percent")
     elif form == "Go":
@@ -137,7 +140,7 @@ def counted(profile: Profile, period: int, form: str) -> Found:
         told.append(f"! {blocks - profile.sums[place]:,} of {blocks:,} blocks are at stacks that the file has not")
     if not profile.header and not profile.has_end:
         told.append("! it has no lines of libraries, which end a dump: if it was cut off, stacks are missing")
-    return Found(kind, buckets.counts, told)
+    return ImportResult(kind, buckets.counts, told)
 
 
 def share_of(blocks: int, total: int, period: int) -> float:

@@ -4,18 +4,20 @@ import re
 from array import array
 from collections import Counter
 
-from mte_scripts import texts
+from mte_scripts import text_layout
 from mte_scripts.recording import timelines
-from mte_scripts.recording.imports import found
-from mte_scripts.recording.imports.found import FREED, LARGE, Found, counter_of, number
+from mte_scripts.recording.imports import import_result
+from mte_scripts.recording.imports.import_result import FREED, LARGE, ImportResult, counter_of, number
 from mte_scripts.recording.imports.source import Source, Wrong
 
 NAME = "heaptrack"
 WHAT = "a record of heaptrack, packed or not, raw or not"
-KINDS = (found.ALL, found.LIVE, found.TIMELINE, found.HISTORY)
+KINDS = (import_result.ALL, import_result.LIVE, import_result.TIMELINE, import_result.HISTORY)
 
 BEGIN = re.compile(rb"\Av( [0-9a-f]+){1,2}(\n|\Z)")
 MOST_EVENTS = 1 << 27
+MOST_ALLOCATIONS = MOST_LIVE = 1 << 24  # sizes with a stack; blocks that are live at once, of a raw record
+MOST_KNOWN = 1 << 20  # lines
 MOST_SIZE = 1 << 60
 
 
@@ -53,18 +55,27 @@ class Run:
         elif mark in (b"a", b"+", b"-"):
             words = [int(word, 16) for word in line[2:].split(b" ")]
             if mark == b"a":
-                self.sizes.append(sized(words[0]))
+                self.add_allocation(words[0])
             elif self.sizes:
                 (place,) = words
-                self.known[line] = event(self.sizes[place], mark == b"-")
-                self.add(*self.known[line])
+                made = event(self.sizes[place], mark == b"-")
+                if len(self.known) < MOST_KNOWN:
+                    self.known[line] = made
+                self.add(*made)
             else:
                 self.take_raw(words, mark == b"-")
+
+    def add_allocation(self, size: int) -> None:
+        if len(self.sizes) == MOST_ALLOCATIONS:
+            raise Wrong(f"it has more than {MOST_ALLOCATIONS:,} sizes with a stack")
+        self.sizes.append(check_size(size))
 
     def take_raw(self, words: list, is_free: bool) -> None:
         if not is_free:
             size, _, address = words
-            self.addresses[address] = sized(size)
+            if len(self.addresses) == MOST_LIVE:
+                raise Wrong(f"more than {MOST_LIVE:,} of its blocks are live at once")
+            self.addresses[address] = check_size(size)
             self.add(*event(size, False))
         elif words[0] in self.addresses:
             self.add(*event(self.addresses.pop(words[0]), True))
@@ -72,7 +83,7 @@ class Run:
             self.unknown += 1
 
 
-def sized(size: int) -> int:
+def check_size(size: int) -> int:
     if size > MOST_SIZE:
         raise ValueError
     return size
@@ -84,7 +95,7 @@ def event(size: int, is_free: bool) -> tuple:
     return (code | FREED, -size) if is_free else (code, size)
 
 
-def read(source: Source, kind: str) -> Found:
+def read(source: Source, kind: str) -> ImportResult:
     run, at = Run(), 0
     for lines in source.lines():
         for line in lines:
@@ -95,19 +106,25 @@ def read(source: Source, kind: str) -> Found:
                 else:
                     run.take(line)
             except (ValueError, IndexError):
-                raise Wrong(f"line {at} is no event of heaptrack, or frees what is not live: {texts.shown(line)}") from None
+                raise Wrong(
+                    f"line {at} is no event of heaptrack, or frees what is not live: {text_layout.shorten_line(line)}"
+                ) from None
         if len(run.events) > MOST_EVENTS:
             raise Wrong(f"it has more than {MOST_EVENTS:,} requests and frees")
     if source.ends_in_line:
         raise Wrong("it ends inside a line: it was cut off")
     if not run.events:
         raise Wrong("it has no request: nothing was recorded, or the file was cut off")
-    return counted(run, kind)
+    return count_run(run, kind)
 
 
-def counted(run: Run, kind: str) -> Found:
+def count_run(run: Run, kind: str) -> ImportResult:
     codes = timelines.count(run.events)
-    counts = timelines.live_at(run.events, codes, [run.peak_at])[run.peak_at] if kind == found.LIVE else timelines.requests(codes)
+    counts = (
+        timelines.live_at(run.events, codes, [run.peak_at])[run.peak_at]
+        if kind == import_result.LIVE
+        else timelines.requests(codes)
+    )
     events = f"{len(run.events):,} requests and frees"
     told = [f"heaptrack: {events}. Each size is exact; that of an aligned block is without its alignment"]
     if run.is_attached:
@@ -116,4 +133,4 @@ def counted(run: Run, kind: str) -> Found:
         told.append("! it has not the last lines of heaptrack's records: if it was cut off, events are missing")
     if run.unknown:
         told.append(f"! {number(run.unknown, 'free')} of blocks that are not in it are left out")
-    return Found(kind, Counter(counts), told, run.events, run.peak_at)
+    return ImportResult(kind, Counter(counts), told, run.events, run.peak_at)

@@ -19,7 +19,7 @@ def whole_number(word: str) -> int:
     return int(word) if len(word) <= MOST_DIGITS else refuse(word)
 
 
-def parsed(data: bytes, begin: re.Pattern = re.compile(rb"\{")) -> Any:
+def parse_json(data: bytes, begin: re.Pattern = re.compile(rb"\{")) -> Any:
     """The value that begins so. What stands before, such as a program's own output, and after it is left out."""
     if sum(map(data.count, (b",", b"[", b"{"))) > MOST_VALUES:
         raise Wrong(f"it has more than {MOST_VALUES:,} values")

@@ -3,21 +3,21 @@
 import re
 from collections import Counter
 
-from mte_scripts import texts
-from mte_scripts.recording.imports import found
-from mte_scripts.recording.imports.found import Found, counter_of, number
+from mte_scripts import text_layout
+from mte_scripts.recording.imports import import_result
+from mte_scripts.recording.imports.import_result import ImportResult, counter_of, number
 from mte_scripts.recording.imports.source import Source, Wrong
 
 NAME = "malloc-info"
 WHAT = "the XML of malloc_info, of Scudo"
-KINDS = (found.LIVE,)
+KINDS = (import_result.LIVE,)
 
 BEGIN = re.compile(rb'<malloc version="([^"<>]{1,40})">')
 BLOCKS = re.compile(rb'<alloc size="(\d{1,19})" count="(\d{1,19})"/>')
 FREE = re.compile(rb'<(?:size|unsorted) from="\d{1,19}" to="\d{1,19}" total="\d{1,19}" count="(\d{1,19})"/>')
 
 
-def read(source: Source, kind: str) -> Found:
+def read(source: Source, kind: str) -> ImportResult:
     counts: Counter = Counter()
     version, is_whole, free = b"", False, 0
     for lines in source.lines():
@@ -32,7 +32,7 @@ def read(source: Source, kind: str) -> Found:
             elif line == b"</malloc>":
                 is_whole = True
             elif version.startswith(b"scudo") and not is_whole:
-                raise Wrong(f"it has a line that is none of Scudo's: {texts.shown(line)}")
+                raise Wrong(f"it has a line that is none of Scudo's: {text_layout.shorten_line(line)}")
     if not version:
         raise Wrong("it has no line `<malloc version=..>`")
     if not version.startswith(b"scudo"):
@@ -40,7 +40,7 @@ def read(source: Source, kind: str) -> Found:
     if not is_whole:
         raise Wrong("it has no line `</malloc>`: it was cut off")
     blocks = f"{number(sum(counts.values()), 'live block')} at the moment of the call"
-    return Found(found.LIVE, +counts, [
+    return ImportResult(import_result.LIVE, +counts, [
         f"Scudo: {blocks}. Each size is exact; that of an aligned block is without its alignment",
         "blocks above Scudo's largest class, 64 or 128 KiB, are not in it",
     ])

@@ -3,13 +3,13 @@
 import re
 from typing import Iterator, NamedTuple
 
-from mte_scripts.recording.imports import found
-from mte_scripts.recording.imports.found import Buckets, Found
+from mte_scripts.recording.imports import import_result
+from mte_scripts.recording.imports.import_result import Buckets, ImportResult
 from mte_scripts.recording.imports.source import Source, Wrong
 
 NAME = "pprof"
 WHAT = "a heap profile of pprof, such as Go's"
-KINDS = (found.ALL, found.LIVE)
+KINDS = (import_result.ALL, import_result.LIVE)
 
 BEGIN = re.compile(rb"(?!)")  # a message has no mark: it is taken where nothing else is found
 NUMBER, EIGHT, TEXT, FOUR = 0, 1, 2, 5  # kinds of fields
@@ -22,8 +22,8 @@ MOST_TYPES = 64
 MOST_BYTES = 10  # of a number
 # what may be counted, by the names of the number of blocks and of their bytes
 PAIRS = {
-    found.ALL: [("alloc_objects", "alloc_space"), ("allocations", "size")],
-    found.LIVE: [("inuse_objects", "inuse_space"), ("objects", "space")],
+    import_result.ALL: [("alloc_objects", "alloc_space"), ("allocations", "size")],
+    import_result.LIVE: [("inuse_objects", "inuse_space"), ("objects", "space")],
 }
 # labels of a sample that have the bytes of one of its blocks: as requested, and on average
 REQUEST, AVERAGE = "request", "bytes"
@@ -47,7 +47,7 @@ class Types(NamedTuple):
     labels: dict  # the labels that are used, by the numbers of their names
 
 
-def read(source: Source, kind: str) -> Found:
+def read(source: Source, kind: str) -> ImportResult:
     data = source.whole()
     types = types_of(data)
     kind, objects, space = pair_of(types, kind)
@@ -55,16 +55,18 @@ def read(source: Source, kind: str) -> Found:
     for field in fields(data, 0, len(data)):
         if field.number == SAMPLE and field.end:
             requested += add_sample(buckets, data, field, types, objects, space)
-    return Found(kind, buckets.counts, told_of(types, buckets, requested))
+    return ImportResult(kind, buckets.counts, notes_of(types, buckets, requested))
 
 
-def told_of(types: Types, buckets: Buckets, requested: int) -> list:
+def notes_of(types: Types, buckets: Buckets, requested: int) -> list:
     lines = buckets.told("pprof")
     if requested:
-        lines.append(f"{found.number(requested, 'block')} have their size as a label `{REQUEST}`, and count as that")
+        lines.append(
+            f"{import_result.number(requested, 'block')} have their size as a label `{REQUEST}`, and count as that"
+        )
     if types.period > 1 and types.period_type == "space":
         lines.append(f"sampled, a block in about {types.period:,} bytes: the counts are estimates, which who wrote the file has scaled up")
-        lines.append(f"! {found.MISSED}")
+        lines.append(f"! {import_result.MISSED}")
     lines.append("the sizes are as the allocator's own recorder has them: Go's are those of its classes, and not what was requested")
     return lines
 
@@ -127,19 +129,19 @@ def types_of(data: bytes) -> Types:
             period = field.value
     if not types or not texts_seen:
         raise Wrong("it has no types of samples, so it is no profile of pprof")
-    names = [strings.get(each.get(TYPE, 0)) or shown(first, each.get(TYPE, 0)) for each in types]
-    units = [strings.get(each.get(UNIT, 0)) or shown(first, each.get(UNIT, 0)) for each in types]
+    names = [strings.get(each.get(TYPE, 0)) or text_at(first, each.get(TYPE, 0)) for each in types]
+    units = [strings.get(each.get(UNIT, 0)) or text_at(first, each.get(UNIT, 0)) for each in types]
     labels = {at: word for at, word in strings.items() if word in (REQUEST, AVERAGE)}
     return Types(names, units, period, strings.get(period_type, ""), labels)
 
 
-def shown(first: list, at: int) -> str:
+def text_at(first: list, at: int) -> str:
     return first[at].decode(errors="replace") if at < len(first) else "?"
 
 
 def pair_of(types: Types, kind: str) -> tuple:
     """What is counted, and the places of the number of blocks and of their bytes."""
-    for wanted in (kind, found.LIVE) if kind == found.ALL else (kind,):
+    for wanted in (kind, import_result.LIVE) if kind == import_result.ALL else (kind,):
         for objects, space in PAIRS[wanted]:
             if objects in types.names and space in types.names:
                 places = types.names.index(objects), types.names.index(space)
@@ -148,7 +150,7 @@ def pair_of(types: Types, kind: str) -> tuple:
                     raise Wrong(f"its {objects} and {space} are in {units[0]} and {units[1]}, not a count and bytes")
                 return (wanted, *places)
     named = ", ".join(f"{name} in {unit}" for name, unit in zip(types.names, types.units))
-    lacks = "no live blocks" if kind == found.LIVE else "no number of blocks"
+    lacks = "no live blocks" if kind == import_result.LIVE else "no number of blocks"
     raise Wrong(f"it has {lacks}, only {named}: without a number no size can be told")
 
 
@@ -158,7 +160,7 @@ def add_sample(buckets: Buckets, data: bytes, sample: Field, types: Types, objec
     labels: dict = {}
     for field in fields(data, sample.value, sample.end):
         if field.number == VALUE:
-            values += packed(data, field) if field.end else [field.value]
+            values += read_packed(data, field) if field.end else [field.value]
             if len(values) > len(types.names):
                 raise Wrong("a sample has more values than there are types")
         elif field.number == LABEL and field.end:
@@ -180,7 +182,7 @@ def add_sample(buckets: Buckets, data: bytes, sample: Field, types: Types, objec
     return 0
 
 
-def packed(data: bytes, field: Field) -> list:
+def read_packed(data: bytes, field: Field) -> list:
     values: list = []
     at = field.value
     while at < field.end and len(values) <= MOST_TYPES:

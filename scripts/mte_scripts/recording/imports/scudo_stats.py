@@ -3,13 +3,13 @@
 import re
 from collections import Counter
 
-from mte_scripts.recording.imports import found
-from mte_scripts.recording.imports.found import LARGE, Found, counter_of, number
+from mte_scripts.recording.imports import import_result
+from mte_scripts.recording.imports.import_result import LARGE, ImportResult, counter_of, number
 from mte_scripts.recording.imports.source import Source, Wrong
 
 NAME = "scudo-stats"
 WHAT = "the statistics of Scudo (__scudo_print_stats)"
-KINDS = (found.LIVE,)
+KINDS = (import_result.LIVE,)
 
 HEADER_BYTES = 16  # of a block
 BEGIN = re.compile(rb"Stats: SizeClassAllocator(?:32|64): .*")
@@ -17,7 +17,7 @@ CLASS = re.compile(rb"[EF\s]*(\d{2,3}) \(\s*(\d{1,10})\): mapped: .*?\binuse:\s*
 LARGE_ONES = re.compile(rb"Stats: MapAllocator: .*\bremains (\d{1,19}) .*")
 
 
-def read(source: Source, kind: str) -> Found:
+def read(source: Source, kind: str) -> ImportResult:
     counts: Counter = Counter()
     has_begun = is_whole = False
     for lines in source.lines():
@@ -37,7 +37,7 @@ def read(source: Source, kind: str) -> Found:
         raise Wrong("it has no line `Stats: SizeClassAllocator..`")
     if not is_whole:
         raise Wrong("it has no line `Stats: MapAllocator`: it was cut off")
-    return Found(found.LIVE, +counts, [
+    return ImportResult(import_result.LIVE, +counts, [
         f"Scudo: {number(sum(counts.values()), 'block')}, each at the most bytes that its class holds, which is an upper bound: of what was"
         " requested is only told that it is above the class below",
         "blocks that threads keep for reuse count as live; by `malloc_info` Scudo lists the exact sizes of the live ones",

@@ -7,12 +7,13 @@ import threading
 import zlib
 from typing import BinaryIO, Generator, Iterator
 
-from mte_scripts import texts
-from mte_scripts.running import Refused
+from mte_scripts import text_files
+from mte_scripts.entry_point import Refusal
+from mte_scripts.formats import MOST_INPUT
 
 GZIP, ZSTD = b"\x1f\x8b", b"\x28\xb5\x2f\xfd"
 MOST_STREAMED = 1 << 34  # bytes of an unpacked file that is read line by line
-MOST_WHOLE = texts.MOST_INPUT  # of one that is held whole
+MOST_WHOLE = MOST_INPUT  # of one that is held whole
 MOST_LINE = 1 << 20
 PIECE = 1 << 16
 Pieces = Generator[bytes, None, None]
@@ -26,8 +27,8 @@ class Source:
     """The unpacked bytes of a file, or of standard input for `-`."""
 
     def __init__(self, path: str) -> None:
-        self.name = texts.named(path)
-        self.file = texts.opened(path)
+        self.name = text_files.input_name(path)
+        self.file = text_files.open_input(path)
         self.ends_in_line = False  # whether the last line lacks its newline; known at the end
         self.pieces = self.unpacked(self.packed())
         self.head = b""
@@ -40,7 +41,7 @@ class Source:
         self.file.close()
 
     def packed(self) -> bytes:
-        return texts.next_piece(self.file, self.name, PIECE) or b""
+        return text_files.next_piece(self.file, self.name, PIECE) or b""
 
     def unpacked(self, begin: bytes) -> Pieces:
         pieces = self.from_gzip if begin.startswith(GZIP) else self.from_zstd if begin.startswith(ZSTD) else self.plain
@@ -92,7 +93,7 @@ class Source:
             raise Wrong("its zstd data is cut off or damaged")
 
     def feed(self, to: BinaryIO, piece: bytes) -> None:
-        with contextlib.suppress(OSError, ValueError, Refused), to:  # a reader that has gone is no fault
+        with contextlib.suppress(OSError, ValueError, Refusal), to:  # a reader that has gone is no fault
             while piece:
                 to.write(piece)
                 piece = self.packed()
@@ -119,13 +120,18 @@ class Source:
         return bytes(data)
 
     def lines(self) -> Iterator[list[bytes]]:
-        """The lines, without their newlines, some at a time."""
-        rest = b""
+        """The lines, without their newlines, some at a time. Each byte is copied a few times, however small the pieces are."""
+        rest: list[bytes] = []  # of a line
+        length = 0
         for piece in self:
-            *found, rest = (rest + piece).split(b"\n")
-            if len(rest) > MOST_LINE:
+            rest.append(piece)
+            length += len(piece)
+            if b"\n" in piece:
+                *found, last = b"".join(rest).split(b"\n")
+                rest, length = [last], len(last)
+                yield found
+            if length > MOST_LINE:
                 raise Wrong(f"a line has more than {MOST_LINE:,} bytes")
-            yield found
-        self.ends_in_line = bool(rest)
-        if rest:
-            yield [rest]
+        self.ends_in_line = length > 0
+        if length:
+            yield [b"".join(rest)]

@@ -25,7 +25,7 @@ def by_line(log: Log, places: Places, is_lost: bool) -> "dict[str, dict[int, lis
     return found
 
 
-def lost(log: Log, places: Places) -> "list[Entry]":
+def find_lost_blocks(log: Log, places: Places) -> "list[Entry]":
     """The entries of blocks to which no pointer is left."""
     found = []
     for stacks in by_line(log, places, is_lost=True).values():

@@ -9,8 +9,11 @@
     new:     set_link_at(memory, layout, slot, start, link);
     passes: open: no clause speaks of the link
 
-`of:` is the function whose body it is, as TYPE::NAME where several of the file have the name. Each `old:` text stands just once in that body,
-and the pairs apply one after the other. `passes:` is there where the contract lets the body through, with its kind and the reason."""
+`of:` is the function whose body it is, as TYPE::NAME where several of the file have the name, and as a check calls it where the trait has an
+argument (ErrorFromAllocError::from). Each `old:` text stands just once in that body, and the pairs apply one after the other. `passes:` is
+there where the contract lets the body through, with its kind and the reason. `breaks:` names the clause, or the public function, that the
+body makes wrong: such a one is tried by each run of the gate. Of a function that can have no wrong body a block has the two lines `of:` and
+`none:`, the reason."""
 
 import os
 import re
@@ -20,18 +23,31 @@ from collections.abc import Iterator
 from mte_scripts.places import ROOT
 
 KINDS = ("equivalent", "speed", "memory", "open")
-KEYS = ("name", "of", "what", "old", "new", "passes")
+KEYS = ("name", "of", "what", "old", "new", "passes", "breaks")
 FN = re.compile(r'(?m)^(?P<indent> *)(?:pub(?:\([^)]*\))? )?(?:(?:const|unsafe|extern "C") )*fn (?P<name>\w+)')
+NONE = re.compile(r"of: (?P<of>[\w:]+)\nnone: (?P<why>\S.*)")
 BLOCK = re.compile(r"(?m)^ *(?:pub )?(?:unsafe )?(?P<kind>impl|trait)\b(?P<head>[^{;]*)\{")
 
-# A wrong body: its crate, file, name, function, what it does, pairs of old and new text, and the kind and reason of one that passes.
-Plant = namedtuple("Plant", "crate path name of what pairs kind why")
+# A wrong body: its crate, file, name, function, what it does, pairs of old and new text, the kind and reason of one that passes, and what it
+# breaks, of one that each run of the gate tries.
+Plant = namedtuple("Plant", "crate path name of what pairs kind why breaks", defaults=("",))
 # A function in the text of a file: where it starts, where its body does, and its end; the type and the trait that it is of.
 Function = namedtuple("Function", "name owner trait start body end")
 
 
 class Unread(Exception):
     """A wrong body that could not be tried."""
+
+
+def path_of(name: str) -> str:
+    """The path of a type without references, lifetimes and arguments."""
+    return re.sub(r"[<>].*", "", re.sub(r"'\w+,? ?|&|\bmut ", "", name)).strip()
+
+
+def trait_name(trait: str) -> str:
+    """A trait as it stands in the name of an `impl`: of `From<io::Error>` it is `FromIoError`."""
+    name, _, argument = trait.partition("<")
+    return path_of(name).rpartition("::")[2] + "".join(it[:1].upper() + it[1:] for it in path_of(argument).split("::"))
 
 
 def owner_of(text: str, start: int) -> "tuple[str, str]":
@@ -42,8 +58,8 @@ def owner_of(text: str, start: int) -> "tuple[str, str]":
         if end > start:
             head = re.sub(r"^\s*<[^{]*?>(?= )", "", block["head"]).split(" where ")[0].strip()
             trait, _, of = head.rpartition(" for ")
-            names = [re.sub(r"<.*", "", it.strip().lstrip("&").removeprefix("mut ")).rpartition("::")[2] for it in (of, trait)]
-            return (names[0], names[1]) if block["kind"] == "impl" else ("", names[0])
+            name = path_of(of).rpartition("::")[2]
+            return (name, trait_name(trait)) if block["kind"] == "impl" else ("", name)
     return "", ""
 
 
@@ -52,7 +68,7 @@ def functions(text: str) -> "Iterator[Function]":
     heads = list(FN.finditer(text))
     for found, after in zip(heads, [*(it.start() for it in heads[1:]), len(text)]):
         indent = found["indent"]
-        opens = re.compile(rf"(?m)^{indent}\{{$|^{indent}\S.*\S \{{$|^{indent}\S.*\{{.*\}}$").search(text, found.start(), after)
+        opens = re.compile(rf"(?m)^{indent}\{{$|^{indent}\S(?:.*\S)? \{{$|^{indent}\S.*\{{.*\}}$").search(text, found.start(), after)
         if opens is None:
             continue
         if opens[0].endswith("}"):
@@ -63,15 +79,20 @@ def functions(text: str) -> "Iterator[Function]":
         yield Function(found["name"], *owner_of(text, found.start()), found.start(), body, end)
 
 
-def function_of(text: str, of: str) -> Function:
+def is_named(of: str, it: Function) -> bool:
+    """Whether an `of:` is this function."""
     owner, _, name = of.rpartition("::")
-    found = [it for it in functions(text) if it.name == name and owner in ("", it.owner, it.trait)]
+    return name == it.name and owner in ("", it.owner, it.trait, it.owner + it.trait)
+
+
+def function_of(text: str, of: str) -> Function:
+    found = [it for it in functions(text) if is_named(of, it)]
     if len(found) != 1:
         raise Unread(f"`{of}` is {len(found)} functions of its file")
     return found[0]
 
 
-def planted(text: str, plant: Plant) -> str:
+def plant_body(text: str, plant: Plant) -> str:
     """The text of the file with the wrong body in it."""
     for old, new in plant.pairs:
         it = function_of(text, plant.of)
@@ -100,20 +121,30 @@ def plant_of(crate: str, path: str, block: str) -> Plant:
     kind, _, why = said.get("passes", "").partition(": ")
     if "passes" in said and (kind not in KINDS or not why.strip()):
         raise Unread(f"{said['name']}: `passes:` has a kind ({', '.join(KINDS)}), a colon and a reason")
-    return Plant(crate, path, said["name"], said["of"], said["what"], tuple(pairs), kind, why)
+    return Plant(crate, path, said["name"], said["of"], said["what"], tuple(pairs), kind, why, said.get("breaks", ""))
 
 
-def plants_of(crate: str, root: str = ROOT) -> "list[Plant]":
-    """The wrong bodies of a crate, in the order of their files."""
-    folder, found = os.path.join(root, "crates", crate, "plants"), []
+def blocks_of(crate: str, root: str = ROOT) -> "Iterator[tuple[str, str]]":
+    """The blocks of the files of a crate, in the order of the files, each with the path of its source."""
+    folder = os.path.join(root, "crates", crate, "plants")
     for name in sorted(os.listdir(folder) if os.path.isdir(folder) else []):
         with open(os.path.join(folder, name), encoding="utf-8") as file:
             first, *blocks = re.split(r"\n\n+", file.read().strip("\n"))
         key, _, path = first.partition(": ")
         if not name.endswith(".plant") or key != "file" or not re.fullmatch(r"src/[\w/]+\.rt", path):
             raise Unread(f"{crate}/plants/{name}: it begins with no line `file: src/..`")
-        found += [plant_of(crate, path, block) for block in blocks]
-    return found
+        yield from ((path, block) for block in blocks)
+
+
+def plants_of(crate: str, root: str = ROOT) -> "list[Plant]":
+    """The wrong bodies of a crate."""
+    return [plant_of(crate, path, block) for path, block in blocks_of(crate, root) if not NONE.fullmatch(block)]
+
+
+def reasons_of(crate: str, root: str = ROOT) -> "dict[tuple[str, str], str]":
+    """Why functions of a crate, by the path of the source and the name as in `of:`, can have no wrong body."""
+    found = [(path, NONE.fullmatch(block)) for path, block in blocks_of(crate, root)]
+    return {(path, said["of"]): said["why"] for path, said in found if said}
 
 
 def source(plant: Plant, root: str = ROOT) -> str:
@@ -137,7 +168,7 @@ def faults(crate: str, root: str = ROOT) -> "Iterator[str]":
             if names.count(plant.name) > 1:
                 raise Unread("its name is there twice")
             text = source(plant, root)
-            if planted(text, plant) == text:
+            if plant_body(text, plant) == text:
                 raise Unread("it changes nothing")
             if "::" in plant.of and sum(it.name == plant.of.rpartition("::")[2] for it in functions(text)) == 1:
                 raise Unread(f"`{plant.of}` is the only function of its name: `of:` has the name alone")

@@ -4,14 +4,14 @@ from array import array
 from collections import Counter
 from typing import Optional
 
-from mte_scripts.claims import numbered as number
+from mte_scripts.claims import count_text as number
 from mte_scripts.recording import timelines
 
 ALL, LIVE, TIMELINE, HISTORY = "all", "live", "timeline", "history"
 FREED, LARGE = timelines.FREED, timelines.LARGE
 
 
-class Found:
+class ImportResult:
     """Counts by size, of all requests or of live blocks, or events; and sentences on what the file tells of sizes and what not."""
 
     def __init__(self, kind: str, counts: Counter, told: list, events: Optional[array] = None, peak_at: int = 0) -> None:

@@ -3,7 +3,7 @@
     sys.dont_write_bytecode = True
     sys.path.insert(0, os.path.dirname(os.path.realpath(__file__)))
     from mte_scripts import running
-    running.run("merge_profiles", "recording.merge_profiles.merge")    # it raises Refused(2, "what is wrong, and how to mend it")
+    entry_point.run("merge_profiles", "recording.merge_profiles.merge")    # it raises Refusal(2, "what is wrong ..")
 
 From the import on, Ctrl-C ends the script quietly with status 130, as SIGTERM and SIGHUP do with 143 and 129; and what nobody foresaw ends
 it with status 3 and one line on standard error: no traceback, and no status 1, which means something else in most scripts. Nothing changes
@@ -21,7 +21,7 @@ PATH = "/usr/local/bin:/usr/bin:/bin"  # where none is given: a compiler finds i
 ENDING = (_signal.SIGTERM, _signal.SIGHUP)
 
 
-class Refused(Exception):
+class Refusal(Exception):
     """Ends a script with this status and this line on standard error: 2 refuses words or input, 3 is a failure."""
 
     def __init__(self, status: int, text: str) -> None:
@@ -37,9 +37,9 @@ def printable(text: str) -> str:
 
 def say(name: str, text: str) -> None:
     """A line on standard error. A name of a file may have any character: those that move the cursor are shown escaped."""
-    texts = sys.modules.get("mte_scripts.texts")
-    if hasattr(texts, "as_called"):  # it is imported whole, and knows what scripts are called
-        name, text = texts.called(name), texts.as_called(text)
+    words = sys.modules.get("mte_scripts.shell_words")
+    if hasattr(words, "help_text"):  # it is imported whole, and knows what scripts are called
+        name, text = words.command_name(name), words.rename_scripts(text)
     try:
         if sys.stderr is not None:
             print(f"{name}: {printable(text)}", file=sys.stderr, flush=True)
@@ -79,7 +79,7 @@ def end(name: str, status: int) -> None:
     sys.exit(status)
 
 
-def named(path: str) -> "Callable[[list[str]], int | None]":
+def import_function(path: str) -> "Callable[[list[str]], int | None]":
     """The function of a module of this package."""
     module, _, function = path.rpartition(".")
     return getattr(__import__(f"mte_scripts.{module}", fromlist=[function]), function)
@@ -94,7 +94,7 @@ def part(module: str) -> "types.ModuleType | None":
 def run(name: str, main: "str | Callable[[list[str]], int | None]", prints: bool = True) -> None:
     """Ends the process with what main(words) returns as the status, None for 0, or as it is refused; MAIN is a function, or names one of a
     module of this package. A script that PRINTS wants standard output."""
-    main = named(main) if isinstance(main, str) else main
+    main = import_function(main) if isinstance(main, str) else main
     # what main has made is removed on its way out
     if _signal.getsignal(_signal.SIGINT) is quit_quietly:
         _signal.signal(_signal.SIGINT, _signal.default_int_handler)
@@ -103,9 +103,9 @@ def run(name: str, main: "str | Callable[[list[str]], int | None]", prints: bool
         _signal.signal(each, leave)
     try:
         if prints and sys.stdout is None:
-            raise Refused(FAILED, "standard output is closed")
+            raise Refusal(FAILED, "standard output is closed")
         status = main(sys.argv[1:]) or 0
-    except Refused as refused:
+    except Refusal as refused:
         say(name, refused.text)
         status = refused.status
     except KeyboardInterrupt:

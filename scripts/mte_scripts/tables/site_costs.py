@@ -2,14 +2,18 @@
 and what is gained where it requests some bytes fewer."""
 
 import bisect
+import functools
+import itertools
 import os
 import re
 from array import array
 from collections import Counter, defaultdict
-from collections.abc import Callable, Iterable, Iterator, Set
+from collections.abc import Callable, Iterable, Iterator, Mapping, Set
 from typing import NamedTuple, Optional
 
-from mte_scripts import claims, texts
+from mte_scripts import certificate_texts, claim_words, claims, text_layout
+from mte_scripts.entry_point import Refusal, printable
+from mte_scripts.places import EXAMPLES
 from mte_scripts.recording import timelines
 from mte_scripts.recording.calls import Frame, Names
 from mte_scripts.recording.sites import Sites
@@ -18,6 +22,7 @@ from mte_scripts.tables import figures
 from mte_scripts.tables.figures import GRANULE, kibibytes, number, percent
 
 PLACES, WHAT_IFS, WORKERS, PIECE = 10, 5, 4, 1 << 12
+TURNS = 32  # rounds in which functions are found that hand requests on: each by those that were found before
 WORTH = 1000  # bytes of the footprint, of which one has to be taken by the blocks of a place and a size that is tried
 # functions that hand requests on, by their names; and a function with so many callers and sizes is one
 HANDS_ON = re.compile(
@@ -35,7 +40,7 @@ class Run(NamedTuple):
 
     events: array
     sizes: array
-    frames: Callable[[Iterable[int]], dict[int, Stack]]
+    frames: Callable[[Iterable[int]], Mapping[int, Stack]]
     unsure: Set[str] = frozenset()
 
 
@@ -76,31 +81,27 @@ class Fewer(NamedTuple):
 
     block: int
     fewer: int
-    saved: Optional[int]  # None where a fit has no certificate
+    saved: Optional[int]
 
 
 class WhatIf(NamedTuple):
-    """A place and a size, of which so many blocks are live at the peak of their class, and what is saved by fewer bytes: by tables that are made
-    for that, and by a table that stays as it is, if a smaller block of that would serve."""
+    """A place and a size, of which so many blocks are live at the peak of their class, and what is saved by fewer bytes: by a second fit, of which
+    there is a claim if it has a certificate, and by a table that stays as it is, if a smaller block of that would serve."""
 
     place: str
     size: int
     blocks: int
     made: Fewer
+    claims: "tuple[claims.Claim, Optional[claims.Claim]]"
     kept: Optional[Fewer]
 
     def said(self) -> str:
         made, kept = self.made, self.kept
-        text = claims.who(self.place, self.size, self.blocks, made.block, made.fewer, saving(made.saved), made.saved is not None)
-        if kept and saving(kept.saved):
-            fewer = claims.byte_text(kept.fewer)
-            text += f" With {KEPT} its blocks are of {number(kept.block)}, and {fewer} fewer take {saving(kept.saved)} less."
+        text = claims.place_cost(*self.claims, self.place, self.size, self.blocks, made.block, made.fewer)
+        if kept and (saved := claims.saving(kept.saved)):
+            fewer = claim_words.byte_text(kept.fewer)
+            text += f" With {KEPT} its blocks are of {number(kept.block)}, and {fewer} fewer take {saved} less."
         return text
-
-
-def saving(saved: Optional[int]) -> Optional[str]:
-    """The bytes that are saved, if any are."""
-    return None if (saved or 0) <= 0 else claims.byte_text(saved) if saved < 1024 else kibibytes(saved)
 
 
 def granule_of(size: int) -> int:
@@ -128,7 +129,7 @@ def at_peaks(run: Run, classes: list[int], moments: list[int]) -> list[Part]:
     return [Part(site, blocks, GRANULE * classes[group - 1]) for group, sites in found.items() for site, blocks in sites.items()]
 
 
-class Who:
+class SiteCosts:
     """What the places of a run take of the footprint of a fit's table."""
 
     def __init__(self, run: Run, timed: figures.OverTime) -> None:
@@ -136,11 +137,15 @@ class Who:
         fit = timed.fit
         self.parts = at_peaks(run, fit.classes, sorted(set(fit.moments or figures.peaks(fit.classes, timed.text).reached())))
         self.footprint = sum(part.taken() for part in self.parts)
-        if timed.verdict == "optimal" and self.footprint != fit.footprint:
-            raise texts.Refused(3, f"the stacks are of another run: the blocks at the peaks take {self.footprint:,} bytes, not {fit.footprint:,}")
+        if timed.claim.holds and self.footprint != fit.footprint:
+            raise Refusal(
+                3,
+                f"the stacks are of another run: the blocks at the peaks take {self.footprint:,} bytes, not "
+                f"{fit.footprint:,}",
+            )
         self.stacks = run.frames([part.site for part in self.parts])
         self.handing = self.find_handing()
-        self.kept = texts.class_line(os.path.join(texts.EXAMPLES, KEPT_FILE))
+        self.kept = certificate_texts.class_line(os.path.join(EXAMPLES, KEPT_FILE))
         self.kept_takes = figures.footprint(self.kept, timed.text)
         self.what_ifs = sorted(self.tried(), key=lambda each: -(each.made.saved or 0))
 
@@ -150,17 +155,18 @@ class Who:
     def find_handing(self) -> set[str]:
         """The functions that hand requests on, by their callers and sizes, from the innermost ones outwards."""
         self.handing = set[str]()
-        while True:
+        for _ in range(TURNS):
             callers, sizes = defaultdict[str, set](set), defaultdict[str, set](set)
             for site, stack in self.stacks.items():
-                left = [frame for frame in stack if not self.hands_on(frame.function)][:2]
+                left = list(itertools.islice((frame for frame in stack if not self.hands_on(frame.function)), 2))
                 if len(left) == 2:
                     callers[left[0].function].add(left[1].function)
                     sizes[left[0].function].add(self.run.sizes[site])
             new = {each for each in callers if len(callers[each]) >= CALLERS and len(sizes[each]) >= SIZES}
-            if not new:
-                return self.handing
             self.handing |= new
+            if not new:
+                break
+        return self.handing
 
     def place(self, stack: Stack) -> str:
         """The innermost call that hands no request on."""
@@ -187,19 +193,27 @@ class Who:
         self.letters = {key: b"%c" % (65 + place) for place, (key, _) in enumerate(able)}
         keys = {site: (self.place(stack), self.run.sizes[site]) for site, stack in others.items()}  # also of those that were not live then
         self.lettered = timeline_of(self.run, {site: self.letters[key] for site, key in keys.items() if key in self.letters})
-        made = [(key, key[1] - granule_of(key[1]), False) for key, _ in able]
-        kept = [(key, below, True) for key, _ in able if (below := self.below(key[1]))]
+        made = [(key, key[1] - granule_of(key[1])) for key, _ in able]
+        kept = [(key, below) for key, _ in able if (below := self.below(key[1]))]
         import multiprocessing  # the two take longer to import than a refusal of words
         from concurrent.futures import ProcessPoolExecutor
 
         with ProcessPoolExecutor(WORKERS, multiprocessing.get_context("fork"), begin_worker, (self,)) as workers:
-            saved = list(workers.map(of_worker, made + kept))
-        of_kept = iter(saved[len(made) :])
+            second, saved = list(workers.map(claim_of_worker, made)), iter(list(workers.map(saving_of_worker, kept)))
         found = []
-        for ((place, size), blocks), each in zip(able, saved):
-            below = self.below(size)
-            kept_ = Fewer(figures.block_of(self.kept, size), size - below, next(of_kept)) if below else None
-            found.append(WhatIf(place, size, blocks, Fewer(block_of[place, size], granule_of(size), each), kept_))
+        for ((place, size), blocks), each in zip(able, second):
+            below, both = self.below(size), (self.timed.claim, each)
+            kept_ = Fewer(figures.block_of(self.kept, size), size - below, next(saved)) if below else None
+            found.append(
+                WhatIf(
+                    place,
+                    size,
+                    blocks,
+                    Fewer(block_of[place, size], granule_of(size), claims.saved_bytes(*both)),
+                    both,
+                    kept_,
+                )
+            )
         return found
 
     def below(self, size: int) -> int:
@@ -207,20 +221,28 @@ class Who:
         at = bisect.bisect_left(self.kept, timelines.need_of(size))
         return GRANULE * (self.kept[at - 1] - 1) if 0 < at < len(self.kept) and self.kept_takes is not None else 0
 
-    def saved_by(self, change: "tuple[tuple[str, int], int, bool]") -> Optional[int]:
-        """By how many bytes the table of another fit takes less, or the one that stays, over the run where this place requests another size."""
-        changed, size, is_kept = change
+    def changed(self, change: "tuple[tuple[str, int], int]") -> bytes:
+        """The run where this place requests another size."""
+        changed, size = change
         text = self.lettered
         for key, letter in self.letters.items():
             text = text.replace(letter, b"%d" % (size if key == changed else key[1]))
-        if is_kept:
-            takes = figures.footprint(self.kept, text)
-            return None if takes is None or self.kept_takes is None else self.kept_takes - takes
-        fit = self.timed.fit
-        status, answer = figures.run(["fit", *figures.options(fit.limit, fit.step, fit.forced)], text)
-        if status or self.timed.verdict != "optimal" or figures.run(["check-fit"], texts.joined(answer, text))[1] != "optimal":
-            return None
-        return fit.footprint - texts.parse_fit(answer).footprint
+        return text
+
+    def claim_of(self, change: "tuple[tuple[str, int], int]") -> "Optional[claims.Claim]":
+        """What is claimed of the fit of that run; None where that of the run itself has no certificate."""
+        fit, first = self.timed.fit, self.timed.claim
+        how = claim_words.how("changed")
+        return (
+            claims.fit_counts(self.changed(change), first.name, (fit.limit, fit.step, fit.forced), how)[1]
+            if first.holds
+            else None
+        )
+
+    def saved_by(self, change: "tuple[tuple[str, int], int]") -> Optional[int]:
+        """By how many bytes the table that stays takes less over that run."""
+        takes = figures.footprint(self.kept, self.changed(change))
+        return None if takes is None or self.kept_takes is None else self.kept_takes - takes
 
     def lost(self, part: Part) -> int:
         """The bytes that rounding loses."""
@@ -228,7 +250,8 @@ class Who:
 
     def weights(self) -> "dict[str, flames.Weighed]":
         """The bytes of each stack, the outermost call first, that its blocks take, and that they lose."""
-        stacks = {site: (*map(str, reversed(stack)), f"{number(self.run.sizes[site])} bytes") for site, stack in self.stacks.items()}
+        said = functools.lru_cache(maxsize=None)(str)  # each once, of the calls of all stacks
+        stacks = {site: (*map(said, reversed(stack)), f"{number(self.run.sizes[site])} bytes") for site, stack in self.stacks.items()}
         kinds = (("footprint", Part.taken), ("lost by rounding", self.lost))
         return {kind: [(stacks[part.site], weight) for part in self.parts if (weight := of(part)) > 0] for kind, of in kinds}
 
@@ -247,24 +270,27 @@ class Who:
         """What may be wrong of the places."""
         if not self.run.unsure:
             return ""
-        objects = claims.listed(sorted(self.run.unsure))
+        objects = claim_words.join_words(sorted(self.run.unsure))
         return (
             f"addr2line does not read all debug symbols of DWARF 5 right: in {objects} a file may be wrong, or a caller left out. "
             "Install llvm-addr2line (of Debian's package llvm), or build with -gdwarf-4."
         )
 
     def input(self) -> str:
-        return claims.who_input(self.timed.fit.limit, self.timed.fit.step) if self.timed.verdict == "optimal" else ""
+        return claims.who_input(self.timed.claim)
 
     def text(self) -> str:
         """All of it as a text."""
         rows = [("Taken", "share", "lost", "blocks", "bytes"), *(row[:-1] for row in self.rows())]
         places = ["place", *(row[-1] for row in self.rows())]
-        lines = texts.wrapped(self.lead())
-        lines += ["", *(f"{line}  {place}" for line, place in zip(texts.columns(rows, left=10), places)), ""]
+        lines = text_layout.wrap_text(self.lead())
+        lines += ["", *(f"{line}  {place}" for line, place in zip(text_layout.columns(rows, left=10), places)), ""]
         for each in self.what_ifs:
-            lines += texts.wrapped(f"- {each.said()}", indent="  ")
-        return "".join(f"{texts.printable(line)}\n" for line in lines + texts.wrapped(self.unsure()) + texts.wrapped(self.input()))
+            lines += text_layout.wrap_text(f"- {each.said()}", indent="  ")
+        return "".join(
+            f"{printable(line)}\n"
+            for line in lines + text_layout.wrap_text(self.unsure()) + text_layout.wrap_text(self.input())
+        )
 
     def lead(self) -> str:
         lost = sum(map(self.lost, self.parts))
@@ -280,12 +306,16 @@ class Who:
         return {"who.txt": self.text(), **pictures, "who.speedscope.json": flames.speedscope(name, kinds)}
 
 
-_OF_WORKER: "list[Who]" = []
+_OF_WORKER: "list[SiteCosts]" = []
 
 
-def begin_worker(who: Who) -> None:
+def begin_worker(who: SiteCosts) -> None:
     _OF_WORKER.append(who)
 
 
-def of_worker(change: "tuple[tuple[str, int], int, bool]") -> Optional[int]:
+def claim_of_worker(change: "tuple[tuple[str, int], int]") -> "Optional[claims.Claim]":
+    return _OF_WORKER[0].claim_of(change)
+
+
+def saving_of_worker(change: "tuple[tuple[str, int], int]") -> Optional[int]:
     return _OF_WORKER[0].saved_by(change)

@@ -6,16 +6,30 @@ from array import array
 from types import ModuleType
 from typing import Iterable, NamedTuple, Optional
 
-from mte_scripts import texts
+from mte_scripts import count_texts, text_layout
+from mte_scripts.entry_point import Refusal
 from mte_scripts.recording import timelines
-from mte_scripts.recording.imports import dhat, found, heap_text, heaptrack, jemalloc_stats, malloc_info, pprof, scudo_stats
-from mte_scripts.recording.imports.found import Found
+from mte_scripts.recording.imports import (
+    bpftrace,
+    dhat,
+    heap_text,
+    heaptrack,
+    import_result,
+    jemalloc_stats,
+    malloc_info,
+    pprof,
+    scudo_stats,
+)
+from mte_scripts.recording.imports.import_result import ImportResult
 from mte_scripts.recording.imports.source import Source, Wrong
-from mte_scripts.running import Refused
 
-FORMATS = (heap_text, heaptrack, dhat, jemalloc_stats, malloc_info, scudo_stats, pprof)
+FORMATS = (heap_text, heaptrack, dhat, jemalloc_stats, malloc_info, scudo_stats, bpftrace, pprof)
 NAMES = {each.NAME: each for each in FORMATS}
-NOT_THERE = {found.LIVE: "live blocks", found.TIMELINE: "order of requests and frees", found.HISTORY: "moments"}
+NOT_THERE = {
+    import_result.LIVE: "live blocks",
+    import_result.TIMELINE: "order of requests and frees",
+    import_result.HISTORY: "moments",
+}
 HELP = "\n".join(f"  {each.NAME:15}{each.WHAT}" for each in FORMATS)
 HEAD = 1 << 16  # bytes by which a format is found
 # what is no format, and what to do
@@ -27,7 +41,7 @@ OTHERS = (
 )
 
 
-class Imported(NamedTuple):
+class ImportedText(NamedTuple):
     """What is written, and said."""
 
     what: str
@@ -36,62 +50,69 @@ class Imported(NamedTuple):
     told: list
 
 
-def imported(path: str, name: Optional[str], wanted: str, snapshots: int) -> Imported:
+def import_file(path: str, name: Optional[str], wanted: str, snapshots: int) -> ImportedText:
     """What a file has, in the format of this name or the one that it is found to be of."""
     with Source(path) as source:
         try:
             form = NAMES[name] if name else form_of(source)
-            if wanted not in form.KINDS and wanted != found.ALL:
+            if wanted not in form.KINDS and wanted != import_result.ALL:
                 raise Wrong(f"{form.WHAT} has no {NOT_THERE[wanted]}: without --{wanted} its blocks are counted")
             result = form.read(source, wanted)
         except Wrong as wrong:
-            raise Refused(2, f"{source.name}: {wrong}") from None
+            raise Refusal(2, f"{source.name}: {wrong}") from None
     if not result.counts:
-        raise Refused(3, f"{source.name}: it counts nothing")
-    return made(result, wanted, snapshots)
+        raise Refusal(3, f"{source.name}: it counts nothing")
+    return convert_result(result, wanted, snapshots)
 
 
 def form_of(source: Source) -> ModuleType:
     """The format of a file, by how it begins."""
     head = source.begin(HEAD)
     if not head:
-        raise Refused(3, f"{source.name} is empty: did the command that writes it fail?")
+        raise Refusal(3, f"{source.name} is empty: did the command that writes it fail?")
     for mark, says in OTHERS:
         if head.startswith(mark):
             raise Wrong(says)
     for form in FORMATS:
         if form.BEGIN.search(head):
             return form
-    if texts.counted(head.split(b"\n", 1)[0]):
+    if count_texts.parse_count_line(head.split(b"\n", 1)[0]):
         raise Wrong("it is a profile of mte_tool already")
     lines = head[:1000].split(b"\n")
-    if not any(texts.binary(line.removesuffix(b"\r")) for line in lines[:-1] or lines):
-        raise Wrong(f"it is of no format that --help lists; --as names one. It begins with {texts.shown(lines[0])}")
+    if not any(count_texts.binary(line.removesuffix(b"\r")) for line in lines[:-1] or lines):
+        raise Wrong(
+            f"it is of no format that --help lists; --as names one. It begins with {text_layout.shorten_line(lines[0])}"
+        )
     return pprof
 
 
-def made(result: Found, wanted: str, snapshots: int) -> Imported:
+def convert_result(result: ImportResult, wanted: str, snapshots: int) -> ImportedText:
     told = list(result.told)
-    if wanted == found.ALL and result.kind == found.LIVE:
+    if wanted == import_result.ALL and result.kind == import_result.LIVE:
         told.append("! it has no count of all requests: its live blocks are counted, as by --live")
-    profile = texts.profile_text(timelines.named(result.counts))
-    if result.events is None or wanted in (found.ALL, found.LIVE):
-        return Imported("the profile", [profile.encode()], profile if result.kind == found.LIVE else "", told)
-    return made_of_run(result.events, result.peak_at, wanted, snapshots, told)
+    profile = count_texts.fitting_text(timelines.counts_by_size(result.counts), told.append)
+    if result.events is None or wanted in (import_result.ALL, import_result.LIVE):
+        return ImportedText(
+            "the profile", [profile.encode()], profile if result.kind == import_result.LIVE else "", told
+        )
+    return convert_run(result.events, result.peak_at, wanted, snapshots, told)
 
 
-def made_of_run(events: array, peak_at: int, wanted: str, snapshots: int, told: list) -> Imported:
+def convert_run(events: array, peak_at: int, wanted: str, snapshots: int, told: list) -> ImportedText:
     """The timeline, or the history of some moments."""
     codes = timelines.count(events)
-    peak = texts.profile_text(timelines.named(timelines.live_at(events, codes, [peak_at])[peak_at]))
-    if wanted == found.TIMELINE:
+    peak = count_texts.profile_text(timelines.counts_by_size(timelines.live_at(events, codes, [peak_at])[peak_at]))
+    if wanted == import_result.TIMELINE:
         if sum(times * len(timelines.event_lines()[code]) for code, times in codes.items()) <= timelines.MOST_TEXT:
-            return Imported("the timeline", timelines.text_of(events), peak, told)
+            return ImportedText("the timeline", timelines.text_of(events), peak, told)
         moments = {*timelines.peaks(events, codes), peak_at}
         of = f"of the {len(moments)} moments at which each class of 16 bytes had the most blocks"
         told.append(f"the timeline would have more than {timelines.MOST_TEXT:,} bytes: a history is made in its place, {of}")
     else:
         moments = {peak_at, *(round(len(events) * each / snapshots) for each in range(1, snapshots))}
-        told.append(f"the history has {found.number(len(moments), 'moment')}, evenly spaced but for that of the most bytes")
+        told.append(
+            f"the history has {import_result.number(len(moments), 'moment')}, evenly spaced but for that of the most "
+            "bytes"
+        )
     history = timelines.history_of(timelines.live_at(events, codes, sorted(moments)))
-    return Imported("the history", [texts.history_text(history).encode()], peak, told)
+    return ImportedText("the history", [count_texts.history_text(history).encode()], peak, told)

@@ -1,7 +1,7 @@
 """Reads the rows of a fleet piece by piece, and keeps of each key the load that counts, packed: 2 million rows take some 40 MB.
 
 Loads with one key differ by their number. The greatest counts, whatever came first. Rows with one number are of one load, however often
-it came and however much was cut of it: of equal rows the one with the greatest count is whole.
+it came and however much was cut of it: of equal rows the one with the greatest count is whole. Of different weights the greatest counts.
 
 Rows without a number, or with 0, are as earlier releases wrote them. Where they stand in the order of moment and size, as they were
 written, a load that comes again shows by a row that isn't above the one before. The last one counts, unless it is a cut copy of an
@@ -14,11 +14,12 @@ from collections import Counter
 from collections.abc import Iterable, Iterator
 from typing import BinaryIO, NamedTuple, Optional
 
-from mte_scripts import texts
-from mte_scripts.fleet import faults, rows
-from mte_scripts.fleet.faults import Faults
-from mte_scripts.fleet.rows import LARGE, Faulty, Key
-from mte_scripts.texts import PIECE, Refused
+from mte_scripts import count_texts, text_files
+from mte_scripts.entry_point import Refusal
+from mte_scripts.fleet import rows, suspicions
+from mte_scripts.fleet.suspicions import Suspicions
+from mte_scripts.fleet.rows import LARGE, Key, Suspicion
+from mte_scripts.text_files import PIECE
 
 PAIR = rb"(?:[0-9]{1,5}|large)\t[1-9][0-9]{0,17}"
 # rows whose first fields are the same, up to the moment
@@ -37,7 +38,7 @@ class Part(NamedTuple):
     counts: bytes
 
     def pairs(self) -> "Iterator[tuple[int, int]]":
-        return zip(unpacked(self.sizes), map(int, self.counts.split()))
+        return zip(unpack_sizes(self.sizes), map(int, self.counts.split()))
 
 
 class Load:
@@ -65,14 +66,14 @@ class Load:
     def is_before(self, moment: int, size: int) -> bool:
         """Whether this may be its next row, by the order."""
         last = self.parts[-1]
-        return (last.moment, unpacked(last.sizes[-2:])[0]) < (moment, size)
+        return (last.moment, unpack_sizes(last.sizes[-2:])[0]) < (moment, size)
 
 
-def packed(sizes: "Iterable[int]") -> bytes:
+def pack_sizes(sizes: "Iterable[int]") -> bytes:
     return array.array("H", sizes).tobytes()
 
 
-def unpacked(sizes: bytes) -> "array.array[int]":
+def unpack_sizes(sizes: bytes) -> "array.array[int]":
     found = array.array("H")
     found.frombytes(sizes)
     return found
@@ -83,42 +84,53 @@ def load_of(number: int, weight: int, cells: dict) -> Load:
     parts: "dict[int, list]" = {}
     for (moment, size), count in sorted(cells.items()):
         parts.setdefault(moment, []).append((size, count))
-    return Load(number, weight, [
-        Part(moment, packed(size for size, _ in found), b" ".join(b"%d" % count for _, count in found)) for moment, found in parts.items()
-    ])
+    return Load(
+        number,
+        weight,
+        [
+            Part(moment, pack_sizes(size for size, _ in found), b" ".join(b"%d" % count for _, count in found))
+            for moment, found in parts.items()
+        ],
+    )
 
 
 @functools.lru_cache(KNOWN)
 def head(text: bytes) -> "Optional[tuple[bytes, int, int, int]]":
     """The key as bytes, load, weight and moment of the first fields of rows; None if something is wrong with them."""
     try:
-        if text.startswith(rows.BOM) or texts.binary(text):
+        if text.startswith(rows.BOM) or count_texts.binary(text):
             return None
         words = text.decode().split("\t")
         key, load, weight, moment = rows.head_of([*words[:-1], "0", "0"])
-    except (Faulty, UnicodeDecodeError):
+    except (Suspicion, UnicodeDecodeError):
         return None
     return "\t".join(key).encode(), load, weight, moment
 
 
-class Store:
-    """The loads of all files that it has read, and their faults."""
+@functools.lru_cache(1 << 17)  # more than there are words of at most five digits
+def size_of(word: bytes) -> int:
+    return LARGE if word == b"large" else int(word)
 
-    def __init__(self, found: "Optional[Faults]" = None) -> None:
-        self.faults = found or Faults()
+
+class Store:
+    """The loads of all files that it has read, and their suspicions."""
+
+    def __init__(self, found: "Optional[Suspicions]" = None) -> None:
+        self.suspicions = found or Suspicions()
         self.loads: "dict[bytes, list[Load]]" = {}  # of a key; more than one only of one number
         self.older: "set[tuple[bytes, int]]" = set()
+        self.waiting: "dict[bytes, bytearray]" = {}  # by the first fields of their rows
         self.columns: "dict[tuple, Optional[list]]" = {}
         self.is_resolved = False
 
     def read(self, path: str) -> None:
-        with texts.opened(path) as file:
+        with text_files.open_input(path) as file:
             self.take(file, path)
 
     def take(self, file: BinaryIO, path: str, begin: bytes = b"") -> None:
         """The rows of an open file; what was read of it already is BEGIN."""
         rest, at = begin, 1
-        while piece := texts.next_piece(file, path):
+        while piece := text_files.next_piece(file, path):
             data = rest + piece
             end = data.rfind(b"\n") + 1
             at += self.add_lines(data, end, path, at)
@@ -126,7 +138,7 @@ class Store:
         end = rest.rfind(b"\n") + 1
         at += self.add_lines(rest, end, path, at)
         if rest[end:]:
-            self.faults.add(Faulty("a line without its end: the file is cut there"), path, at, rest[end:])
+            self.suspicions.add(Suspicion("a line without its end: the file is cut there"), path, at, rest[end:])
 
     def add_lines(self, data: bytes, end: int, path: str, at: int) -> int:
         """The lines up to END, of which the first is AT; how many there are."""
@@ -145,7 +157,13 @@ class Store:
     def add_run(self, match: re.Match) -> int:
         """Rows with the same first fields; how many, or 0 where they have to be read one by one."""
         begin = match[1]
-        words = (match[2] + b"\n" + match[3].replace(begin, b"")).split()
+        pairs = match[2] + b"\n" + match[3].replace(begin, b"")
+        if (begin in self.waiting or not match[3]) and self.keep(begin, pairs):
+            return pairs.count(b"\n")
+        return self.add_pairs(begin, pairs.split())
+
+    def add_pairs(self, begin: bytes, words: "list[bytes]") -> int:
+        """The same of rows with these first fields, and these sizes and counts."""
         fields, pieces, counts = head(begin), self.column(tuple(words[::2])), words[1::2]
         if fields is None or pieces is None:
             return 0
@@ -153,25 +171,50 @@ class Store:
             self.add(*fields, sizes, b" ".join(counts[first:last]))
         return len(counts)
 
+    def keep(self, begin: bytes, pairs: bytes) -> bool:
+        """Keeps a row that comes by itself until all are there, as where rows are in no order; not one that is wrong, nor
+        of a load without a number, of which the order counts. Whether it is kept."""
+        if max(map(size_of, pairs.split()[::2])) > LARGE:
+            return False
+        if begin not in self.waiting:
+            fields = head(begin)
+            if fields is None or not fields[1]:
+                return False
+            self.loads.setdefault(fields[0], [])
+            self.waiting[begin] = bytearray()
+        self.waiting[begin] += pairs
+        return True
+
+    def add_waiting(self) -> None:
+        """The rows that are kept, those of each load in the order of their sizes, and of equal ones as they came."""
+        for begin in [*self.waiting]:
+            words = bytes(self.waiting.pop(begin)).split()
+            order = sorted(range(0, len(words), 2), key=lambda at: size_of(words[at]))
+            self.add_pairs(begin, [word for at in order for word in words[at : at + 2]])
+
     def column(self, words: tuple) -> "Optional[list[tuple[int, int, bytes]]]":
         """Sizes in pieces that are in order, each with its begin and end, as they are packed; None if not all are in range."""
         if words not in self.columns:
-            sizes = [LARGE if word == b"large" else int(word) for word in words]
+            sizes = [*map(size_of, words)]
             ends = [*(at for at in range(1, len(sizes)) if sizes[at] <= sizes[at - 1]), len(sizes)]
             if len(self.columns) == KNOWN // 16:
                 self.columns.clear()
             is_in_range = max(sizes) <= LARGE
-            self.columns[words] = [(first, last, packed(sizes[first:last])) for first, last in zip([0, *ends], ends)] if is_in_range else None
+            self.columns[words] = (
+                [(first, last, pack_sizes(sizes[first:last])) for first, last in zip([0, *ends], ends)]
+                if is_in_range
+                else None
+            )
         return self.columns[words]
 
     def add_row(self, line: bytes, path: str, at: int) -> None:
         """A row by itself, which may be wrong."""
         try:
             key, load, weight, moment, size, count = rows.row_of(line, at)
-        except Faulty as fault:
-            self.faults.add(fault, path, at, line)
+        except Suspicion as suspicion:
+            self.suspicions.add(suspicion, path, at, line)
             return
-        self.add("\t".join(key).encode(), load, weight, moment, packed([size]), b"%d" % count)
+        self.add("\t".join(key).encode(), load, weight, moment, pack_sizes([size]), b"%d" % count)
 
     def add(self, key: bytes, number: int, weight: int, moment: int, sizes: bytes, counts: bytes) -> None:
         """Rows of one load in the order of their sizes."""
@@ -181,7 +224,12 @@ class Store:
             self.older.add((key, number))
             return
         part = Part(moment, sizes, counts)
-        if last and number == last.number and weight == last.weight and last.is_before(moment, unpacked(sizes[:2])[0]):
+        if (
+            last
+            and number == last.number
+            and weight == last.weight
+            and last.is_before(moment, unpack_sizes(sizes[:2])[0])
+        ):
             last.parts.append(part)
             return
         if last and number > last.number:
@@ -193,28 +241,29 @@ class Store:
         """Each key with the load that counts."""
         if not self.is_resolved:
             self.is_resolved = True
-            self.faults.count(faults.AGAIN, len(self.older))
+            self.add_waiting()
+            self.suspicions.count_again(suspicions.AGAIN, len(self.older))
             for loads in self.loads.values():
                 if len(loads) > 1:
-                    loads[:] = [one_of(loads, self.faults)]
+                    loads[:] = [merge_loads(loads, self.suspicions)]
         return [(Key(*key.decode().split("\t")), loads[0]) for key, loads in self.loads.items()]
 
     def __len__(self) -> int:
         return len(self.loads)
 
 
-def one_of(loads: "list[Load]", found: Faults) -> Load:
+def merge_loads(loads: "list[Load]", found: Suspicions) -> Load:
     """The load of runs of rows, each in order, that have one key and one number."""
     last = loads[-1]
     if last.number:
-        return united(loads, found)
+        return merge_parts(loads, found)
     cells = [each.cells() for each in loads]
     often = max(Counter(cell for each in cells for cell in each).values())
     if often == len(loads):
-        found.count(faults.AGAIN, often - 1)
+        found.count_again(suspicions.AGAIN, often - 1)
         whole = [at for at, each in enumerate(cells) if loads[at].weight == last.weight and cells[-1].items() <= each.items()]
         return loads[max(whole, key=lambda at: (len(cells[at]), at))]
-    found.count(faults.MIXED, int(often > 1 or any(each.weight != last.weight for each in loads)))
+    found.count(suspicions.MIXED, int(often > 1 or any(each.weight != last.weight for each in loads)))
     merged: dict = {}
     for each, own in zip(loads, cells):
         if each.weight == last.weight:
@@ -222,30 +271,33 @@ def one_of(loads: "list[Load]", found: Faults) -> Load:
     return load_of(0, last.weight, merged)
 
 
-def united(loads: "list[Load]", found: Faults) -> Load:
-    """The rows of one load, that came in several parts or several times."""
-    cells = [each.cells() for each in loads]
-    weight = loads[max(range(len(loads)), key=lambda at: (len(cells[at]), at))].weight
+def merge_parts(loads: "list[Load]", found: Suspicions) -> Load:
+    """The rows of one load, that came in several parts or several times: of each moment and size the greatest count, of the greatest
+    weight, whatever came first."""
+    weight = max(each.weight for each in loads)
     merged: dict = {}
     unlike = 0
-    for each, own in zip(loads, cells):
+    for each in loads:
+        own = each.cells()
         if each.weight != weight:
             unlike += len(own)
             continue
         for cell, count in own.items():
             unlike += merged.get(cell, count) != count
             merged[cell] = max(merged.get(cell, 0), count)
-    found.count(faults.UNLIKE, unlike)
+    found.count(suspicions.UNLIKE, unlike)
     return load_of(loads[0].number, weight, merged)
 
 
-def read(paths: "Iterable[str]", found: "Optional[Faults]" = None) -> Store:
+def read(paths: "Iterable[str]", found: "Optional[Suspicions]" = None) -> Store:
     """The loads in files of rows, `-` for standard input."""
     store = Store(found)
     for path in paths:
         store.read(path)
     if not store.loads:
-        store.faults.end()
-        wrong = store.faults.text()
-        raise Refused(2, f"no row can count: {wrong[0]}") if wrong else Refused(3, "there is no row: did the query that prints them fail?")
+        store.suspicions.end()
+        wrong = store.suspicions.text()
+        raise Refusal(2, f"no row can count: {wrong[0]}") if wrong else Refusal(
+            3, "there is no row: did the query that prints them fail?"
+        )
     return store
