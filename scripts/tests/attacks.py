@@ -33,7 +33,7 @@ def run(words: "list[str]", given: bytes = b"", **how) -> "tuple[int, bytes, byt
     return done.returncode, done.stdout, done.stderr
 
 
-def told(program: str, words: str, given: bytes) -> "tuple[int, str, str]":
+def answer_of(program: str, words: str, given: bytes) -> "tuple[int, str, str]":
     status, out, said = run([program, *words.split()], given)
     return status, out.decode(errors="replace"), said.decode(errors="replace")
 
@@ -55,7 +55,7 @@ def sheet_text(found: oracle.Sheet, word: str) -> bytes:
 
 # ---- the engines
 
-def crafted(draw: random.Random, found: oracle.Sheet, counts: oracle.Counts) -> oracle.Sheet:
+def craft_sheet(draw: random.Random, found: oracle.Sheet, counts: oracle.Counts) -> oracle.Sheet:
     """A sheet that is not what `tune` or `fit` wrote: of another table with its own cost, or with other numbers, or both."""
     rows = [list(row) for row in found.rows]
     needs = oracle.Needs(counts, found.step, found.is_forced).needs
@@ -80,10 +80,10 @@ def crafted(draw: random.Random, found: oracle.Sheet, counts: oracle.Counts) -> 
 
 def attack_answers(draw: random.Random, program: str, plain: str, seed: str) -> None:
     """A drawn input has one answer: the program's, the plain program's, and where it can be said, the second opinion."""
-    for words, text in drawn_inputs.drawn(draw, 1, lambda words, given: told(program, words, given)[1].encode()):
-        got = told(program, words, text)
+    for words, text in drawn_inputs.draw_inputs(draw, 1, lambda words, given: answer_of(program, words, given)[1].encode()):
+        got = answer_of(program, words, text)
         tried["drawn inputs"] += 1
-        expect(f"{seed}: {words}: the plain program's answer", not plain or told(plain, words, text) == got, text, got)
+        expect(f"{seed}: {words}: the plain program's answer", not plain or answer_of(plain, words, text) == got, text, got)
         command, options = options_of(words)
         if command not in ("replay", "run") and not (command in ("fit", "check-fit") and is_of_timeline(text)):
             wanted = oracle.answer(command, text, **options)
@@ -97,11 +97,11 @@ def attack_certificates(draw: random.Random, program: str, _: str, seed: str) ->
     text = (drawn_inputs.profile if is_profile else drawn_inputs.history)(draw)
     counts = (oracle.profile if is_profile else oracle.history)(oracle.lines_of(text), 1)
     step, is_forced = draw.choice((1, 1, 2, 4, 8)), draw.random() < 0.2
-    _, made, _ = oracle.tuned(counts, draw.choice((1, 2, 3, 5)), step, is_forced)
+    _, made, _ = oracle.tune_answer(counts, draw.choice((1, 2, 3, 5)), step, is_forced)
     true = oracle.sheet(oracle.lines_of(made.encode()), word)
-    for found in (true, crafted(draw, true, counts), crafted(draw, crafted(draw, true, counts), counts)):
+    for found in (true, craft_sheet(draw, true, counts), craft_sheet(draw, craft_sheet(draw, true, counts), counts)):
         given = sheet_text(found, word) + text
-        wanted, got = oracle.answer(command, given), told(program, command, given)
+        wanted, got = oracle.answer(command, given), answer_of(program, command, given)
         tried["certificates"] += 1
         expect(f"{seed}: {command}: the verdict", got == wanted and (found is not true or got[0] == 0), given, wanted, got)
         cost, _ = oracle.cost_of(counts, found.classes)
@@ -115,7 +115,7 @@ def attack_timelines(draw: random.Random, program: str, _: str, seed: str) -> No
     counts = oracle.timeline(oracle.lines_of(text), 1)
     limit, step = draw.choice((1, 2, 3)), draw.choice((1, 1, 2, 8))
     least = oracle.least(counts, limit, step)
-    status, out, said = told(program, f"fit --limit {limit} --step {step}", text)
+    status, out, said = answer_of(program, f"fit --limit {limit} --step {step}", text)
     tried["timelines"] += 1
     table = list(map(int, out.split("\n")[0].split()[1:]))
     cost, _ = oracle.cost_of(counts, table)
@@ -128,14 +128,14 @@ def attack_timelines(draw: random.Random, program: str, _: str, seed: str) -> No
     expect(f"{seed}: fit of a timeline is least", cost == least, text, out, least)
     fit = out.encode()
     for _ in range(3):
-        verdict = told(program, "check-fit", fit + text)
+        verdict = answer_of(program, "check-fit", fit + text)
         tried["timelines"] += 1
         rows = oracle.lines_of(fit)
         if verdict[0] == 0:
             found = oracle.sheet(rows, "footprint")
             is_least = oracle.cost_of(counts, found.classes)[0] == oracle.least(counts, found.limit, found.step, found.is_forced)
             expect(f"{seed}: check-fit of a timeline: what is optimal is least", verdict[1] == "optimal\n" and is_least, fit, text)
-        fit = drawn_inputs.spoiled(draw, fit)
+        fit = drawn_inputs.spoil_text(draw, fit)
 
 
 def attack_library(draw: random.Random, program: str, _: str, seed: str) -> None:
@@ -146,11 +146,11 @@ def attack_library(draw: random.Random, program: str, _: str, seed: str) -> None
     text = drawn_inputs.profile(draw)
     counts = oracle.profile(oracle.lines_of(text), 1)
     limit, step = draw.choice((1, 2, 5)), draw.choice((1, 2, 8))
-    true = oracle.sheet(oracle.lines_of(oracle.tuned(counts, limit, step, False)[1].encode()), "waste")
-    found = draw.choice((true, crafted(draw, true, counts)))
+    true = oracle.sheet(oracle.lines_of(oracle.tune_answer(counts, limit, step, False)[1].encode()), "waste")
+    found = draw.choice((true, craft_sheet(draw, true, counts)))
     given = sheet_text(found, "waste")
     tried["calls of the library"] += 2
-    status, out, said = told(program, "check", given + text)
+    status, out, said = answer_of(program, "check", given + text)
     try:
         verdict = library.check(given, text)
     except library.Error as error:
@@ -181,7 +181,7 @@ def library_of() -> Any:
 
 def spoiled_file(draw: random.Random, folder: str, name: str, text: bytes) -> str:
     for _ in range(draw.randrange(4)):
-        text = drawn_inputs.spoiled(draw, text)
+        text = drawn_inputs.spoil_text(draw, text)
     if draw.random() < 0.1:
         text = text[: draw.randrange(len(text) + 1)] + draw.randbytes(draw.randrange(200))
     path = os.path.join(folder, name)
@@ -205,7 +205,7 @@ def forms(draw: random.Random, folder: str) -> "list[list[str]]":
     every = [["check_sheet", b, a], ["draw_waste", a], ["merge_profiles", a, c], ["report", a, b], ["scudo_classes", b], ["pools", c],
              ["scudo_classes", "--config", b], ["tune_program", "--output", os.path.join(folder, "tuned"), "--read", c], ["fleet_profiles", d],
              ["find_faults", "--read", log]]
-    return [words for words in every if not checks.without(f"scripts/{words[0]}")]
+    return [words for words in every if not checks.missing_tools(f"scripts/{words[0]}")]
 
 
 def expect_end(seed: str, words: "list[str]", ends: "tuple[int, ...]", done: "tuple[int, bytes, bytes]") -> None:
@@ -230,7 +230,7 @@ LONG = (  # what takes long enough to be interrupted
 )
 
 
-def prepared(folder: str) -> "dict[str, str]":
+def environment_of(folder: str) -> "dict[str, str]":
     """An environment whose temporary folder is empty, and the files that LONG needs."""
     temporary = os.path.join(folder, "temporary")
     os.makedirs(temporary, exist_ok=True)
@@ -241,7 +241,7 @@ def prepared(folder: str) -> "dict[str, str]":
 
 def attack_signals(draw: random.Random, folder: str, seed: str) -> None:
     words, number = draw.choice(LONG), draw.choice(list(ENDED))
-    environment = prepared(folder)
+    environment = environment_of(folder)
     process = subprocess.Popen([os.path.join(SCRIPTS, words[0]), *words[1:]], cwd=folder, env=environment, stdin=subprocess.DEVNULL,
                                stdout=subprocess.PIPE, stderr=subprocess.PIPE)
     time.sleep(draw.random() * 0.7)
@@ -256,7 +256,7 @@ def attack_signals(draw: random.Random, folder: str, seed: str) -> None:
 
 def attack_disk(draw: random.Random, folder: str, seed: str) -> None:
     """A disk that is full: files end at some byte, and what could not be written is said."""
-    words, environment = draw.choice(LONG), prepared(folder)
+    words, environment = draw.choice(LONG), environment_of(folder)
     most = draw.choice((0, 1, 100, draw.randrange(5000), draw.randrange(100_000)))
     path = os.path.join(folder, "output")
     with open(path, "wb") as file:
@@ -280,9 +280,9 @@ class Attacks(checks.Part):
     of_scripts = (attack_files, attack_disk)  # a signal at any moment comes in the long tests alone
 
     def attack(self, rounds: int, minutes: float) -> None:
-        program, begun = checks.built(), time.monotonic()
+        program, begun = checks.built_program(), time.monotonic()
         os.environ["MTE_TOOL"] = program
-        plain = "" if checks.skipped("rustc", "the plain program beside the proved one") else checks.compiled_plain(self.folder())
+        plain = "" if checks.skip_without("rustc", "the plain program beside the proved one") else checks.compiled_plain(self.folder())
         first = seed = checks.options.seed or (random.randrange(10**9) if minutes else 1)
         while time.monotonic() - begun < 60 * minutes or seed - first < rounds:
             self.round(program, plain, seed)

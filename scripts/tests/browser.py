@@ -18,7 +18,7 @@ def browser():
     return next(filter(None, map(shutil.which, NAMES)), None)
 
 
-class Failed(Exception):
+class BrowserError(Exception):
     """What the browser or the page says has failed."""
 
 
@@ -32,8 +32,8 @@ class Page:
         self.up, up = os.pipe()
         words = [browser(), "--headless=new", "--no-sandbox", "--disable-gpu", "--hide-scrollbars", "--remote-debugging-pipe",
                  f"--user-data-dir={self.folder.path}", f"--window-size={width},{height}", "about:blank"]  # fmt: skip
-        # Chromium reads its commands from 3, and answers on 4
-        words = ["sh", "-c", f'exec "$@" 3<&{down} 4>&{up}', "sh", *words]
+        # Chromium reads its commands from 3, and answers on 4; sh of Debian knows no descriptors of two digits
+        words = ["bash", "-c", f'exec "$@" 3<&{down} 4>&{up}', "bash", *words]
         quiet = {"stdin": subprocess.DEVNULL, "stdout": subprocess.DEVNULL, "stderr": subprocess.DEVNULL}
         self.process = subprocess.Popen(words, pass_fds=(down, up), **quiet)
         os.close(down)
@@ -47,7 +47,7 @@ class Page:
             self.resize(width, height)
             self.theme(dark)
             self.send("Page.navigate", url=url)
-        except Failed:
+        except BrowserError:
             self.close()
             raise
 
@@ -68,10 +68,10 @@ class Page:
         while b"\0" not in self.rest:
             left = self.deadline - time.monotonic()
             if left <= 0 or not select.select([self.up], [], [], left)[0]:
-                raise Failed("the browser does not answer")
+                raise BrowserError("the browser does not answer")
             piece = os.read(self.up, 1 << 20)
             if not piece:
-                raise Failed("the browser ended")
+                raise BrowserError("the browser ended")
             self.rest += piece
         text, _, self.rest = self.rest.partition(b"\0")
         return json.loads(text)
@@ -91,21 +91,21 @@ class Page:
                 self.errors.append(json.dumps(told["params"]["exceptionDetails"])[:500])
             if told.get("id") == self.number:
                 if "error" in told:
-                    raise Failed(f"{method}: {told['error']['message']}")
+                    raise BrowserError(f"{method}: {told['error']['message']}")
                 return told["result"]
 
     def value(self, expression):
         """The value of an expression in the page; a promise is awaited."""
         told = self.send("Runtime.evaluate", expression=expression, awaitPromise=True, returnByValue=True)
         if "exceptionDetails" in told:
-            raise Failed(f"{expression[:80]}: {told['exceptionDetails'].get('exception', {}).get('description')}")
+            raise BrowserError(f"{expression[:80]}: {told['exceptionDetails'].get('exception', {}).get('description')}")
         return told["result"].get("value")
 
     def until(self, expression):
         """Waits until an expression holds."""
         while not self.value(expression):
             if time.monotonic() > self.deadline:
-                raise Failed(f"it never holds that {expression[:200]}")
+                raise BrowserError(f"it never holds that {expression[:200]}")
             time.sleep(0.05)
 
     def key(self, key):

@@ -1,45 +1,54 @@
-"""What the tests share: checks that are counted, one way to skip, and how a part of the tests runs, by unittest.
+"""What the tests share: checks that are counted, one way to skip, and how the file of a part runs with its own options.
 
-A part is a file of this folder with a class or more:
+A part is a file test_NAME.py of this folder with a class or more, which pytest runs:
 
     class Sizes(checks.Part):
         def test_small(self):
             expect("a size of 0", size(0) == 16, size(0))
-            if not skipped("gcc", "the sizes of a program"):
+            if not skip_without("gcc", "the sizes of a program"):
                 ..
 
-    if __name__ == "__main__":
-        checks.main()
-
-A check that fails is printed with what was seen, and the test goes on. A test in which nothing is checked by `expect` counts as one check.
-The last line of a part has its name and how many checks passed, failed and were skipped. A test that would have to build the program fails,
-unless MTE_TOOL_BUILD=yes."""
+A check that fails is printed with what was seen, and the test goes on, to fail at its end. A test in which nothing is checked by `expect`
+counts as one check. A test that would have to build the program fails, unless MTE_TOOL_BUILD=yes."""
 
 import argparse
 import os
 import shlex
 import shutil
-import signal
 import subprocess
 import sys
 import tempfile
-import time
-import traceback
-import unittest
 from collections.abc import Callable
-from typing import Optional
+from typing import NoReturn, Optional
 
+import part_runs
 import parts_alone
-from mte_scripts.places import ROOT
+from mte_scripts import engines
+from mte_scripts.places import BUILT, ROOT
+
+try:
+    import pytest
+except ImportError:  # a part is run with its own options
+    part_runs.run_again()
 
 SHOWN = 900  # characters of each thing that was seen
-PROGRAM = os.path.realpath(os.environ.get("MTE_TOOL") or os.path.join(ROOT, "crates/mte_tool/out/mte_tool"))
+# what is tested: the program that is built here, or else the project's engines as native code, which `all` compiles
+ENGINES = None if os.path.exists(BUILT) or engines.why_unproved() else engines.native_program()
+PROGRAM = os.path.realpath(os.environ.get("MTE_TOOL") or ENGINES or BUILT)
+# how a sentence begins on what is proved, and the last line of a check
+PROVED = (engines.State.PROVED_BY_PROJECT if ENGINES else engines.State.PROVED_HERE).value
+OPTIMAL = f"optimal ({PROVED})" if ENGINES else "optimal"
 passed = failed = left_out = 0
-options = argparse.Namespace(times=False)
+lines: "list[str]" = []  # of what has failed and of what is skipped
+options = argparse.Namespace()  # the part's own
 
 
-class Failed(AssertionError):
-    """Ends a test of which checks have failed; they are counted and told."""
+def take_counts() -> "tuple[int, int, int, list[str]]":
+    """How many checks have passed, failed and were skipped since the last time, and what is to be told of them."""
+    global passed, failed, left_out, lines
+    taken = passed, failed, left_out, lines
+    passed, failed, left_out, lines = 0, 0, 0, []
+    return taken
 
 
 def expect(name: str, condition: object, *seen: object) -> bool:
@@ -51,7 +60,7 @@ def expect(name: str, condition: object, *seen: object) -> bool:
         passed += 1
     else:
         failed += 1
-        print(": ".join([f"FAILED {name}", *[" ".join(map(shown, seen))] * bool(seen)]), flush=True)
+        lines.append(": ".join([f"FAILED {name}", *[" ".join(map(shorten, seen))] * bool(seen)]))
     return bool(condition)
 
 
@@ -63,8 +72,7 @@ def least(measure: "Callable[[], float]", most: float, rounds: int = 5) -> float
         if found <= most:
             break
         found = min(found, measure())
-    if options.times:
-        print(f"          {found:.3f} of at most {most}", flush=True)
+    print(f"{found:.3f} of at most {most}", flush=True)
     return found
 
 
@@ -73,12 +81,12 @@ def fail(text: str) -> None:
     expect(text, False)
 
 
-def shown(seen: object) -> str:
+def shorten(seen: object) -> str:
     text = str(seen)
     return text if len(text) <= SHOWN else f"{text[:SHOWN // 3]} .. {text[-SHOWN // 3 * 2:]}"
 
 
-def counted(number: int, failures: "list[str]") -> None:
+def add_outcomes(number: int, failures: "list[str]") -> None:
     """Counts so many checks that were made elsewhere, and says which of them failed."""
     global passed
     passed += number - len(failures)
@@ -90,7 +98,7 @@ def skip(text: str) -> bool:
     """Says what is not tested, and why, as `without gcc: the sizes of a program`; True."""
     global left_out
     left_out += 1
-    print(f"skipped, {text}", flush=True)
+    lines.append(f"skipped, {text}")
     return True
 
 
@@ -103,44 +111,44 @@ def is_missing(tool: str) -> bool:
     return is_gone
 
 
-def without(tools: str) -> str:
+def missing_tools(tools: str) -> str:
     """Which of these commands, or paths of parts that stand alone, are missing, as words; empty if none is."""
     missing = [tool for tool in tools.split() if is_missing(tool)]
     return f"without {' and '.join(missing)}" if missing else ""
 
 
-def skipped(tools: str, what: str) -> bool:
-    """Whether one of these is missing (see `without`); then it says what is not tested."""
-    return bool(without(tools)) and skip(f"{without(tools)}: {what}")
+def skip_without(tools: str, what: str) -> bool:
+    """Whether one of these is missing (see `missing_tools`); then it says what is not tested."""
+    return bool(missing_tools(tools)) and skip(f"{missing_tools(tools)}: {what}")
 
 
 def need(tools: str, what: str) -> None:
-    """Ends a test, or all of a class, where one of these is missing (see `without`)."""
-    if without(tools):
-        raise unittest.SkipTest(f"{without(tools)}: {what}")
+    """Ends a test, or all of a class, where one of these is missing (see `missing_tools`)."""
+    if missing_tools(tools):
+        pytest.skip(f"{missing_tools(tools)}: {what}")
 
 
-def built() -> str:
+def built_program() -> str:
     """The program that is tested; a failure where it is not there."""
     if not os.access(PROGRAM, os.X_OK):
-        raise FileNotFoundError(f"{PROGRAM} is not built: run `scripts/mte_tool --version`")
+        raise FileNotFoundError(f"{PROGRAM} is not built: run `scripts/mte_tool --prove`")
     return PROGRAM
 
 
 def with_heap() -> str:
     """The program that is tested, where the library is there too that find_faults asks. It is built where no crate below it has to be proved
     for that."""
-    from mte_scripts import running
+    from mte_scripts import entry_point
     from mte_scripts.builds import static_libraries
 
-    heap_reader = running.part("faults.heap_reader")
+    heap_reader = entry_point.part("faults.heap_reader")
     if not os.environ.get("MTE_LIBRARY"):
         before = os.environ.get("MTE_TOOL_BUILD", "")
-        if static_libraries.is_cheap("mte_c"):
+        if static_libraries.is_cheap("mte_c") or engines.are_answering():
             os.environ["MTE_TOOL_BUILD"] = "yes"
         os.environ["MTE_LIBRARY"] = heap_reader.library()
         os.environ["MTE_TOOL_BUILD"] = before
-    return built()
+    return built_program()
 
 
 def any_program(place: str) -> Optional[str]:
@@ -156,9 +164,9 @@ def any_program(place: str) -> Optional[str]:
 
 
 def compiled_plain(place: str, fast: bool = True) -> str:
-    """The plain program of bench, compiled in PLACE: for speed, or in a third of the time."""
+    """The plain program, compiled in PLACE: for speed, or in a third of the time."""
     plain = os.path.join(place, "plain")
-    subprocess.run(["rustc", *["-O"] * fast, "--edition", "2021", os.path.join(ROOT, "bench/plain/main.rs"), "-o", plain], check=True)
+    subprocess.run(["rustc", *["-O"] * fast, "--edition", "2021", os.path.join(ROOT, "scripts/tests/plain/main.rs"), "-o", plain], check=True)
     return plain
 
 
@@ -170,78 +178,30 @@ def copying_compiler(path: str, cache: str) -> str:
     return path
 
 
-class Part(unittest.TestCase):
-    """Tests that fail if a check has failed, once all of theirs are made."""
+class Part:
+    """Tests. `after_class` and `after_test` are the stacks of what is done once they are over."""
 
-    def setUp(self) -> None:
-        self.begun = failed
-
-    def tearDown(self) -> None:
-        if failed > self.begun:
-            raise Failed(f"{failed - self.begun} checks have failed")
+    __test__ = True  # of classes, pytest takes those
 
     @classmethod
     def folder(cls) -> str:
         """A folder that goes with the last test of the class."""
-        made = tempfile.TemporaryDirectory()
-        cls.addClassCleanup(made.cleanup)
-        return made.name
+        return cls.after_class.enter_context(tempfile.TemporaryDirectory())
 
 
-class Result(unittest.TestResult):
-    """Counts what is not counted as a check, and tells each failure at once."""
-
-    def startTest(self, test: unittest.TestCase) -> None:
-        super().startTest(test)
-        self.before, self.begun = passed + failed + left_out, time.monotonic()
-
-    def stopTest(self, test: unittest.TestCase) -> None:
-        super().stopTest(test)
-        if passed + failed + left_out == self.before:
-            expect(test.id(), True)
-        if options.times:
-            print(f"{time.monotonic() - self.begun:7.1f} s {test.id()}", flush=True)
-
-    def addError(self, test: unittest.TestCase, error) -> None:
-        super().addError(test, error)
-        if not issubclass(error[0], Failed):
-            expect(test.id(), False, "".join(traceback.format_exception(*error)))
-
-    addFailure = addError
-
-    def addSkip(self, test: unittest.TestCase, reason: str) -> None:
-        super().addSkip(test, reason)
-        skip(reason)
-
-
-class InOrder(unittest.TestLoader):
-    """Finds the tests of a class in the order of its text."""
-
-    def getTestCaseNames(self, case: type) -> "list[str]":
-        return sorted(super().getTestCaseNames(case), key=lambda name: getattr(case, name).__code__.co_firstlineno)
-
-
-def main(add=lambda parser: None, instead=lambda options: None) -> None:
-    """Runs the part whose file is run: a line for each failure and for what is skipped, and one with the counts. ADD adds its own options; what
-    INSTEAD returns, if it is a number, is the status, and nothing is tested."""
-    # a shell has what it starts in the background ignore an interrupt, and so would all that the tests run
-    signal.signal(signal.SIGINT, signal.default_int_handler)
-    os.environ.setdefault("MTE_TOOL_BUILD", "no")
-    module, part = sys.modules["__main__"], os.path.basename(sys.argv[0])
-    parser = argparse.ArgumentParser(prog=part, description=module.__doc__, formatter_class=argparse.RawDescriptionHelpFormatter)
-    parser.add_argument("-k", dest="patterns", action="append", metavar="NAME", help="only the tests whose name has this; `*` stands for any letters")
-    parser.add_argument("--times", action="store_true", help="say how long each test takes, and what is measured against a limit")
-    add(parser)
-    parser.parse_args(namespace=options)
-    status = instead(options)
+def main(instead=lambda options: None) -> NoReturn:
+    """Runs the part whose file is run, with its own options, `add_options`. What INSTEAD returns, if it is a number, is the status, and
+    nothing is tested."""
+    module = sys.modules["__main__"]
+    words, parser = (argparse.ArgumentParser(prog=os.path.basename(sys.argv[0]), description=module.__doc__, add_help=is_all,
+                                             formatter_class=argparse.RawDescriptionHelpFormatter) for is_all in (False, True))
+    for each in (words, parser):
+        each.add_argument("-k", dest="patterns", action="append", default=[], metavar="NAME", help="only the tests whose name has this")
+    module.add_options(parser)
+    status = instead(parser.parse_args())
+    print(*lines, sep="\n", end="\n" * bool(lines))
     if status is not None:
         sys.exit(status)
-    loader = InOrder()
-    if options.patterns:
-        loader.testNamePatterns = [each if "*" in each else f"*{each}*" for each in options.patterns]
-    for case in vars(module).values():
-        if isinstance(case, type) and issubclass(case, unittest.TestCase):
-            case.__module__ = part  # the name that -k sees
-    loader.loadTestsFromModule(module).run(Result())
-    print(f"{part}: {passed} passed, {failed} failed, {left_out} skipped", flush=True)
-    sys.exit(failed > 0)
+    known, own = words.parse_known_args()
+    python = part_runs.interpreter()
+    os.execv(python, part_runs.command(python, os.path.realpath(sys.argv[0]), known.patterns, f"--words={shlex.join(own)}", *["-s"] * bool(own)))

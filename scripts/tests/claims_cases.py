@@ -5,17 +5,21 @@ import itertools
 import os
 import re
 import subprocess
-import unittest
 
 import checks
+import pytest
 from checks import expect
-from mte_scripts import texts
+from mte_scripts.formats import LARGEST_SIZE
 
 CLAIM = re.compile(
-    r"of the tables of at most (\d+) class(?:es, all multiples|, a multiple) of ([\d,]+) bytes, that serve ([^,]+?)"
-    r"(?: and have (?:class|the classes) ([\d, and]+?))?, none (wastes|takes) less "
-    r"(?:on it|over it|over all its moments|over its machines together) than ([\d,]+) bytes?\."
+    r"of the tables of at most (\d+) class(?:es, all multiples|, a multiple) of ([\d,]+) bytes, that serve "
+    r"(\"[^\"]*\" \(SHA-256 [0-9a-f]{16}(?:, [^()]*)?\))"
+    r"(?: and have class (\d+))?, none (wastes|takes) less "
+    r"(?:on its ([\d,]+) requests? of ([\d,]+) sizes?, ([\d,]+) bytes? in all(?: without [\d,]+ large ones?)?,|over its ([\d,]+) snapshots?|over all moments of its ([\d,]+) events?) "
+    r"than ([\d,]+) bytes?\."
 )
+COST = 11  # the number of the cost's group
+BOUND = re.compile(r"Tested, and not proved: .*?; so (?:on|over) .*? none of these (?:wastes|takes) less than ([\d,]+) bytes?\.")
 CASES = [(limit, step, with_forced) for limit in (1, 2, 3) for step in (1, 2, 4, 8) for with_forced in (False, True)]
 
 
@@ -65,7 +69,7 @@ def small(chosen, moments=0):
     """A small profile, or a small history."""
     sizes = {chosen.randrange(0, 250) for _ in range(chosen.randrange(1, 5))}
     if chosen.random() < 0.3:
-        sizes.add(chosen.randrange(texts.LARGEST_SIZE - 95, texts.LARGEST_SIZE + 1))
+        sizes.add(chosen.randrange(LARGEST_SIZE - 95, LARGEST_SIZE + 1))
     if moments:
         rows = {size: [chosen.randrange(0, 9) for _ in range(moments)] for size in sizes}
         return {size: counts if any(counts) else [1] * moments for size, counts in rows.items()}
@@ -104,9 +108,9 @@ class WithProgram(checks.Part):
     """Tests that need a program: the built one, the plain one where that is not built, or the one that MTE_TOOL names."""
 
     @classmethod
-    def setUpClass(cls):
+    def setup_class(cls):
         other = checks.any_program(cls.folder())
         if other == "":
-            raise unittest.SkipTest("without a built program and rustc: the sentences in small cases")
+            pytest.skip("without a built program and rustc: the sentences in small cases")
         if other:
             os.environ["MTE_TOOL"] = other

@@ -1,4 +1,5 @@
-"""The packages of scripts/package in a Debian 12 that has nothing but `apt`, for `package --chroot`."""
+"""The packages of scripts/package in a Debian 12 that has nothing but `apt`, for `package --chroot`: those of the
+source package of a snapshot, which are built there, and then those of the release, which apt takes for newer."""
 
 import os
 import shutil
@@ -7,6 +8,26 @@ import sys
 
 # what the callers are built with
 TOOLS = "gcc g++ libc6-dev pkg-config cmake make golang-go cargo python3-venv redis-server redis-tools".split()
+# builds the snapshot of its source package, and installs it
+SNAPSHOT = r"""
+set -eu
+cd /tmp/snapshot
+dpkg-source -x *.dsc source
+cd source
+dpkg-buildpackage -us -uc -b
+cd ..
+apt-get install -y --no-install-recommends ./*.deb
+dpkg-query -W -f '${Package} ${Version}\n' 'mte-tool' 'libmte-tool*' | tee installed
+grep -c '~git' installed
+mte_tool --version
+"""
+# upgrades it to the release
+UPGRADE = r"""
+set -eu
+apt-get install -y --no-install-recommends /tmp/packages/*.deb
+dpkg-query -W -f '${Package} ${Version}\n' 'mte-tool' 'libmte-tool*' | tee installed
+! grep '[~+]git' installed
+"""
 IN_DEBIAN = r"""
 set -eu
 cd /root
@@ -19,8 +40,8 @@ for turn in $(seq 600); do redis-cli -p 6399 ping >/dev/null 2>&1 && break; slee
 redis-benchmark -p 6399 -q -n 20000 -t set,lpush,hset -r 10000 -d 100 | tail -n 3
 redis-cli -p 6399 shutdown nosave
 wait $!
-cat redis/tuned.sheet redis/program.profile | mte_tool check
-cat redis/fitted.fit redis/program.timeline | mte_tool check-fit
+mte_check_sheet redis/tuned.sheet redis/program.profile
+mte_check_sheet redis/fitted.fit redis/program.timeline
 ls redis
 
 mte_tool tune --limit 8 < examples/jq.profile > jq.sheet
@@ -48,16 +69,18 @@ done
 """
 
 
-def run(folder: str, packages: "list[str]") -> int:
-    """Makes the Debian in the folder, and tries the packages there; the status."""
+def run(folder: str, packages: "list[str]", snapshot: "list[str]") -> int:
+    """Makes the Debian in the folder, and tries the source package of a snapshot there, and then the packages; the
+    status."""
     words = ["mmdebstrap", "--variant=apt", "--include=ca-certificates", "bookworm", folder]
     subprocess.run(words, check=True)
-    os.mkdir(f"{folder}/tmp/packages")
-    for path in packages:
-        shutil.copy(path, f"{folder}/tmp/packages")
-    debs = [f"/tmp/packages/{os.path.basename(path)}" for path in packages if path.endswith(".deb")]
-    install = ["apt-get", "install", "-y", "--no-install-recommends", *debs, *TOOLS]
-    for words in (["apt-get", "update"], install, ["bash", "-c", IN_DEBIAN]):
+    for name, paths in (("packages", packages), ("snapshot", snapshot)):
+        os.mkdir(f"{folder}/tmp/{name}")
+        for path in paths:
+            shutil.copy(path, f"{folder}/tmp/{name}")
+    install = ["apt-get", "install", "-y", "--no-install-recommends", "build-essential", *TOOLS]
+    scripts = [["bash", "-c", script] for script in (SNAPSHOT, UPGRADE, IN_DEBIAN)]
+    for words in (["apt-get", "update"], install, *scripts):
         environment = {"PATH": "/usr/sbin:/usr/bin:/sbin:/bin", "HOME": "/root", "DEBIAN_FRONTEND": "noninteractive", "LC_ALL": "C.UTF-8"}
         # with a /proc of its own, and nothing is left running
         alone = ["unshare", "--mount", "--pid", "--fork", "--kill-child", f"--root={folder}", "--mount-proc"]

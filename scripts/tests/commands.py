@@ -26,7 +26,7 @@ class Commands(checks.Part):
     out = err = name = ""
 
     @classmethod
-    def setUpClass(cls):
+    def setup_class(cls):
         cls.place = cls.folder()
         cls.environment = {**os.environ, "XDG_CACHE_HOME": os.path.join(cls.place, "cache")}
         cls.environment.pop("MTE_TOOL", None)

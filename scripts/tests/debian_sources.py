@@ -9,7 +9,7 @@ from collections.abc import Iterable
 MIRRORS = ("http://deb.debian.org/debian bookworm main", "http://deb.debian.org/debian-security bookworm-security main")
 
 
-def fetched(work: str, names: Iterable[str], files: str = "") -> bool:
+def has_sources(work: str, names: Iterable[str], files: str = "") -> bool:
     """Whether the sources of the packages are in the folder `sources` of WORK, each under its name; apt has its lists in a folder beside it.
     FILES is a pattern of names: then the upstream archive alone is unpacked, and only these files of it."""
     missing = [name for name in names if not os.path.isdir(os.path.join(work, "sources", name))]

@@ -88,7 +88,7 @@ def trace(draw: random.Random) -> bytes:
     return lines(*made)
 
 
-def spoiled(draw: random.Random, text: bytes) -> bytes:
+def spoil_text(draw: random.Random, text: bytes) -> bytes:
     """The text with a change at a word, a line or a byte."""
     rows = [row.split(b" ") for row in text.split(b"\n")]
     at = draw.randrange(len(rows))
@@ -128,20 +128,21 @@ def words(draw: random.Random) -> "list[str]":
     return made
 
 
-def drawn(draw: random.Random, times: int, tuned: "Callable[[str, bytes], bytes]") -> "Iterator[tuple[str, bytes]]":
+def draw_inputs(draw: random.Random, times: int, tuned: "Callable[[str, bytes], bytes]") -> "Iterator[tuple[str, bytes]]":
     """So many inputs, each with the words of its command."""
     for _ in range(times):
         command = draw.choice(("score", "tune", "check", "check", "footprint", "fit", "check-fit", "check-fit", "peaks", "profile", "replay", "run"))
         limits = f"--limit {draw.choice((1, 2, 3, 8, 32))}" + draw.choice(("", "", " --step 2", " --step 4", " --step 8"))
+        table = limits + draw.choice(("", "", "", " --largest-class 1"))
         heap = draw.choice(("", "--granules 64", "--granules 97 --quarantine 64", "--seed 7 --quarantine 0"))
         over_time = {"footprint": (history, timeline), "fit": (history, timeline), "check-fit": (history, timeline), "peaks": (timeline,)}
         counts = draw.choice(over_time.get(command, (profile,)))(draw)
         text = {
             "score": lambda: class_line(draw) + counts, "footprint": lambda: class_line(draw) + counts, "peaks": lambda: class_line(draw) + counts, "tune": lambda: counts, "fit": lambda: counts,
-            "check": lambda: tuned(f"tune {limits}", counts) + counts, "check-fit": lambda: tuned(f"fit {limits}", counts) + counts,
+            "check": lambda: tuned(f"tune {table}", counts) + counts, "check-fit": lambda: tuned(f"fit {table}", counts) + counts,
             "replay": lambda: class_line(draw) + trace(draw),
         }.get(command, lambda: trace(draw))()
-        options = {"tune": limits, "fit": limits, "replay": heap, "run": f"{limits} {heap}"}.get(command, "")
+        options = {"tune": table, "fit": table, "replay": heap, "run": f"{limits} {heap}"}.get(command, "")
         for _ in range(draw.choice((0, 1, 1, 1, 2, 4))):
-            text = spoiled(draw, text)
+            text = spoil_text(draw, text)
         yield f"{command} {options}", text[:-1] if draw.random() < 0.1 else text

@@ -10,12 +10,12 @@ import signal
 import subprocess
 import sys
 import time
-import unittest
 
+import pytest
 from checks import expect
+from mte_scripts.entry_point import Refusal
 from mte_scripts.places import ROOT
 from mte_scripts.private_folder import NotPrivate
-from mte_scripts.running import Refused
 
 SCRIPTS = os.path.realpath(os.environ.get("MTE_SCRIPTS") or os.path.join(ROOT, "scripts"))
 OTHER, PLAIN = 64_999, 64_998  # users that no account has
@@ -23,7 +23,7 @@ TRIES, LANES = 200, 4
 TRIES_OF_SCRIPTS = 60  # a script refuses the folder before it makes anything there; one that does not makes something each time
 # names of files that the scripts make in their folders
 NAMES = ["log", "input", "err", "library.so", "refuse.c", "growths", "mte_tool.pc", "counts", "use.profile"]
-AS_ROOT = unittest.skipIf(os.geteuid() != 0, "without root: a second user who races")
+AS_ROOT = pytest.mark.skipif(os.geteuid() != 0, reason="without root: a second user who races")
 QUIET = [(os.POSIX_SPAWN_OPEN, number, os.devnull, os.O_RDWR, 0) for number in (0, 1, 2)]
 
 
@@ -32,7 +32,7 @@ def run(words, **options):
     return done.returncode, done.stdout, done.stderr
 
 
-def made(path, mode=0o755, owner=None):
+def make_folder(path, mode=0o755, owner=None):
     os.mkdir(path)
     os.chmod(path, mode)
     if owner is not None:
@@ -40,7 +40,7 @@ def made(path, mode=0o755, owner=None):
     return path
 
 
-def below(folder):
+def files_below(folder):
     """All that is below a folder, with its bytes."""
     found = []
     for path, folders, files in os.walk(folder):
@@ -68,10 +68,10 @@ def variables(**given):
         os.environ.update(kept)
 
 
-def refused(function, *words):
+def refusal_of(function, *words):
     try:
         function(*words)
-    except (NotPrivate, Refused, OSError) as error:
+    except (NotPrivate, Refusal, OSError) as error:
         return str(error) or getattr(error, "text", "refused")
     return None
 
@@ -85,7 +85,7 @@ def become(user):
 
 
 @contextlib.contextmanager
-def racing(attack, *words):
+def repeat_attack(attack, *words):
     """A process of the second user that repeats the attack until the end."""
     process = os.fork()
     if process == 0:
@@ -190,7 +190,7 @@ def victims(work):
     victim = f"{work}/victim"
     shutil.rmtree(victim, ignore_errors=True)
     for folder in (victim, f"{victim}/below"):
-        made(folder)
+        make_folder(folder)
     for name in NAMES:
         with open(f"{victim}/{name}", "w") as file:
             file.write("kept\n")
@@ -200,16 +200,16 @@ def victims(work):
 def race(name, work, words, wanted, attack, given):
     """A script, some times, while the second user attacks. WANTED has the statuses that it may end with."""
     victim = f"{work}/victim"
-    was = below(victim)
-    with variables(**given), racing(*attack):
+    was = files_below(victim)
+    with variables(**given), repeat_attack(*attack):
         found = statuses(words, TRIES_OF_SCRIPTS)
-    expect(f"{name}: what the second user points to is as it was", below(victim) == was, set(below(victim)) ^ set(was))
+    expect(f"{name}: what the second user points to is as it was", files_below(victim) == was, set(files_below(victim)) ^ set(was))
     expect(f"{name}: its status", len(found) == TRIES_OF_SCRIPTS and set(found) <= set(wanted), sorted(set(found)))
 
 
 def tools(work, **does):
     """A folder with these commands, which do nothing else, and the interpreter without what this machine's site adds to each start."""
-    place = made(f"{work}/tools")
+    place = make_folder(f"{work}/tools")
     for name, text in {"python3": f'exec {sys.executable} -S "$@"', **does}.items():
         with open(f"{place}/{name}", "w") as file:
             file.write(f"#!/bin/sh\n{text}\n")
@@ -220,7 +220,7 @@ def tools(work, **does):
 def race_scripts(work, commands, given):
     """Scripts that make a temporary folder, with a TMPDIR that the second user can write to."""
     for words in commands:
-        shared = made(f"{work}/shared", 0o777)
+        shared = make_folder(f"{work}/shared", 0o777)
         attack = (swap, shared, victims(work))
         race(words[0], work, [f"{SCRIPTS}/{words[0]}", *words[1:]], [3], attack, {"TMPDIR": shared, **given})
         expect(f"{words[0]}: nothing is made there", not os.listdir(shared), os.listdir(shared)[:3])
@@ -231,23 +231,23 @@ def race_runtime(work, variable, name, program, more):
     """What a program opens itself, the file NAME that a variable names: in a folder that the second user can write to, and in one with the
     sticky bit."""
     for where, mode, attack in (("shared", 0o777, (swap, "file")), ("sticky_race", 0o1777, (turn,))):
-        folder, victim = made(f"{work}/{where}", mode), victims(work)
-        was = below(victim)
+        folder, victim = make_folder(f"{work}/{where}", mode), victims(work)
+        was = files_below(victim)
         environment = {**os.environ, **more, variable: f"{folder}/{name}"}
-        with racing(attack[0], folder, victim, *attack[1:]):
+        with repeat_attack(attack[0], folder, victim, *attack[1:]):
             ended = set()
             for _ in range(TRIES):
                 ended.add(os.waitstatus_to_exitcode(os.waitpid(os.posix_spawn(program, [program], environment, file_actions=QUIET), 0)[1]))
                 with contextlib.suppress(OSError):
                     os.unlink(f"{folder}/{name}")
-        expect(f"{variable}, {where}: as it was after {TRIES} runs", below(victim) == was, set(below(victim)) ^ set(was))
+        expect(f"{variable}, {where}: as it was after {TRIES} runs", files_below(victim) == was, set(files_below(victim)) ^ set(was))
         expect(f"{variable}, {where}: the program runs to its end", ended == {0}, ended)
         shutil.rmtree(folder)
 
 
 def homes_of_others(work):
     """Variables by which the cache is in another user's home, also by a link of his; and that home, which is left as it is."""
-    home, sticky = made(f"{work}/home", 0o755, OTHER), made(f"{work}/links", 0o1777)
+    home, sticky = make_folder(f"{work}/home", 0o755, OTHER), make_folder(f"{work}/links", 0o1777)
     os.symlink(home, f"{sticky}/link")
     os.lchown(f"{sticky}/link", OTHER, OTHER)
     named = ({"HOME": home}, {"XDG_CACHE_HOME": home}, {"XDG_CACHE_HOME": f"{sticky}/link"}, {"HOME": f"{sticky}/link/below"})

@@ -1,4 +1,4 @@
-"""What scripts/tests/formats writes of the table of the formats: the parts of other files, each found by a pattern. A part that is a function
+"""What scripts/tests/test_formats.py writes of the table of the formats: the parts of other files, each found by a pattern. A part that is a function
 is made when it is written or compared, of what then stands in other files."""
 
 import functools
@@ -11,7 +11,7 @@ import textwrap
 
 import checks
 from mte_scripts import formats
-from mte_scripts.formats import CODES, COMMANDS, ENDS, OPTIONS, TOTALS, in_code
+from mte_scripts.formats import CODES, COMMANDS, ENDS, LIBRARY_OPTIONS, OPTIONS, TOTALS, in_code
 from mte_scripts.gate import statements
 from mte_scripts.places import ROOT
 
@@ -29,20 +29,20 @@ def capital(words):
     return words[:1].upper() + words[1:]
 
 
-def grouped(words):
+def group_digits(words):
     """Words with commas in their large numbers."""
     return re.sub(r"\d{5,}", lambda match: f"{int(match[0]):,}", words)
 
 
-def hyphenated(name):
+def hyphenate_name(name):
     return name.replace("_", "-")
 
 
-def quoted(names):
+def quote_names(names):
     return ", ".join(f'"{name}"' for name in names)
 
 
-def listed(names):
+def join_words(names):
     """Words in a row: a, b and c."""
     *before, last = names
     return f"{', '.join(before)} and {last}" if before else last
@@ -112,20 +112,23 @@ def readers_in_c():
     """Which call reads which options."""
     calls = {}
     for name, command in COMMANDS.items():
-        if command.options:
-            calls.setdefault(command.options, []).append(name)
+        if command.library_options:
+            calls.setdefault(tuple(command.library_options), []).append(name)
     calls[formats.HEAP].append("mte_tool_heap_new")
-    said = "; ".join(f"{listed(names)} {'reads' if len(names) == 1 else 'read'} {listed(options)}" for options, names in calls.items())
+    said = "; ".join(
+        f"{join_words(names)} {'reads' if len(names) == 1 else 'read'} {join_words(options)}"
+        for options, names in calls.items()
+    )
     return f"Each call reads its own options, and the others may have any value: {said}. */"
 
 
 def options_of_c():
     members = [("size_t size;", "sizeof (mte_tool_options)")]
-    for name, option in OPTIONS.items():
+    for name, option in LIBRARY_OPTIONS.items():
         members.append((f"uint64_t {name};", option.described() + ("; it has no default" if option.default is None else "")))
     column = max(len(member) for member, _ in members) + 1
     lines = "".join(f"    {member:{column}}/* {words} */\n" for member, words in members)
-    defaults = [("(limit)" if option.default is None else str(option.default)) for option in OPTIONS.values()]
+    defaults = [("(limit)" if option.default is None else str(option.default)) for option in LIBRARY_OPTIONS.values()]
     return (
         f"{textwrap.fill(readers_in_c(), 140, initial_indent='   ', subsequent_indent='   ')}\n"
         f"typedef struct mte_tool_options {{\n{lines}}} mte_tool_options;\n\n"
@@ -162,10 +165,10 @@ def calls_of_pointers():
 
 
 def options_of_proved():
-    """The structure of the proved functions, and how the caller's becomes that."""
+    """The structure of the proved functions, and how the caller's becomes that: an option that the library lacks has its default."""
     members = "".join(f"    uint{it.bits}_t {name};\n" for name, it in OPTIONS.items())
-    lines = []
-    for name, it in OPTIONS.items():
+    lines = [f"    narrow.{name} = {it.default};\n" for name, it in OPTIONS.items() if it.is_of_program]
+    for name, it in LIBRARY_OPTIONS.items():
         most = f"UINT{it.bits}_MAX"
         lines.append(f"    narrow.{name} = wide->{name} > {most} ? {0 if it.least else most} : (uint{it.bits}_t)wide->{name};\n")
     return (
@@ -175,6 +178,18 @@ def options_of_proved():
         "static inline narrow_options narrowed(const mte_tool_options *wide) {\n    narrow_options narrow;\n"
         f"{''.join(lines)}    return narrow;\n}}\n"
     )
+
+
+def byte_of(name):
+    """Where an option is in the proved functions' structure."""
+    at = 0
+    for each, it in OPTIONS.items():
+        size = it.bits // 8
+        at += -at % size
+        if each == name:
+            return at
+        at += size
+    raise KeyError(name)
 
 
 def version_of_c():
@@ -203,11 +218,11 @@ def commands_of_cpp():
     made = []
     for name, command in COMMANDS.items():
         takes = [f"std::string_view {text}" for text in command.inputs]
-        if command.options:
-            has_default = all(OPTIONS[option].default is not None for option in command.options)
+        if command.library_options:
+            has_default = all(OPTIONS[option].default is not None for option in command.library_options)
             takes.append("const Options &options" + (" = Options()" if has_default else ""))
         words = f"{command.words}{by_options(command, before='options.')}.".replace("`", '"')
-        called = f"detail::Called(mte_tool_{name}, {', '.join(command.inputs)}, {'&options' if command.options else 'nullptr'})"
+        called = f"detail::Called(mte_tool_{name}, {', '.join(command.inputs)}, {'&options' if command.library_options else 'nullptr'})"
         made.append(
             f"{comment(words, 140, ' ')}\ninline {capital(command.gives)} {name}({', '.join(takes)}) {{\n    return {called}.{command.gives}();\n}}\n"
         )
@@ -216,7 +231,8 @@ def commands_of_cpp():
 
 def by_options(command, before="", mark=""):
     """The words for the options by which a call answers."""
-    return f", by {listed([f'{mark}{before}{option}{mark}' for option in command.options])}" if command.options else ""
+    options = [f"{mark}{before}{option}{mark}" for option in command.library_options]
+    return f", by {join_words(options)}" if options else ""
 
 
 # ---- Python
@@ -225,7 +241,7 @@ POSITIONAL = formats.TUNER  # the options that need no name
 
 
 def options_of_python():
-    lines = "".join(f'    "{name}": {option.default or 0:_},\n' for name, option in OPTIONS.items())
+    lines = "".join(f'    "{name}": {option.default or 0:_},\n' for name, option in LIBRARY_OPTIONS.items())
     commands = "".join(f'    "{name}": {len(it.inputs)},\n' for name, it in COMMANDS.items())
     words = "The options in the order of the header's structure, each with its default, and the commands with the number of their texts."
     return f'"""{words}\n\n{WRITTEN}\n"""\n\nOPTIONS = {{\n{lines}}}\n\nCOMMANDS = {{\n{commands}}}\n'
@@ -235,24 +251,24 @@ def commands_of_python():
     made = []
     for name, command in COMMANDS.items():
         takes, marked = [f"{text}: Bytes" for text in command.inputs], False
-        for option in command.options:
+        for option in command.library_options:
             if option not in POSITIONAL and not marked:
                 takes.append("*")
                 marked = True
             default = OPTIONS[option].default
             takes.append(f"{option}: int" + (f" = {default:_}" if default is not None else ""))
         result = "bytes" if command.gives == "text" else capital(command.gives)
-        given = ", ".join([f'"{name}"', *command.inputs, *(f"{option}={option}" for option in command.options)])
-        options = "".join(f"    {option}: {OPTIONS[option].described()}\n" for option in command.options)
+        given = ", ".join([f'"{name}"', *command.inputs, *(f"{option}={option}" for option in command.library_options)])
+        options = "".join(f"    {option}: {OPTIONS[option].described()}\n" for option in command.library_options)
         words = f"{command.words}." + (f"\n\n{options}    " if options else "")
         made.append(
             f"def {name}({', '.join(takes)}) -> {result}:\n"
             f'    """{words}"""\n'
-            f"    return called({given}).{command.gives}{'' if command.gives == 'text' else '()'}\n"
+            f"    return call_over_texts({given}).{command.gives}{'' if command.gives == 'text' else '()'}\n"
         )
     return "\n\n".join([
         f'"""The commands over texts. A text is bytes, a str of ASCII or the path of a file, and has at most {formats.MOST_INPUT:,} bytes.\n\n'
-        f'{WRITTEN}\n"""\n\nfrom mte_tool._calls import Cost, Fit, Verdict\nfrom mte_tool._texts import Bytes, called\n',
+        f'{WRITTEN}\n"""\n\nfrom mte_tool._calls import Cost, Fit, Verdict\nfrom mte_tool._texts import Bytes, call_over_texts\n',
         *made,
     ])
 
@@ -281,9 +297,10 @@ def rust_number(number):
 
 def options_of_rust():
     value = lambda it: str(bool(it.default)).lower() if it.most == 1 else rust_number(it.default)
-    defaults = ", ".join(name if it.default is None else f"{name}: {value(it)}" for name, it in OPTIONS.items())
-    given = "".join(f"            {name}: {'u64::from(' * (it.most == 1)}self.{name}{')' * (it.most == 1)},\n" for name, it in OPTIONS.items())
-    members = "".join(f"    /// {rust_words(it.described())}\n    pub {name}: {rust_type(it)},\n" for name, it in OPTIONS.items())
+    defaults = ", ".join(name if it.default is None else f"{name}: {value(it)}" for name, it in LIBRARY_OPTIONS.items())
+    given = "".join(f"            {name}: {'u64::from(' * (it.most == 1)}self.{name}{')' * (it.most == 1)},\n"
+                    for name, it in LIBRARY_OPTIONS.items())
+    members = "".join(f"    /// {rust_words(it.described())}\n    pub {name}: {rust_type(it)},\n" for name, it in LIBRARY_OPTIONS.items())
     return (
         f"//! The options of all calls. {WRITTEN_MARKED}\n"
         "use mte_tool_sys as c;\n\n"
@@ -305,7 +322,7 @@ def options_of_rust():
 
 
 def members_of_rust():
-    return "pub struct mte_tool_options {\n    pub size: usize,\n" + "".join(f"    pub {name}: u64,\n" for name in OPTIONS) + "}"
+    return "pub struct mte_tool_options {\n    pub size: usize,\n" + "".join(f"    pub {name}: u64,\n" for name in LIBRARY_OPTIONS) + "}"
 
 
 def externs_of_rust():
@@ -320,7 +337,7 @@ def externs_of_rust():
 
 def rust_words(words):
     """Words as a comment of rustdoc has them."""
-    return f"{grouped(capital(words))}."
+    return f"{group_digits(capital(words))}."
 
 
 def numbers_of_rust():
@@ -352,7 +369,7 @@ def codes_of_rust():
 def options_as_builder():
     """The methods that set an option."""
     made = []
-    for name, it in OPTIONS.items():
+    for name, it in LIBRARY_OPTIONS.items():
         kind = rust_type(it)
         made.append(f"\n    /// {rust_words(it.described())}\n    #[must_use]\n    pub fn {name}(mut self, {name}: {kind}) -> Options {{\n"
                     f"        self.{name} = {name};\n        self\n    }}\n")
@@ -366,24 +383,48 @@ def rust_type(option):
 RUST_FAULTS = "The input's first fault, or that memory ran out."
 RUST_ERRORS = "The input's first fault, an option out of its range, or that memory ran out."
 
+# The commands whose function has taken options since the first version of the interface. A function of Rust keeps its
+# parameters: that of another command takes none, and where the command has options, one that takes them stands beside it.
+TAKING_OPTIONS = ("tune", "fit", "replay", "run")
+
+
+def functions_of_rust():
+    """The functions over texts: each with its command, and whether it takes options."""
+    for name in COMMANDS:
+        is_taking = name in TAKING_OPTIONS
+        yield name, name, is_taking
+        if COMMANDS[name].library_options and not is_taking:
+            yield f"{name}_with", name, True
+
+
+def function_of_rust(function, name, is_taking):
+    command = COMMANDS[name]
+    takes = [f"{text}: &[u8]" for text in command.inputs] + ["options: &Options"] * is_taking
+    given = f"c::mte_tool_{name}, {', '.join(command.inputs)}, {'options' if is_taking else '&Options::default()'}"
+    answer = ".text" if command.gives == "text" else f".{command.gives}()"
+    words = f"The same as [`{name}`]" if function != name else command.words
+    words += by_options(command, mark="`") * is_taking
+    return (
+        f"/// {words}.\n///\n/// # Errors\n/// {RUST_ERRORS if is_taking else RUST_FAULTS}\n"
+        f"pub fn {function}({', '.join(takes)}) -> Result<{capital(command.gives)}, Error> {{\n"
+        f"    Ok({'call_on' if len(command.inputs) > 1 else 'call'}({given})?{answer})\n}}\n"
+    )
+
+
+def names_of_rust():
+    """What the crate gives of these, as rustfmt lays it out."""
+    names = ", ".join(sorted(function for function, *_ in functions_of_rust()))
+    line = f"pub use commands::{{{names}}};"
+    return line if len(line) <= 140 else f"pub use commands::{{\n    {names},\n}};"
+
 
 def commands_of_rust():
-    made = []
-    for name, command in COMMANDS.items():
-        takes = [f"{text}: &[u8]" for text in command.inputs] + (["options: &Options"] if command.options else [])
-        given = f"c::mte_tool_{name}, {', '.join(command.inputs)}, {'options' if command.options else '&Options::default()'}"
-        answer = ".text" if command.gives == "text" else f".{command.gives}()"
-        made.append(
-            f"/// {command.words}{by_options(command, mark='`')}.\n///\n/// # Errors\n/// {RUST_ERRORS if command.options else RUST_FAULTS}\n"
-            f"pub fn {name}({', '.join(takes)}) -> Result<{capital(command.gives)}, Error> {{\n"
-            f"    Ok({'call_on' if len(command.inputs) > 1 else 'call'}({given})?{answer})\n}}\n"
-        )
     return "\n".join([
         f"//! The commands over texts, each of at most {formats.MOST_INPUT:,} bytes. An [`Error`] has the first fault's code and line.\n"
         f"//! {WRITTEN_MARKED}\n"
         "use crate::calls::{Cost, Error, Verdict};\nuse crate::options::Options;\nuse crate::texts::{call, call_on, Fit, Text};\n"
         "use mte_tool_sys as c;\n",
-        *made,
+        *(function_of_rust(*each) for each in functions_of_rust()),
     ])
 
 
@@ -483,13 +524,23 @@ def definitions_of_options():
         f"use Rattle.tool_call.specs.declared.options.OptionName.TheVariants.{{{variants}}}\n\n"
         "-- An option's name, the least and the greatest number that it takes, and its default; one without a default may not be left out.\n"
         "pub record OptionFacts : Type 0 where\n  pub name : List ℕ\n  pub least : ℕ\n  pub most : ℕ\n  pub default : Option (List ℕ)\n\n"
-        + table("facts", "OptionName → OptionFacts", "facts {}", lambda name, it:
-                f'record {{ name = codes "{hyphenated(name)}"; least = {it.least}; most = {it.most}; default = {default(it)} }}') +
-        "\n-- The number of an option.\n"
-        + table("number_of", "OptionName → Options → ℕ", "number_of {} options", lambda name, it: f"options.{name}") +
-        "\n-- The options with another number for one of them.\n"
-        + table("with_number", "Options → OptionName → ℕ → Options", "with_number options {} n", lambda name, it: f"record options {{ {name} = n }}") +
-        "\n-- All of them 0.\nabbrev pub no_options : Options\n"
+        + table(
+            "facts",
+            "OptionName → OptionFacts",
+            "facts {}",
+            lambda name, it: f'record {{ name = codes "{hyphenate_name(name)}"; least = {it.least}; most = {it.most}; '
+            f"default = {default(it)} }}",
+        )
+        + "\n-- The number of an option.\n"
+        + table("number_of", "OptionName → Options → ℕ", "number_of {} options", lambda name, it: f"options.{name}")
+        + "\n-- The options with another number for one of them.\n"
+        + table(
+            "with_number",
+            "Options → OptionName → ℕ → Options",
+            "with_number options {} n",
+            lambda name, it: f"record options {{ {name} = n }}",
+        )
+        + "\n-- All of them 0.\nabbrev pub no_options : Options\n"
         f"no_options = record {{ {'; '.join(f'{name} = 0' for name in OPTIONS)} }}\n\n"
         "-- The options of a command, in the order in which the help lists them.\n"
         f"abbrev pub options_of : CommandName → List OptionName\n{rows}"
@@ -500,16 +551,23 @@ def words_of_options():
     """The options as clap gets them."""
     def words(name, it):
         default = "None" if it.default is None else f'Some("{it.default}")'
-        members = {"name": f'"{hyphenated(name)}"', "value_name": f'"{it.letter}"', "least": rust_number(it.least), "most": rust_number(it.most),
-                   "default": default, "help": f'"{it.with_values(it.help)}"'}
-        return "NumberOption {\n" + "".join(f"            {member}: {value},\n" for member, value in members.items()) + "        }"
-    arms = "".join(f"        OptionName::{pascal(name)} => {words(name, OPTIONS[name])},\n" for name in names_in_help())
+        members = {
+            "name": f'"{hyphenate_name(name)}"',
+            "value_name": f'"{it.letter}"',
+            "least": rust_number(it.least),
+            "most": rust_number(it.most),
+            "default": default,
+            "help": f'"{it.with_values(it.help)}"',
+        }
+        return "".join(f"    {member}: {value},\n" for member, value in members.items())
+    table = "".join(f"const {name.upper()}: NumberOption = NumberOption {{\n{words(name, OPTIONS[name])}}};\n\n" for name in names_in_help())
+    arms = "".join(f"        OptionName::{pascal(name)} => {name.upper()},\n" for name in names_in_help())
     return (
         f"//! The words of each option. {WRITTEN}\n"
         "ghost use Rattle.std.specs.Prelude.{◌≡◌};\n"
         "ghost use Rattle.command_words.specs.Options.{facts_of};\n"
         "ghost use Rattle.tool_call.specs.OptionTable.{facts};\n\n"
-        "use crate::options::NumberOption;\nuse tool_call::OptionName;\n\n"
+        f"use crate::options::NumberOption;\nuse tool_call::OptionName;\n\n{table}"
         "/// An option as clap gets it.\npub fn number_option(option: OptionName) -> NumberOption\n    ensures { facts_of result ≡ facts option }\n{\n"
         f"    match option {{\n{arms}    }}\n}}\n"
     )
@@ -519,14 +577,18 @@ def words_of_options():
 
 def options_of_plain():
     numbers = "".join(
-        f'    Number {{\n        name: "--{hyphenated(name)}",\n        least: {rust_number(it.least)},\n        most: {rust_number(it.most)},\n'
+        f'    Number {{\n        name: "--{hyphenate_name(name)}",\n'
+        f"        least: {rust_number(it.least)},\n        most: {rust_number(it.most)},\n"
         f"        default: {'None' if it.default is None else f'Some({rust_number(it.default)})'},\n    }},\n"
         for name, it in OPTIONS.items()
     )
     arms = {}
     for name, command in COMMANDS.items():
-        arms.setdefault(command.options, []).append(f'"{hyphenated(name)}"')
-    names = "".join(f"        {' | '.join(said)} => &[{quoted(f'--{hyphenated(option)}' for option in options)}],\n" for options, said in arms.items())
+        arms.setdefault(command.options, []).append(f'"{hyphenate_name(name)}"')
+    names = "".join(
+        f"        {' | '.join(said)} => &[{quote_names(f'--{hyphenate_name(option)}' for option in options)}],\n"
+        for options, said in arms.items()
+    )
     return (
         f"//! The options of the commands. {WRITTEN}\n\n"
         "/// An option: its name, its range, and its number where it is left out.\n"
@@ -564,7 +626,7 @@ def script_of_page():
     numbers = {"GRANULE": formats.GRANULE_BYTES, "LARGEST_CLASS": formats.LARGEST_CLASS, "LARGEST_SIZE": formats.LARGEST_SIZE,
                "MOST_CLASSES": formats.MOST_CLASSES, "MOST_INPUT": formats.MOST_INPUT}
     options = {name: LIMIT if option.default is None else option.default for name, option in OPTIONS.items()}
-    ended = quoted(name.lower().replace("_", " ") for name in ENDS)
+    ended = quote_names(name.lower().replace("_", " ") for name in ENDS)
     words = {code: on_page(it.words) for code, it in CODES.items() if it.status == 2}
     causes = {kebab(it.name): on_page(it.words) for code, it in CODES.items() if code in range(60, 66)}
     return "\n".join([
@@ -575,9 +637,10 @@ def script_of_page():
         f"const REGION = 1n << {formats.REGION_START.bit_length() - 1}n;",
         f"const DEFAULTS = {{ {', '.join(f'{name}: {value}' for name, value in options.items())} }};",
         f"const OPTION_BITS = {{ {', '.join(f'{name}: {it.bits}' for name, it in OPTIONS.items())} }};",
-        f"const HEAP_OPTIONS = [{quoted(formats.HEAP)}];",
-        f"const COMMANDS = [{quoted(map(hyphenated, COMMANDS))}];",
-        f"const OF_TWO_TEXTS = [{quoted(hyphenated(name) for name, it in COMMANDS.items() if len(it.inputs) > 1)}];",
+        f"const HEAP_OPTIONS = [{quote_names(formats.HEAP)}];",
+        f"const COMMANDS = [{quote_names(map(hyphenate_name, COMMANDS))}];",
+        "const OF_TWO_TEXTS = "
+        f"[{quote_names(hyphenate_name(name) for name, it in COMMANDS.items() if len(it.inputs) > 1)}];",
         f"const ENDED = [{ended}];",
         "const INPUT_CODES = {",
         *(f'  {code}: "{text}",' for code, text in words.items()),
@@ -590,7 +653,7 @@ def script_of_page():
 
 
 def on_page(words):
-    return grouped(words.replace("`", "'"))
+    return group_digits(words.replace("`", "'"))
 
 
 def kebab(name):
@@ -656,18 +719,18 @@ def totals_of_tests():
 
 
 def rows_of_totals():
-    return of_each_total(lambda code, name, it: f"| `{name} N` | {grouped(it.words)} |\n")
+    return of_each_total(lambda code, name, it: f"| `{name} N` | {group_digits(it.words)} |\n")
 
 
 # ---- what the plain program counts, and how much is to be read
 
 @functools.lru_cache(maxsize=None)
-def counted():
+def count_totals():
     """The lines of totals of the run of crates/mte_tool, and those of README.md's session, as the plain program counts them. Without rustc they
     are those that stand there, and a new one is 0."""
     if not shutil.which("rustc"):
         checks.skip("without rustc: the numbers of the totals in crates/mte_tool/stdout, crates/heap_tests and README.md")
-        return standing("crates/mte_tool/stdout", TOTALS_IN_TEXT), standing("README.md", TOTALS_IN_README)
+        return read_totals("crates/mte_tool/stdout", TOTALS_IN_TEXT), read_totals("README.md", TOTALS_IN_README)
     words, trace = re.search(r"\$ scripts/mte_tool (run .*) < (examples/\S+)", read("README.md")).groups()
     runs = ((read("crates/mte_tool/args").split(), "crates/mte_tool/stdin"), (words.split(), trace))
     with tempfile.TemporaryDirectory() as place:
@@ -676,7 +739,7 @@ def counted():
     return [out.splitlines()[-len(TOTALS) :] for out in outs]
 
 
-def standing(path, pattern):
+def read_totals(path, pattern):
     text = re.search(pattern, read(path))[0]
     numbers = {name: re.search(rf"(?<![a-z] ){name} (\d+)", text) for name in TOTALS}
     return [f"{name} {found[1] if found else 0}" for name, found in numbers.items()]
@@ -684,7 +747,9 @@ def standing(path, pattern):
 
 def totals_in_literal():
     """The totals of the run of crates/mte_tool as a literal in lines of at most 140 columns."""
-    lines = textwrap.wrap(" ".join(f"{line}\\n".replace(" ", "\0") for line in counted()[0]), 120, break_on_hyphens=False)
+    lines = textwrap.wrap(
+        " ".join(f"{line}\\n".replace(" ", "\0") for line in count_totals()[0]), 120, break_on_hyphens=False
+    )
     text = "\\\n    ".join(line.replace(" ", "").replace("\0", " ") for line in lines)
     return f'const TOTALS: &str =\n    "{text}";'
 
@@ -724,7 +789,7 @@ PARTS_OF_TOTALS = {
     "crates/command_words/src/commands/replay.rt": [(r"(?s)and then \w+ totals: .*?\.(?=\n\n)", totals_in_help())],
     "crates/engine_tests/src/tests/totals.rt": [(r"(?s).*", totals_of_tests())],
     "docs/FORMATS.md": [(r"(?<=\| Line of totals \| What it counts \|\n\|---\|---\|\n)(\|.*\n)+", rows_of_totals())],
-    "bench/plain/replay.rs": [
+    "scripts/tests/plain/replay.rs": [
         (r"(    \w+: u64,\n)+", of_each_total(lambda code, *_: f"    {code}: u64,\n")),
         (r'(            \(".* ", t\.\w+\),\n)+', of_each_total(lambda code, name, _: f'            ("{name} ", t.{code}),\n')),
     ],
@@ -734,9 +799,9 @@ PARTS_OF_TOTALS = {
 # Made of other parts, and so written after them.
 PARTS_OF_RUNS = {
     "crates/heap_tests/src/tests/replays.rt": [(r'(?s)const TOTALS: &str =\s*".*?";', totals_in_literal)],
-    "crates/mte_tool/stdout": [(TOTALS_IN_TEXT, lambda: "".join(f"{line}\n" for line in counted()[0]))],
+    "crates/mte_tool/stdout": [(TOTALS_IN_TEXT, lambda: "".join(f"{line}\n" for line in count_totals()[0]))],
     "README.md": [
-        (TOTALS_IN_README, lambda: "\n".join(f"    {line}" for line in counted()[1])),
+        (TOTALS_IN_README, lambda: "\n".join(f"    {line}" for line in count_totals()[1])),
         (r"tail -n \d+ sqlite\.run", f"tail -n {len(TOTALS)} sqlite.run"),
         (r"\d+ definitions of \d+ lines in \d+ modules", definitions_to_read),
     ],
@@ -756,7 +821,7 @@ PARTS = {
     ],
     "include/mte_tool.hpp": [
         (r"(?s)enum class Code : std::uint32_t \{.*?\n\};", codes_of_cpp()),
-        (r"(?s)(?<=   line\. \*/\n\n).*?(?=\n/\* ---- the same over arrays)", commands_of_cpp()),
+        (r"(?s)(?<=   line\. \*/\n\n).*?(?=\n/\* ---- what a check showed)", commands_of_cpp()),
     ],
     "library/options.h": [(r"(?s).*", options_of_proved())],
     "library/layer.h": [(r"enum \{ SCORE,.*\};", f"enum {{ {', '.join(name.upper() for name in COMMANDS)} }};")],
@@ -775,8 +840,13 @@ PARTS = {
     "rust/mte-tool/src/codes.rs": [(r"(?s).*", codes_of_rust())],
     "rust/mte-tool/src/options.rs": [(r"(?s).*", options_of_rust())],
     "rust/mte-tool/src/commands.rs": [(r"(?s).*", commands_of_rust())],
-    "bench/plain/formats.rs": [(r"(?s).*", options_of_plain())],
+    "rust/mte-tool/src/lib.rs": [(r"(?s)pub use commands::\{.*?\};", names_of_rust())],
+    "scripts/tests/plain/formats.rs": [(r"(?s).*", options_of_plain())],
     "library/sentences.h": [(r"(?s).*", sentences_of_c())],
+    "web/checker.c": [
+        (r"CHECK = \d+, CHECK_FIT = \d+", "CHECK = {}, CHECK_FIT = {}".format(*map([*COMMANDS].index, ("check", "check_fit")))),
+        (r"CLAIM_BYTE = \d+", f"CLAIM_BYTE = {byte_of('claim')}"),
+    ],
     "web/formats.js": [(r"(?s).*", script_of_page())],
     "web/page.html": inputs_of_page(),
     "scripts/shims/formats.h": [(r"(?s).*", header_of_recorders())],

@@ -1,7 +1,7 @@
-"""Histories of blocks, with wrong accesses and frees after each: what scripts/tests/real_heaps plays in the real Scudo and glibc, and what the
+"""Histories of blocks, with wrong accesses and frees after each: what scripts/tests/test_real_heaps.py plays in the real Scudo and glibc, and what the
 odds say of them. The events are those of scripts/shims/real_heaps/driver.h.
 
-heap_rows.tsv has what `scripts/tests/real_heaps --rows` measured: of each question, in how many runs each heap caught it."""
+heap_rows.tsv has what `scripts/tests/test_real_heaps.py --rows` measured: of each question, in how many runs each heap caught it."""
 
 import os
 import re
@@ -45,7 +45,7 @@ def overflows():
                    ("Scudo", "glibc")[: 1 + (times > 0)])
 
 
-def freed():
+def freed_cases():
     for reuses in range(9):
         again = "".join(f"; m {n + 2} 200; = 1 {n + 2} 0; f {n + 2}" for n in range(reuses))
         asked = stores(1, (0, 8), (96, 8), (192, 8), (-8, 8), (208, 8), (240, 8))
@@ -59,7 +59,7 @@ def freed():
     yield case("free(0), malloc(10) there", "m 1 0; f 1; m 2 10; = 1 2 0", stores(1, 0, 9, -1))
 
 
-def resized():
+def resized_cases():
     short = "m 1 4000; r 1 2 40; = 1 2 0"
     yield case("realloc(4000 to 40)", short, stores(2, 48, 63, 64, 100, 2000, 3999, 4000, 4015, 4016, (56, 64), (64, 64), (64, 4000)))
     yield case("realloc(4000 to 40), the old pointer", short, f"{stores(1, 0, 39, 47, 48, 64, 100, 3999, (0, 40), (0, 49))}; {frees(1, 0, 16)}")
@@ -78,7 +78,7 @@ def resized():
     yield case("realloc(40 to 4000), a request since", "m 1 40; r 1 2 4000; m 3 40", stores(1, 0, 39, 48, -1))
 
 
-def reused():
+def reused_cases():
     smaller = "m 1 1000; f 1; m 2 900; = 1 2 0"
     smallest = f"{smaller}; f 2; m 3 800; = 1 3 0"
     for name, events, asked in (
@@ -100,7 +100,7 @@ def wrong_frees():
     yield case("a free of the stack", "m 1 200", "n")
 
 
-def aligned():
+def aligned_cases():
     for alignment, size in ((32, 100), (64, 100), (256, 40), (4096, 100), (64, 1000)):
         name = f"memalign({alignment}, {size})"
         yield case(name, f"a 1 {size} {alignment}", f"{stores(1, -1, -16, -17, -40, size, size + 16, size + 32, size + 48, size + 64)}; x 1 16")
@@ -121,7 +121,7 @@ def large():
     yield case(f"realloc({LARGE} to 100)", f"m 1 {LARGE}; r 1 2 100", stores(1, 0, 99, 1000), ("Scudo",))
 
 
-CASES = [each for group in (overflows, freed, resized, reused, wrong_frees, aligned, large) for each in group()]
+CASES = [each for group in (overflows, freed_cases, resized_cases, reused_cases, wrong_frees, aligned_cases, large) for each in group()]
 
 
 def shares_of(heap, events, questions):

@@ -8,7 +8,7 @@ from library_cases import BAD_OPTION, DONE, MISUSE, NO, REFUSED, ending_of, part
 from mte_scripts import formats
 
 
-def spelled(profile):
+def profile_text(profile):
     return b"".join(b"%d %d\n" % entry for entry in sorted(profile.items()))
 
 
@@ -30,14 +30,14 @@ def class_line(classes):
     return b" ".join([b"classes", *(b"%d" % size for size in classes)]) + b"\n"
 
 
-def claimed(table, cost, limit, step):
+def certificate_text(table, cost, limit, step):
     """The text of a table with its certificate."""
     lines = [["classes", *table.classes], ["limit", limit], *([["step", step]] if step > 1 else []), [cost, table.bytes]]
     lines += [["row", *row] for row in table.rows] + ([["moments", *table.moments]] if table.moments else [])
     return "".join(" ".join(map(str, line)) + "\n" for line in lines).encode()
 
 
-def spoiled(table):
+def spoiled_tables(table):
     """The table with each part changed."""
     yield table._replace(classes=table.classes[:-1])
     yield table._replace(classes=[*table.classes[:-1], 1024])
@@ -71,11 +71,11 @@ class Series:
             table = self.tune(*self.data, limit=limit, step=step)
             is_same = table_parts(table) == parts_of(text) and table.is_least == (end == DONE)
             expect(f"{what}: {tune} for {limit} and {step}", is_same, table_parts(table))
-            for number, each in enumerate([table, *spoiled(table)]):
+            for number, each in enumerate([table, *spoiled_tables(table)]):
                 self.compare_check(f"{what}: {check} for {limit} and {step}, table {number}", check, each, limit, step, cost)
 
     def compare_check(self, what, check, table, limit, step, cost):
-        end, said = program(check, {}, (claimed(table, cost, limit, step), self.text))
+        end, said = program(check, {}, (certificate_text(table, cost, limit, step), self.text))
         try:
             got = (DONE if (verdict := self.check(table, *self.data, limit=limit, step=step)).is_optimal else NO, verdict.code, 0)
         except Exception as error:
@@ -104,10 +104,10 @@ def run_of(trace, events):
     return sizes, frees
 
 
-def test_arrays(package):
+def try_arrays(package):
     tables, limits = ([], [2], [2, 4, 1024]), ((1, 1), (8, 1), (32, 1), (32, 2), (3, 8))
     for name, profile in example_profiles().items():
-        Series(package, "profile", (profile,), spelled(profile)).compare(f"arrays: {name}", tables, limits)
+        Series(package, "profile", (profile,), profile_text(profile)).compare(f"arrays: {name}", tables, limits)
     large_history = read("sqlite_large.history").decode().splitlines()
     snapshots = int(large_history[0].split()[1])
     lines = [list(map(int, line.split())) for line in large_history[1:] if line[0] != "l"]
@@ -131,7 +131,7 @@ def error_of(call):
     return "no error"
 
 
-def test_array_faults(package):
+def try_array_faults(package):
     """Each fault, with its code and the index of the first faulty entry."""
     most, most_count = formats.LARGEST_SIZE, formats.MOST_COUNT
     table = package.Table([2], 0, [[], []], [], True, 0)
@@ -199,7 +199,7 @@ def rooms_for(shared, room, rows, moments):
     return end, result, *map(list, filled)
 
 
-def test_rooms(shared):
+def try_rooms(shared):
     """What is put into arrays of each length, and that it is no more."""
     want = shared.package.fit_timeline(*TWO_CLASSES, limit=2)
     flat = [number for row in want.rows for number in row]

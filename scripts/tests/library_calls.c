@@ -1,4 +1,4 @@
-/* Calls of the static library, as scripts/tests/library has them made.
+/* Calls of the static library, as scripts/tests/test_library.py has them made.
 
    library_calls PIECE FOLDER COUNT    makes the calls 0 to COUNT-1 of the folder, with inputs in pieces of PIECE bytes (0: whole)
    library_calls threads FOLDER COUNT  the same in 16 threads at once

@@ -1,4 +1,4 @@
-"""The calls that scripts/tests/library makes, with what the program answers to them."""
+"""The calls that scripts/tests/test_library.py makes, with what the program answers to them."""
 
 import os
 import re
@@ -10,14 +10,16 @@ from mte_scripts import formats
 from mte_scripts.places import ROOT
 
 EXAMPLES = f"{ROOT}/examples"
-OPTIONS = {name: 1 if option.default is None else option.default for name, option in formats.OPTIONS.items()}
+DEFAULTS = {name: 1 if option.default is None else option.default for name, option in formats.OPTIONS.items()}
+OPTIONS = {name: DEFAULTS[name] for name in formats.LIBRARY_OPTIONS}
 OPTIONS_OF = {name.replace("_", "-"): command.options for name, command in formats.COMMANDS.items()}
 DONE, NO, REFUSED, OUT_OF_MEMORY, BAD_OPTION, MISUSE = range(len(formats.ENDS))
 SECONDS = 600
+WRAPS = ["-Wl,--wrap=malloc", "-Wl,--wrap=realloc", "-Wl,--wrap=free", "-pthread"]
 CODES_OF_FIRST = (20, 21, 22, 23, 36, 48)  # the faults of a first text
 
 
-def ran(words, seconds=SECONDS, **given):
+def run_command(words, seconds=SECONDS, **given):
     return subprocess.run(words, capture_output=True, timeout=seconds, **given)
 
 
@@ -105,10 +107,10 @@ def large():
 def program(command, options, data):
     """How the program ends with these options, and the text that it writes; a refusal without its word `error`. The program reads two texts
     as one: where the second one is faulty, the lines of the first are counted off."""
-    words = [f"--{name.replace('_', '-')}={options.get(name, OPTIONS[name])}" for name in OPTIONS_OF.get(command, [])]
+    words = [f"--{name.replace('_', '-')}={options.get(name, DEFAULTS[name])}" for name in OPTIONS_OF.get(command, [])]
     first, second = data if isinstance(data, tuple) else (b"", data)
     first += b"\n" if first and not first.endswith(b"\n") else b""
-    run = ran([checks.PROGRAM, command, *words], input=first + second)
+    run = run_command([checks.PROGRAM, command, *words], input=first + second)
     if run.returncode == REFUSED:
         said = run.stderr.removeprefix(b"error ").removesuffix(b"\n")
         if match := re.fullmatch(rb"(\d+) (\w+) line (\d+)", said):
@@ -130,7 +132,7 @@ def with_answers(calls):
     return [(call, program(*call)) for call in calls]
 
 
-def checked(calls):
+def with_checks(calls):
     """The same with the checks of fits and sheets that the program wrote, good and spoiled."""
     more = []
     for (command, _, data), (end, text) in calls:
@@ -180,6 +182,6 @@ class Compiler:
         return [f"-I{self.library}/include", f"{self.library}/lib/libmte_tool.a"]
 
     def build(self, name, words):
-        made = ran([*words, "-o", f"{self.work}/{name}"])
+        made = run_command([*words, "-o", f"{self.work}/{name}"])
         expect(f"{name} compiles: {made.stderr[:300]}", made.returncode == 0)
         return f"{self.work}/{name}"

@@ -117,7 +117,7 @@ static void stopped(pool *of) {
         end = mte_tool_run(&options, trace, sizeof trace - 1, &answer, NULL);
         WANT(end == MTE_TOOL_DONE || (of->live == 0 && answer.length == 0 && !*answer.bytes));
     }
-    WANT(end == MTE_TOOL_DONE && stops > 10);
+    WANT(end == MTE_TOOL_DONE && stops > FEWEST_STOPS);
     mte_tool_text_free(&answer);
     WANT(of->live == 0);
 }

@@ -159,6 +159,19 @@ static mte_tool_end heap_end(mte_tool_heap *heap, uint64_t address, void *room, 
     return mte_tool_heap_load(heap, address, room, length, NULL);
 }
 
+/* A room may stand right before or after the outcome, and shares no byte with it. */
+static void room_beside_outcome(mte_tool_heap *heap, uint64_t address) {
+    struct { uint8_t before[8]; mte_tool_outcome outcome; uint8_t after[8]; } all = {{0}, MTE_TOOL_OUTCOME, {0}};
+    uint8_t *const first = (uint8_t *)&all, *const outcome = (uint8_t *)&all.outcome, *const after = all.after;
+    const size_t size = all.outcome.size;
+    WANT(mte_tool_heap_load(heap, address, first, 9, &all.outcome) == MTE_TOOL_MISUSE && all.outcome.size == size);
+    WANT(mte_tool_heap_load(heap, address, outcome, 8, &all.outcome) == MTE_TOOL_MISUSE && all.outcome.size == size);
+    WANT(mte_tool_heap_load(heap, address, after - 1, 1, &all.outcome) == MTE_TOOL_MISUSE && all.outcome.size == size);
+    WANT(mte_tool_heap_load(heap, address, first, 8, &all.outcome) == MTE_TOOL_DONE && all.outcome.size == size);
+    WANT(mte_tool_heap_load(heap, address, after, 8, &all.outcome) == MTE_TOOL_DONE && all.outcome.size == size);
+    WANT(mte_tool_heap_load(heap, address, outcome, 8, NULL) == MTE_TOOL_DONE);
+}
+
 static void heaps(void) {
     static const uint16_t classes[] = {2, 4}, wrong[] = {4, 2};
     mte_tool_options options = MTE_TOOL_OPTIONS(0), bad = MTE_TOOL_OPTIONS(0);
@@ -187,10 +200,12 @@ static void heaps(void) {
     WANT(heap_end(heap, p.value, bytes, 0) == MTE_TOOL_BAD_OPTION && heap_end(heap, p.value, bytes, 65) == MTE_TOOL_BAD_OPTION);
     WANT(heap_end(heap, p.value, NULL, 1) == MTE_TOOL_MISUSE && heap_end(heap, p.value & no_tag, bytes, 1) == MTE_TOOL_MISUSE);
     WANT(bytes[0] == 1 && mte_tool_heap_store(heap, p.value & no_tag, bytes, 1, NULL) == MTE_TOOL_MISUSE);
+    WANT(heap_end(heap, p.value, bytes, SIZE_MAX) == MTE_TOOL_BAD_OPTION);
     WANT(mte_tool_heap_load(heap, 0, bytes, 1, &q) == MTE_TOOL_NO && q.code == 50);
     WANT(mte_tool_heap_load(heap, p.value ^ ((uint64_t)1 << 60), bytes, 1, &q) == MTE_TOOL_NO && q.code == 50);
     WANT(mte_tool_heap_load(heap, p.value + 48, bytes, 1, &q) == MTE_TOOL_NO && q.code == 52 && q.pointer_tag == p.value >> 56);
     WANT(q.memory_tag != q.pointer_tag);
+    room_beside_outcome(heap, p.value);
     /* a smaller outcome gets what it has room for, and a wrong one does nothing */
     sized.size = offsetof(mte_tool_outcome, code);
     WANT(mte_tool_heap_load(heap, p.value + 48, bytes, 1, &sized) == MTE_TOOL_NO && sized.code == 0);
@@ -301,13 +316,107 @@ static void arrays(void) {
     WANT(mte_tool_check_fit_timeline(&options, classes, 2, 0, NULL, 0, NULL, 1, &timeline, NULL) == MTE_TOOL_MISUSE);
 }
 
+/* lengths that no input has: nothing of it is read, here where it has a few bytes */
+static void lengths(void) {
+    static const size_t wrong[] = {SIZE_MAX, (size_t)1 << 63, SIZE_MAX / 8};
+    static const uint16_t classes[] = {2, 4};
+    static const uint32_t numbers[] = {16}, ones[] = {1};
+    static const uint64_t rows[2] = {0, 0};
+    static const uint8_t frees[] = {0};
+    mte_tool_options options = MTE_TOOL_OPTIONS(2), bad = MTE_TOOL_OPTIONS(0);
+    mte_tool_profile_arrays counted = {numbers, ones, 1}, long_one = counted;
+    mte_tool_history_arrays history = {numbers, ones, 1, 1}, long_history = history;
+    mte_tool_timeline_arrays timeline = {numbers, frees, 1}, long_timeline = timeline;
+    mte_tool_text text = MTE_TOOL_TEXT;
+    mte_tool_result result = MTE_TOOL_RESULT;
+    mte_tool_heap *heap;
+    uint16_t room[2];
+    uint64_t row_room[2];
+    size_t i, k;
+    for (i = 0; i < sizeof wrong / sizeof *wrong; i++) {
+        const size_t n = wrong[i];
+        for (k = 0; k < sizeof commands / sizeof *commands; k++) {
+            WANT(commands[k](&options, profile, n, &text, &result) == MTE_TOOL_REFUSED && result.code == 80);
+            WANT(!strcmp(text.bytes, "80 InputTooLong") && result.line == 0);
+        }
+        for (k = 0; k < sizeof commands_on / sizeof *commands_on; k++) {
+            WANT(commands_on[k](&options, profile, n, profile, LENGTH, &text, NULL) == MTE_TOOL_MISUSE);
+            WANT(commands_on[k](&options, "x", 1, profile, n, &text, &result) == MTE_TOOL_REFUSED && result.code == 80);
+        }
+        WANT(mte_tool_tune(&bad, profile, n, &text, &result) == MTE_TOOL_BAD_OPTION && result.code == 0);
+        WANT(!*text.bytes);
+        long_one.length = long_history.length = long_timeline.length = n;
+        WANT(mte_tool_score_profile(NULL, classes, 2, &long_one, NULL) == MTE_TOOL_MISUSE);
+        WANT(mte_tool_score_profile(NULL, classes, n, &counted, NULL) == MTE_TOOL_MISUSE);
+        WANT(mte_tool_tune_profile(&options, &long_one, room, 2, NULL, 0, NULL) == MTE_TOOL_MISUSE);
+        WANT(mte_tool_check_profile(&options, classes, 2, 0, rows, n, &counted, NULL) == MTE_TOOL_MISUSE);
+        WANT(mte_tool_footprint_history(NULL, classes, 2, &long_history, NULL) == MTE_TOOL_MISUSE);
+        WANT(mte_tool_fit_timeline(&options, &long_timeline, room, 2, NULL, 0, NULL, 0, NULL) == MTE_TOOL_MISUSE);
+        WANT(mte_tool_check_fit_history(&options, classes, 2, 0, rows, n, &history, NULL) == MTE_TOOL_MISUSE);
+        WANT(mte_tool_check_fit_timeline(&options, classes, 2, 0, NULL, 0, ones, n, &timeline,
+             NULL) == MTE_TOOL_MISUSE);
+        WANT(mte_tool_heap_new(&heap, NULL, classes, n, NULL) == MTE_TOOL_MISUSE && !heap);
+        /* room is not read, and may be said to be endless */
+        WANT(mte_tool_tune_profile(&options, &counted, room, n, row_room, n, &result) == MTE_TOOL_DONE);
+        WANT(result.places == 1);
+    }
+    /* longer than any text may be, and shorter than any memory */
+    long_history.length = long_timeline.length = (size_t)1 << 40;
+    WANT(mte_tool_fit_history(&options, &long_history, room, 2, NULL, 0, &result) == MTE_TOOL_REFUSED);
+    WANT(result.code == 80);
+    WANT(mte_tool_footprint_timeline(NULL, classes, 2, &long_timeline, &result) == MTE_TOOL_REFUSED);
+    WANT(result.code == 80);
+    mte_tool_text_free(&text);
+}
+
+/* a timeline that is appended to is the text that the arrays are */
+static void events(void) {
+    static const uint32_t sizes[] = {0, 9, 10, 12345, MTE_TOOL_LARGEST_SIZE + 1, 4000000000, 10,
+         MTE_TOOL_LARGEST_SIZE + 1};
+    static const uint8_t frees[] = {0, 0, 0, 0, 0, 0, 1, 1};
+    enum { EVENTS = sizeof frees };
+    static const char wanted[] = "timeline\n0\n9\n10\n12345\nlarge\nlarge\n-10\n-large\n";
+    static const uint16_t classes[] = {2, 1024};
+    mte_tool_timeline_arrays arrays = {sizes, frees, EVENTS};
+    mte_tool_text text = MTE_TOOL_TEXT, answer = MTE_TOOL_TEXT;
+    mte_tool_result result = MTE_TOOL_RESULT, of_arrays = MTE_TOOL_RESULT;
+    size_t i;
+    for (i = 0; i < EVENTS; i++) WANT(mte_tool_timeline_append(&text, sizes[i], frees[i]) == MTE_TOOL_DONE);
+    WANT(!strcmp(text.bytes, wanted) && mte_tool_timeline_append(NULL, 1, 0) == MTE_TOOL_MISUSE);
+    WANT(mte_tool_footprint(NULL, "classes 2 1024", 14, text.bytes, text.length, &answer, &result) == MTE_TOOL_DONE);
+    WANT(mte_tool_footprint_timeline(NULL, classes, 2, &arrays, &of_arrays) == MTE_TOOL_DONE);
+    WANT(result.bytes == of_arrays.bytes);
+    WANT(mte_tool_timeline_append(&text, MTE_TOOL_LARGEST_SIZE, 0) == MTE_TOOL_DONE);
+    WANT(!strstr(text.bytes + sizeof wanted - 1, "large"));
+    text.length = sizeof wanted - 1;
+    WANT(mte_tool_timeline_append(&text, SIZE_MAX, -1) == MTE_TOOL_DONE);
+    WANT(!strcmp(text.bytes + sizeof wanted - 1, "-large\n"));
+    mte_tool_text_free(&text);
+    mte_tool_text_free(&answer);
+}
+
+/* A text that is the input of a call and has its answer: it is read before it gives way. */
+static void own_answer(void) {
+    mte_tool_options options = MTE_TOOL_OPTIONS(2);
+    mte_tool_text text = MTE_TOOL_TEXT;
+    WANT(mte_tool_tune(&options, profile, LENGTH, &text, NULL) == MTE_TOOL_DONE);
+    WANT(mte_tool_check(NULL, text.bytes, text.length, profile, LENGTH, &text, NULL) == MTE_TOOL_DONE);
+    WANT(!strcmp(text.bytes, "optimal\n"));
+    WANT(mte_tool_tune(&options, text.bytes, text.length, &text, NULL) == MTE_TOOL_REFUSED);
+    mte_tool_text_free(&text);
+    mte_tool_text_free(&text);
+}
+
 int main(void) {
     nulls();
+    own_answer();
     apart();
     option_sizes();
     result_sizes();
     heaps();
     wide();
     arrays();
+    lengths();
+    events();
     return 0;
 }

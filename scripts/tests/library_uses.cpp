@@ -32,6 +32,10 @@ static void texts() {
     const std::string_view trace = "malloc 1 16\nload 1 0 1\n", timeline = "timeline\n16\n40\n-16\n";
     Text sheet = tune(profile_text, Options(2));
     WANT(check(sheet.view(), profile_text));
+    const CheckAnswer checked = check_claim(sheet.view(), profile_text), wrong = check_claim(sheet.view(), "16 9\n");
+    WANT(checked && checked.claim.kind == MTE_TOOL_CLAIM_PROFILE && checked.claim.cost == 16 && checked.claim.requests == 3);
+    WANT(!wrong && wrong.claim.kind == MTE_TOOL_CLAIM_NONE && wrong.code == Code::WasteWrong);
+    WANT(throws(MTE_TOOL_REFUSED, 48, 1, [] { check_claim("x", "16 1\n"); }));
     WANT(check(sheet.view(), "16 9\n").code == Code::WasteWrong && *check(sheet.view(), "16 9\n").sentence());
     WANT(score("classes 2 4\n", profile_text).bytes == 16 && score("classes 2\n", profile_text).least_size == 32);
     WANT(!score("classes 2\n", profile_text).serves && score("classes 2 8", "9 1000\n24 70\n").bytes == 13160);
@@ -44,6 +48,7 @@ static void texts() {
     }));
     Fit fitted = fit(history, Options(2));
     WANT(fitted.is_least && check_fit(fitted.text.view(), history) && footprint("classes 2 4\n", history).bytes == 160);
+    WANT(check_fit_claim(fitted.text.view(), history).claim.snapshots == 2);
     WANT(fit(timeline, Options(2)).is_least && footprint("classes 4\n", timeline).bytes == 128);
     WANT(profile(trace).view() == "16 1\n" && replay("classes 4\n", trace).view().substr(0, 7) == "2 data ");
     WANT(run(trace, Options(1)).view().substr(0, 10) == "classes 2\n");
@@ -54,6 +59,7 @@ static void texts() {
     WANT(sheet.view().empty() && !moved.view().empty());
     sheet = std::move(moved);
     WANT(sheet.append("16 1\n").view().size() > 5 && Text().view().empty());
+    WANT(Text().append_event(40, false).append_event(20000, true).view() == "timeline\n40\n-large\n");
     static_assert(!std::is_copy_constructible<Text>::value && !std::is_copy_constructible<Heap>::value, "one owner");
     WANT(version() == MTE_TOOL_VERSION && version_number() == MTE_TOOL_VERSION_NUMBER);
     WANT(name(Code::BadClassLine) == std::string_view("BadLine") && !*name(Code(19)) && *sentence(Code(19)) && *sentence(MTE_TOOL_NO));

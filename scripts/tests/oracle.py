@@ -69,7 +69,7 @@ def class_line(rows: "list[bytes]") -> "list[int]":
     return found
 
 
-def counted(rows: "list[bytes]", first: int, places: "Optional[int]") -> "tuple[list[int], list[list[int]]]":
+def count_rows(rows: "list[bytes]", first: int, places: "Optional[int]") -> "tuple[list[int], list[list[int]]]":
     """The lines of a profile, or of a history of so many snapshots."""
     sizes: "list[int]" = []
     numbers: "list[list[int]]" = []
@@ -95,7 +95,7 @@ def counted(rows: "list[bytes]", first: int, places: "Optional[int]") -> "tuple[
 
 
 def profile(rows: "list[bytes]", first: int) -> Counts:
-    return Counts(*counted(rows, first, None), True)
+    return Counts(*count_rows(rows, first, None), True)
 
 
 def history(rows: "list[bytes]", first: int) -> Counts:
@@ -103,7 +103,7 @@ def history(rows: "list[bytes]", first: int) -> Counts:
     places = number(words[1]) if len(words) == 2 else None
     if words[0] != b"snapshots" or places is None or not 1 <= places <= 1024:
         raise Fault(34, first)
-    return Counts(*counted(rows[1:], first + 1, places), False)
+    return Counts(*count_rows(rows[1:], first + 1, places), False)
 
 
 def timeline(rows: "list[bytes]", first: int) -> Counts:
@@ -235,7 +235,7 @@ def least(counts: Counts, limit: int, step: int = 1, is_forced: bool = False) ->
 
 # ---- the commands
 
-def broken(found: Sheet, counts: Counts) -> int:
+def broken_condition(found: Sheet, counts: Counts) -> int:
     """The first condition that a sheet or a fit breaks, or 0."""
     needs = Needs(counts, found.step, found.is_forced)
     places = len(needs.needs)
@@ -262,15 +262,15 @@ def broken(found: Sheet, counts: Counts) -> int:
     return 47 if places and found.rows[-1][0] != found.cost else 0
 
 
-def checked(text: bytes, word: str) -> "tuple[int, str, str]":
+def check_text(text: bytes, word: str) -> "tuple[int, str, str]":
     rows = lines_of(text)
     found = sheet(rows, word)
     read = profile if word == "waste" else history
-    code = broken(found, read(rows[found.lines :], found.lines + 1))
+    code = broken_condition(found, read(rows[found.lines :], found.lines + 1))
     return (1, f"refused {code} {NAMES[code]}\n", "") if code else (0, "optimal\n", "")
 
 
-def tuned(counts: Counts, limit: int, step: int, is_forced: bool) -> "tuple[int, str, str]":
+def tune_answer(counts: Counts, limit: int, step: int, is_forced: bool) -> "tuple[int, str, str]":
     needs = Needs(counts, step, is_forced)
     best = needs.best(limit)
     cost, table = best[-1][0]
@@ -279,7 +279,7 @@ def tuned(counts: Counts, limit: int, step: int, is_forced: bool) -> "tuple[int,
     return 0, "\n".join([*head, f"{'waste' if counts.is_profile else 'footprint'} {cost}", *rows, ""]), ""
 
 
-def priced(text: bytes, word: str) -> "tuple[int, str, str]":
+def cost_answer(text: bytes, word: str) -> "tuple[int, str, str]":
     rows = lines_of(text)
     classes = class_line(rows)
     counts = (profile if word == "waste" else over_time)(rows[1:], 2)
@@ -287,7 +287,7 @@ def priced(text: bytes, word: str) -> "tuple[int, str, str]":
     return (0, f"{word} {cost}\n", "") if cost is not None else (1, f"not serving {size}\n", "")
 
 
-def peaked(text: bytes) -> "tuple[int, str, str]":
+def peaks_answer(text: bytes) -> "tuple[int, str, str]":
     rows = lines_of(text)
     classes = class_line(rows)
     if rows[1:2] != [b"timeline"]:
@@ -334,7 +334,7 @@ def event(row: bytes, line: int) -> "tuple[bytes, list[int]]":
     return name, values
 
 
-def profiled(text: bytes) -> "tuple[int, str, str]":
+def profile_answer(text: bytes) -> "tuple[int, str, str]":
     found: "dict[int, int]" = {}
     for line, row in enumerate(lines_of(text), 1):
         name, values = event(row, line)
@@ -347,11 +347,11 @@ def profiled(text: bytes) -> "tuple[int, str, str]":
 def answer(command: str, text: bytes, limit: int = 1, step: int = 1, largest_class: int = 0) -> "tuple[int, str, str]":
     try:
         if command in ("score", "footprint"):
-            return priced(text, "waste" if command == "score" else "footprint")
+            return cost_answer(text, "waste" if command == "score" else "footprint")
         if command in ("check", "check-fit"):
-            return checked(text, "waste" if command == "check" else "footprint")
+            return check_text(text, "waste" if command == "check" else "footprint")
         if command in ("profile", "peaks"):
-            return profiled(text) if command == "profile" else peaked(text)
-        return tuned((profile if command == "tune" else history)(lines_of(text), 1), limit, step, bool(largest_class))
+            return profile_answer(text) if command == "profile" else peaks_answer(text)
+        return tune_answer((profile if command == "tune" else history)(lines_of(text), 1), limit, step, bool(largest_class))
     except Fault as fault:
         return 2, "", str(fault)

@@ -7,7 +7,7 @@ import subprocess
 import sys
 
 import checks
-from checks import expect, skip, skipped
+from checks import expect, skip, skip_without
 from mte_scripts.places import ROOT
 
 SECONDS = 600
@@ -39,7 +39,7 @@ CALLERS = (
 )
 
 
-def ran(words, **given):
+def run_command(words, **given):
     return subprocess.run(words, stdin=subprocess.DEVNULL, capture_output=True, timeout=SECONDS, **given)
 
 
@@ -47,7 +47,7 @@ def shell(user, line, **more):
     return user.run("bash", "-o", "pipefail", "-c", line, more=more)
 
 
-def test_callers(user, made):
+def try_callers(user, made):
     """Programs that are built with the development files, as somebody builds them who has nothing else."""
     if not (made.library() or os.path.isdir(f"{user.root}/usr/include")):
         skip("without the library: callers in C, C++ and Go")
@@ -58,7 +58,7 @@ def test_callers(user, made):
         file.write(CMAKE)
     expect("a sheet for the callers", shell(user, SHEET).returncode == 0)
     for name, tools, line, wanted in CALLERS:
-        if not skipped(tools, f"a caller in {name}"):
+        if not skip_without(tools, f"a caller in {name}"):
             done = shell(user, line, **more)
             expect(f"a caller in {name}", done.stdout.decode() == wanted and done.returncode == 0, done.stdout, done.stderr)
 
@@ -69,16 +69,19 @@ def files_below(folder):
     return {os.path.relpath(os.path.join(at, name), folder) for at, _, names in os.walk(folder) for name in names}
 
 
-def test_wheel(wheel, work, is_proved):
+def try_wheel(wheel, work, is_proved):
     """A fresh environment of Python, and nothing of this machine's user."""
     if not wheel:
         skip("without the library: the wheel")
         return
-    if ran([sys.executable, "-m", "venv", f"{work}/venv"]).returncode:
+    if run_command([sys.executable, "-m", "venv", f"{work}/venv"]).returncode:
         skip("without ensurepip: the wheel")
         return
     path = f"{work}/venv/bin:/usr/bin:/bin"
-    run = lambda *words, **more: ran(words, cwd=work, env={"PATH": path, "HOME": work, "LANG": "C.UTF-8", **more})
+    run = lambda *words, **more: run_command(words, cwd=work, env={"PATH": path, "HOME": work, "LANG": "C.UTF-8", **more})
+    if not skip_without("twine", "PyPI's rules for the wheel"):
+        done = run_command(["twine", "check", "--strict", wheel])
+        expect("twine check", done.returncode == 0, done.stdout, done.stderr)
     before = files_below(f"{work}/venv")
     done = run("pip", "install", "--no-index", "--disable-pip-version-check", "-q", wheel)
     expect("pip installs the wheel", done.returncode == 0 and not done.stderr, done.stderr)
@@ -133,22 +136,22 @@ mte-tool-sys = {{ path = "{sys}" }}
 """
 
 
-def test_crates(crates, work):
+def try_crates(crates, work):
     """The crates are unpacked beside a caller, which cargo builds with no network and no registry."""
     if not crates:
         skip("without the library: the crates")
         return
-    if skipped("cargo cc", "a caller in Rust"):
+    if skip_without("cargo cc", "a caller in Rust"):
         return
     own, sys_ = sorted((os.path.basename(path).removesuffix(".crate") for path in crates), key=len)
     for path in crates:
-        ran(["tar", "-xf", path, "-C", work], check=True)
+        run_command(["tar", "-xf", path, "-C", work], check=True)
     os.makedirs(f"{work}/caller/src")
     with open(f"{work}/caller/Cargo.toml", "w", encoding="ascii") as file:
         file.write(CARGO.format(own=f"../{own}", sys=f"../{sys_}"))
     shutil.copy(f"{ROOT}/rust/mte-tool/examples/tune.rs", f"{work}/caller/src/main.rs")
     environment = {**os.environ, "CARGO_HOME": f"{work}/cargo", "CARGO_NET_OFFLINE": "true"}
-    done = ran(["cargo", "build", "--offline", "-q"], cwd=f"{work}/caller", env=environment)
+    done = run_command(["cargo", "build", "--offline", "-q"], cwd=f"{work}/caller", env=environment)
     expect("cargo builds a caller", done.returncode == 0, done.stderr.decode())
     with open(f"{ROOT}/examples/jq.profile", "rb") as file:
         made = subprocess.run([f"{work}/caller/target/debug/caller", "8"], stdin=file, capture_output=True)
@@ -158,7 +161,7 @@ def test_crates(crates, work):
     # cargo packs the same files, but for those that scripts/package adds
     for path in crates:
         name = os.path.basename(path).rpartition("-")[0]
-        done = ran(["cargo", "package", "--offline", "--list", "--allow-dirty"], cwd=f"{ROOT}/rust/{name}", env=environment)
+        done = run_command(["cargo", "package", "--offline", "--list", "--allow-dirty"], cwd=f"{ROOT}/rust/{name}", env=environment)
         listed = set(done.stdout.decode().split()) - {"Cargo.lock"}
         top = os.path.basename(path).removesuffix(".crate")
         found = files_below(f"{work}/{top}")

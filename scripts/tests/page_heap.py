@@ -2,7 +2,7 @@
 
 import hashlib
 
-from heap_model import BASE, DEAD, FRESH, LIVE, Replay, place_of, tag_of
+from heap_model import BASE, DEAD, FRESH, LIVE, Replay, place_of
 
 KINDS = {"slack": 0, "header": 1, "tail": 2, "dead": 3, "other": 4}
 QUARANTINED, RELEASED = 2, 3
@@ -12,7 +12,7 @@ def digest(data):
     return hashlib.md5(data if isinstance(data, bytes) else data.encode()).hexdigest()
 
 
-class Shown:
+class SlotHistory:
     """A replay, and who used each slot and when: of a slot the variable that it was given to last, the event of that, and that of its free."""
 
     def __init__(self, line, granules, seed, quarantine):
@@ -103,7 +103,7 @@ class Shown:
 
 def difference(line, trace, options, got):
     """What the page shows otherwise than the model has it, or None; GOT is what page_engines.js says."""
-    lines, shown = trace.split("\n")[:-1], Shown(line, **options)
+    lines, shown = trace.split("\n")[:-1], SlotHistory(line, **options)
     if got.get("wrong"):
         return got["wrong"]
     if len(got["after"]) != len(lines) + 1:

@@ -1,5 +1,6 @@
-"""The parts of the scripts that stand alone, and what belongs to each. A copy of the repository without one works with no line changed: the
-modules of the others ask for it by `running.part`, and their tests by `checks.without`. Of a part that is there, all is there (alone)."""
+"""The parts of the scripts that stand alone, and what belongs to each. A copy of the repository without one works with no
+line changed: the modules of the others ask for it by `entry_point.part`, and their tests by `checks.need`. Of a part that
+is there, all is there (alone)."""
 
 import os
 import shutil
@@ -30,29 +31,30 @@ class Part(NamedTuple):
 
 PARTS = {
     "fleet": Part(
-        "scripts/mte_scripts/fleet", "fleet_day fleet_profiles fleet_regret fleet_table fleet_trial",
-        "fleet fleet_claims fleet_month.py fleet_servers fleet_simulation",
+        "scripts/mte_scripts/fleet", "fleet_day fleet_profiles fleet_regret fleet_rollout fleet_table fleet_trial",
+        "fleet_month.py test_fleet.py test_fleet_claims.py test_fleet_servers.py test_fleet_simulation.py test_rollout.py",
     ),
-    "pools": Part("scripts/mte_scripts/pools", "pools", "pools pools_lwip"),
+    "pools": Part("scripts/mte_scripts/pools", "pools", "test_pools.py test_pools_lwip.py"),
     "faults": Part(
         "scripts/mte_scripts/faults", "find_faults traced_c++ traced_cc",
-        "faults faults_builds faults_costs faults_folders faults_packages faults_programs findings heap_cases.py heap_rows.tsv known_bugs "
-        "known_bugs_programs odds real_heaps simulated_heaps.py slot_model.py",
-        "accesses reader real_heaps",
+        "faults_programs heap_cases.py heap_rows.tsv known_bugs_programs sanitizer_reports_data simulated_heaps.py slot_model.py test_faults.py "
+        "test_faults_asan.py test_faults_builds.py "
+        "test_faults_costs.py test_faults_folders.py test_faults_packages.py test_findings.py test_known_bugs.py test_odds.py test_real_heaps.py test_sanitizer_reports.py",
+        "accesses reader real_heaps sanitized.c",
     ),
-    "packaging": Part("scripts/mte_scripts/packaging", "package release", "clean_debian.py package"),
-    "importers": Part("scripts/mte_scripts/recording/imports", "", "imports imports_data"),
+    "packaging": Part("scripts/mte_scripts/packaging", "package release", "clean_debian.py test_package.py test_machines.py"),
+    "importers": Part("scripts/mte_scripts/recording/imports", "", "imports_data test_imports.py"),
 }  # fmt: skip
 
 
-def gone() -> "dict[str, Part]":
+def missing_parts() -> "dict[str, Part]":
     """The parts that this copy is without."""
     return {name: part for name, part in PARTS.items() if not part.is_there()}
 
 
 def is_gone(path: str) -> bool:
     """Whether a path of the repository is of a part that this copy is without."""
-    return any(part.has(path) for part in gone().values())
+    return any(part.has(path) for part in missing_parts().values())
 
 
 def copy_without(part: Part, files: "list[str]", place: str) -> None:

@@ -20,7 +20,7 @@ def programs() -> str:
 
 
 @contextlib.contextmanager
-def started() -> Iterator[dict[str, str]]:
+def run_server() -> Iterator[dict[str, str]]:
     """A server in a folder of its own, on a socket there. What a client's environment has to have; it is ended at the end."""
     with private_folder.temporary() as folder:
         user = []

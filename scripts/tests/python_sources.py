@@ -8,7 +8,7 @@ from collections.abc import Iterator
 from mte_scripts.places import ROOT
 
 
-def tracked() -> "list[str]":
+def tracked_files() -> "list[str]":
     """The paths of the files that git has."""
     listed = subprocess.run(["git", "ls-files", "-z"], cwd=ROOT, stdout=subprocess.PIPE, check=True).stdout.decode(errors="surrogateescape")
     return [name for name in listed.split("\0")[:-1] if os.path.lexists(os.path.join(ROOT, name))]
@@ -16,7 +16,7 @@ def tracked() -> "list[str]":
 
 def python_files() -> "Iterator[str]":
     """The paths of those of Python, with a suffix or a first line that says so."""
-    for name in tracked():
+    for name in tracked_files():
         path = os.path.join(ROOT, name)
         if os.path.isfile(path) and not os.path.islink(path):
             with open(path, "rb") as file:
@@ -40,14 +40,18 @@ def imports_of(tree: ast.Module) -> "Iterator[str]":
 
 
 def parts_asked(tree: ast.Module) -> "Iterator[str]":
-    """The modules that a file asks `running.part` for."""
+    """The modules that a file asks `entry_point.part` for."""
     for node in ast.walk(tree):
-        if isinstance(node, ast.Call) and ast.unparse(node.func) == "running.part":
+        if isinstance(node, ast.Call) and ast.unparse(node.func) == "entry_point.part":
             yield ast.literal_eval(node.args[0])
 
 
 def run_by(tree: ast.Module) -> "Iterator[str]":
-    """The functions that a script has `running.run` call, by the names that this takes."""
+    """The functions that a script has `entry_point.run` call, by the names that this takes."""
     for node in ast.walk(tree):
-        if isinstance(node, ast.Call) and ast.unparse(node.func) == "running.run" and isinstance(node.args[1], ast.Constant):
+        if (
+            isinstance(node, ast.Call)
+            and ast.unparse(node.func) == "entry_point.run"
+            and isinstance(node.args[1], ast.Constant)
+        ):
             yield node.args[1].value

@@ -34,7 +34,7 @@ def free_ports(number):
 
 
 @contextlib.contextmanager
-def started(words, port, log):
+def run_server(words, port, log):
     """A server that listens on this port of the loopback address; it is ended at the end."""
     with open(log, "wb") as file:
         process = subprocess.Popen(words, stdin=subprocess.DEVNULL, stdout=file, stderr=subprocess.STDOUT, start_new_session=True)

@@ -1,4 +1,4 @@
-"""Scudo's and glibc's tags by their rules alone, with random places, and random programs on them: scripts/tests/odds counts what they catch.
+"""Scudo's and glibc's tags by their rules alone, with random places, and random programs on them: scripts/tests/test_odds.py counts what they catch.
 
 A granule has a tag and, times TAGS, the number of the draw that gave it, or 0."""
 

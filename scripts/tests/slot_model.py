@@ -8,7 +8,7 @@ from mte_scripts.formats import FARTHEST_ACCESS
 GRANULE = 16
 
 
-class Untagged:
+class UntaggedMemory:
     """A memory under the heap that has neither tags nor bytes."""
 
     def irg(self, xn, _):
@@ -22,7 +22,7 @@ class Slots(Heap):
     """A pointer is (slot, generation) as it was given out; a chunk begins one granule after its slot."""
 
     def __init__(self, table, granules, quarantine):
-        super().__init__(Untagged(), table, granules, quarantine)
+        super().__init__(UntaggedMemory(), table, granules, quarantine)
         self.granules = granules
 
     def pointer(self, address):
@@ -102,7 +102,7 @@ def meets(pointer, slot):
     return Meeting(pointer[0].number, pointer[1], slot.number, slot.generation, slot.state != LIVE)
 
 
-def asked(log, slots):
+def verdicts_of(log, slots):
     """The verdict on each error of a log that is asked, without its event; None for another."""
     address, pointer, verdicts = {}, {}, []
 

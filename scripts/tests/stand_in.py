@@ -60,7 +60,7 @@ if hangs; then
     chmod +x out/mte_tool
     hang
 fi
-[ ! -e "$WORK/edit" ] || { sleep 0.1; touch src/main.rt; rm "$WORK/edit"; }
+[ ! -e "$WORK/edit" ] || { echo >>src/main.rt; rm "$WORK/edit"; }
 sleep 0.3
 (echo '#!/bin/sh' && cat "$WORK/built") >out/mte_tool
 chmod +x out/mte_tool
@@ -92,9 +92,8 @@ def wait_for(condition, seconds: float) -> bool:
 
 
 class Repository(commands.Commands):
-    def setUp(self):
+    def setup_method(self):
         """A repository of crates without a program."""
-        super().setUp()
         self.place = self.folder()
         self.environment = {name: value for name, value in self.environment.items() if name != "MTE_TOOL_BUILD"}
         os.makedirs(self.path("repo", "scripts"))
@@ -123,9 +122,10 @@ class Repository(commands.Commands):
         self.err = timeless(self.err)
         return status
 
-    def touch(self, *names: str) -> None:
-        with open(self.path("repo", *names), "a"):
-            os.utime(self.path("repo", *names))
+    def edit(self, *names: str) -> None:
+        """Another line at the end of a file of the repository, which may be new."""
+        with open(self.path("repo", *names), "a") as file:
+            file.write("// a line\n")
 
     def cut_off(self, number: int, crate: str, *words: str, to: int = subprocess.PIPE) -> "tuple[int, str, str]":
         """The status and the output of the launcher where this signal ends it amid the proof of a crate; it must leave no process."""

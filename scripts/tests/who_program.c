@@ -1,4 +1,4 @@
-// Requests whose places scripts/tests/who knows by the comments at their ends: a function that hands requests on, a deep recursion, a function
+// Requests whose places scripts/tests/test_who.py knows by the comments at their ends: a function that hands requests on, a deep recursion, a function
 // that aligns its stack, another thread, a realloc, a child, and two calls of one function in turn.
 #include <pthread.h>
 #include <stdint.h>

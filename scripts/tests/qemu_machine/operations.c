@@ -4,7 +4,7 @@ typedef unsigned short u16;
 typedef unsigned int u32;
 typedef unsigned long u64;
 
-// What they mean is said where they run, in `main`. scripts/tests/qemu has the same list, and the same two structures.
+// What they mean is said where they run, in `main`. scripts/tests/test_qemu.py has the same list, and the same two structures.
 enum { RESET, IRG, ADDG, SUBG, GMI, LDG, STG, ST2G, STZG, LOAD, STORE, TAGS, ZERO, COPY, DUMP, SEEDS, MASKS };
 enum { SUMS = 1, ALIKE = 2 };       // flags: add checksums of all tags and bytes; the bytes of a store are all alike
 struct operation { u8 code, flags; u16 length; u32 n; u64 a, b; };

@@ -1,0 +1,108 @@
+#!/usr/bin/env -S python3 -B
+"""Tests `find_faults --asan` on programs that gcc and clang built with -fsanitize=address, on the built program or on the
+one that MTE_TOOL names: programs of examples/errors are told at their lines, and the heap says of each what its comments
+say; and the job of examples/build/sanitizer.yml. With --all all of them, by both."""
+
+import os
+import re
+import shutil
+import subprocess
+from concurrent.futures import ThreadPoolExecutor
+
+import checks
+import workflow
+from checks import expect
+from mte_scripts.faults import fault_log, fault_report
+from mte_scripts.places import EXAMPLES
+from test_faults import COMPILERS, ERRORS, FIND, Example, run
+
+BUILT = checks.PROGRAM
+RECOVER = ("-fsanitize=address", "-fsanitize-recover=address")
+NAMES = """cwe122_loop_bound.c cwe122_strcpy.c cwe124_byte_before.c cwe193_text_in_last_granule.c
+    cwe415_double_delete.cpp cwe415_realloc_of_freed.c cwe416_store_at_once.c cwe126_memcpy.c cwe825_realloc_moved.c""".split()
+# a crash, a store that is nearer to another block, and one to a block of size 0, which has a byte for AddressSanitizer
+OTHERWISE = ("cwe590_constant.c", "cwe787_far.c", "cwe787_size_0.c")
+
+
+def build(path, to, compiler, *flags):
+    words = [COMPILERS[compiler][path.endswith(".cpp")], "-w", "-g", "-O0", *flags, path, "-o", to]
+    done = subprocess.run(words, capture_output=True, text=True)
+    return to if expect(f"{path} with {compiler} {' '.join(flags)}", done.returncode == 0, done.stderr) else None
+
+
+def try_example(example, compiler, work):
+    """The error is told at its line, and whether the heap catches it is what the comments say of it."""
+    program = build(example.path, os.path.join(work, f"{example.name}.{compiler}"), compiler, *RECOVER)
+    name = f"{example.name} with {compiler}"
+    status, told, said = run([FIND, "--asan", program], cwd=ERRORS)
+    if not example.heap:
+        return expect(f"{name}: it has no error", status == 0 and told.startswith("errors 0\n"), status, told, said)
+    line = rf"^(?:    then )?{re.escape(example.name)}:{example.wrong[0]} in .*: {re.escape(example.says)}"
+    found = re.search(line + r"(?: \(\d+ times\))?(?:: (.*)|\n(?:    (?:also )?from .*\n)*    (.*))$", told, re.M)
+    answer = found and (found[1] or found[2]).split(":")[0]
+    results = {"always": ("caught",), "never": ("not caught",), "sometimes": ("caught", "not caught")}[example.heap]
+    return expect(f"{name}: {example.wrong[0]}, {example.says}, {results}", answer in results, status, told, said)
+
+
+class FaultsAsan(checks.Part):
+    @classmethod
+    def setup_class(cls):
+        checks.need("gcc g++", "find_faults --asan")
+        os.environ["MTE_TOOL"] = checks.with_heap()
+        cls.work = os.environ["XDG_CACHE_HOME"] = cls.folder()
+
+    def test_examples(self):
+        files = [each for each in sorted(os.listdir(ERRORS)) if each.endswith((".c", ".cpp")) and each not in OTHERWISE]
+        names = files if checks.options.all else NAMES
+        with ThreadPoolExecutor(os.cpu_count()) as pool:
+            for compiler, both in COMPILERS.items():
+                if checks.skip_without(" ".join(both), f"find_faults --asan with {compiler}"):
+                    continue
+                some = names if checks.options.all or compiler == "gcc" else names[:4]
+                told = list(pool.map(lambda name: try_example(Example(name), compiler, self.work), some))
+                print(f"{compiler}: {sum(map(bool, told))} of {len(told)} as in the run of traced_cc")
+
+    def test_end(self):
+        """Where AddressSanitizer ends the program at its first error, no more is told. That is said; and what is a guess."""
+        program = build(f"{ERRORS}/cwe122_loop_bound.c", f"{self.work}/stops", "gcc", "-fsanitize=address")
+        status, told, said = run([FIND, "--asan", program])
+        good = status == 1 and "\n    not caught: " in told and told.endswith(f"\nincomplete: {fault_log.STOP}\n")
+        expect("a program that its first error ends", good and " then " not in told, status, told, said)
+        build(f"{ERRORS}/cwe787_far.c", f"{self.work}/cwe787_far.c.gcc", "gcc", *RECOVER)
+        names = (*NAMES[1:4], "cwe787_far.c")
+        told = {name: run([FIND, "--asan", os.path.join(self.work, f"{name}.gcc")])[1] for name in names}
+        guesses = [name for name, text in told.items() if fault_report.GUESS in text]
+        expect("what is a guess", guesses == [NAMES[1], NAMES[3], "cwe787_far.c"], told)
+
+    def test_job(self):
+        """The job of examples/build/sanitizer.yml, as written, but for the package that it unpacks."""
+        folder, tools = os.path.join(self.work, "job"), os.path.join(self.work, "tools")
+        os.mkdir(folder), os.mkdir(tools)
+        os.symlink(FIND, os.path.join(tools, "mte_find_faults"))
+        with open(os.path.join(EXAMPLES, "build", "sanitizer.yml")) as file:
+            text = file.read()
+        environment = {**os.environ, **workflow.settings(text), "PATH": f"{tools}:{os.environ['PATH']}"}
+        for name, status in (("right_list.c", 0), ("cwe122_strcpy.c", 1)):
+            shutil.copy(os.path.join(ERRORS, name), os.path.join(folder, "app.c"))
+            with open(os.path.join(folder, "Makefile"), "w") as file:
+                file.write("check: app\n\t./app\n.PHONY: app\napp:\n\t$(CC) $(CFLAGS) $(LDFLAGS) app.c -o app\n")
+            done = workflow.run(workflow.scripts(text)[-1], folder, environment)
+            has_line = f"\n::error file=app.c,line={Example('cwe122_strcpy.c').wrong[0]}," in done.stdout
+            good = done.returncode == status and has_line == bool(status)
+            expect(f"the job of sanitizer.yml: {name}", good, done.stdout)
+
+    def test_refused(self):
+        status, told, said = run([FIND, "--asan", "true"])
+        good = status == 3 and not told and "built with -fsanitize=address" in said
+        expect("a program without AddressSanitizer", good, status, told, said)
+        for other in ("--children", "--unfreed"):
+            status, told, said = run([FIND, "--asan", other, "true"])
+            expect(f"--asan {other}", status == 2 and not told, status, told, said)
+
+
+def add_options(parser):
+    parser.add_argument("--all", action="store_true", help="try all programs of examples/errors: some minutes")
+
+
+if __name__ == "__main__":
+    checks.main()
