@@ -131,7 +131,8 @@ typedef struct mte_tool_result {
     uint64_t at;      /* of arrays the index of the first faulty entry, from 0 on; or the least size without a class, in bytes */
     uint64_t bytes;   /* what the table wastes on a profile, or takes of memory over a history or a timeline */
     uint64_t bound;   /* where a fit of a timeline is not shown to be least: no table takes less than these bytes */
-    uint32_t places;  /* of a call over arrays: how many numbers each row of the certificate has, 0 to 1023 and at most one for each size */
+    uint32_t places;  /* of a call over arrays: how many numbers each row of the certificate has, 0 to 1023: at most one
+                         for each size, and one more with largest_class */
     uint32_t moments; /* of a fit of a timeline over arrays: how many moments its certificate names */
 } mte_tool_result;
 
@@ -191,7 +192,8 @@ MTE_TOOL_CHECKED mte_tool_end mte_tool_set_allocator(const mte_tool_allocator *a
 
    What `output` held before is freed, and the answer takes its place, for the caller to free. For MTE_TOOL_REFUSED that is the first fault
    of the input, as "30 BadLine line 2", without a newline; result->code and result->line have its numbers. For MTE_TOOL_OUT_OF_MEMORY and
-   MTE_TOOL_BAD_OPTION the output is empty. MTE_TOOL_MISUSE leaves it as it was. A text may be the output's own bytes. */
+   MTE_TOOL_BAD_OPTION the output is empty. MTE_TOOL_MISUSE leaves it as it was. A text may be the output's own bytes. Of an input that is
+   too long only the length is looked at. */
 MTE_TOOL_CHECKED mte_tool_end mte_tool_score(const mte_tool_options *options, const void *first, size_t first_length, const void *input,
                                              size_t length, mte_tool_text *output, mte_tool_result *result);
 MTE_TOOL_CHECKED mte_tool_end mte_tool_tune(const mte_tool_options *options, const void *input, size_t length, mte_tool_text *output,
@@ -217,8 +219,55 @@ MTE_TOOL_CHECKED mte_tool_end mte_tool_peaks(const mte_tool_options *options, co
    which leave the text as it was. `piece` may be null if `length` is 0, and is no part of the text. */
 MTE_TOOL_CHECKED mte_tool_end mte_tool_text_append(mte_tool_text *text, const void *piece, size_t length);
 
+/* Appends an event to a timeline, so that no array of all events is needed: the request of a block of `size` bytes, or
+   its free where `is_free` is not 0. The empty text becomes a timeline of this event. The text is an input of
+   mte_tool_footprint, mte_tool_fit, mte_tool_check_fit and mte_tool_peaks. The ends are those of mte_tool_text_append. */
+MTE_TOOL_CHECKED mte_tool_end mte_tool_timeline_append(mte_tool_text *timeline, size_t size, int is_free);
+
 /* Frees the memory of a text, and leaves the empty text. Null is let pass. */
 void mte_tool_text_free(mte_tool_text *text);
+
+/* ---- what a check showed, as numbers */
+
+/* What was counted for a claim. A later library may know more kinds. */
+typedef enum mte_tool_claim_kind {
+    MTE_TOOL_CLAIM_NONE = 0,    /* there is no claim */
+    MTE_TOOL_CLAIM_PROFILE = 1, /* a profile */
+    MTE_TOOL_CLAIM_HISTORY = 2, /* a history */
+    MTE_TOOL_CLAIM_TIMELINE = 3 /* a timeline */
+} mte_tool_claim_kind;
+
+/* What a check showed: of the tables of at most `limit` classes, all multiples of `step` granules, that serve all that was
+   counted, and that have class `forced` where it is not 0, none costs less than `cost`. That is what the table of the
+   sheet or the fit costs. A caller sets `size`, as MTE_TOOL_CLAIM does; a member that this library does not know is set to
+   0, as is each that the kind does not have. */
+typedef struct mte_tool_claim {
+    size_t size;        /* sizeof (mte_tool_claim) */
+    uint64_t kind;      /* what was counted: an mte_tool_claim_kind */
+    uint64_t cost;      /* in bytes: the waste on a profile, the footprint over a history or a timeline */
+    uint64_t limit;     /* the most classes */
+    uint64_t step;      /* the granules that each class is a multiple of */
+    uint64_t forced;    /* the class that each table has to have, or 0 */
+    uint64_t sizes;     /* of a profile: how many sizes it has */
+    uint64_t requests;  /* of a profile: how often these were requested */
+    uint64_t bytes;     /* of a profile: the bytes of these requests */
+    uint64_t large;     /* of a profile: the requests above MTE_TOOL_LARGEST_SIZE, which are in none of the other numbers */
+    uint64_t snapshots; /* of a history: how many it has */
+    uint64_t events;    /* of a timeline: how many it has */
+} mte_tool_claim;
+
+#define MTE_TOOL_CLAIM {sizeof(mte_tool_claim), 0, 0, 0, 0, 0, 0, 0, 0, 0, 0, 0}
+
+/* mte_tool_check and mte_tool_check_fit, which also put what they showed into `claim`, as numbers, and say it in the output,
+   in a second line, as the program's `check --claim` does. After any end but MTE_TOOL_DONE the claim is of the kind
+   MTE_TOOL_CLAIM_NONE, and all its numbers are 0. */
+MTE_TOOL_CHECKED mte_tool_end mte_tool_check_claim(const mte_tool_options *options, const void *first, size_t first_length,
+                                                   const void *input, size_t length, mte_tool_text *output,
+                                                   mte_tool_claim *claim, mte_tool_result *result);
+MTE_TOOL_CHECKED mte_tool_end mte_tool_check_fit_claim(const mte_tool_options *options, const void *first,
+                                                       size_t first_length, const void *input, size_t length,
+                                                       mte_tool_text *output, mte_tool_claim *claim,
+                                                       mte_tool_result *result);
 
 /* ---- the same over arrays, for a caller that counts itself */
 
@@ -250,8 +299,8 @@ typedef struct mte_tool_timeline_arrays {
 /* Of all of them: the classes are in granules of 16 bytes, ascending, from 2 to 1024. MTE_TOOL_REFUSED has in result->code 20 (too many
    classes), 21 (one is out of its range) or 22 (not ascending); or of an entry, with its index in result->at, 30 (the size is too large),
    31 (not ascending), 32 (a count is out of its range) or 38 (nothing of that size is live); or 34 (the number of snapshots), 36 (no fit
-   has such rows or moments) or 80 (as a text the input would be longer than MTE_TOOL_MOST_INPUT bytes). The arrays of one call may not
-   overlap. */
+   has such rows or moments) or 80 (as a text the input would be longer than MTE_TOOL_MOST_INPUT bytes). A length above PTRDIFF_MAX / 8 is
+   that of no array: MTE_TOOL_MISUSE. The arrays of one call may not overlap. */
 
 /* What a table costs: result->bytes. MTE_TOOL_NO: a size has no class, and result->at is the least one. */
 MTE_TOOL_CHECKED mte_tool_end mte_tool_score_profile(const mte_tool_options *options, const uint16_t *classes, size_t class_count,
@@ -264,9 +313,10 @@ MTE_TOOL_CHECKED mte_tool_end mte_tool_footprint_timeline(const mte_tool_options
 /* The table of least cost, of at most `limit` classes that are multiples of `step`. `classes` has room for `class_room` of them, `limit` or
    more, or that is MTE_TOOL_MISUSE; result->classes says how many there are. Its certificate is `limit` rows of result->places numbers
    each, put row after row into `rows` if `row_room` is at least limit * places; else `rows` stays as it is. limit * length is always
-   enough, and 0 and null let the certificate go. That of a timeline also names moments, at most 1024, which are put into `moments`
-   likewise. After any end but MTE_TOOL_DONE the arrays are as they were, but for one: MTE_TOOL_NO of a timeline gives the best classes that
-   were found, no certificate, and result->bound. */
+   enough without largest_class, and limit * (length + 1) with it; 0 and null let the certificate go. That of a
+   timeline also names moments, at most 1024, which are put into `moments` likewise. After any end but MTE_TOOL_DONE the
+   arrays are as they were, but for one: MTE_TOOL_NO of a timeline gives the best classes that were found, no
+   certificate, and result->bound. */
 MTE_TOOL_CHECKED mte_tool_end mte_tool_tune_profile(const mte_tool_options *options, const mte_tool_profile_arrays *profile,
                                                     uint16_t *classes, size_t class_room, uint64_t *rows, size_t row_room,
                                                     mte_tool_result *result);
@@ -278,7 +328,8 @@ MTE_TOOL_CHECKED mte_tool_end mte_tool_fit_timeline(const mte_tool_options *opti
                                                     uint32_t *moments, size_t moment_room, mte_tool_result *result);
 
 /* The verdict on a table with its certificate, whoever made it: `class_count` classes, made for these options, with the cost in bytes that
-   it claims and the `row_count` numbers of its rows. MTE_TOOL_DONE: no table within these options costs less. MTE_TOOL_NO: it is refused,
+   it claims and the `row_count` numbers of its rows. MTE_TOOL_DONE: no table within these options (limit,
+   step, largest_class) costs less. MTE_TOOL_NO: it is refused,
    and result->code says by which condition. MTE_TOOL_MISUSE: the numbers can't be cut in `limit` rows of one length. */
 MTE_TOOL_CHECKED mte_tool_end mte_tool_check_profile(const mte_tool_options *options, const uint16_t *classes, size_t class_count,
                                                      uint64_t waste, const uint64_t *rows, size_t row_count,
@@ -342,7 +393,8 @@ MTE_TOOL_CHECKED mte_tool_end mte_tool_heap_free(mte_tool_heap *heap, uint64_t a
 
 /* Read and write 1 to 64 bytes from an address on; another length is MTE_TOOL_BAD_OPTION. The address of a further byte of a chunk is the
    chunk's and a number of bytes, with the same tag. No chunk has tag 0, so an address with it that lies in the region is MTE_TOOL_MISUSE.
-   After any end but MTE_TOOL_DONE the room and the region are as they were. */
+   After any end but MTE_TOOL_DONE the room and the region are as they were. A room that shares a byte with the outcome is
+   MTE_TOOL_MISUSE. */
 MTE_TOOL_CHECKED mte_tool_end mte_tool_heap_load(mte_tool_heap *heap, uint64_t address, void *room, size_t length,
                                                  mte_tool_outcome *outcome);
 MTE_TOOL_CHECKED mte_tool_end mte_tool_heap_store(mte_tool_heap *heap, uint64_t address, const void *bytes, size_t length,

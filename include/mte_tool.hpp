@@ -146,6 +146,12 @@ class Text {
         return *this;
     }
 
+    /* Appends an event to a timeline: the request of a block of `size` bytes, or its free. Throws as append does. */
+    Text &append_event(std::size_t size, bool is_free) {
+        if (mte_tool_timeline_append(&held_, size, is_free) != MTE_TOOL_DONE) throw std::bad_alloc();
+        return *this;
+    }
+
     /* the structure of C, for its calls */
     mte_tool_text *c() noexcept { return &held_; }
 
@@ -155,10 +161,21 @@ class Text {
 
 /* the verdict of `check` and `check_fit` */
 struct Verdict {
-    bool is_optimal; /* no table within the sheet's limit and step costs less */
+    bool is_optimal; /* no table within the sheet's limit and step, and with the class that it forces, costs less */
     Code code;       /* of the condition that the sheet breaks */
     explicit operator bool() const noexcept { return is_optimal; }
     const char *sentence() const noexcept { return is_optimal ? "optimal" : mte_tool::sentence(code); }
+};
+
+/* what a check showed: the members are those of mte_tool_claim */
+struct Claim : mte_tool_claim {
+    Claim() : mte_tool_claim MTE_TOOL_CLAIM {}
+};
+
+/* a verdict with what it showed */
+struct CheckAnswer : Verdict {
+    Claim claim; /* of the kind MTE_TOOL_CLAIM_NONE unless it is optimal */
+    Text text;   /* both in words, as the program's `check --claim` has them */
 };
 
 /* what a table costs */
@@ -230,6 +247,18 @@ class Called {
     bool is_yes_;
 };
 
+/* a check with what it showed */
+template <class Check>
+CheckAnswer check_with_claim(Check *check, std::string_view first, std::string_view input) {
+    Claim claim;
+    Text text;
+    mte_tool_result result = MTE_TOOL_RESULT;
+    const mte_tool_end end =
+        check(nullptr, first.data(), first.size(), input.data(), input.size(), text.c(), &claim, &result);
+    const bool is_optimal = answered(end, result, text.view());
+    return {verdict(is_optimal, result), claim, std::move(text)};
+}
+
 inline std::size_t rooms(const Options &options) {
     return options.limit <= MTE_TOOL_MOST_CLASSES ? static_cast<std::size_t>(options.limit) : 1;
 }
@@ -238,7 +267,8 @@ inline std::size_t rooms(const Options &options) {
 template <class Call> Table tuned(const Options &options, std::size_t length, std::size_t most_moments, Call call) {
     Table table;
     mte_tool_result result = MTE_TOOL_RESULT;
-    const std::size_t most_places = length < MTE_TOOL_LARGEST_CLASS ? length : MTE_TOOL_LARGEST_CLASS;
+    const bool is_forced = options.largest_class != 0;
+    const std::size_t most_places = length < MTE_TOOL_LARGEST_CLASS ? length + is_forced : MTE_TOOL_LARGEST_CLASS;
     table.classes.resize(MTE_TOOL_MOST_CLASSES);
     table.rows.resize(rooms(options) * most_places);
     table.moments.resize(most_moments);
@@ -271,7 +301,7 @@ inline Text tune(std::string_view profile, const Options &options) {
     return detail::Called(mte_tool_tune, profile, &options).text();
 }
 
-/* Whether a sheet shows that no table within its limit and step wastes less on a profile. */
+/* Whether a sheet shows that no table of its limit, step and forced class wastes less on a profile. */
 inline Verdict check(std::string_view sheet, std::string_view profile) {
     return detail::Called(mte_tool_check, sheet, profile, nullptr).verdict();
 }
@@ -286,7 +316,7 @@ inline Fit fit(std::string_view history, const Options &options) {
     return detail::Called(mte_tool_fit, history, &options).fit();
 }
 
-/* Whether a fit shows that no table within its limit and step takes less over a history or a timeline. */
+/* Whether a fit shows that no table of its limit, step and forced class takes less over a history or a timeline. */
 inline Verdict check_fit(std::string_view fit, std::string_view history) {
     return detail::Called(mte_tool_check_fit, fit, history, nullptr).verdict();
 }
@@ -310,6 +340,18 @@ inline Text run(std::string_view trace, const Options &options) {
 /* The most live blocks of each class of a class line over a timeline, and when. */
 inline Text peaks(std::string_view classes, std::string_view timeline) {
     return detail::Called(mte_tool_peaks, classes, timeline, nullptr).text();
+}
+
+/* ---- what a check showed, as numbers */
+
+/* The same as check, with the table's waste, of which tables none wastes less, and what the profile counts. */
+inline CheckAnswer check_claim(std::string_view sheet, std::string_view profile) {
+    return detail::check_with_claim(mte_tool_check_claim, sheet, profile);
+}
+
+/* The same as check_fit, with the table's footprint, of which tables none takes less, and what was counted. */
+inline CheckAnswer check_fit_claim(std::string_view fit, std::string_view history) {
+    return detail::check_with_claim(mte_tool_check_fit_claim, fit, history);
 }
 
 /* ---- the same over arrays: sizes in bytes, ascending, from 0 to MTE_TOOL_LARGEST_SIZE; classes in granules of 16 bytes, ascending, from 2
@@ -358,7 +400,8 @@ inline Table fit_timeline(const mte_tool_timeline_arrays &timeline, const Option
     });
 }
 
-/* Whether a table's rows show that no table within the options wastes less. The rows have options.limit times as many numbers as one. */
+/* Whether a table's rows show that no table within the options (limit, step, largest_class) wastes less. The rows have
+   options.limit times as many numbers as one. */
 inline Verdict check_profile(const Table &table, const mte_tool_profile_arrays &profile, const Options &options) {
     mte_tool_result result = MTE_TOOL_RESULT;
     const mte_tool_end end = mte_tool_check_profile(&options, table.classes.data(), table.classes.size(), table.bytes, table.rows.data(),

@@ -77,6 +77,16 @@ static inline int is_missing(const void *at, size_t length) {
     return !at && length > 0;
 }
 
+/* Whether a slice that is to be read can't be: it has no place, or more numbers of 8 bytes than any memory. */
+static inline int is_unreadable(const void *at, size_t length) {
+    return is_missing(at, length) || length > PTRDIFF_MAX / sizeof(uint64_t);
+}
+
+/* A number, or a larger one that is as good as all that are above it. */
+static inline size_t at_most(size_t number, size_t most) {
+    return number < most ? number : most;
+}
+
 /* Where an array without numbers stands. */
 extern const uint64_t layer_no_numbers;
 
@@ -85,6 +95,9 @@ int layer_is_wrong(const void *sized);
 
 /* Whether a structure that is not wrong has a member set that comes after those of the `known` size. */
 int layer_is_later(const void *sized, size_t known);
+
+/* Whether the caller chose functions for memory; from then on it is too late to choose. */
+int layer_has_others(void);
 
 /* malloc, realloc and free by the functions that the caller chose. The proved code's calls of these three go here too. */
 void *layer_malloc(size_t bytes);
@@ -95,17 +108,27 @@ void layer_free(void *block);
    set. */
 mte_tool_end layer_options(const mte_tool_options *options, narrow_options *narrow);
 
+/* Copies what the caller's structure has room for of one whose size is `known`. What this library does not know is set
+   to 0. Null is let pass. */
+void layer_put(void *to, const void *found, size_t known);
+
 /* Puts what a call found into the caller's structure, or nowhere if that is null, and returns the end. */
 mte_tool_end layer_give(mte_tool_end end, const mte_tool_result *found, mte_tool_result *result);
 
-/* A slice of bytes, whose place is not null. */
+/* A slice of bytes. */
 typedef struct slice {
     const void *at;
     size_t length;
 } slice;
 
-/* Makes a call over a text, or over a first text and another, and puts the answer into an empty text. What it found is set. The first text
-   of a call over one is empty. */
+/* Makes a call over a text, or over a first text and another, none of which is null, and puts the answer into an empty
+   text. What it found is set. The first text of a call over one is empty. A text that is longer than MTE_TOOL_MOST_INPUT
+   is refused, and not read. */
 mte_tool_end layer_call(uint8_t command, narrow_options options, slice first, slice input, mte_tool_text *answer, mte_tool_result *found);
+
+/* The same for a caller, whose structures are looked at; a slice may be null. `claim` is 1 for the line of what a check
+   showed. */
+mte_tool_end layer_command(uint8_t command, uint8_t claim, const mte_tool_options *options, slice first, slice input,
+                           mte_tool_text *output, mte_tool_result *result);
 
 #endif

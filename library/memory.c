@@ -7,17 +7,17 @@
 static mte_tool_allocator chosen; /* of the C library if it has no functions */
 static int is_in_use;             /* whether memory was taken; read and written in all threads */
 
-static int has_others(void) {
+int layer_has_others(void) {
     if (!__atomic_load_n(&is_in_use, __ATOMIC_RELAXED)) __atomic_store_n(&is_in_use, 1, __ATOMIC_RELAXED);
     return chosen.take != NULL;
 }
 
 void *layer_malloc(size_t bytes) {
-    return has_others() ? chosen.take(chosen.context, bytes) : malloc(bytes);
+    return layer_has_others() ? chosen.take(chosen.context, bytes) : malloc(bytes);
 }
 
 void *layer_realloc(void *block, size_t bytes) {
-    return has_others() ? chosen.resize(chosen.context, block, bytes) : realloc(block, bytes);
+    return layer_has_others() ? chosen.resize(chosen.context, block, bytes) : realloc(block, bytes);
 }
 
 void layer_free(void *block) {

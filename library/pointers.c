@@ -31,8 +31,7 @@ int layer_is_later(const void *sized, size_t known) {
     return 0;
 }
 
-/* Copies what the caller's structure has room for of one whose size is `known`. What this library does not know is set to 0. */
-static void give(void *to, const void *found, size_t known) {
+void layer_put(void *to, const void *found, size_t known) {
     size_t size;
     if (!to) return;
     memcpy(&size, to, sizeof size);
@@ -41,7 +40,7 @@ static void give(void *to, const void *found, size_t known) {
 }
 
 mte_tool_end layer_give(mte_tool_end end, const mte_tool_result *found, mte_tool_result *result) {
-    give(result, found, sizeof *found);
+    layer_put(result, found, sizeof *found);
     return end;
 }
 
@@ -78,9 +77,24 @@ static uint64_t number_after(const mte_tool_text *text, const char *word) {
     return text->length > n && !memcmp(text->bytes, word, n) ? strtoull(text->bytes + n, NULL, 10) : 0;
 }
 
+/* How a call ends over an input that is too long: the proved call over none in its place says whether the options are
+   taken. */
+static mte_tool_end refuse_length(uint8_t command, narrow_options options, mte_tool_text *answer,
+                                  mte_tool_result *found) {
+    static const char fault[] = "80 InputTooLong";
+    held_text held = {NULL, 0};
+    ending ended = mte_c_call(command, options, (const uint8_t *)no_bytes, 0, &held);
+    mte_c_free(&held);
+    if (ended.end == MTE_TOOL_OUT_OF_MEMORY || ended.end == MTE_TOOL_BAD_OPTION) return (mte_tool_end)ended.end;
+    if (mte_tool_text_append(answer, fault, sizeof fault - 1) != MTE_TOOL_DONE) return MTE_TOOL_OUT_OF_MEMORY;
+    found->code = MTE_TOOL_CODE_INPUT_TOO_LONG;
+    return MTE_TOOL_REFUSED;
+}
+
 mte_tool_end layer_call(uint8_t command, narrow_options options, slice first, slice input, mte_tool_text *answer, mte_tool_result *found) {
     held_text held = {NULL, 0}; /* the first text, and then the answer */
     ending ended;
+    if (input.length > MTE_TOOL_MOST_INPUT) return refuse_length(command, options, answer, found);
     if (first.length > 0 && mte_c_append(first.at, first.length, &held) != MTE_TOOL_DONE) return MTE_TOOL_OUT_OF_MEMORY;
     ended = mte_c_call(command, options, input.at, input.length, &held);
     if (hand_over(&held, answer) != MTE_TOOL_DONE) return MTE_TOOL_OUT_OF_MEMORY;
@@ -95,19 +109,22 @@ mte_tool_end layer_call(uint8_t command, narrow_options options, slice first, sl
     return (mte_tool_end)ended.end;
 }
 
-static slice slice_of(const void *at, size_t length) {
-    slice made = {at ? at : &layer_no_numbers, length};
+static slice whole(slice it) {
+    slice made = {it.at ? it.at : &layer_no_numbers, it.length};
     return made;
 }
 
-static mte_tool_end call(uint8_t command, const mte_tool_options *options, slice first, const void *input, size_t length,
-                         mte_tool_text *output, mte_tool_result *result) {
+mte_tool_end layer_command(uint8_t command, uint8_t claim, const mte_tool_options *options, slice first, slice input,
+                           mte_tool_text *output, mte_tool_result *result) {
     mte_tool_result found = MTE_TOOL_RESULT;
     mte_tool_text answer = MTE_TOOL_TEXT;
     narrow_options narrow;
     mte_tool_end end = layer_options(options, &narrow);
-    if (!output || is_missing(input, length) || end == MTE_TOOL_MISUSE || layer_is_wrong(result)) return MTE_TOOL_MISUSE;
-    if (end == MTE_TOOL_DONE) end = layer_call(command, narrow, first, slice_of(input, length), &answer, &found);
+    if (!output || is_unreadable(first.at, first.length) || is_missing(input.at, input.length) ||
+        end == MTE_TOOL_MISUSE || layer_is_wrong(result))
+        return MTE_TOOL_MISUSE;
+    narrow.claim = claim;
+    if (end == MTE_TOOL_DONE) end = layer_call(command, narrow, whole(first), whole(input), &answer, &found);
     mte_tool_text_free(output); /* only now, since the input may be in it */
     *output = answer;
     return layer_give(end, &found, result);
@@ -116,14 +133,15 @@ static mte_tool_end call(uint8_t command, const mte_tool_options *options, slice
 #define CALL(command, name)                                                                                                \
     mte_tool_end mte_tool_##name(const mte_tool_options *options, const void *input, size_t length, mte_tool_text *output, \
                                  mte_tool_result *result) {                                                                \
-        return call(command, options, slice_of(NULL, 0), input, length, output, result);                                   \
+        slice none = {NULL, 0}, text = {input, length};                                                                    \
+        return layer_command(command, 0, options, none, text, output, result);                                             \
     }
 
 #define CALL_ON(command, name)                                                                                               \
     mte_tool_end mte_tool_##name(const mte_tool_options *options, const void *first, size_t first_length, const void *input, \
                                  size_t length, mte_tool_text *output, mte_tool_result *result) {                            \
-        if (is_missing(first, first_length)) return MTE_TOOL_MISUSE;                                                         \
-        return call(command, options, slice_of(first, first_length), input, length, output, result);                         \
+        slice leading = {first, first_length}, rest = {input, length};                                                       \
+        return layer_command(command, 0, options, leading, rest, output, result);                                            \
     }
 
 CALL_ON(SCORE, score)
@@ -206,8 +224,11 @@ static const uint16_t *classes_or_none(const uint16_t *at) {
 }
 
 static int is_whole(const mte_tool_profile_arrays *profile) {
-    return profile && !is_missing(profile->sizes, profile->length) && !is_missing(profile->counts, profile->length);
+    return profile && !is_unreadable(profile->sizes, profile->length) &&
+           !is_unreadable(profile->counts, profile->length);
 }
+
+enum { CLASSES_TOO_MANY = MTE_TOOL_MOST_CLASSES + 1 }; /* as good as more of them */
 
 /* the two slices of a profile */
 #define SLICES(profile) numbers_or_none((profile)->sizes), (profile)->length, numbers_or_none((profile)->counts), (profile)->length
@@ -233,8 +254,9 @@ mte_tool_end mte_tool_score_profile(const mte_tool_options *options, const uint1
                                     const mte_tool_profile_arrays *profile, mte_tool_result *result) {
     narrow_options narrow;
     mte_tool_end end = layer_options(options, &narrow);
-    if (is_missing(classes, class_count) || !is_whole(profile) || layer_is_wrong(result)) return MTE_TOOL_MISUSE;
+    if (is_unreadable(classes, class_count) || !is_whole(profile) || layer_is_wrong(result)) return MTE_TOOL_MISUSE;
     if (end != MTE_TOOL_DONE) return refuse_options(end, result);
+    class_count = at_most(class_count, CLASSES_TOO_MANY);
     return give_numbers(mte_arrays_score(narrow, classes_or_none(classes), class_count, SLICES(profile)), result);
 }
 
@@ -246,6 +268,9 @@ mte_tool_end mte_tool_tune_profile(const mte_tool_options *options, const mte_to
     if (!classes || is_missing(rows, row_room) || !is_whole(profile) || layer_is_wrong(result)) return MTE_TOOL_MISUSE;
     if (end != MTE_TOOL_DONE) return refuse_options(end, result);
     if (!rows) rows = &no_row;
+    /* always enough, and all that the caller needs to have */
+    class_room = at_most(class_room, narrow.limit);
+    row_room = at_most(row_room, narrow.limit * (profile->length + narrow.largest_class));
     return give_numbers(mte_arrays_tune(narrow, SLICES(profile), classes, class_room, rows, row_room), result);
 }
 
@@ -254,9 +279,11 @@ mte_tool_end mte_tool_check_profile(const mte_tool_options *options, const uint1
                                     mte_tool_result *result) {
     narrow_options narrow;
     mte_tool_end end = layer_options(options, &narrow);
-    if (is_missing(classes, class_count) || is_missing(rows, row_count) || !is_whole(profile) || layer_is_wrong(result))
+    if (is_unreadable(classes, class_count) || is_unreadable(rows, row_count) || !is_whole(profile) ||
+        layer_is_wrong(result))
         return MTE_TOOL_MISUSE;
     if (end != MTE_TOOL_DONE) return refuse_options(end, result);
+    class_count = at_most(class_count, CLASSES_TOO_MANY);
     return give_numbers(mte_arrays_check(narrow, waste, classes_or_none(classes), class_count, rows ? rows : &layer_no_numbers, row_count,
                                          SLICES(profile)),
                         result);
@@ -286,7 +313,7 @@ static mte_tool_end give_outcome(heap_outcome got, mte_tool_outcome *outcome) {
     found.memory_tag = got.memory_tag;
     found.pointer_tag = got.pointer_tag;
     found.granule_kind = got.granule_kind;
-    give(outcome, &found, sizeof found);
+    layer_put(outcome, &found, sizeof found);
     return (mte_tool_end)got.end;
 }
 
@@ -321,10 +348,10 @@ mte_tool_end mte_tool_heap_new(mte_tool_heap **heap, const mte_tool_options *opt
     mte_tool_end end = layer_options(options, &narrow);
     if (!heap) return MTE_TOOL_MISUSE;
     *heap = NULL;
-    if (is_missing(classes, class_count) || end == MTE_TOOL_MISUSE || layer_is_wrong(outcome)) return MTE_TOOL_MISUSE;
+    if (is_unreadable(classes, class_count) || end == MTE_TOOL_MISUSE || layer_is_wrong(outcome)) return MTE_TOOL_MISUSE;
     if (end == MTE_TOOL_DONE) {
         heap_settings settings = {narrow.granules, narrow.quarantine, narrow.seed};
-        *heap = made_heap(settings, classes_or_none(classes), class_count, &got);
+        *heap = made_heap(settings, classes_or_none(classes), at_most(class_count, CLASSES_TOO_MANY), &got);
     }
     return give_outcome(got, outcome);
 }
@@ -348,9 +375,16 @@ mte_tool_end mte_tool_heap_free(mte_tool_heap *heap, uint64_t address, mte_tool_
     return ON_HEAP(mte_heap_free(heap, address));
 }
 
+/* Whether a room and an outcome share a byte: the loaded ones would become the outcome's size. */
+static int is_in_outcome(const void *room, size_t length, const mte_tool_outcome *outcome) {
+    uintptr_t first = (uintptr_t)room, other = (uintptr_t)outcome;
+    if (!outcome || layer_is_wrong(outcome)) return 0;
+    return first < other ? other - first < length : first - other < outcome->size;
+}
+
 mte_tool_end mte_tool_heap_load(mte_tool_heap *heap, uint64_t address, void *room, size_t length, mte_tool_outcome *outcome) {
     uint8_t none;
-    if (is_missing(room, length)) return MTE_TOOL_MISUSE;
+    if (is_missing(room, length) || is_in_outcome(room, length, outcome)) return MTE_TOOL_MISUSE;
     return ON_HEAP(mte_heap_load(heap, address, room ? room : &none, length));
 }
 

@@ -8,13 +8,13 @@
 
 /* ---- the text of an input */
 
-/* A text that is written. */
+/* A text that is written. One that is too long has no bytes after its first line. */
 typedef struct input {
     mte_tool_text text;
-    int is_out_of_memory;
+    int is_out_of_memory, is_too_long;
 } input;
 
-static const input no_input = {MTE_TOOL_TEXT, 0};
+static const input no_input = {MTE_TOOL_TEXT, 0, 0};
 
 /* Nothing comes after more bytes than an input may have: the reader refuses that anyway. */
 static void put(input *to, const char *bytes, size_t length) {
@@ -51,13 +51,20 @@ static void put_classes(input *to, const uint16_t *classes, size_t count) {
     put_word(to, "\n");
 }
 
-enum { MOST_SNAPSHOTS = 1024 };
+enum { MOST_SNAPSHOTS = 1024, SHORTEST_LINE = 2, SHORTEST_COUNT = 2 };
+
+/* Whether so many lines, of which none is shorter, are longer than an input may be. No number of them is read then. */
+static int is_too_long(input *to, size_t lines, size_t shortest) {
+    to->is_too_long = lines > MTE_TOOL_MOST_INPUT / shortest;
+    return to->is_too_long;
+}
 
 /* Of too many snapshots no count is read. */
 static void put_history(input *to, const mte_tool_history_arrays *history) {
     size_t i, k, snapshots = history->snapshots;
     put_line(to, "snapshots ", snapshots);
     if (snapshots > MOST_SNAPSHOTS) return;
+    if (is_too_long(to, history->length, SHORTEST_LINE + SHORTEST_COUNT * snapshots)) return;
     for (i = 0; i < history->length && to->text.length <= MTE_TOOL_MOST_INPUT; i++) {
         put_number(to, history->sizes[i]);
         for (k = 0; k < snapshots; k++) {
@@ -68,24 +75,50 @@ static void put_history(input *to, const mte_tool_history_arrays *history) {
     }
 }
 
-static void put_timeline(input *to, const mte_tool_timeline_arrays *timeline) {
-    size_t i;
-    put_word(to, "timeline\n");
-    for (i = 0; i < timeline->length && to->text.length <= MTE_TOOL_MOST_INPUT; i++) {
-        if (timeline->frees[i]) put_word(to, "-");
-        if (timeline->sizes[i] > MTE_TOOL_LARGEST_SIZE) put_word(to, "large");
-        else put_number(to, timeline->sizes[i]);
-        put_word(to, "\n");
+static const char timeline_line[] = "timeline\n";
+
+enum { LONGEST_EVENT = sizeof "-large\n" };
+
+/* Writes the line of an event, without a byte 0 after it; its length. */
+static size_t write_event(char *line, size_t size, int is_free) {
+    static const char large[] = {'l', 'a', 'r', 'g', 'e'};
+    size_t at = 0, tens = 1;
+    if (is_free) line[at++] = '-';
+    if (size > MTE_TOOL_LARGEST_SIZE) {
+        memcpy(line + at, large, sizeof large);
+        at += sizeof large;
+    } else {
+        while (size / tens >= 10) tens *= 10;
+        for (; tens > 0; tens /= 10) line[at++] = (char)('0' + size / tens % 10);
     }
+    line[at++] = '\n';
+    return at;
+}
+
+static void put_timeline(input *to, const mte_tool_timeline_arrays *timeline) {
+    char line[LONGEST_EVENT];
+    size_t i;
+    put_word(to, timeline_line);
+    if (is_too_long(to, timeline->length, SHORTEST_LINE)) return;
+    for (i = 0; i < timeline->length && to->text.length <= MTE_TOOL_MOST_INPUT; i++)
+        put(to, line, write_event(line, timeline->sizes[i], timeline->frees[i]));
+}
+
+mte_tool_end mte_tool_timeline_append(mte_tool_text *timeline, size_t size, int is_free) {
+    char line[sizeof timeline_line + LONGEST_EVENT];
+    size_t begin = timeline && timeline->length == 0 ? sizeof timeline_line - 1 : 0;
+    memcpy(line, timeline_line, begin);
+    return mte_tool_text_append(timeline, line, begin + write_event(line + begin, size, is_free));
 }
 
 static int is_history(const mte_tool_history_arrays *history) {
-    if (!history || is_missing(history->sizes, history->length)) return 0;
-    return history->snapshots == 0 || !is_missing(history->counts, history->length);
+    if (!history || is_unreadable(history->sizes, history->length)) return 0;
+    return history->snapshots == 0 || !is_unreadable(history->counts, history->length);
 }
 
 static int is_timeline(const mte_tool_timeline_arrays *timeline) {
-    return timeline && !is_missing(timeline->sizes, timeline->length) && !is_missing(timeline->frees, timeline->length);
+    return timeline && !is_unreadable(timeline->sizes, timeline->length) &&
+           !is_unreadable(timeline->frees, timeline->length);
 }
 
 /* ---- the calls */
@@ -95,8 +128,10 @@ static int is_of_entry(uint32_t code) {
     return (code >= 30 && code <= 32) || code == 37 || code == 38;
 }
 
+/* Of a text that is too long only its length is looked at. */
 static slice slice_of(const input *it) {
     slice made = {it->text.bytes ? (const void *)it->text.bytes : &layer_no_numbers, it->text.length};
+    if (it->is_too_long) made.length = MTE_TOOL_MOST_INPUT + 1;
     return made;
 }
 
@@ -196,7 +231,8 @@ typedef struct claim {
 } claim;
 
 static int is_claim(const claim *it) {
-    return !is_missing(it->classes, it->class_count) && !is_missing(it->rows, it->row_count) && !is_missing(it->moments, it->moment_count);
+    return !is_unreadable(it->classes, it->class_count) && !is_unreadable(it->rows, it->row_count) &&
+           !is_unreadable(it->moments, it->moment_count);
 }
 
 static int are_limits(narrow_options options) {

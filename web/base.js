@@ -64,3 +64,24 @@ function say(words, bad = false, view = shownView()) {
   if (view !== shownView()) return;
   tell("status", words, bad ? "bad" : "");
 }
+
+let works = 0;
+
+/** Shows how far a work of so many steps is, in place of what a view has answered before. */
+async function withBar(view, words, steps, action) {
+  const [bar, answers] = [$("work"), $(`view-${view}`)];
+  works += 1;
+  tell("work-told", words);
+  Object.assign($("steps"), { max: steps, value: 0 });
+  bar.hidden = false;
+  answers.setAttribute("aria-busy", "true");
+  try {
+    return await action();
+  } finally {
+    works -= 1;
+    bar.hidden = works === 0;
+    if (bar.hidden) answers.removeAttribute("aria-busy");
+  }
+}
+
+const endStep = () => ($("steps").value += 1);

@@ -1,44 +1,56 @@
-// The sentences that say what is known of a table, filled from the words and by the rules of scripts/mte_scripts/claims.py, which are in the page's
-// data. What is judged is {kind, limit, step, forced, classes, cost, verdict}: the kind is profile, history or timeline, the cost is that on
-// what the user gave, and the verdict is the engine's, or `between L` where `fit` found no certificate.
+// The sentences that say what is known of a table: filled from the words of scripts/mte_scripts/claim_words.py, which are in the page's data, and
+// from what an engine said. What is judged is {kind, name, digest, verdict, numbers}: the kind is profile, history or timeline, the name and
+// the digest are those of what was counted, the verdict is the engine's, or `between L` where `fit` found no certificate, and the numbers are those of
+// its line `claim ..`, or of what `fit` printed.
 "use strict";
 
+const DIGITS = 16; // of a digest in a sentence
+
 const filled = (name, places = {}) => (data.claims[name] ?? "").replace(/\{(\w+)\}/g, (_, place) => places[place]);
-const listed = (words) => [words.slice(0, -1).join(", "), ...words.slice(-1)].filter(Boolean).join(" and ");
-const givenAs = (kind) => `this ${kind}`;
-const blockText = (step) => String(GRANULE * step);
-const forcedWords = (forced) => filled(`forced.${forced.length === 1 ? "one" : "many"}`, { classes: listed(forced) });
 
-function tablesWords({ kind, limit, step, forced }) {
-  const most = filled(`limit.${limit === 1 ? "one" : "many"}`, { count: limit, block: blockText(step) });
-  const places = { limit: most, given: givenAs(kind), forced: forcedWords(forced) };
-  return filled(`tables.${forced.length ? "forced" : "own"}`, places);
+/** A name from outside as text in a sentence, which it can't end or go on with. */
+const quotedName = (name) => `"${name.replace(/[\x22\x5c\x60]|(?! )[\p{C}\p{Z}]/gu, (c) => `\\u{${c.codePointAt(0).toString(16)}}`)}"`;
+
+/** The digest of a text, or of bytes, by SHA-256, in hexadecimal digits. */
+async function digestOf(text) {
+  const whole = typeof text === "string" ? new TextEncoder().encode(text) : text;
+  const bytes = await crypto.subtle.digest("SHA-256", whole);
+  return [...new Uint8Array(bytes)].map((byte) => byte.toString(16).padStart(2, "0")).join("");
 }
 
-/** Whether the table has the classes that are forced. */
-const holds = ({ forced, step, classes }) => forced.every((c) => c % step === 0 && classes.includes(c));
+/** The numbers of a line `claim NAME N NAME N ..`. */
+const numbersOf = (line) => Object.fromEntries([...line.matchAll(/ ([a-z]+) (\d+)/g)].map(([, name, value]) => [name, exactly(value)]));
 
-/** What a `fit` without a certificate says that each table takes, or null. */
-function bound({ verdict }) {
-  const [word, number] = verdict.split(" ");
-  return word === "between" ? exactly(BigInt(number)) : null;
+/** Whether none of the tables costs less than this one; and whether the cost is a bound that this one may not reach. */
+const holds = ({ verdict }) => verdict === "optimal";
+const isBound = ({ verdict }) => verdict.startsWith("between ");
+
+const havingWords = (forced) => (forced ? filled("having", { forced }) : "");
+const givenWords = ({ name, digest }) => filled("input", { name: quotedName(name), digest: digest.slice(0, DIGITS), how: "" });
+
+/** Among which tables none costs less than this one, or than the bound, on what, and what it costs. */
+function claimWords(judged) {
+  const { kind, numbers } = judged;
+  const { limit, step, forced, large } = numbers;
+  const most = filled(`limit.${limit === 1 ? "one" : "many"}`, { count: limit, block: String(GRANULE * step) });
+  const nouns = ["size", "request", "snapshot", "event", "byte"];
+  return filled(`${kind}.claim`, {
+    ...Object.fromEntries(nouns.map((noun) => [`${noun}s`, counted(numbers[`${noun}s`] ?? 0, noun)])),
+    tables: filled("tables", { limit: most, given: givenWords(judged), having: havingWords(forced) }),
+    cost: bytesText(kind === "profile" ? numbers.waste : numbers.footprint),
+    large: large ? filled("large", { large: counted(large, "large one") }) : "",
+  });
 }
 
-/** Among which tables none costs less than this one, and what it costs; or than the bound. */
-const claim = (judged) => filled(`${judged.kind}.claim`, { tables: tablesWords(judged), cost: bytesText(bound(judged) ?? judged.cost) });
-
-/** What the verdict means, as `says` of scripts/mte_scripts/claims.py has it. */
+/** What the verdict means, as Claim.says of scripts/mte_scripts/claims.py has it. */
 function says(judged) {
-  const { kind, verdict } = judged;
-  const given = givenAs(kind);
-  if (bound(judged) !== null) return filled("timeline.between", { cost: bytesText(judged.cost), given, claim: claim(judged) });
-  if (verdict !== "optimal") {
-    const words = kind === "profile" ? { sheet: "sheet", costs: "wastes" } : { sheet: "fit", costs: "takes" };
-    const meaning = filled(`refusal.${verdict.split(" ")[1]}`, { counts: kind, ...words });
-    return filled(`${kind}.refused`, { given, verdict, meaning }).trimEnd();
-  }
-  if (!holds(judged)) return filled(`${kind}.other`, { given });
-  return filled(`${kind}.says`, { claim: claim(judged) });
+  const { kind, verdict, numbers } = judged;
+  const command = kind === "profile" ? "check" : "check-fit";
+  if (isBound(judged)) return filled("between", { cost: bytesText(numbers.takes), claim: claimWords(judged) });
+  if (holds(judged)) return filled("says", { command, claim: claimWords(judged) });
+  const words = kind === "profile" ? { sheet: "sheet", costs: "wastes" } : { sheet: "fit", costs: "takes" };
+  const meaning = filled(`refusal.${verdict.split(" ")[1]}`, { counts: kind, ...words });
+  return filled("refused", { command, verdict, given: givenWords(judged), meaning }).trimEnd();
 }
 
 /** Puts words into an element; those between backquotes are code. */
@@ -53,7 +65,5 @@ function tellVerdict(id, words, good) {
 }
 
 /** What the curve over the number of classes shows. */
-function curveWords({ kind, step, forced }) {
-  const having = forced.length ? filled("curve.with", { forced: forcedWords(forced) }) : "";
-  return filled(`${kind}.curve.caption`, { block: blockText(step), given: givenAs(kind), with: having });
-}
+const curveWords = ({ kind, name }, step, forced) =>
+  filled(`${kind}.curve`, { name: quotedName(name), block: String(GRANULE * step), having: havingWords(forced) });

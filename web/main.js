@@ -198,6 +198,9 @@ async function begin() {
 async function start() {
   show("tune");
   const modules = { tool: fromBase64(data.tool), steps: fromBase64(data.steps) };
+  for (const [name, bytes] of Object.entries(modules)) {
+    if ((await digestOf(bytes)) !== data.digests[name]) throw new Error("an engine has other bytes than the page was made with");
+  }
   await Promise.all([SHOWS, READS].map((worker) => ask("start", modules, worker)));
   await begin();
   performance.mark("ready");

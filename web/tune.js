@@ -2,7 +2,7 @@
 "use strict";
 
 /** One of the two profiles, histories or timelines that the page holds: what it counts, and what the engines found for it. */
-const newSlot = (slot) => ({ slot, kind: null, name: "", counts: null, sheet: "", least: [], tables: [], answers: new Map() });
+const newSlot = (slot) => ({ slot, kind: null, name: "", digest: "", counts: null, sheet: "", least: [], tables: [], answers: new Map() });
 const slots = [newSlot("A"), newSlot("B")];
 /** The one that is looked at. */
 let tuner = slots[0];
@@ -31,8 +31,14 @@ async function made(slot, limit, step, largest_class) {
 
 const sayRefused = (name, words) => say(`${name} is refused. ${words}`, true);
 
+const TUNE_STEPS = 5; // a table, what it counts, the verdict, the line over the number of classes, other tables
+
 /** Takes a profile, a history or a timeline that the engines accept. */
-async function takeCounts(text, name, refuse = (words) => sayRefused(name, words)) {
+function takeCounts(text, name, refuse = (words) => sayRefused(name, words)) {
+  return withBar("tune", `The engines work on ${name}.`, TUNE_STEPS, () => readCounts(text, name, refuse));
+}
+
+async function readCounts(text, name, refuse) {
   const { limit, step } = options();
   const kind = kindOf(text) ?? "profile";
   const slot = { ...newSlot(slots[comesTo].slot), kind, name };
@@ -42,7 +48,10 @@ async function takeCounts(text, name, refuse = (words) => sayRefused(name, words
     refuse(refusal(answer));
     return false;
   }
+  endStep();
   slot.counts = countsOf(kind, whole);
+  slot.digest = await digestOf(whole);
+  endStep();
   slot.answers.set(`${limit} ${step} 0`, answer);
   slots[slots.findIndex((it) => it.slot === slot.slot)] = slot;
   tuner = slot;
@@ -75,12 +84,14 @@ async function tuneSlot(slot) {
   const answer = await made(slot, limit, step, largest_class);
   if (answer.status > 1) return sayRefused(slot.name, refusal(answer));
   const sheet = answer.text;
-  // a fit without a certificate says what no table takes less than
-  const verdict = `between ${/less than (\d+)/.exec(sheet)?.[1]}`;
-  const forced = largest_class ? [LARGEST_CLASS] : [];
-  const judged = await (answer.status === 0 ? judge(slot, sheet) : judgedAs(slot, sheet, { limit, step, forced, verdict }));
+  const among = { limit, step, forced: largest_class * LARGEST_CLASS };
+  const judged = await (answer.status === 0 ? judge(slot, sheet) : boundOf(slot, sheet, among));
+  if (judged.refused) return sayRefused(slot.name, judged.refused);
+  endStep();
+  const [line] = sheet.split("\n");
   const least = await lineOf(slot, sheet, step, largest_class);
-  return Object.assign(slot, { sheet, judged, classes: judged.classes, total: judged.cost, least });
+  endStep();
+  return Object.assign(slot, { sheet, judged, among, classes: classesOf(line), total: (await totalOf(line, slot)).total, least });
 }
 
 /** The line over the number of classes: of a profile or a history over all of it, of a timeline over the moments of its fit. */
@@ -97,20 +108,20 @@ async function madeAtMoments(slot, fit, step, largest_class) {
   return ask("call", { command: "fit", options: { limit: MOST_CLASSES, step, largest_class }, input: slot.counts.historyAt(moments) });
 }
 
-/** What was judged of a table, with what it costs. */
-async function judgedAs(slot, sheet, judgement) {
-  const [line] = sheet.split("\n");
-  return { kind: slot.kind, classes: classesOf(line), cost: (await totalOf(line, slot)).total, ...judgement };
+/** What a fit without a certificate says that each table takes at least. */
+function boundOf({ kind, name, digest, counts }, fit, among) {
+  const [takes, least] = [/^footprint (\d+)$/m, /less than (\d+)$/m].map((form) => exactly(form.exec(fit)[1]));
+  return { kind, name, digest, verdict: `between ${least}`, numbers: { ...among, takes, footprint: least, events: counts.events.length } };
 }
 
 /** What the engine says of a sheet over a slot's counts. What it refuses is {refused}. */
 async function judge(slot, sheet) {
-  const answer = await ask("call", { command: isOverTime(slot) ? "check-fit" : "check", options: {}, first: sheet, of: slot.slot });
+  const { kind, name, digest } = slot;
+  const answer = await ask("call", { command: isOverTime(slot) ? "check-fit" : "check", options: { claim: 1 }, first: sheet, of: slot.slot });
   if (answer.status > 1) return { refused: refusal(answer) };
-  // the engine took the sheet, so each number stands there in its one spelling
-  const number = (name) => Number(new RegExp(`^${name} (\\d+)$`, "m").exec(sheet)?.[1] ?? 1);
-  const forced = /^forced/m.test(sheet) ? [LARGEST_CLASS] : [];
-  return judgedAs(slot, sheet, { limit: number("limit"), step: number("step"), forced, verdict: answer.text.trim() });
+  const [verdict, line] = answer.text.trim().split("\n");
+  if (holds({ verdict }) && !line) return { refused: "The engine does not say what it showed." };
+  return { kind, name, digest, verdict, numbers: numbersOf(line ?? "") };
 }
 
 /** All tables: those of the slots beside Scudo's, and the user's own. Whether they are still those of what the slots hold. */
@@ -132,7 +143,7 @@ async function compare() {
   return true;
 }
 
-const tableName = (slot) => filled(`${slot.kind}.table`);
+const tableName = ({ kind, judged }) => filled(`${kind}.${holds(judged) ? "table" : "other"}`);
 
 /** Shows all of the slot that is looked at, and both beside each other. */
 function showTuned() {
@@ -206,12 +217,13 @@ function showTables() {
 }
 
 function showCurve() {
-  const { kind, tables, least, counts, classes, judged } = tuner;
+  const { tables, least, counts, classes, among } = tuner;
   const shown = tables.filter((t) => t.total !== undefined);
-  drawCurve($("curve"), least, shown, filled(`${kind}.curve`), isOverTime(tuner) ? 0 : counts.bytes);
-  $("curve-told").textContent = curveWords(judged);
+  const cost = isOverTime(tuner) ? "Footprint" : "Waste";
+  drawCurve($("curve"), least, shown, `${cost} by the number of classes`, isOverTime(tuner) ? 0 : counts.bytes);
+  $("curve-told").textContent = curveWords(tuner, among.step, among.forced);
   $("curve-key").innerHTML = shown.map((t) => `<li>${markOf(t.style)}${escaped(t.name)}</li>`).join("");
-  fillTable("curve-table", ["Classes", filled(`${kind}.curve.column`)], least.map((bytes, i) => [i + 1, cell(grouped(bytes))]));
+  fillTable("curve-table", ["Classes", `${cost}, bytes`], least.map((bytes, i) => [i + 1, cell(grouped(bytes))]));
   drawHistogram($("histogram"), counts.sizes, classes, classesOf(data.scudo));
 }
 
@@ -243,7 +255,7 @@ function showClasses() {
 /** What the engine says of the sheet as it stands, edited or not. */
 async function judgedSheet() {
   const sheet = $("sheet").value.replace(/\n*$/, "\n");
-  if (sheet === tuner.sheet && bound(tuner.judged) !== null) return tuner.judged;
+  if (sheet === tuner.sheet && isBound(tuner.judged)) return tuner.judged;
   const isFit = /^footprint/m.test(sheet);
   if (isFit !== isOverTime(tuner)) return { refused: `This is a ${isFit ? "fit: it wants a history or a timeline" : "sheet: it wants a profile"}.` };
   return judge(tuner, sheet);
@@ -252,7 +264,7 @@ async function judgedSheet() {
 async function checkSheet() {
   if (!tuner.kind) return null;
   const judged = await judgedSheet();
-  const [words, good] = [judged.refused ?? says(judged), judged.verdict === "optimal"];
+  const [words, good] = [judged.refused ?? says(judged), !judged.refused && holds(judged)];
   tellVerdict("verdict", words, good);
   return { words, good };
 }

@@ -2,9 +2,11 @@
    cc -IDIR/include check_sheet.c DIR/lib/libmte_tool.a -o check_sheet, where DIR is that of scripts/library */
 #include <mte_tool.h>
 
+#include <errno.h>
 #include <stdio.h>
 
-/* Appends a file to a text. */
+/* Appends a file to a text. An empty one is no sheet, and no profile either: for what counts nothing each table is a best
+   one. */
 static int append_file(mte_tool_text *text, const char *path) {
     char piece[4096];
     size_t n;
@@ -14,7 +16,8 @@ static int append_file(mte_tool_text *text, const char *path) {
     while ((n = fread(piece, 1, sizeof piece, file)) > 0 && mte_tool_text_append(text, piece, n) == MTE_TOOL_DONE) {}
     good = n == 0 && !ferror(file);
     fclose(file);
-    return good;
+    if (good && text->length == 0) errno = ENODATA;
+    return good && text->length > 0;
 }
 
 int main(int argc, char **argv) {

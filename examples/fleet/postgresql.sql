@@ -3,6 +3,7 @@
 -- A load is what a machine counted of a build of a program on a day: one row, so that it comes and goes as a whole. Of several with one
 -- key one counts, by the rules of `fleet_profiles --help`, also where two are loaded at once.
 set client_min_messages = warning; -- that the table exists is no news
+set client_encoding = 'UTF8'; -- a database of another encoding refuses a name that it can't have
 begin;
 select pg_advisory_xact_lock(hashtext('loads of a fleet')) as lock \gset
 do $$ begin
@@ -26,6 +27,15 @@ create table if not exists loads (
     check (cardinality(sizes) > 0 and cardinality(sizes) = cardinality(moments) and cardinality(sizes) = cardinality(counts))
 );
 do $$ begin
+    if not exists (select from pg_constraint where conrelid = to_regclass('loads') and conname = 'loads_names') then
+        -- such a name would forge rows where it is printed
+        alter table loads add constraint loads_names check (program || build || machine !~ '[\x01-\x1f\x7f]');
+    end if;
+exception when check_violation then
+    raise exception 'the table loads has names with control characters' using hint = 'An earlier release read some backslashes so. Run '
+        'delete from loads where program || build || machine ~ ''[\x01-\x1f\x7f]'', and load these machines anew.';
+end $$;
+do $$ begin
     if to_regclass('loads_by_day') is null then -- only to ask would wait for each load that is on its way
         create index loads_by_day on loads (day, program);
     end if;
@@ -45,7 +55,7 @@ begin
             select * from unnest(new.moments, new.sizes, new.counts) except select * from unnest(old.moments, old.sizes, old.counts)
         ) then old else new end;
     elsif new.weight <> old.weight then
-        return case when cardinality(new.sizes) >= cardinality(old.sizes) then new else old end;
+        return case when new.weight > old.weight then new else old end;
     end if;
     select array_agg(moment order by moment, size), array_agg(size order by moment, size), array_agg(count order by moment, size)
         into new.moments, new.sizes, new.counts
@@ -65,13 +75,19 @@ create temporary table arriving (
     program text, build text, machine text, day date, load bigint, weight bigint, moments text, sizes text, counts text
 ) on commit drop;
 \copy arriving from pstdin
--- in the order of the key: two loads at once then wait for each other, and neither for ever
-insert into loads as old
-    select distinct on (machine, program, day, build) program, build, machine, day, load, weight,
-        replace(replace(moments, '[', '{'), ']', '}')::smallint[], replace(replace(sizes, '[', '{'), ']', '}')::smallint[],
-        replace(replace(counts, '[', '{'), ']', '}')::bigint[] -- `translate` takes ten times as long
-    from arriving order by machine, program, day, build, load desc, length(sizes) desc
-    on conflict (machine, program, day, build) do update
-    set (load, weight, moments, sizes, counts) = (select load, weight, moments, sizes, counts from counted(old, excluded))
-    where excluded.load >= old.load and old is distinct from excluded;
+-- Of several with one key, one after the other. In the order of the key: two loads at once then wait for each other, and neither for ever.
+create temporary table numbered on commit drop as
+    select *, row_number() over (partition by machine, program, day, build order by load desc, length(sizes) desc) as place from arriving;
+do $$ begin
+    for at in 1 .. (select coalesce(max(place), 0) from numbered) loop
+        insert into loads as old
+            select program, build, machine, day, load, weight,
+                replace(replace(moments, '[', '{'), ']', '}')::smallint[], replace(replace(sizes, '[', '{'), ']', '}')::smallint[],
+                replace(replace(counts, '[', '{'), ']', '}')::bigint[] -- `translate` takes ten times as long
+            from numbered where place = at and (at = 1 or load > 0) order by machine, program, day, build
+            on conflict (machine, program, day, build) do update
+            set (load, weight, moments, sizes, counts) = (select load, weight, moments, sizes, counts from counted(old, excluded))
+            where excluded.load >= old.load and old is distinct from excluded;
+    end loop;
+end $$;
 commit;

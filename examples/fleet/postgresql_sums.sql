@@ -1,5 +1,6 @@
 -- The sums of all machines of a build together, as rows for `fleet_profiles`:
 --   psql -q -f examples/fleet/postgresql_sums.sql > sums.tsv
+set client_encoding = 'UTF8';
 \pset format unaligned
 \pset fieldsep '\t'
 \pset tuples_only on

@@ -36,15 +36,16 @@ from mte_tool._arrays import (
     Table, check_fit_history, check_fit_timeline, check_profile, class_of, fit_history, fit_timeline, footprint_history,
     footprint_timeline, score_profile, tune_profile,
 )  # fmt: skip
-from mte_tool._calls import Cost, Error, Fit, Verdict, version, version_number
+from mte_tool._calls import CheckAnswer, Claim, Cost, Error, Fit, Verdict, version, version_number
+from mte_tool._claims import check_claim, check_fit_claim
 from mte_tool._codes import Code, End
 from mte_tool._commands import check, check_fit, fit, footprint, peaks, profile, replay, run, score, tune
 from mte_tool._heap import Heap, Outcome
 
 __version__ = "1.0.0"
 __all__ = [
-    "Code", "Cost", "End", "Error", "Fit", "Heap", "Outcome", "Table", "Verdict", "check", "check_fit", "check_fit_history",
-    "check_fit_timeline", "check_profile", "class_of", "fit", "fit_history", "fit_timeline", "footprint", "footprint_history",
-    "footprint_timeline", "peaks", "profile", "replay", "run", "score", "score_profile", "tune", "tune_profile", "version",
-    "version_number",
+    "CheckAnswer", "Claim", "Code", "Cost", "End", "Error", "Fit", "Heap", "Outcome", "Table", "Verdict", "check",
+    "check_claim", "check_fit", "check_fit_claim", "check_fit_history", "check_fit_timeline", "check_profile", "class_of",
+    "fit", "fit_history", "fit_timeline", "footprint", "footprint_history", "footprint_timeline", "peaks", "profile",
+    "replay", "run", "score", "score_profile", "tune", "tune_profile", "version", "version_number",
 ]  # fmt: skip

@@ -91,33 +91,36 @@ def timeline_of(sizes: Sequence[int], frees: Sequence[bool]) -> _c.Timeline:
 def cost_of(name: str, classes: Sequence[int], data: ctypes.Structure) -> Cost:
     table = numbers_of(c_uint16, classes)
     function = getattr(_c.library, f"mte_tool_{name}")
-    yes, result = _calls.made(lambda to: function(None, table, len(table), ctypes.byref(data), to))
+    yes, result = _calls.call_for_result(lambda to: function(None, table, len(table), ctypes.byref(data), to))
     return Cost(yes, result.bytes, result.at)
 
 
-def table_of(name: str, data: Any, limit: int, step: int, most_moments: int = 0) -> Table:
-    options, places = _calls.options(limit=limit, step=step), min(data.length, MOST_NEEDS)
+def table_of(name: str, data: Any, limit: int, step: int, largest_class: int, most_moments: int = 0) -> Table:
+    options = _calls.options(limit=limit, step=step, largest_class=largest_class)
+    places = min(data.length + bool(largest_class), MOST_NEEDS)
     classes = (c_uint16 * MOST_CLASSES)()
     rows = (c_uint64 * (places * min(max(limit, 0), MOST_CLASSES)))()
     moments = (c_uint32 * most_moments)()
     room = [classes, len(classes), rows, len(rows), *([moments, len(moments)] if most_moments else [])]
     function = getattr(_c.library, f"mte_tool_{name}")
-    yes, result = _calls.made(lambda to: function(ctypes.byref(options), ctypes.byref(data), *room, to))
+    yes, result = _calls.call_for_result(lambda to: function(ctypes.byref(options), ctypes.byref(data), *room, to))
     places = result.places
     certificate = [rows[row * places : (row + 1) * places] for row in range(limit)] if yes else []
     return Table(classes[: result.classes], result.bytes, certificate, moments[: result.moments] if yes else [], yes, result.bound)
 
 
-def verdict_of(name: str, table: Table, data: ctypes.Structure, limit: int, step: int, has_moments: bool = False) -> Verdict:
-    options = _calls.options(limit=limit, step=step)
-    are_options = 1 <= limit <= MOST_CLASSES and step in STEPS
+def verdict_of(
+    name: str, table: Table, data: Any, limit: int, step: int, largest_class: int, has_moments: bool = False
+) -> Verdict:
+    options = _calls.options(limit=limit, step=step, largest_class=largest_class)
+    are_options = 1 <= limit <= MOST_CLASSES and step in STEPS and largest_class in (0, 1)
     if table.rows and are_options and (len(table.rows) != limit or len(set(map(len, table.rows))) > 1):
         raise _calls.Error(f"the certificate has to have {limit} rows of one length", End.MISUSE)
     numbers = [_calls.whole(number, "a number of a row") for row in table.rows for number in row]
     classes, rows, moments = numbers_of(c_uint16, table.classes), numbers_of(c_uint64, numbers), numbers_of(c_uint32, table.moments)
     claim = [classes, len(classes), _calls.whole(table.bytes, "a cost"), rows, len(rows), *([moments, len(moments)] if has_moments else [])]
     function = getattr(_c.library, f"mte_tool_{name}")
-    yes, result = _calls.made(lambda to: function(ctypes.byref(options), *claim, ctypes.byref(data), to))
+    yes, result = _calls.call_for_result(lambda to: function(ctypes.byref(options), *claim, ctypes.byref(data), to))
     return Verdict(yes, Code(result.code))
 
 
@@ -148,31 +151,43 @@ def footprint_timeline(classes: Sequence[int], sizes: Sequence[int], frees: Sequ
     return cost_of("footprint_timeline", classes, timeline_of(sizes, frees))
 
 
-def tune_profile(profile: Mapping[int, int], limit: int, step: int = 1) -> Table:
-    """The table of least waste on a profile, of at most LIMIT classes (1 to 32), each a multiple of STEP granules (1, 2, 4 or 8)."""
-    return table_of("tune_profile", profile_of(profile), limit, step)
+def tune_profile(profile: Mapping[int, int], limit: int, step: int = 1, largest_class: int = 0) -> Table:
+    """The table of least waste on a profile, of at most LIMIT classes (1 to 32), each a multiple of STEP granules (1,
+    2, 4 or 8); where LARGEST_CLASS is 1, of those with class 1024."""
+    return table_of("tune_profile", profile_of(profile), limit, step, largest_class)
 
 
-def fit_history(history: Mapping[int, Sequence[int]], snapshots: int, limit: int, step: int = 1) -> Table:
+def fit_history(
+    history: Mapping[int, Sequence[int]], snapshots: int, limit: int, step: int = 1, largest_class: int = 0
+) -> Table:
     """The table of least footprint over a history."""
-    return table_of("fit_history", history_of(history, snapshots), limit, step)
+    return table_of("fit_history", history_of(history, snapshots), limit, step, largest_class)
 
 
-def fit_timeline(sizes: Sequence[int], frees: Sequence[bool], limit: int, step: int = 1) -> Table:
+def fit_timeline(
+    sizes: Sequence[int], frees: Sequence[bool], limit: int, step: int = 1, largest_class: int = 0
+) -> Table:
     """The table of least footprint over a timeline; `is_least` says whether that is shown."""
-    return table_of("fit_timeline", timeline_of(sizes, frees), limit, step, MOST_MOMENTS)
+    return table_of("fit_timeline", timeline_of(sizes, frees), limit, step, largest_class, MOST_MOMENTS)
 
 
-def check_profile(table: Table, profile: Mapping[int, int], limit: int, step: int = 1) -> Verdict:
-    """Whether a table's rows show that no table within the limit and step wastes less on a profile."""
-    return verdict_of("check_profile", table, profile_of(profile), limit, step)
+def check_profile(
+    table: Table, profile: Mapping[int, int], limit: int, step: int = 1, largest_class: int = 0
+) -> Verdict:
+    """Whether a table's rows show that no table within the limit and step, and with class 1024 if it is forced, wastes less on a profile."""
+    return verdict_of("check_profile", table, profile_of(profile), limit, step, largest_class)
 
 
-def check_fit_history(table: Table, history: Mapping[int, Sequence[int]], snapshots: int, limit: int, step: int = 1) -> Verdict:
+def check_fit_history(
+    table: Table, history: Mapping[int, Sequence[int]], snapshots: int, limit: int, step: int = 1, largest_class: int = 0
+) -> Verdict:
     """The same of a footprint over a history."""
-    return verdict_of("check_fit_history", table, history_of(history, snapshots), limit, step)
+    return verdict_of("check_fit_history", table, history_of(history, snapshots), limit, step, largest_class)
 
 
-def check_fit_timeline(table: Table, sizes: Sequence[int], frees: Sequence[bool], limit: int, step: int = 1) -> Verdict:
+def check_fit_timeline(
+    table: Table, sizes: Sequence[int], frees: Sequence[bool], limit: int, step: int = 1, largest_class: int = 0
+) -> Verdict:
     """The same over a timeline, by the moments that the table names."""
-    return verdict_of("check_fit_timeline", table, timeline_of(sizes, frees), limit, step, has_moments=True)
+    timeline = timeline_of(sizes, frees)
+    return verdict_of("check_fit_timeline", table, timeline, limit, step, largest_class, has_moments=True)

@@ -35,7 +35,7 @@ Error.__module__ = "mte_tool"
 class Verdict(NamedTuple):
     """The verdict of a check."""
 
-    #: whether it shows that no table within the limit and step costs less
+    #: whether it shows that no table within the limit and step, and with class 1024 if it is forced, costs less
     is_optimal: bool
     #: that of the condition that is not met; Code.NONE if it is optimal
     code: Code
@@ -44,6 +44,43 @@ class Verdict(NamedTuple):
     def sentence(self) -> str:
         """What it means."""
         return self.code.sentence if self.code else "optimal"
+
+
+class Claim(NamedTuple):
+    """What a check showed: of the tables of at most LIMIT classes, all multiples of STEP granules, that serve all that was
+    counted, and that have class FORCED where it is not 0, none costs less than COST bytes, which the table itself does. As
+    a str it is the line of the program's `check --claim`."""
+
+    #: what was counted: "profile", "history" or "timeline"
+    kind: str
+    #: the waste on a profile, the footprint over a history or a timeline
+    cost: int
+    limit: int
+    step: int
+    forced: int
+    #: of a profile: how many sizes it has, how often these were requested, the bytes of these requests, and the requests
+    #: that are larger than all that a class serves, which are in none of the other numbers
+    sizes: int
+    requests: int
+    bytes: int
+    large: int
+    #: of a history
+    snapshots: int
+    #: of a timeline
+    events: int
+    line: str
+
+    def __str__(self) -> str:
+        return self.line
+
+
+class CheckAnswer(NamedTuple):
+    """The verdict of a check with what it showed."""
+
+    is_optimal: bool
+    code: Code
+    #: None unless it is optimal
+    claim: Optional[Claim]
 
 
 class Cost(NamedTuple):
@@ -98,7 +135,7 @@ def is_yes(end: int, result: _c.Result, text: Optional[bytes] = None) -> bool:
     return end == End.DONE
 
 
-def made(call: Callable[[object], Any]) -> "tuple[bool, _c.Result]":
+def call_for_result(call: Callable[[object], Any]) -> "tuple[bool, _c.Result]":
     """Makes a call that takes a result last."""
     result = _c.Result()
     end = call(ctypes.byref(result))

@@ -33,15 +33,25 @@ def as_bytes(text: Bytes) -> bytes:
     if isinstance(text, os.PathLike):
         with open(text, "rb") as file:
             return file.read()
-    return text.encode() if isinstance(text, str) else bytes(text)
+    if isinstance(text, str):
+        return text.encode()
+    try:
+        return bytes(memoryview(text))
+    except TypeError:  # bytes would make zeros of a number
+        raise TypeError(f"a text is bytes, a str or a path, and no {type(text).__name__}") from None
 
 
-def called(name: str, *inputs: Bytes, **given: int) -> Answer:
+def call_over_texts(name: str, *inputs: Bytes, **given: int) -> Answer:
     """Makes a call over a text, or over a first text and another."""
+    return answer_of(name, inputs, **given)
+
+
+def answer_of(name: str, inputs: "tuple[Bytes, ...]", *more: object, **given: int) -> Answer:
+    """The same, with more that the call fills after the text."""
     data = [part for text in map(as_bytes, inputs) for part in (text, len(text))]
     options, text, result = _calls.options(**given), _c.Text(), _c.Result()
     function = getattr(_c.library, f"mte_tool_{name}")
-    end = function(ctypes.byref(options), *data, ctypes.byref(text), ctypes.byref(result))
+    end = function(ctypes.byref(options), *data, ctypes.byref(text), *more, ctypes.byref(result))
     try:
         answer = ctypes.string_at(text.bytes, text.length)
     finally:

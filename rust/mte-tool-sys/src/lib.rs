@@ -160,6 +160,34 @@ pub struct mte_tool_text {
     pub room: usize,
 }
 
+/// `mte_tool_claim`.
+#[repr(C)]
+#[derive(Debug, Clone, Copy)]
+#[allow(missing_docs)]
+pub struct mte_tool_claim {
+    pub size: usize,
+    pub kind: u64,
+    pub cost: u64,
+    pub limit: u64,
+    pub step: u64,
+    pub forced: u64,
+    pub sizes: u64,
+    pub requests: u64,
+    pub bytes: u64,
+    pub large: u64,
+    pub snapshots: u64,
+    pub events: u64,
+}
+
+/// There is no claim.
+pub const MTE_TOOL_CLAIM_NONE: u64 = 0;
+/// A claim of a profile.
+pub const MTE_TOOL_CLAIM_PROFILE: u64 = 1;
+/// A claim of a history.
+pub const MTE_TOOL_CLAIM_HISTORY: u64 = 2;
+/// A claim of a timeline.
+pub const MTE_TOOL_CLAIM_TIMELINE: u64 = 3;
+
 /// `mte_tool_profile_arrays`.
 #[repr(C)]
 #[derive(Debug, Clone, Copy)]
@@ -237,6 +265,18 @@ pub type CommandOn = unsafe extern "C" fn(
     *const c_void,
     usize,
     *mut mte_tool_text,
+    *mut mte_tool_result,
+) -> mte_tool_end;
+
+/// A check that also gives what it showed.
+pub type CheckClaim = unsafe extern "C" fn(
+    *const mte_tool_options,
+    *const c_void,
+    usize,
+    *const c_void,
+    usize,
+    *mut mte_tool_text,
+    *mut mte_tool_claim,
     *mut mte_tool_result,
 ) -> mte_tool_end;
 
@@ -331,7 +371,28 @@ extern "C" {
         result: *mut mte_tool_result,
     ) -> mte_tool_end;
     pub fn mte_tool_text_append(text: *mut mte_tool_text, piece: *const c_void, length: usize) -> mte_tool_end;
+    pub fn mte_tool_timeline_append(timeline: *mut mte_tool_text, size: usize, is_free: c_int) -> mte_tool_end;
     pub fn mte_tool_text_free(text: *mut mte_tool_text);
+    pub fn mte_tool_check_claim(
+        options: *const mte_tool_options,
+        first: *const c_void,
+        first_length: usize,
+        input: *const c_void,
+        length: usize,
+        output: *mut mte_tool_text,
+        claim: *mut mte_tool_claim,
+        result: *mut mte_tool_result,
+    ) -> mte_tool_end;
+    pub fn mte_tool_check_fit_claim(
+        options: *const mte_tool_options,
+        first: *const c_void,
+        first_length: usize,
+        input: *const c_void,
+        length: usize,
+        output: *mut mte_tool_text,
+        claim: *mut mte_tool_claim,
+        result: *mut mte_tool_result,
+    ) -> mte_tool_end;
 
     pub fn mte_tool_score_profile(
         options: *const mte_tool_options,

@@ -111,13 +111,10 @@ fn tuned(
     call: impl FnOnce(&mut Table, &mut c::mte_tool_result) -> c::mte_tool_end,
 ) -> Result<Table, Error> {
     let limit = usize::try_from(options.limit).map_or(MOST_CLASSES, |limit| limit.min(MOST_CLASSES));
+    let places = MOST_NEEDS.min(length.saturating_add(usize::from(options.largest_class)));
     let mut result = no_result();
-    let mut table = Table {
-        classes: vec![0; MOST_CLASSES],
-        rows: vec![0; limit * length.min(MOST_NEEDS)],
-        moments: vec![0; most_moments],
-        ..Table::default()
-    };
+    let mut table =
+        Table { classes: vec![0; MOST_CLASSES], rows: vec![0; limit * places], moments: vec![0; most_moments], ..Table::default() };
     let end = call(&mut table, &mut result);
     table.is_least = is_yes(end, &result, &[])?;
     table.classes.truncate(result.classes as usize);
@@ -167,7 +164,7 @@ pub fn footprint_timeline(classes: &[u16], timeline: Timeline) -> Result<Cost, E
     cost(|result| unsafe { c::mte_tool_footprint_timeline(std::ptr::null(), classes.as_ptr(), classes.len(), &timeline, result) })
 }
 
-/// The table of least waste on a profile, by the options `limit` and `step`.
+/// The table of least waste on a profile, by the options `limit`, `step` and `largest_class`.
 ///
 /// # Errors
 /// The first fault of an array, an option out of its range, or that memory ran out.
@@ -179,7 +176,7 @@ pub fn tune_profile(profile: Profile, options: &Options) -> Result<Table, Error>
     })
 }
 
-/// The table of least footprint over a history, by the options `limit` and `step`.
+/// The table of least footprint over a history, by the options `limit`, `step` and `largest_class`.
 ///
 /// # Errors
 /// The first fault of an array, an option out of its range, or that memory ran out.
@@ -191,7 +188,8 @@ pub fn fit_history(history: History, options: &Options) -> Result<Table, Error> 
     })
 }
 
-/// The table of least footprint over a timeline, by the options `limit` and `step`; `is_least` says whether that is shown.
+/// The table of least footprint over a timeline, by the options `limit`, `step` and `largest_class`; `is_least` says
+/// whether that is shown.
 ///
 /// ```
 /// let timeline = mte_tool::Timeline { sizes: &[16, 40, 16, 40], frees: &[0, 0, 1, 0] };
@@ -220,7 +218,7 @@ pub fn fit_timeline(timeline: Timeline, options: &Options) -> Result<Table, Erro
     })
 }
 
-/// Whether a table's rows show that no table within the options wastes less on a profile.
+/// Whether a table's rows show that no table within the options (`limit`, `step`, `largest_class`) wastes less on a profile.
 ///
 /// # Errors
 /// The first fault of an array, arrays of lengths that don't fit together, an option out of its range, or that memory ran out.

@@ -79,7 +79,7 @@ impl Error {
 /// The verdict on a sheet or a fit.
 #[derive(Debug, Clone, Copy, PartialEq, Eq, Hash)]
 pub enum Verdict {
-    /// No table within the limit and step costs less.
+    /// No table within the limit and step, and with class 1024 if it is forced, costs less.
     Optimal,
     /// The condition of this code is not met.
     Refused(Code),

@@ -21,7 +21,7 @@ pub fn tune(profile: &[u8], options: &Options) -> Result<Text, Error> {
     Ok(call(c::mte_tool_tune, profile, options)?.text)
 }
 
-/// Whether a sheet shows that no table within its limit and step wastes less on a profile.
+/// Whether a sheet shows that no table of its limit, step and forced class wastes less on a profile.
 ///
 /// # Errors
 /// The input's first fault, or that memory ran out.
@@ -45,7 +45,7 @@ pub fn fit(history: &[u8], options: &Options) -> Result<Fit, Error> {
     Ok(call(c::mte_tool_fit, history, options)?.fit())
 }
 
-/// Whether a fit shows that no table within its limit and step takes less over a history or a timeline.
+/// Whether a fit shows that no table of its limit, step and forced class takes less over a history or a timeline.
 ///
 /// # Errors
 /// The input's first fault, or that memory ran out.

@@ -45,6 +45,7 @@
 
 mod arrays;
 mod calls;
+mod claims;
 mod codes;
 mod commands;
 mod heap;
@@ -56,6 +57,7 @@ pub use arrays::{
     score_profile, tune_profile, History, Profile, Table, Timeline,
 };
 pub use calls::{version, version_number, Cost, End, Error, Verdict};
+pub use claims::{check_claim, check_fit_claim, CheckAnswer, Claim, Counts};
 pub use codes::Code;
 pub use commands::{check, check_fit, fit, footprint, peaks, profile, replay, run, score, tune};
 pub use heap::{Granule, GranuleState, Heap, HeapError, Refusal};

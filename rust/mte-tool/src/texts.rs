@@ -156,7 +156,8 @@ pub(crate) fn call_on(command: c::CommandOn, first: &[u8], input: &[u8], options
     })
 }
 
-fn answer(call: impl FnOnce(&mut c::mte_tool_text, &mut c::mte_tool_result) -> c::mte_tool_end) -> Result<Answer, Error> {
+/// Makes a call that fills a text.
+pub(crate) fn answer(call: impl FnOnce(&mut c::mte_tool_text, &mut c::mte_tool_result) -> c::mte_tool_end) -> Result<Answer, Error> {
     let (mut text, mut result) = (Text::new(), no_result());
     let end = call(&mut text.0, &mut result);
     Ok(Answer { is_yes: is_yes(end, &result, &text)?, text, result })
