@@ -444,7 +444,7 @@ static void end_ring(int k) {
   }
   if (reading->is_main && !has_next) main_process = -1;  // another one may get its number
   clear_ring(k);
-  memset(ring->lanes, 0, sizeof ring->lanes);
+  memset(ring->lanes, 0, sizeof ring->lanes), memset(ring->turn, 0, sizeof ring->turn);
   ring->start = ring->turns = ring->areas = ring->overrun = ring->executed = ring->marked = 0;
   memset(ring->name, 0, sizeof ring->name);
   *reading = (struct reading){.records = reading->records};

@@ -29,12 +29,12 @@ enum { HAS_STACKS = 0 };
 enum { OWN_LANES = 8, LANES, LANE = 1 << (HAS_STACKS ? 16 : 14), STRIDE = 32, RING = LANES * LANE };
 enum { WHOLE_PAGES = 1 << 13, WORDS_OF_RING = (RING + RING / STRIDE + WHOLE_PAGES - 1) & -WHOLE_PAGES };  // of the largest pages
 struct lane {
-  uint64_t next __attribute__((aligned(64)));  // the next index: one addition for each event
-  uint64_t owner;                              // the thread, 0 where there is none
-  uint64_t room;                               // up to where there was room when the thread last looked
-  uint64_t turn;                               // of its last stride
-  uint64_t read __attribute__((aligned(64)));  // what is before it was read, and is 0 again
-  uint64_t waits;                              // whether a thread sleeps until the reader goes on
+  uint64_t next __attribute__((aligned(128)));  // the next index: one addition for each event
+  uint64_t owner;                               // the thread, 0 where there is none
+  uint64_t room;                                // up to where there was room when the thread last looked
+  uint64_t is_late;                             // whether others made many calls since its last stride began
+  uint64_t read __attribute__((aligned(64)));   // what is before it was read, and is 0 again
+  uint64_t waits;                               // whether a thread sleeps until the reader goes on
 };
 // Where requests are but counted, a ring has no records but areas, with a counter for each size and the thread that
 // adds there; the last is for all that find none. `areas` has a bit for each area that is used.
@@ -43,7 +43,8 @@ enum { AREA = 1 << SIZE_BITS, AREAS = 32, OWNER = AREA - 1, COUNTING_RING = AREA
 enum { NO_RING, NO_MEMORY, NO_FILE, SEALED, NO_ROOM, REASONS };
 
 struct ring {
-  uint64_t turns __attribute__((aligned(64)));  // how often a thread began a stride of its lane
+  uint64_t turns __attribute__((aligned(128)));  // how often a thread began a stride of its lane
+  uint64_t turn[LANES];                          // of the last stride of each
   struct lane lanes[LANES];
   uint64_t start, process;                     // 0 or its turn; the process, 0 where the ring is free
   uint64_t areas;                              // where requests are but counted
