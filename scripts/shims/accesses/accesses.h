@@ -22,9 +22,16 @@
 #ifndef __NO_INLINE__
 #define __NO_INLINE__ 1  // else the headers define some of the functions that libc.c has
 #endif
+#include <errno.h>
+#include <fcntl.h>
 #include <pthread.h>
 #include <stddef.h>
 #include <stdint.h>
+#include <stdlib.h>
+#include <string.h>
+#include <sys/mman.h>
+#include <sys/syscall.h>
+#include <unistd.h>
 
 typedef uintptr_t address;
 typedef uint64_t __attribute__((may_alias, aligned(1))) word;

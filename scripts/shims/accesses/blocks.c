@@ -6,12 +6,7 @@
 #include "../formats.h"
 #include "accesses.h"
 #include <dlfcn.h>
-#include <errno.h>
 #include <link.h>
-#include <stdlib.h>
-#include <sys/mman.h>
-#include <sys/syscall.h>
-#include <unistd.h>
 
 #ifndef DELAY
 #define DELAY ((address)64 << 20)

@@ -1,13 +1,9 @@
 // The signals by which a program ends through its own fault. A handler on a stack of its own logs and tells where it came from, and passes it
 // on: the program ends by it as without the handler. A program's own handler takes its place.
 #include "calls.h"
-#include <errno.h>
 #include <setjmp.h>
 #include <signal.h>
-#include <sys/mman.h>
-#include <sys/syscall.h>
 #include <ucontext.h>
-#include <unistd.h>
 
 static const int CRASHES[] = {SIGSEGV, SIGBUS, SIGABRT, SIGFPE, SIGILL};
 enum { STACK_SIZE = 1 << 17 };

@@ -2,7 +2,6 @@
 #include "calls.h"
 #include <stdarg.h>
 #include <stdio.h>
-#include <string.h>
 
 enum kind { NOTHING, INT, LONG, LONG_LONG, SHORT, CHAR, DOUBLE, LONG_DOUBLE, FLOAT, POINTER, TEXT, WIDE_TEXT, CHARS, COUNT_OF, UNKNOWN };
 struct part { enum kind kind; int has_star_width, has_star_precision, is_skipped, is_allocated; long width, precision; };

@@ -3,7 +3,6 @@
 #include <arpa/inet.h>
 #include <dirent.h>
 #include <execinfo.h>
-#include <fcntl.h>
 #include <glob.h>
 #include <grp.h>
 #include <iconv.h>
@@ -24,11 +23,8 @@
 #include <signal.h>
 #include <spawn.h>
 #include <stdio.h>
-#include <stdlib.h>
-#include <string.h>
 #include <sys/epoll.h>
 #include <sys/eventfd.h>
-#include <sys/mman.h>
 #include <sys/msg.h>
 #include <sys/random.h>
 #include <sys/resource.h>
@@ -47,7 +43,6 @@
 #include <sys/xattr.h>
 #include <termios.h>
 #include <time.h>
-#include <unistd.h>
 #include <wchar.h>
 #include <wordexp.h>
 

@@ -1,7 +1,6 @@
 // What else of AddressSanitizer's interface a program may call: what it asks of an address, the heap and the leaks. What has no meaning here
 // answers as the headers say where there is nothing. poison.c and stacks.c have the rest.
 #include "calls.h"
-#include <string.h>
 
 static struct block *live_block(const volatile void *at) {
   struct block *block = owner((address)at);

@@ -38,14 +38,7 @@
 #include "../formats.h"
 #include "../log_head.h"
 #include "../private_folder.h"
-#include <errno.h>
-#include <fcntl.h>
-#include <stdlib.h>
-#include <string.h>
-#include <sys/mman.h>
 #include <sys/resource.h>
-#include <sys/syscall.h>
-#include <unistd.h>
 
 enum { MARGIN = 8192, LEAST_ROOM = 2048, MOST_UNMARKED = 512 };
 #define PIECE ((size_t)8 << 20)

@@ -3,7 +3,6 @@
 // the first call has a bit for each byte of the address space. Where a byte is poisoned, the shadow is closed; elsewhere it is open, so
 // that right accesses of a granule that was ever poisoned are not logged.
 #include "accesses.h"
-#include <sys/mman.h>
 
 #define ADDRESSES ((address)1 << 47)
 #define POISONED ((unsigned char *)(ARENA + 8 * ARENA_SIZE))

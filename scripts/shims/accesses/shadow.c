@@ -1,10 +1,6 @@
 // The shadow of the arena (accesses.h). Where nothing was given out yet, or all is forgotten, it is closed and takes no memory: a mebibyte
 // of closed bytes is mapped there as often as needed. It reaches 512 MiB beyond the last block. What is farther can't be touched at all.
 #include "accesses.h"
-#include <errno.h>
-#include <sys/mman.h>
-#include <sys/syscall.h>
-#include <unistd.h>
 
 #define SHADOW_SIZE ((address)1 << 44)
 #define WINDOW ((size_t)1 << 20)

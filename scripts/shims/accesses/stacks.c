@@ -2,12 +2,6 @@
 // and each is logged once. Where an error is told, or a library of the system requests, the unwinder of the compiler finds them, through
 // functions that have no frame too.
 #include "accesses.h"
-#include <errno.h>
-#include <fcntl.h>
-#include <string.h>
-#include <sys/mman.h>
-#include <sys/syscall.h>
-#include <unistd.h>
 #include <unwind.h>
 
 enum { STACKS = 1 << 18, MODULES = 256, MOST_SKIPPED = 64, FRAMES_OF_UNNUMBERED = 4, KNOWN_STACKS = 64, MOST_UNWOUND = 200000 };

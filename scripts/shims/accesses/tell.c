@@ -1,17 +1,11 @@
 // Tells on standard error what is wrong as soon as it comes: a line for each place in the code, and kind. addr2line of binutils names the
 // source lines. It is run as a child of which the program gets no signal, and for which it can't wait.
 #include "accesses.h"
-#include <errno.h>
-#include <fcntl.h>
 #include <poll.h>
 #include <sched.h>
 #include <signal.h>
 #include <elf.h>
-#include <stdlib.h>
-#include <string.h>
-#include <sys/syscall.h>
 #include <sys/wait.h>
-#include <unistd.h>
 
 enum { MOST_TOLD = 64, MOST_ASKED = 6, MOST_ANSWER = 16384, WAIT = 10 /* seconds */ };
 __thread int has_to_tell __attribute__((tls_model("initial-exec")));

@@ -1,12 +1,6 @@
 // Which blocks are lost at the end of the program: live ones to which no pointer is left. Pointers are looked for in all memory that the
 // program may write to, and in the blocks that these lead to, as sanitizers of leaks do. Only find_faults --unfreed asks for it.
 #include "accesses.h"
-#include <fcntl.h>
-#include <stdlib.h>
-#include <string.h>
-#include <sys/mman.h>
-#include <sys/syscall.h>
-#include <unistd.h>
 
 enum { PIECE = 1 << 14 };
 static unsigned char *is_reached;  // of each block
