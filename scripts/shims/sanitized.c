@@ -7,19 +7,16 @@
 //
 // Neither forks nor other processes write.
 #define _GNU_SOURCE
+#define LONGEST_MAPPING 4400
 #include "formats.h"
+#include "process_text.h"
 #include <dlfcn.h>
-#include <fcntl.h>
 #include <link.h>
 #include <pthread.h>
 #include <stdarg.h>
-#include <stdint.h>
 #include <stdio.h>
 #include <stdlib.h>
-#include <string.h>
 #include <sys/mman.h>
-#include <sys/syscall.h>
-#include <unistd.h>
 #include <unwind.h>
 
 typedef uintptr_t word;
@@ -62,23 +59,13 @@ static void put_text(const char *format, ...) {
   va_end(rest);
 }
 
-static char *decimal_at(char *at, long value) {
-  char digits[20];
-  int n = 0;
-  unsigned long left = value < 0 ? *at++ = '-', -(unsigned long)value : (unsigned long)value;
-  do digits[n++] = '0' + left % 10;
-  while (left /= 10);
-  while (n) *at++ = digits[--n];
-  return at;
-}
-
 static void put(char letter, int count, ...) {
   va_list numbers;
   if (used + MARGIN > ROOM) flush();
   char *at = text + used;
   *at++ = letter;
   va_start(numbers, count);
-  while (count--) *at++ = ' ', at = decimal_at(at, va_arg(numbers, long));
+  while (count--) *at++ = ' ', at = signed_at(at, va_arg(numbers, long));
   va_end(numbers);
   used = at - text;
 }
@@ -204,29 +191,18 @@ static int count_added(struct dl_phdr_info *info, size_t size, void *added) {
   return 1;
 }
 
-static void put_modules(void) {
-  static long known = -1;
-  static char line[4400];
-  long added;
-  dl_iterate_phdr(count_added, &added);
-  if (added == known) return;
-  known = added;
-  int maps = open("/proc/self/maps", O_RDONLY | O_CLOEXEC);
-  for (size_t n = 0; maps >= 0 && read(maps, line + n, 1) == 1;) {
-    if (line[n] != '\n' && n < sizeof line - 2) {
-      n++;
-      continue;
-    }
-    line[n] = 0, n = 0;
-    word low, high, offset;
-    char rights[8], *path = strchr(line, '/');
-    if (!path || sscanf(line, "%lx-%lx %7s %lx", &low, &high, rights, &offset) != 4 || rights[2] != 'x') continue;
-    put('M', 0), put_text(" %lx %lx %lx %s", low, high, offset, path), put_end();
-  }
-  close(maps);
+static void put_module(const struct mapping *module, void *unused) {
+  (void)unused;
+  if (!module->path || module->mode[2] != 'x') return;
+  put('M', 0), put_text(" %lx %lx %lx %s", module->low, module->high, module->offset, module->path), put_end();
 }
 
-static int begins(const char *at, const char *with) { return !strncmp(at, with, strlen(with)); }
+static void put_modules(void) {
+  static long known = -1;
+  long added;
+  dl_iterate_phdr(count_added, &added);
+  if (added != known) known = added, see_mappings(put_module, NULL);
+}
 
 // Whether a frame is of the runtime, which may be in the program itself.
 static int is_of_runtime(word pc) {

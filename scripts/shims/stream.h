@@ -60,7 +60,7 @@ struct unfollowed { uint64_t key, why, number; char name[40]; };
 // What a process that was forked has called so far, as records. It may make no call before it knows that no filter of system
 // calls ends it for that: so it writes here first, without one, and the reader tells it. Where it ends before it has more
 // than there is room for, the reader takes what is here.
-enum { NESTS = RINGS, NEST = 505 };
+enum { NESTS = 256, NEST = 505 };
 enum { UNTOLD, IS_FREE, IS_FILTERED, IS_UNKNOWN };
 struct nest {
   uint64_t process, told, number;  // the process, 0 where the nest is free; how many records it has, or wanted to have

@@ -22,16 +22,11 @@
 #ifndef __NO_INLINE__
 #define __NO_INLINE__ 1  // else the headers define some of the functions that libc.c has
 #endif
-#include <errno.h>
-#include <fcntl.h>
+#include "../process_text.h"
 #include <pthread.h>
 #include <stddef.h>
-#include <stdint.h>
 #include <stdlib.h>
-#include <string.h>
 #include <sys/mman.h>
-#include <sys/syscall.h>
-#include <unistd.h>
 
 typedef uintptr_t address;
 typedef uint64_t __attribute__((may_alias, aligned(1))) word;
@@ -144,7 +139,6 @@ static inline void fill_table(unsigned char *to, int byte, size_t size, int afte
 }
 
 // log.c: all but the last of a record's parts is followed by more. Of a record's numbers there are at most three.
-enum { MOST_NAME = 1024 };
 int has_log(void);     // racy where the lock is not held
 int is_logging(void);  // wants the lock, as all below
 int has_room(void);    // for what is wrong: some of it has room where the log can't grow
@@ -177,8 +171,6 @@ void put_stack(struct caller, struct stack *);  // by the frames where it is sti
 void unwind_request(struct caller, struct stack *);
 const struct module *module_of(address pc);
 void learn_modules(void);
-struct mapping { address low, high, offset; const char *mode, *path; };  // the path is null where there is none
-void see_mappings(void (*see)(const struct mapping *, void *), void *);
 
 // unfreed.c
 void put_lost(address stack);

@@ -93,12 +93,6 @@ SHOWN void *memchr(const void *in, int byte, size_t n) {
   return i < n ? (void *)(s + i) : NULL;
 }
 
-SHOWN size_t strnlen(const char *s, size_t most) {
-  size_t n = length(s, most);
-  LOADS(s, with_end(n, most));
-  return n;
-}
-
 static size_t wide_length(const wchar_t *s, size_t most) {
   size_t n = 0;
   while (n < most && s[n]) n++;
@@ -106,7 +100,7 @@ static size_t wide_length(const wchar_t *s, size_t most) {
 }
 
 // The same of narrow and of wide texts. COPY stores one of at most so many characters, with an end, and returns how many it has.
-#define TEXTS(type, length, copy, strlen, strcpy, strcat, strncpy) \
+#define TEXTS(type, length, copy, strlen, strnlen, strcpy, strcat, strncat, strncpy, strdup) \
   static inline __attribute__((always_inline)) size_t copy(type *to, const type *from, size_t most, struct caller caller) { \
     size_t n = length(from, most); \
     touch(from, with_end(n, most) * sizeof *from, 0, caller); \
@@ -121,55 +115,41 @@ static size_t wide_length(const wchar_t *s, size_t most) {
     LOADS(s, (n + 1) * sizeof *s); \
     return n; \
   } \
-  SHOWN type *strcpy(type *to, const type *from) { return copy(to, from, ENDLESS, CALLER), to; } \
-  SHOWN type *strcat(type *to, const type *from) { \
-    size_t n = length(to, ENDLESS); \
-    LOADS(to, (n + 1) * sizeof *to); \
-    return copy(to + n, from, ENDLESS, CALLER), to; \
+  SHOWN size_t strnlen(const type *s, size_t most) { \
+    size_t n = length(s, most); \
+    LOADS(s, with_end(n, most) * sizeof *s); \
+    return n; \
   } \
+  SHOWN type *strcpy(type *to, const type *from) { return copy(to, from, ENDLESS, CALLER), to; } \
+  static inline __attribute__((always_inline)) type *copy##_after(type *to, const type *from, size_t most, struct caller caller) { \
+    size_t n = length(to, ENDLESS); \
+    touch(to, (n + 1) * sizeof *to, 0, caller); \
+    return copy(to + n, from, most, caller), to; \
+  } \
+  SHOWN type *strcat(type *to, const type *from) { return copy##_after(to, from, ENDLESS, CALLER); } \
+  SHOWN type *strncat(type *to, const type *from, size_t most) { return copy##_after(to, from, most, CALLER); } \
   SHOWN type *strncpy(type *to, const type *from, size_t most) { \
     size_t n = length(from, most); \
     LOADS(from, with_end(n, most) * sizeof *from), STORES(to, product(most, sizeof *to)); \
     part(to, from, with_end(n, most) * sizeof *to, CALLER); \
     move_bytes(to, from, n * sizeof *to), set_bytes(to + n, 0, product(most - n, sizeof *to)); \
     return to; \
+  } \
+  SHOWN type *strdup(const type *s) { \
+    type *to = request('m', (length(s, ENDLESS) + 1) * sizeof *s, 16, CALLER); \
+    if (to) copy(to, s, ENDLESS, CALLER); \
+    return to; \
   }
-TEXTS(char, length, copy_text, strlen, strcpy, strcat, strncpy)
-TEXTS(wchar_t, wide_length, copy_wide, wcslen, wcscpy, wcscat, wcsncpy)
-
-SHOWN wchar_t *wcsncat(wchar_t *to, const wchar_t *from, size_t most) {
-  size_t n = wide_length(to, ENDLESS);
-  LOADS(to, (n + 1) * sizeof *to);
-  return copy_wide(to + n, from, most, CALLER), to;
-}
-
-SHOWN size_t wcsnlen(const wchar_t *s, size_t most) {
-  size_t n = wide_length(s, most);
-  LOADS(s, with_end(n, most) * sizeof *s);
-  return n;
-}
-
-SHOWN wchar_t *wcsdup(const wchar_t *s) {
-  wchar_t *to = request('m', (wide_length(s, ENDLESS) + 1) * sizeof *s, 16, CALLER);
-  if (to) copy_wide(to, s, ENDLESS, CALLER);
-  return to;
-}
+TEXTS(char, length, copy_text, strlen, strnlen, strcpy, strcat, strncat, strncpy, strdup)
+TEXTS(wchar_t, wide_length, copy_wide, wcslen, wcsnlen, wcscpy, wcscat, wcsncat, wcsncpy, wcsdup)
 
 SHOWN char *stpcpy(char *to, const char *from) { return to + copy_text(to, from, ENDLESS, CALLER); }
 
-SHOWN char *strncat(char *to, const char *from, size_t most) {
-  size_t n = length(to, ENDLESS);
-  LOADS(to, n + 1);
-  return copy_text(to + n, from, most, CALLER), to;
-}
-
-static inline __attribute__((always_inline)) char *copy_of(const char *from, size_t most, struct caller caller) {
-  char *to = request('m', length(from, most) + 1, 16, caller);
-  if (to) copy_text(to, from, most, caller);
+SHOWN char *strndup(const char *s, size_t most) {
+  char *to = request('m', length(s, most) + 1, 16, CALLER);
+  if (to) copy_text(to, s, most, CALLER);
   return to;
 }
-SHOWN char *strdup(const char *s) { return copy_of(s, ENDLESS, CALLER); }
-SHOWN char *strndup(const char *s, size_t most) { return copy_of(s, most, CALLER); }
 
 SHOWN char *strchr(const char *s, int c) {
   size_t i = 0;

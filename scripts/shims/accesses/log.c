@@ -71,28 +71,8 @@ void put_text(const char *from) {
   while (*from) *text++ = *from++;
 }
 
-// writes a number at a place; where it ends
-static inline char *decimal_at(char *at, unsigned long value) {
-  static const char pairs[] = "0001020304050607080910111213141516171819202122232425262728293031323334353637383940414243444546474849"
-                              "5051525354555657585960616263646566676869707172737475767778798081828384858687888990919293949596979899";
-  int digits = 1;
-  for (unsigned long power = 10; digits < 20 && value >= power; power *= 10) digits++;
-  char *end = at + digits;
-  for (at = end; value >= 100; value /= 100) at -= 2, at[0] = pairs[value % 100 * 2], at[1] = pairs[value % 100 * 2 + 1];
-  if (value >= 10) at -= 2, at[0] = pairs[value * 2], at[1] = pairs[value * 2 + 1];
-  else *--at = '0' + value;
-  return end;
-}
-
 void put_number(unsigned long value, unsigned base) {
-  char digits[24];
-  int n = 0;
-  if (base == 10) text = decimal_at(text, value);
-  else {
-    do digits[n++] = "0123456789abcdef"[value & 15];
-    while (value >>= 4);
-    while (n) *text++ = digits[--n];
-  }
+  text = base == 10 ? decimal_at(text, value) : hexadecimal_at(text, value);
 }
 
 static void write_mark(void) {
@@ -185,11 +165,7 @@ void put_numbers(char kind, int count, const long *numbers) {
   has_to_mark = is_wrong || kind == 'C' || kind == '-';
   char *at = text;
   *at++ = kind;
-  for (int i = 0; i < count; i++) {
-    *at++ = ' ';
-    if (numbers[i] < 0) *at++ = '-';
-    at = decimal_at(at, numbers[i] < 0 ? -(unsigned long)numbers[i] : (unsigned long)numbers[i]);
-  }
+  for (int i = 0; i < count; i++) *at++ = ' ', at = signed_at(at, numbers[i]);
   text = at;
 }
 

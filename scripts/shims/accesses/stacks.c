@@ -11,36 +11,6 @@ static char paths[1 << 16];
 static size_t paths_end;
 static __thread address stack_low __attribute__((tls_model("initial-exec"))), stack_high __attribute__((tls_model("initial-exec")));
 
-static char *read_hexadecimal(char *at, address *value) {
-  for (*value = 0; (*at >= '0' && *at <= '9') || (*at >= 'a' && *at <= 'f'); at++)
-    *value = *value * 16 + (*at <= '9' ? *at - '0' : *at - 'a' + 10);
-  return at;
-}
-
-static void read_mapping(char *line, void (*see)(const struct mapping *, void *), void *data) {
-  struct mapping new;
-  new.mode = read_hexadecimal(read_hexadecimal(line, &new.low) + 1, &new.high) + 1;
-  read_hexadecimal((char *)new.mode + 5, &new.offset);
-  new.path = strchr(new.mode, '/');
-  see(&new, data);
-}
-
-// the mappings as the kernel says them, not the loader, whose locks others may hold
-void see_mappings(void (*see)(const struct mapping *, void *), void *data) {
-  char piece[2048], line[MOST_NAME];  // more than one thread may be here
-  int error = errno, file = syscall(SYS_openat, AT_FDCWD, "/proc/self/maps", O_RDONLY | O_CLOEXEC);
-  long got, n = 0;
-  while (file >= 0 && (got = syscall(SYS_read, file, piece, sizeof piece)) > 0)
-    for (long i = 0; i < got; i++) {
-      if (piece[i] != '\n' && n < MOST_NAME - 1) line[n++] = piece[i];
-      if (piece[i] != '\n') continue;
-      line[n] = 0, n = 0;
-      read_mapping(line, see, data);
-    }
-  if (file >= 0) syscall(SYS_close, file);
-  errno = error;
-}
-
 static void add_module(const struct mapping *new, void *unused) {
   (void)unused;
   if (new->mode[2] != 'x' || !new->path || number_of_modules == MODULES || !is_logging()) return;
@@ -197,8 +167,6 @@ void put_stack(struct caller from, struct stack *stack) {
   if (!stack->count) walk(from, (address)__builtin_frame_address(0), stack);
   put_frames(stack);
 }
-
-static int begins(const char *text, const char *with) { return !strncmp(text, with, strlen(with)); }
 
 // whether a module is the system's, and keeps no frames; the loader itself is not waited for
 static int is_without_frames(address pc) {

@@ -105,8 +105,6 @@ static size_t ask(const struct module *module, address in_file, char *answer, si
   return length;
 }
 
-static int begins(const char *text, const char *with) { return !strncmp(text, with, strlen(with)); }
-
 // the next part of a path, its length in *LENGTH; empty parts and `.` are passed over
 static const char *next_name(const char *at, size_t *length) {
   do at += strspn(at, "/"), *length = strcspn(at, "/");
