@@ -218,13 +218,19 @@ static inline int take_small(struct reading *reading, const uint64_t *records, u
 
 // ---- processes that were forked
 
-// Whether a file of a process in /proc has a line, or a word that ends so, with both texts.
-static int tells(const char *process, const char *name, int end, const char *text, const char *key) {
-  char path[64], *line = NULL;
+// a file of a process in /proc
+static FILE *open_of(pid_t process, const char *name) {
+  char path[64];
+  snprintf(path, sizeof path, "/proc/%d/%s", process, name);
+  return process > 0 ? fopen(path, "re") : NULL;
+}
+
+// Whether it has a line, or a word that ends so, with both texts.
+static int tells(pid_t process, const char *name, int end, const char *text, const char *key) {
+  char *line = NULL;
   size_t room = 0;
   int has = 0;
-  snprintf(path, sizeof path, "/proc/%.20s/%s", process, name);
-  FILE *file = fopen(path, "re");
+  FILE *file = open_of(process, name);
   while (file && !has && getdelim(&line, &room, end, file) > 0) has = strstr(line, text) && strstr(line, key);
   if (file) fclose(file);
   free(line);
@@ -249,10 +255,8 @@ static int has_ring(uint64_t process, uint64_t after) {
 // Whether a process is one that asks: the child of one that is followed, or one that has the stream. (In a namespace of
 // processes it does not know its number here.)
 static int is_asker(const struct own *asker) {
-  char process[24];
   if (asker->parent > 0 && has_ring(asker->parent, 0)) return 1;
-  snprintf(process, sizeof process, "%ld", asker->process);
-  return tells(process, "maps", '\n', inode_text(), "/");
+  return tells(asker->process, "maps", '\n', inode_text(), "/");
 }
 
 // Tells a process whether a filter ends it for its calls.
@@ -464,10 +468,8 @@ static void clear_ring(int k) {
 }
 
 // What /proc tells of a process after its name, in which there may be anything; null where it is gone.
-static const char *after_name(const char *process, char *text, size_t bytes) {
-  char path[64];
-  snprintf(path, sizeof path, "/proc/%.20s/stat", process);
-  FILE *file = fopen(path, "re");
+static const char *after_name(pid_t process, char *text, size_t bytes) {
+  FILE *file = open_of(process, "stat");
   text[file ? fread(text, 1, bytes - 1, file) : 0] = 0;
   if (file) fclose(file);
   const char *end = strrchr(text, ')');
@@ -475,9 +477,8 @@ static const char *after_name(const char *process, char *text, size_t bytes) {
 }
 
 static int is_zombie(pid_t process) {  // it has ended, and nobody waits for it
-  char number[24], text[1024] = "", state = 0;
-  snprintf(number, sizeof number, "%d", process);
-  const char *after = after_name(number, text, sizeof text);
+  char text[1024] = "", state = 0;
+  const char *after = after_name(process, text, sizeof text);
   return after && sscanf(after, " %c", &state) == 1 && state == 'Z';
 }
 
@@ -589,9 +590,8 @@ static uint64_t read_all(void) {
 
 // KiB, as a line of a process's status has them after these words; 0 where it is gone
 static uint64_t kibibytes_of(pid_t process, const char *words) {
-  char path[64], line[256];
-  snprintf(path, sizeof path, "/proc/%d/status", process);
-  FILE *file = process > 0 ? fopen(path, "re") : NULL;
+  char line[256];
+  FILE *file = open_of(process, "status");
   unsigned long kibibytes = 0;
   size_t length = strlen(words);
   while (file && fgets(line, sizeof line, file))
@@ -603,10 +603,8 @@ static uint64_t resident_of(pid_t process) { return kibibytes_of(process, "VmHWM
 
 // Milliseconds for which a process was ready to run and had no processor; 0 where Linux does not count it.
 static uint64_t waited_of(pid_t process) {
-  char path[64];
   unsigned long long nanoseconds = 0;
-  snprintf(path, sizeof path, "/proc/%d/schedstat", process);
-  FILE *file = process > 0 ? fopen(path, "re") : NULL;
+  FILE *file = open_of(process, "schedstat");
   if (file && fscanf(file, "%*u %llu", &nanoseconds) != 1) nanoseconds = 0;
   if (file) fclose(file);
   return nanoseconds / 1000000;
@@ -828,7 +826,7 @@ static void begin_wanted(const char *words) {
 // ---- processes that are left
 
 // When a process began, in ticks since the system did; 0 where it is gone.
-static uint64_t began(const char *process) {
+static uint64_t began(pid_t process) {
   char text[1024];
   uint64_t start = 0;
   const char *after = after_name(process, text, sizeof text);
@@ -841,13 +839,13 @@ static uint64_t began(const char *process) {
 // Notes the younger processes that have the stream, or are to open it: a fork that has made no call yet has no ring.
 static void note_holders(void) {
   char place[64];
-  uint64_t own = began("self");
+  uint64_t own = began(getpid());
   DIR *all = *inode_text() ? opendir("/proc") : NULL;
   snprintf(place, sizeof place, "/proc/%d/fd/%d", getpid(), opened);
   for (struct dirent *entry; all && (entry = readdir(all));) {
     pid_t process = atoi(entry->d_name);
-    if (process <= 0 || process == getpid() || began(entry->d_name) < own) continue;
-    if (tells(entry->d_name, "maps", '\n', "/memfd:mte_stream", inode_text()) || tells(entry->d_name, "environ", 0, "MTE_STREAM=", place))
+    if (process <= 0 || process == getpid() || began(process) < own) continue;
+    if (tells(process, "maps", '\n', "/memfd:mte_stream", inode_text()) || tells(process, "environ", 0, "MTE_STREAM=", place))
       note_left(process);
   }
   if (all) closedir(all);
