@@ -16,7 +16,6 @@
 // the program runs on, and the notes say why.
 #define _GNU_SOURCE
 #include <dirent.h>
-#include <stddef.h>
 #include <signal.h>
 #include <sys/resource.h>
 #include <sys/wait.h>
@@ -540,8 +539,7 @@ static void take_nest(struct nest *nest) {
   if (!is_all) named_as(nest->name)->processes++;
   notes->executed += reading.is_counted && nest->executed && !has_ring(nest->process, 0);
   note_requests(&reading, nest->name);
-  memset(&nest->told, 0, sizeof *nest - offsetof(struct nest, told));
-  __atomic_store_n(&nest->process, 0, __ATOMIC_RELEASE);
+  free_nest(nest);
 }
 
 // Takes the nests of the processes that have ended, or all; how many there are left.

@@ -14,10 +14,7 @@
 #include <pthread.h>
 #include <spawn.h>
 #include <stdarg.h>
-#include <stddef.h>
 #include <stdio.h>
-#include <stdlib.h>
-#include <string.h>
 #include <sys/mman.h>
 #include <sys/prctl.h>
 #include <time.h>
@@ -270,8 +267,7 @@ static void leave_nest(void) {
   uint64_t told = wait_for_told(nest);
   sealed |= told == IS_FILTERED, go_on(told != UNTOLD);
   if (here->state == WRITES) put_all(nest->records, nest->number < NEST ? nest->number : NEST);
-  memset(&nest->told, 0, sizeof *nest - offsetof(struct nest, told));
-  __atomic_store_n(&nest->process, 0, __ATOMIC_RELEASE);
+  free_nest(nest);
 }
 
 // Another allocator may call its own functions by their public names, also as the last thing that it does: that is no request of the

@@ -6,8 +6,10 @@
 #define STREAM_H
 #include <limits.h>
 #include <linux/futex.h>
+#include <stddef.h>
 #include <stdint.h>
 #include <stdlib.h>
+#include <string.h>
 #include <sys/syscall.h>
 #include <unistd.h>
 #include "formats.h"
@@ -103,6 +105,11 @@ struct stacks {
   struct kept_stack place[STACKS_MOST];
   uint64_t words[STACK_WORDS] __attribute__((aligned(LARGEST_PAGE)));  // of a stack: the image and how many addresses, and these
 };
+static inline void free_nest(struct nest *nest) {
+  memset(&nest->told, 0, sizeof *nest - offsetof(struct nest, told));
+  __atomic_store_n(&nest->process, 0, __ATOMIC_RELEASE);
+}
+
 static inline int is_reader_gone(const struct stream *stream) {
   uint32_t word = __atomic_load_n(&stream->alive, __ATOMIC_ACQUIRE);
   return !(word & FUTEX_TID_MASK) || word & FUTEX_OWNER_DIED;
