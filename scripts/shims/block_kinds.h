@@ -4,7 +4,5 @@
 // called: REQUESTED or, of calloc, ZEROED, and the rest is a size; FREED_BLOCK or RESIZED, and it is a block, for RESIZED with the new size as the
 // next number; CLOCK, and it is milliseconds, with the KiB of files that are resident as the next number. A request has the block that was freed
 // last and is of no request yet, or else the next one, from 0 on.
-#ifndef BLOCK_KINDS_H
-#define BLOCK_KINDS_H
+#pragma once
 enum { REQUESTED, FREED_BLOCK, RESIZED, CLOCK, ZEROED, KIND_BITS = 3 };
-#endif

@@ -1,8 +1,5 @@
 // Puts down the record of blocks of a run, beside its timeline, in memory that is bounded: where it has no room, there is none.
-#ifndef BLOCKS_H
-#define BLOCKS_H
-#include <stdint.h>
-#include <stdlib.h>
+#pragma once
 #include "block_kinds.h"
 #include "stream.h"
 
@@ -65,4 +62,3 @@ static inline void put_free(uint32_t block) {
   }
   to->unused[to->free++] = block;
 }
-#endif

@@ -1,6 +1,5 @@
 // The checksums of what the runtimes write; scripts/mte_scripts/checksum.py has the same.
-#ifndef CHECKSUM_H
-#define CHECKSUM_H
+#pragma once
 #include <stddef.h>
 #include <stdint.h>
 
@@ -35,4 +34,3 @@ static inline uint32_t crc(uint32_t value, const char *at, size_t size) {
   while (size--) value = value >> 8 ^ table[0][(value ^ *at++) & 255];
   return ~value;
 }
-#endif

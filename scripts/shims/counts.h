@@ -1,8 +1,7 @@
 // Counts of requests, and nothing else: one addition for each, in an area of the thread's own, which the reader takes
 // when the process has ended. A free is not seen. (A variable of each thread would do as well, but a thread's start
 // would then request more.)
-#ifndef COUNTS_H
-#define COUNTS_H
+#pragma once
 enum { LOOKS = 4 };  // areas that a thread looks for
 
 // The distances of threads are much alike: so it is no linear function.
@@ -77,4 +76,3 @@ void *realloc(void *block, size_t size) {
   void *moved = TO(realloc)(block, size);
   return inner || !is_free || !moved ? moved : request(MALLOC, moved, size, NULL);
 }
-#endif

@@ -1,6 +1,5 @@
 // An event in the text of a timeline, after formats.h.
-#ifndef EVENTS_H
-#define EVENTS_H
+#pragma once
 #include <string.h>
 
 // Its size, LARGEST_SIZE + 1 of a large block, and whether it is a free; -1 where there is none. Goes on to what comes after it.
@@ -13,4 +12,3 @@ static inline int read_event(const char **text, const char *end, int *is_free) {
   if (is_large) return LARGEST_SIZE + 1;
   return at == first || size > LARGEST_SIZE || (*first == '0' && at > first + 1) ? -1 : size;
 }
-#endif

@@ -3,9 +3,7 @@
 //
 // The record: its events, two bytes each, as long as a command takes their text. Then, or from the start where that is wanted, it goes on as
 // a history, a piece of events at a time (moments.h, windows.h). All counts are by places.
-#ifndef KEPT_H
-#define KEPT_H
-#include <unistd.h>
+#pragma once
 #include "windows.h"
 #include "blocks.h"
 #ifdef STACKS
@@ -182,4 +180,3 @@ static void write_timeline(FILE *to) {
   }
   fwrite(room, 1, end - room, to);
 }
-#endif

@@ -1,6 +1,5 @@
 // The head of the log that a program of traced_cc writes. scripts/mte_scripts/faults/fault_log.py reads it, too.
-#ifndef LOG_HEAD_H
-#define LOG_HEAD_H
+#pragma once
 #include <stdint.h>
 
 // Two marks take turns, so that one is whole wherever the program ends. The sum is the CRC-32 of the text.
@@ -10,4 +9,3 @@ struct origin { uint64_t length; char name[16]; };  // of a fork's log: so much 
 struct head { char form[8]; uint64_t turn; struct mark marks[2]; uint64_t dropped; struct origin origin; };  // blocks that were dropped
 enum { HEAD = sizeof(struct head) };
 static const char FORM[8] = "ACCESS1";
-#endif

@@ -4,11 +4,8 @@
 // has a counter.
 //
 // A size has a place from 0 on, in the order in which they come: so what is kept of a moment is small.
-#ifndef MOMENTS_H
-#define MOMENTS_H
+#pragma once
 #include <stdio.h>
-#include <stdlib.h>
-#include <string.h>
 #include <sys/mman.h>
 #include "stream.h"
 
@@ -195,4 +192,3 @@ static void write_history(FILE *to) {
     fputc('\n', to);
   }
 }
-#endif

@@ -4,8 +4,7 @@
 // unless it has the sticky bit, as /tmp has. A link on the way has to be root's or the user's too, and is followed by the same steps. The
 // file itself is opened in the folder that was tested, and a link in its place is refused. Nothing here takes memory from malloc. One thread
 // at a time may call it.
-#ifndef PRIVATE_FOLDER_H
-#define PRIVATE_FOLDER_H
+#pragma once
 #ifndef _GNU_SOURCE
 #define _GNU_SOURCE
 #endif
@@ -126,4 +125,3 @@ static int open_private(const char *path, int how, const char **wrong) {
   errno = error;
   return file;
 }
-#endif

@@ -1,7 +1,6 @@
 // What the runtimes of find_faults share: how a log has its numbers, and the mappings of the process. Nothing here calls a function of libc that
 // the program may replace, or that takes memory.
-#ifndef PROCESS_TEXT_H
-#define PROCESS_TEXT_H
+#pragma once
 #include <errno.h>
 #include <fcntl.h>
 #include <stdint.h>
@@ -72,4 +71,3 @@ static inline void see_mappings(void (*see)(const struct mapping *, void *), voi
   if (file >= 0) syscall(SYS_close, file);
   errno = error;
 }
-#endif

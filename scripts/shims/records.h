@@ -1,6 +1,5 @@
 // A record for each call, in the thread's lane of this process's ring; a thread that is a lane ahead waits for the reader.
-#ifndef RECORDS_H
-#define RECORDS_H
+#pragma once
 static uint64_t early_next;
 enum { SPINS = 2 };                                     // turns of a spin, before a thread sleeps
 enum { MOST_TURNS = 16 };                                 // of others, until a thread takes a new one
@@ -195,4 +194,3 @@ void *realloc(void *block, size_t size) {
   if (size <= LARGEST_SIZE) return put(moved, 2, record(REALLOC, moved, size), record(OLD, block, 0), 0);
   return put(moved, 3, record(REALLOC, moved, size), record(OLD, block, 0), whole(size));
 }
-#endif

@@ -9,8 +9,7 @@
 //
 // A class is looked at when a thread gives blocks of it back, and at no other time. Its first release is at once, since its last one is noted
 // as at the start of the clock; and a class of blocks above a page ignores the interval.
-#ifndef SCUDO_RELEASE_H
-#define SCUDO_RELEASE_H
+#pragma once
 #include <stdint.h>
 
 enum {
@@ -52,4 +51,3 @@ static inline int group_goes(uint64_t block, uint64_t there, uint64_t free, uint
 // Whether a kept block of ROOM bytes serves one that needs so many, and whether so well that no other one is looked for.
 static inline int fits_kept(uint64_t room, uint64_t need) { return room >= need && room - need + LARGE_HEADER + HEADER <= UNUSED_PAGES * PAGE; }
 static inline int is_close(uint64_t room, uint64_t need) { return (room - need) * 10 <= need; }
-#endif

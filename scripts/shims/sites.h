@@ -1,7 +1,6 @@
 // Of a run that is recorded with stacks: for each event of its timeline a site, which is a stack and a size. mte_scripts/recording/sites.py
 // reads what is written of them.
-#ifndef SITES_H
-#define SITES_H
+#pragma once
 #include "stream.h"
 
 static void *some(size_t bytes);
@@ -53,4 +52,3 @@ static void write_sites(FILE *to, int events, const struct stacks *stacks) {
   for (uint32_t k = 0; k < sites.number; k++) fwrite(&sites.at[k].counter, sizeof sites.at[k].counter, 1, to);
   fwrite(sites.events, sizeof *sites.events, events, to);
 }
-#endif

@@ -4,8 +4,7 @@
 //
 // The stacks are a table beside the rings of the stream, by a hash of 64 bits of their addresses; the number of a stack is its place there.
 // A stack ends where no table tells more; on another processor than x86-64, whose registers these are, it is its first caller alone.
-#ifndef STACKS_H
-#define STACKS_H
+#pragma once
 #include <pthread.h>
 #include <sys/resource.h>
 #include "stream.h"
@@ -503,4 +502,3 @@ static void begin_stacks(int opened, uint64_t offset) {
   if (readlink("/proc/self/exe", program_path, sizeof program_path - 1) < 0) *program_path = 0;
   image = __atomic_add_fetch(&((struct stacks *)all)->images, 1, __ATOMIC_RELAXED) & 0xFFFFFFFF, stacks = all;
 }
-#endif

@@ -2,8 +2,7 @@
 //
 // The file: a table of rings, and then their records. A process takes a ring at its start, and a forked child one of its own at its first
 // call; a record is 8 bytes. The reader makes records 0 behind itself, and gives the ring of a process that has ended to the next.
-#ifndef STREAM_H
-#define STREAM_H
+#pragma once
 #include <limits.h>
 #include <linux/futex.h>
 #include <stddef.h>
@@ -134,4 +133,3 @@ static inline uint64_t own_space(void) {
 
 static const uint64_t FORM = 0x334D4145525453;
 enum { HEAD = (sizeof(struct stream) + LARGEST_PAGE - 1) & -LARGEST_PAGE };
-#endif

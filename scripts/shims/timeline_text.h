@@ -1,6 +1,5 @@
 // Reads a timeline of any length on standard input, as if its events came from a stream.
-#ifndef TIMELINE_TEXT_H
-#define TIMELINE_TEXT_H
+#pragma once
 #include <signal.h>
 #include "kept.h"
 #include "events.h"
@@ -32,4 +31,3 @@ static void read_timeline(const volatile sig_atomic_t *ends) {
   }
   if (ferror(stdin)) give_up("it can't be read");
 }
-#endif

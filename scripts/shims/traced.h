@@ -1,6 +1,5 @@
 // The trace of the process that is followed: whole lines. A live block has a variable of its own as long as there is one that is free.
-#ifndef TRACED_H
-#define TRACED_H
+#pragma once
 #include "kept.h"
 
 enum { SHARED = LAST_VARIABLE, VARIABLES = SHARED, LINE = 32 };
@@ -78,4 +77,3 @@ static int trace_moved(int variable, uint64_t old, uint64_t address, uint64_t si
   else trace.addresses[variable] = old, trace_block("malloc", 0, size);
   return variable;
 }
-#endif
