@@ -8,6 +8,7 @@ import importlib.machinery
 import importlib.util
 import os
 import shutil
+import types
 from collections.abc import Iterable
 
 from mte_scripts import manifest
@@ -17,7 +18,7 @@ PROGRAM = os.path.join(ROOT, "crates", "mte_tool", "out", "mte_tool")
 
 
 @functools.cache
-def load_rt():
+def load_rt() -> "types.ModuleType | None":
     """rt's own Python module, or None where this rt has none."""
     path = os.path.join(os.path.dirname(os.path.realpath(shutil.which("rt") or "rt")), "rtlib.py")
     loader = importlib.machinery.SourceFileLoader("rtlib", path)
