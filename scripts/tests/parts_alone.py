@@ -40,7 +40,7 @@ PARTS = {
         "faults_programs heap_cases.py heap_rows.tsv known_bugs_programs sanitizer_reports_data simulated_heaps.py slot_model.py test_faults.py "
         "test_faults_asan.py test_faults_builds.py "
         "test_faults_costs.py test_faults_folders.py test_faults_packages.py test_findings.py test_known_bugs.py test_odds.py test_real_heaps.py test_sanitizer_reports.py",
-        "accesses reader real_heaps sanitized.c",
+        "accesses reader real_heaps sanitized.c process_text.h",
     ),
     "packaging": Part("scripts/mte_scripts/packaging", "package release", "clean_debian.py test_package.py test_machines.py"),
     "importers": Part("scripts/mte_scripts/recording/imports", "", "imports_data test_imports.py"),
