@@ -22,7 +22,7 @@ import pytest
 from checks import expect
 from mte_scripts import count_texts, program_runs
 from mte_scripts.fleet import (
-    bounds, common, day, suspicions, loads, regret, resampling, results, row_reader, rows, samples, trial
+    bounds, common_table, day, suspicions, loads, regret, resampling, row_reader, rows, samples, trial, trial_lines
 )
 from mte_scripts.formats import LARGEST_SIZE
 from mte_scripts.places import ROOT
@@ -57,8 +57,8 @@ def read(*path):
 def run_rows(given):
     """What fleet_profiles prints of rows, without a process of its own."""
     store = row_reader.Store()
-    store.take(io.BytesIO(given.encode()), "-")
-    return count_texts.profile_text(rows.profile_of(load for _, load in store.items()))
+    store.read_rows(io.BytesIO(given.encode()), "-")
+    return count_texts.profile_text(rows.sum_profiles(load.unpack() for _, load in store.items()))
 
 
 def files_below(folder):
@@ -177,10 +177,10 @@ class Rows(checks.Part):
         given = table_of(*((KEY.replace("1\t", f"1/pod{count}\t"), 1, 0, 16, count) for count in (5, 9)))
         expect("two containers", run("fleet_profiles", given=given) == "16 14\n")
         store = row_reader.Store()
-        store.take(io.BytesIO((given + given.replace("01-02", "01-03").replace("/pod", "/other")).encode()), "-")
+        store.read_rows(io.BytesIO((given + given.replace("01-02", "01-03").replace("/pod", "/other")).encode()), "-")
         for hosts in ({}, {("redis", "web-1"): ""}):
-            found = day.came(store.items(), "2026-01-03", hosts)
-            expect("one machine", found == [day.Came("redis", {"web-1"}, {"web-1"})], found)
+            found = day.find_arrivals(store.items(), "2026-01-03", hosts)
+            expect("one machine", found == [day.Arrival("redis", {"web-1"}, {"web-1"})], found)
 
     def test_sample(self):
         """One in n machines by chance: over all the samples that chance has, the mean of the weighted sums is what all machines have
@@ -193,8 +193,8 @@ class Rows(checks.Part):
             for size, count in counts.items():
                 whole[size] = whole.get(size, 0) + count
         for sample in range(n):
-            kept = [rows.Record(n, {0: machines[machine]}) for at, machine in enumerate(order) if at % n == sample]
-            for size, count in rows.profile_of(kept).items():
+            kept = [(n, {0: machines[machine]}) for at, machine in enumerate(order) if at % n == sample]
+            for size, count in rows.sum_profiles(kept).items():
                 mean[size] = mean.get(size, 0) + fractions.Fraction(count, n)
         expect("the mean of all samples", mean == whole, mean, whole)
 
@@ -266,9 +266,9 @@ class Rows(checks.Part):
             line = "\t".join([*good[:field], word, *good[field + 1 :]]) + "\n"
             bad.append(line)
             store = row_reader.Store()
-            store.take(io.BytesIO(("\t".join(good) + "\n" + line + line).encode()), "rows.tsv")
-            told = " ".join(store.suspicions.text())
-            is_counted = store.suspicions.quarantined == 2 and says in told and "line 2 of rows.tsv" in told
+            store.read_rows(io.BytesIO(("\t".join(good) + "\n" + line + line).encode()), "rows.tsv")
+            told = " ".join(store.suspicions.all_lines())
+            is_counted = [number for number, _ in store.suspicions.rows.values()] == [2] and says in told and "line 2 of rows.tsv" in told
             expect(f"a row with {word[:20]!r} in field {field}", is_counted and [each.cells() for _, each in store.items()] == [{(0, 16): 3}], told)
         run("fleet_profiles", given="\ufeff" + "\t".join(good) + "\n", status=2, says=["a line that begins with a byte order mark"])
         path = os.path.join(self.folder(), "suspects.tsv")
@@ -387,11 +387,11 @@ class Day(WithProgram):
 
     def test_every_day(self):
         """Of each of the 28 days exactly those hosts are missing that sent nothing, or whose clock was wrong."""
-        found, hosts = row_reader.read([self.rows]).items(), results.groups_of(self.hosts, suspicions.Suspicions())
+        found, hosts = row_reader.read_rows([self.rows]).items(), trial_lines.read_groups(self.hosts, suspicions.Suspicions())
         for at in fleet_month.DAYS:
             silent = set(fleet_month.SILENT) if at >= fleet_month.SILENT_DAY else set()
             wrong = {fleet_month.BAD_CLOCK, fleet_month.BAD_DAY} if at in fleet_month.CLOCK_DAYS else set()
-            missing = {each.program: each.expected - each.machines for each in day.came(found, at, hosts)}
+            missing = {each.program: each.expected - each.machines for each in day.find_arrivals(found, at, hosts)}
             wanted = {program: {f"host{host}" for host in silent | wrong if fleet_month.program_of(host) == program} for program in fleet_month.PROGRAMS}
             expect(f"{at}: the machines that did not come", missing == wanted, missing)
 
@@ -498,14 +498,14 @@ def columns_of(machines, classes):
     columns = []
     for number in classes:
         parts = []
-        for each in machines:
+        for weight, moments in machines:
             blocks = collections.Counter()
-            for moment, counts in each.moments.items():
+            for moment, counts in moments.items():
                 sizes = [size for size in counts if moment and size != "large" and block(size) == number]
                 blocks[moment] += sum(counts[size] for size in sizes)
             if most := max(blocks.values()):
                 moment = min(moment for moment in blocks if blocks[moment] == most)
-                parts.append((each.weight, each.moments[moment]))
+                parts.append((weight, moments[moment]))
         columns.append(sums_of(parts))
     return columns
 
@@ -533,16 +533,16 @@ class Regret(WithProgram):
         greatest counts too."""
         chosen, classes = random.Random(6), [3, 7, 20, 40, 1024]
         for most in (9, 10**6, 10**18):
-            own = [rows.Record(chosen.randrange(1, 10**9), self.draw_moments(chosen, at % 3, most), 1) for at in range(12)]
+            own = [(chosen.randrange(1, 10**9), self.draw_moments(chosen, at % 3, most)) for at in range(12)]
             store, key = row_reader.Store(), rows.Key("p", "1", "m", "2026-01-02")
-            text = "".join(rows.text_of(key._replace(machine=f"m{at}"), each) for at, each in enumerate(own))
-            store.take(io.BytesIO(text.encode()), "-")
-            for load in loads.of_records("p", "2026-01-02", [each for _, each in store.items()]):
-                drawn, is_profile = [*resampling.draws(load, 130)], load.kind == "profile"
+            text = "".join(rows.text_of(key._replace(machine=f"m{at}"), 1, *each) for at, each in enumerate(own))
+            store.read_rows(io.BytesIO(text.encode()), "-")
+            for load in loads.loads_of_records("p", "2026-01-02", [each for _, each in store.items()]):
+                drawn, is_profile = [*resampling.draw_places(load, 130)], load.kind == "profile"
                 samples_of = resampling.sample_profiles if is_profile else resampling.sample_histories
-                found = [each.counts if is_profile else each.at_peaks(classes) for each in samples_of(load, iter(drawn))]
+                found = [each.counts if is_profile else each.peak_columns(classes) for each in samples_of(load, iter(drawn))]
                 wanted = [
-                    sums_of((own[at].weight, own[at].moments.get(0, {})) for at in places)
+                    sums_of((own[at][0], own[at][1].get(0, {})) for at in places)
                     if is_profile
                     else columns_of([own[at] for at in places if at % 3 > 0], classes)
                     for places in drawn
@@ -656,9 +656,9 @@ class Regret(WithProgram):
             )
         load = loads.Load("all", "histories", members=members)
         for limit in (3, 8, 32):
-            found = bounds.bound_of(load, bounds.TableLimits(limit, 1, False))
+            found = bounds.bound_load(load, bounds.TableLimits(limit, 1, False))
             expect(
-                f"{limit} classes: the bound is reached", load.cost(found.classes) == found.amount, load.cost(found.classes), found.amount
+                f"{limit} classes: the bound is reached", load.cost(found.table.classes) == found.amount, load.cost(found.table.classes), found.amount
             )
             needs = sorted({need for member in members for need in member.needs})
             tried = [load.cost(sorted({needs[-1], *chosen.sample(needs, min(limit, len(needs)) - 1)})) for _ in range(200)]
@@ -753,7 +753,7 @@ class Common(WithProgram):
         )
         days = [f"d{at}" for at in range(7)]
         for folds, wanted in ((2, [3, 4]), (3, [2, 2, 3]), (7, [1] * 7)):
-            runs = common.runs_of(days, folds)
+            runs = common_table.cut_days(days, folds)
             expect(f"{folds} runs of days", sum(runs, []) == days and list(map(len, runs)) == wanted, runs)
 
     def test_refused(self):
@@ -820,7 +820,7 @@ class Trial(checks.Part):
         for _ in range(trials):
             control = samples.group_of([chosen.gauss(1000, 100) for _ in range(number)])
             tuned = samples.group_of([chosen.gauss(940, 100) for _ in range(number)])
-            found = samples.difference([(1.0, control, tuned)], 0.95)
+            found = samples.difference([(control, tuned)], 0.95)
             shown, held = shown + (found.low > 0), held + (found.low <= 60 <= found.high)
         expect(f"{shown} of {trials} trials show the saving", 0.75 < shown / trials < 0.85)
         expect(f"{held} of {trials} intervals have it", 0.92 < held / trials < 0.98)

@@ -214,7 +214,7 @@ class Store(collections.namedtuple("Store", "name load others sums rows")):
             self.take(*hosts)
             came += [line for lines in hosts for line in lines]
             wanted, files, store = sums_by_definition(came), collections.Counter(), row_reader.Store()
-            store.take(io.BytesIO("".join(came).encode()), "-")
+            store.read_rows(io.BytesIO("".join(came).encode()), "-")
             for key, load in store.items():
                 files.update({(key.program, *cell): load.weight * count for cell, count in load.cells().items()})
             words = [line.split("\t") for line in self.sums().splitlines()]

@@ -105,7 +105,7 @@ class Fleet:
         done = subprocess.run(recorder, input=given.encode(), stdout=subprocess.PIPE, stderr=subprocess.DEVNULL, check=True, timeout=300)
         history = count_texts.parse_history(done.stdout)
         moments = {at + 1: {size: row[at] for size, row in history.counts.items()} for at in range(history.snapshots)}
-        return rows.text_of(rows.Key(program, "1", f"m{machine}", day), rows.Record(SAMPLE, moments, 1))
+        return rows.text_of(rows.Key(program, "1", f"m{machine}", day), 1, SAMPLE, moments)
 
     def sampled(self, day):
         """The rows of a day's sample."""
