@@ -183,12 +183,12 @@ def with_text(text):
     with tempfile.NamedTemporaryFile("w", suffix=".pools") as file:
         file.write(text)
         file.flush()
-        return pool_sets.read(file.name)
+        return pool_sets.read_pools(file.name)
 
 
 def try_verdict(trial, rng, given, found, what):
     """What was found is right for its runs; spoiled it is refused, unless it says the same."""
-    text = pool_sets.text_of(found)
+    text = found.text()
     verdict = pool_sets.judge_pools(with_text(text), given)
     is_right = not verdict.why and verdict.claim.holds and found.given.bytes_of(verdict.claim.cost, found.block) == found.bytes
     trial.expect(is_right, f"{what}: {text!r} is refused: {verdict.why}")
@@ -244,7 +244,7 @@ def of_histories(trial, rng):
         trial.expect(found.bytes == min(each for each in takes if each is not None), f"{what}: {found.pools}")
         trial.expect(not any(refused_requests(run, dict(found.pools), unit, overhead) for run in runs), f"{what}: {found.pools} refuse a request")
         trial.expect(
-            not pool_sets.judge_pools(with_text(pool_sets.text_of(found)), given).why, f"{what}: they are refused"
+            not pool_sets.judge_pools(with_text(found.text()), given).why, f"{what}: they are refused"
         )
 
 
@@ -409,11 +409,11 @@ def orders_of_runs(work, one, other, pools):
     TRIAL.expect(len(made) == 1, f"the order of the runs shows in {len(made)} certificates")
     said = 0
     for order in orders:
-        runs = pool_runs.runs_of(order)
+        runs = pool_runs.read_runs(order)
         given = pool_runs.join_runs(runs, pool_runs.Block(8, 0))
         status, fit = figures.run(["fit", "--limit", "2", *(["--step", str(given.scale)] if given.scale > 1 else [])], given.text)
         its = pool_sets.find_pools(runs, pool_runs.Block(8, 0), 2)
-        older = write(work, "older.pools", pool_sets.text_of(its._replace(fit=f"{fit}\n")))
+        older = write(work, "older.pools", its._replace(fit=f"{fit}\n").text())
         out = run(["--check", older, *orders[0]], 0, ["none takes less"], both=True)
         said += f"in another order, as an earlier release wrote it: {claim_words.join_words(map(str, order))}" in out
     TRIAL.expect(said, "no order of an earlier release is said")
@@ -568,7 +568,7 @@ def compile_forms(work):
             made = subprocess.run(words, capture_output=True, text=True)
             TRIAL.expect(made.returncode == 0, f"--as {form} does not compile: {made.stderr[:1500]}")
             done = subprocess.run([program], capture_output=True, text=True) if made.returncode == 0 else made
-            its = pool_sets.read(pools).with_reserve(int(reserve))
+            its = pool_sets.read_pools(pools).with_reserve(int(reserve))
             wanted = "".join(f"{pool.block} {pool.number}\n" for pool in its) + f"{pool_sets.bytes_of(its)}\n"
             TRIAL.expect((done.returncode, done.stdout) == (0, wanted), f"--as {form}: {done.returncode} {done.stdout!r}, and not {wanted!r}")
     # what a system takes for granted is asserted, or refused before
