@@ -26,7 +26,7 @@ MOST_TABLES = MOST_SNAPSHOTS // MOST_CLASSES
 
 
 class TableLimits(NamedTuple):
-    """Which tables are meant: of at most so many classes, multiples of this step, and with class 1024 where it is wanted."""
+    """Which tables are meant: of at most so many classes, multiples of this step, with class 1024 where it is wanted."""
 
     limit: int
     step: int
@@ -47,8 +47,8 @@ class Certified(NamedTuple):
 
 
 class Bound(NamedTuple):
-    """What each table takes at least of a load, in bytes as Load.cost has them; the claim that shows it, of the load itself where it IS_OWN, else
-    of counts that bound those of it, divided; and the table with its certificate."""
+    """What each table takes at least of a load, in bytes as Load.cost has them; the claim that shows it, of the load
+    itself where it IS_OWN, else of counts that bound those of it, divided; and the table with its certificate."""
 
     amount: int
     claim: claims.Claim
@@ -80,9 +80,9 @@ def divide_counts(parts: Sequence[tuple]) -> int:
 
 
 def certify_joined(parts: Sequence[tuple], divisor: int, among: TableLimits, seen: list) -> Certified:
-    """The certificate of loads of one kind, each times its number, added up, divided and rounded down: of what each table costs there, times
-    the numbers, the sum is at least the divisor times its cost. SEEN are tables whose columns over time are taken from the start; it gets
-    those that are found."""
+    """The certificate of loads of one kind, each times its number, added up, divided and rounded down: of what each
+    table costs there, times the numbers, the sum is at least the divisor times its cost. SEEN are tables whose columns
+    over time are taken from the start; it gets those that are found."""
     if parts[0][1].kind != "profile":
         return certify_columns(parts, divisor, among, seen)
     counts = divide(add_up((factor, load.counts) for factor, load in parts), divisor)

@@ -1,7 +1,7 @@
-"""The options that the commands of a fleet share: what each takes, and what it is where it is left out; and commands in steps."""
+"""The options of the commands of a fleet: what each takes, and what it is where it is left out; and commands in steps."""
 
 import argparse
-from collections.abc import Callable, Mapping, Sequence
+from collections.abc import Callable
 from typing import Any
 
 from mte_scripts import helps, words
@@ -31,17 +31,18 @@ OPTIONS: "dict[str, tuple]" = {
 }
 
 
-def take_options(given: "list[str]", help_text: str, of: "Sequence[str]" = (), rest: str = "names", **own: tuple) -> argparse.Namespace:
-    """The options of a help, or those OF these names, and other words as REST. OWN are options as of OPTIONS that are the command's own."""
-    there = {words.dest_of(option.names[-1]) for option in helps.Help(help_text).options()}
-    kinds = {name: {"type": kind, "default": default} for name, (kind, default) in {**OPTIONS, **own}.items() if name in there}
-    return words.Words(help_text, rest, of=of, **kinds).take(given, once=True)
+def take_options(given: "list[str]", text: str, of: str = "", rest: str = "names", **own: tuple) -> argparse.Namespace:
+    """The options of a help, or those OF these names, and other words as REST. OWN are more rows of OPTIONS."""
+    there = {words.dest_of(option.names[-1]) for option in helps.Help(text).options()}
+    known = {name: row for name, row in {**OPTIONS, **own}.items() if name in there}
+    kinds: Any = {name: {"type": kind, "default": default} for name, (kind, default) in known.items()}
+    return words.Words(text, rest, of=of.split(), **kinds).take(given, once=True)
 
 
-def run_step(given: "list[str]", help_text: str, steps: "Mapping[str, Callable[[list[str]], int]]") -> int:
+def run_step(given: "list[str]", text: str, **steps: "Callable[[list[str]], int]") -> int:
     """Runs the step of a command that its first word names, with the others."""
     if given[:1] in (["-h"], ["--help"], ["-V"], ["--version"]):
-        words.Words(help_text).take(given[:1])
+        words.Words(text).take(given[:1])
     if not given or given[0] not in steps:
         *names, last = steps
         raise Refusal(2, f"the first word is {', '.join(names)} or {last}; --help says more")

@@ -127,7 +127,8 @@ class Search:
 
     def find_table(self) -> CommonTable:
         """The table that is found round by round, with more weight on what the round's table is far above."""
-        for classes in [*(bound.table.classes for bound in self.own), *(classes for _, classes in figures.other_tables([]))]:
+        others = [classes for _, classes in figures.other_tables([])]
+        for classes in [*(bound.table.classes for bound in self.own), *others]:
             self.offer(classes)
         weights = [1.0 / len(self.given)] * len(self.given)
         for at in range(ROUNDS if len(self.given) > 1 else 1):
@@ -177,8 +178,8 @@ def sum_caps(given: Sequence[Load]) -> "tuple[int, int]":
 
 def sum_loads(given: Sequence[Load]) -> Load:
     """All loads as one, by the sum of their costs."""
-    members = [member for load in given for member in load.members]
-    made = Load("all loads", "histories" if members else "profile", bounds.add_up((1, load.counts) for load in given), members)
+    counts, members = bounds.add_up((1, load.counts) for load in given), [each for load in given for each in load.members]
+    made = Load("all loads", "histories" if members else "profile", counts, members)
     made.capped, made.cap = sum_caps(given)
     return made
 
@@ -217,8 +218,8 @@ def worst_sentence(table: CommonTable, given: Sequence[Load]) -> str:
 
 
 def write_certificates(folder: str, pairs: list, table: CommonTable, among: TableLimits) -> None:
-    """The folder with the sheet or fit of each load, and of the loads joined, each beside its counts: PAIRS are these, their claim, and what is
-    said of it."""
+    """The folder with the sheet or fit of each load, and of the loads joined, each beside its counts: PAIRS are these,
+    their claim, and what is said of it."""
     files, lines = {}, []
     for at, (shown, claim, said) in enumerate(pairs, 1):
         name = "joined" if at == len(pairs) else f"load{at}"
@@ -227,7 +228,8 @@ def write_certificates(folder: str, pairs: list, table: CommonTable, among: Tabl
         command = check_sheet.command(claim, among, *(os.path.join(folder, each) for each in names))
         lines.append(f"{said}\n\n    {command}\n\nThe SHA-256 of what it is of is {claim.digest}.\n\n")
     each = ", ".join(map(str, table.numbers))
-    lines.append(f"Joined: the loads in their order, times {each}, added up, divided by {table.divisor:,} and rounded down.\n")
+    joined = f"times {each}, added up, divided by {table.divisor:,} and rounded down"
+    lines.append(f"Joined: the loads in their order, {joined}.\n")
     files["claims.txt"] = "".join(lines).encode(errors="surrogateescape")
     with text_files.new_folder(folder, "--certificates") as place:
         for name, data in files.items():
@@ -260,8 +262,11 @@ def main(words: list) -> int:
     return write_answer(options, among, made, found, folds, total)
 
 
-def write_answer(given: argparse.Namespace, among: TableLimits, made: CommonTable, found: list, folds: list, total: "Optional[Regret]") -> int:
-    """Writes the files, and prints the text or the JSON. What is said is of the TOTAL where that is to be low, else of the worst."""
+def write_answer(
+    given: argparse.Namespace, among: TableLimits, made: CommonTable, found: list, folds: list, total: "Optional[Regret]"
+) -> int:
+    """Writes the files, and prints the text or the JSON. What is said is of the TOTAL where that is to be low, else of
+    the worst."""
     lines = figures.class_text(made.classes)
     name = figures.without_ending(given.output, ".classes") if given.output else ""
     said = total.sentences(name) if total else worst_sentence(made, [each.load for each in found])
@@ -272,14 +277,17 @@ def write_answer(given: argparse.Namespace, among: TableLimits, made: CommonTabl
     if given.output:
         text_files.write_file(given.output, lines + "\n")
     if given.json:
-        whole = regret.describe_regrets(found, name, made.classes, among, None)
-        whole.update(by=given.by, worst_percent=round_percent(made.worst, True), low_percent=round_percent(made.low, False), sentence=said)
-        whole["held_out"] = [{"name": each.load.name, "day": each.load.day, "above_percent": each.above} for each in folds]
-        return write_json(whole)
+        held_out = [{"name": each.load.name, "day": each.load.day, "above_percent": each.above} for each in folds]
+        return write_json({
+            **regret.describe_regrets(found, name, made.classes, among, None), "by": given.by,
+            "worst_percent": round_percent(made.worst, True), "low_percent": round_percent(made.low, False),
+            "sentence": said, "held_out": held_out,
+        })
     text = [regret.regret_table(found, folds), "\n", lines, "\n\n", wrap_paragraph(said)]
     if folds:
         served = [each.above for each in folds if each.above is not None]
         mean = f"{sum(served) / len(served):,.2f}%" if served else "none"
         worst = percent_text(regret.farthest_regret(folds).above)
-        text.append(wrap_paragraph(f"Held out, in {given.hold_out} runs of days: the worst is {worst}, the mean {mean}."))
+        said = f"Held out, in {given.hold_out} runs of days: the worst is {worst}, the mean {mean}."
+        text.append(wrap_paragraph(said))
     return text_files.write("".join(text))

@@ -74,7 +74,8 @@ class Arrival(NamedTuple):
     def absences(self) -> "Iterator[str]":
         missing, strange = self.expected - self.machines, self.machines - self.expected
         if missing:
-            yield f"{self.program}: {len(missing):,} of {len(self.expected):,} machines did not come: {name_machines(missing)}"
+            some = f"{len(missing):,} of {len(self.expected):,} machines"
+            yield f"{self.program}: {some} did not come: {name_machines(missing)}"
         if strange:
             yield f"{self.program}: {len(strange):,} machines came that are not expected: {name_machines(strange)}"
 
@@ -86,6 +87,9 @@ class Drift(NamedTuple):
     percent: Optional[float]
     interval: Optional[resampling.Interval]
     verdict: str
+
+    def cells(self) -> "tuple[str, str]":
+        return percent_text(self.percent), self.interval.text() if self.interval else ""
 
 
 def parse_day(word: str) -> str:
@@ -156,9 +160,11 @@ def judge_drift(load: loads.Load, interval: Optional[resampling.Interval], of_da
 
 def percent_before(records: list, load: loads.Load, day: str, percent: resampling.Percent) -> Optional[float]:
     """Of these machines on an earlier day, without end where the table does not serve them; None where there are none."""
-    same = [each for each in loads.loads_of_records(load.program, day, records) if each.kind == load.kind] if records else []
-    found = percent(same[0]) if same else None
-    return math.inf if same and found is None else found
+    for each in loads.loads_of_records(load.program, day, records):
+        if each.kind == load.kind:
+            found = percent(each)
+            return math.inf if found is None else found
+    return None
 
 
 class Report(NamedTuple):
@@ -176,8 +182,7 @@ class Report(NamedTuple):
         by_program = {each.load.program: each for each in self.drifts}
         for each in self.arrivals:
             drift = by_program.get(each.program)
-            percents = (percent_text(drift.percent), drift.interval.text() if drift.interval else "") if drift else ("", "")
-            cells.append((*each.cells(), *percents))
+            cells.append((*each.cells(), *(drift.cells() if drift else ("", ""))))
         lines = [f"{self.day}\n\n", table_text(cells), "\n" * bool(self.late or self.remarks)]
         lines += [f"{self.late:,} loads are of other days.\n"] * bool(self.late)
         lines += [wrap_paragraph(f"{each}.") for each in self.remarks]
@@ -189,12 +194,10 @@ class Report(NamedTuple):
             {"program": each.program, "machines": len(each.machines), "missing": sorted(each.expected - each.machines)}
             for each in self.arrivals
         ]
-        found = [
-            {"name": each.load.name, "above_percent": each.percent, "interval_percent": each.interval, "verdict": each.verdict}
-            for each in self.drifts
-        ]
-        return {"day": self.day, "programs": programs, "other_days": self.late, "loads": found, "remarks": self.remarks,
-                "suspicions": self.suspicions}
+        names = ("name", "above_percent", "interval_percent", "verdict")
+        found = [dict(zip(names, (drift.load.name, *drift[1:]))) for drift in self.drifts]
+        return {"day": self.day, "programs": programs, "other_days": self.late, "loads": found,
+                "remarks": self.remarks, "suspicions": self.suspicions}
 
 
 def make_report(given: argparse.Namespace) -> Report:

@@ -1,5 +1,5 @@
-"""What machines took on their days, by lines with tabs: those that can count, the value of each machine, and the order by chance in which
-machines get a table. Where most machines have days before, the values are the changes since."""
+"""What machines took on their days, by lines with tabs: those that can count, and the value of each machine, which is
+the change since before where most machines have days before. And the order by chance in which machines get a table."""
 
 import operator
 import random
@@ -21,8 +21,8 @@ Amounts = tuple[float, ...]  # of a day
 
 
 def read_fields(path: str, form: "dict[int, str]", found: Suspicions) -> "Iterator[tuple[int, bytes, list[str]]]":
-    """The lines of a file that have one of these numbers of fields, none of them empty: their numbers, texts and fields. The others are
-    suspicions."""
+    """The lines of a file that have one of these numbers of fields, none of them empty: their numbers, texts and fields.
+    The others are suspicions."""
     with text_files.open_input(path) as file:
         lines = text_files.lines_of(text_files.next_piece(file, path, None))
     if not lines:
@@ -67,8 +67,9 @@ def shuffle_machines(machines: "Iterable[list[str]]", seed: int) -> "Iterator[tu
 
 
 class Values(NamedTuple):
-    """By program and group the amounts of each machine, the means of its days. Where most machines have days before, some are changes since:
-    BEFORE are these amounts then, and WITHOUT is how many of those that were tried have none, and are left out."""
+    """By program and group the amounts of each machine, the means of its days. Where most machines have days before,
+    some are changes since: BEFORE are the amounts then, and WITHOUT is how many of those that were TRIED have none, and
+    are left out."""
 
     by_program: "dict[str, dict[str, list[Amounts]]]"
     before: "list[Amounts]"
@@ -81,8 +82,8 @@ class Values(NamedTuple):
 
 
 def value_machines(machines: "dict[Machine, dict[str, dict[str, Amounts]]]", changing: int) -> Values:
-    """The values of machines by their groups and days, of which the first so many amounts may be CHANGING since before; of a pilot, which has
-    no other group, those before."""
+    """The values of machines by their groups and days, of which the first so many amounts may be CHANGING since before;
+    of a pilot, which has no other group, those before."""
     means = {
         key: {group: tuple(map(statistics.fmean, zip(*days.values()))) for group, days in groups.items()}
         for key, groups in machines.items()

@@ -40,8 +40,8 @@ def marks_between(descriptor: int, begin: int, end: int) -> "Iterator[RunningTab
 
 
 def table_of(pid: int) -> RunningTable:
-    """The table that a process runs, by its memory; where the kernel refuses that, as of another process of the user, by the files that it has
-    mapped. Two marks in one process are refused: nobody knows which one serves."""
+    """The table that a process runs, by its memory; where the kernel refuses that, as of another process of the user, by
+    the files that it has mapped. Two marks in one process are refused: nobody knows which one serves."""
     process = f"/proc/{pid}"
     try:
         with open(f"{process}/maps", "rb") as file:
@@ -50,7 +50,8 @@ def table_of(pid: int) -> RunningTable:
         raise Refusal(2, f"process {pid} can't be read: {error.strerror}") from None
     found = find_marks(f"{process}/mem", [(int(each[1], 16), int(each[2], 16)) for each in mapped])
     if found is None:
-        found = set().union(*(find_marks(f"{process}/root".encode() + path) or () for path in {each[4] for each in mapped}))
+        files = {f"{process}/root".encode() + each[4] for each in mapped}
+        found = set().union(*(find_marks(path) or () for path in files))
     if len(found) > 1:
         versions = ", ".join(sorted(version for version, _ in found))
         raise Refusal(2, f"process {pid} has the marks of {len(found)} tables: {versions}")

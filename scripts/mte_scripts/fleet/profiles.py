@@ -87,7 +87,8 @@ def parse_columns(word: str) -> list:
 def texts_of(records: list) -> list:
     """The profile and the history of records, each with its ending, as far as there are such."""
     histories = rows.histories_of(each.unpack() for each in records)
-    found = {".profile": rows.sum_profiles(each.unpack() for each in records), ".history": histories and rows.add_histories(histories)}
+    found: dict = {".profile": rows.sum_profiles(each.unpack() for each in records)}
+    found[".history"] = histories and rows.add_histories(histories)
     tell = functools.partial(say, "fleet_profiles")
     return [(ending, count_texts.fitting_text(counts, tell)) for ending, counts in found.items() if counts]
 
@@ -155,8 +156,8 @@ def write_rows(word: str, load: "int | None", files: list) -> int:
 
 
 def main(words: list) -> int:
-    own: dict = {"by": (parse_columns, ["program", "day"]), "days": (parse_days, ("", "~")), "cap": (OPTIONS["cap"][0], None)}
-    given = take_options(words, HELP, rest="files", **own)
+    columns, days, cap = (parse_columns, ["program", "day"]), (parse_days, ("", "~")), (OPTIONS["cap"][0], None)
+    given = take_options(words, HELP, rest="files", by=columns, days=days, cap=cap)
     files = given.files or ["-"]
     if not given.files:
         text_files.say_reading("fleet_profiles")

@@ -163,7 +163,8 @@ def draw_days(title: str, points: list, limit: Optional[float], note: str = "") 
         drawing.parts.append(f'<path class="limit" d="M{drawing.left} {y}H{drawing.right}"><title>the limit, {limit:g}%</title></path>')
     for at, program in enumerate(programs):
         own = sorted((day, percent) for name, day, percent in points if name == program)
-        drawing.curve(at, [(across[day], drawing.y(percent, top), f"{program}, {day}: {percent:,.2f}%") for day, percent in own])
+        shown = [(across[day], drawing.y(percent, top), f"{program}, {day}: {percent:,.2f}%") for day, percent in own]
+        drawing.curve(at, shown)
         drawing.key(at, drawing.left, HIGH - 12 - 18 * (len(programs) - 1 - at), program or "all")
     if note:
         drawing.text(drawing.right, 12, note, "end")
@@ -180,7 +181,8 @@ def main(words: list) -> int:
     among, limit, times = bounds.table_limits(given), given.limit_percent, given.resample
     classes = certificate_texts.class_line(given.names[0])
     name = figures.without_ending(given.names[0], ".classes", ".sheet", ".fit")
-    found = [regret_of(load, bounds.bound_load(load, among), classes) for load in loads.read_loads(given.names[1:], given.cap)]
+    every = loads.read_loads(given.names[1:], given.cap)
+    found = [regret_of(load, bounds.bound_load(load, among), classes) for load in every]
     if given.plot:
         title = f"{claim_words.quote_name(name)}: at most so far above the bound of each day"
         points = [(each.load.program, each.load.day, each.above) for each in found if each.above is not None]

@@ -137,25 +137,26 @@ class Reading(NamedTuple):
     @property
     def verdict(self) -> str:
         """The worst of them."""
-        return next((verdict for verdict in (STOP, WAIT) if any(each.verdict == verdict for each in self.judged)), GO_ON)
+        return max((each.verdict for each in self.judged), key=(GO_ON, WAIT, STOP).index)
 
     def text(self, path: str) -> str:
-        plan, verdict = self.plan, self.verdict
-        begin = f"Step {self.step} of {len(plan.steps)}: {plan.new.version} on {plan.steps[self.step - 1]:g}% of the machines, "
+        plan, verdict, share = self.plan, self.verdict, self.plan.steps[self.step - 1]
+        begin = f"Step {self.step} of {len(plan.steps)}: {plan.new.version} on {share:g}% of the machines"
         head = ("Measure", plan.old.version, plan.new.version, "change", f"{self.level:g}% interval", "stop if", "")
         measures = [each.change.measure for each in self.judged if each.verdict == verdict]
         why = " and ".join(f"the {'rise of the ' * each.is_rise}{each.name}" for each in measures)
         said = LAST if verdict == GO_ON and self.step == len(plan.steps) else NEXT[verdict]
         said = said.format(why=why, plan=shell_words.path_word(path), next=self.step + 1, new=plan.new.version)
         table = table_text([head, *(each.cells() for each in self.judged)])
-        return f"{begin}after {plan.old.version}.\n{table}\n{wrap_paragraph(said)}{alert_text(self.suspicions)}"
+        return f"{begin}, after {plan.old.version}.\n{table}\n{wrap_paragraph(said)}{alert_text(self.suspicions)}"
 
     def describe(self) -> dict:
         """All of it, as JSON has it."""
         measures = {
             each.change.measure.name: {
                 "old": each.change.old, "new": each.change.new, "verdict": each.verdict,
-                "limit_percent": None if each.limit is None else 100 * each.limit, "percent": each.change.share.percents(),
+                "limit_percent": None if each.limit is None else 100 * each.limit,
+                "percent": each.change.share.percents(),
             }
             for each in self.judged
         }
@@ -178,14 +179,15 @@ def check_step(given: argparse.Namespace, plan: Plan, first: int) -> int:
 
 
 def print_plan(words: "list[str]") -> int:
-    given = take_options(words, HELP, ["steps", "seed"], **OPTIONS)
+    given = take_options(words, HELP, "steps seed", **OPTIONS)
     old, new, path = take_names(given, 2, 3, "VERSION=OLD, VERSION=NEW and a file of machines")
     tables = read_table(old), read_table(new)
     if tables[0].digest == tables[1].digest or tables[0].version == tables[1].version:
         raise Refusal(2, "the old and the new table are one, or have one version")
     plan = Plan(*tables, given.steps, assign_steps(read_strictly(path, MACHINES), given.steps, given.seed))
     if small := ", ".join(small_programs(plan)):
-        say("fleet_rollout", f"at step 1 fewer than {FEWEST} machines get the new table, too few to be read, of {small}")
+        why = f"fewer than {FEWEST} machines get the new table, too few to be read"
+        say("fleet_rollout", f"at step 1 {why}, of {small}")
     return text_files.write(plan.text())
 
 
@@ -199,18 +201,18 @@ def print_tables(plan: Plan, step: int, path: "Optional[str]") -> int:
 
 
 def print_new(words: "list[str]") -> int:
-    given = take_options(words, HELP, ["step", "running"], **OPTIONS)
+    given = take_options(words, HELP, "step running", **OPTIONS)
     plan = read_plan(*take_names(given, 1, 1, "a plan"))
     return print_tables(plan, check_step(given, plan, 0), given.running)
 
 
 def print_old(words: "list[str]") -> int:
-    given = take_options(words, HELP, ["running"], **OPTIONS)
+    given = take_options(words, HELP, "running", **OPTIONS)
     return print_tables(read_plan(*take_names(given, 1, 1, "a plan")), 0, given.running)
 
 
 def print_running(words: "list[str]") -> int:
-    given = take_options(words, HELP, ["rows"], **OPTIONS)
+    given = take_options(words, HELP, "rows", **OPTIONS)
     if not given.names or not all(re.fullmatch("[1-9][0-9]{0,9}", name) for name in given.names):
         raise Refusal(2, "running takes the numbers of processes; --help says more")
     first = given.rows.split(",") if given.rows else None
@@ -221,7 +223,7 @@ def print_running(words: "list[str]") -> int:
 
 
 def read_step(words: "list[str]") -> int:
-    given = take_options(words, HELP, "step since stop_if level suspects json".split(), **OPTIONS)
+    given = take_options(words, HELP, "step since stop_if level suspects json", **OPTIONS)
     path, result = take_names(given, 1, 2, "a plan and a result")
     text_files.refuse_over([("--suspects", given.suspects)], [path, result])
     plan, found = read_plan(path), Suspicions(given.suspects)
@@ -230,7 +232,8 @@ def read_step(words: "list[str]") -> int:
         raise Refusal(2, "--since takes the first day of the step, as 2026-03-02")
     changes = read_changes(plan, step, given.since, result, given.level / 100, found)
     found.write_rows()
-    reading = Reading(plan, step, [judge_change(change, given.stop_if) for change in changes], given.level, found.all_lines())
+    judged = [judge_change(change, given.stop_if) for change in changes]
+    reading = Reading(plan, step, judged, given.level, found.all_lines())
     if given.json:
         write_json(reading.describe())
     else:
@@ -239,4 +242,6 @@ def read_step(words: "list[str]") -> int:
 
 
 def main(words: "list[str]") -> int:
-    return run_step(words, HELP, {"plan": print_plan, "deploy": print_new, "back": print_old, "running": print_running, "read": read_step})
+    return run_step(
+        words, HELP, plan=print_plan, deploy=print_new, back=print_old, running=print_running, read=read_step
+    )

@@ -6,7 +6,8 @@ from typing import NamedTuple, Optional
 from mte_scripts import text_files
 from mte_scripts.entry_point import Refusal
 from mte_scripts.fleet import rows, samples
-from mte_scripts.fleet.machine_values import BEFORE, FEWEST, Amounts, Machine, Values, parse_amounts, read_fields, value_machines
+from mte_scripts.fleet.machine_values import BEFORE, FEWEST, Amounts, Machine, Values, parse_amounts, read_fields
+from mte_scripts.fleet.machine_values import value_machines
 from mte_scripts.fleet.rollout_plan import Plan
 from mte_scripts.fleet.samples import Difference, Group
 from mte_scripts.fleet.suspicions import AGAIN_LINES, Suspicion, Suspicions
@@ -84,8 +85,8 @@ def read_values(plan: Plan, step: int, since: str, path: str, found: Suspicions)
 
 
 def pair_groups(values: Values, at: int, found: Suspicions) -> "list[tuple[Group, Group]]":
-    """Of a measure the two groups of each program. Where no machine has the old table any more, the second one is what the same machines
-    took before."""
+    """Of a measure the two groups of each program. Where no machine has the old table any more, the second one is what
+    the same machines took before."""
     is_last = not any(OLD in groups for groups in values.by_program.values())
     if is_last and not values.before:
         why = "no machine has the old table, and no line is of a day before this step"
@@ -100,7 +101,8 @@ def pair_groups(values: Values, at: int, found: Suspicions) -> "list[tuple[Group
         elif not at:
             found.loads[f"machines of {program} are left out: a group of it has fewer than {FEWEST}"] += number
     if not pairs:
-        raise Refusal(3, f"no program has {FEWEST} machines with the new table and {FEWEST} with the old one that can count")
+        both = f"{FEWEST} machines with the new table and {FEWEST} with the old one"
+        raise Refusal(3, f"no program has {both} that can count")
     return pairs
 
 
@@ -111,5 +113,6 @@ def read_changes(plan: Plan, step: int, since: str, path: str, level: float, fou
         pairs = pair_groups(values, at, found)
         saving = samples.difference(pairs, level)
         old = values.mean_before(at) if values.before else samples.first_mean(pairs)
-        changes.append(Change(measure, old, old - saving.mean, saving.divide((old or 1.0) * (-1 if measure.is_rise else 1))))
+        share = saving.divide(-(old or 1.0) if measure.is_rise else old or 1.0)
+        changes.append(Change(measure, old, old - saving.mean, share))
     return changes

@@ -51,7 +51,8 @@ def parse_steps(word: str) -> "list[float]":
     good = all(re.fullmatch(r"[0-9]{1,3}(\.[0-9]{1,3})?", share) for share in shares) and len(shares) <= MOST_STEPS
     found = [float(share) for share in shares] if good else []
     if not found or found[-1] != 100 or not 0 < found[0] or any(map(operator.ge, found, found[1:])):
-        raise argparse.ArgumentTypeError(f"takes percentages that ascend and end with 100, as 5,20,50,100, and not {word}")
+        form = "percentages that ascend and end with 100, as 5,20,50,100"
+        raise argparse.ArgumentTypeError(f"takes {form}, and not {word}")
     return found
 
 
@@ -89,12 +90,15 @@ def read_plan(path: str) -> Plan:
         said: Any = json.loads(text_files.read(path))
         if said["form"] != FORM:
             raise ValueError
-        old, new = (Table(str(each["version"]), str(each["digest"]), [*map(int, each["classes"])]) for each in (said["old"], said["new"]))
+        tables = [
+            Table(str(each["version"]), str(each["digest"]), [*map(int, each["classes"])])
+            for each in (said["old"], said["new"])
+        ]
         machines = {(str(program), str(machine)): int(step) for program, machine, step in said["machines"]}
-        plan = Plan(old, new, [*map(float, said["steps"])], machines)
+        plan = Plan(tables[0], tables[1], [*map(float, said["steps"])], machines)
     except (ValueError, KeyError, TypeError, RecursionError):
         raise Refusal(2, f"{name} is no plan of `fleet_rollout plan`") from None
-    for table in (old, new):
+    for table in tables:
         if table.digest != table_mark.digest_of(table.classes):
             raise Refusal(2, f"{name}: the digest of {table.version} is not that of its classes")
     if not all(1 <= step <= len(plan.steps) for step in machines.values()) or not machines:

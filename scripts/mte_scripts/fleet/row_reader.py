@@ -192,8 +192,9 @@ class Store:
             ends = [*(at for at in range(1, len(sizes)) if sizes[at] <= sizes[at - 1]), len(sizes)]
             if len(self.columns) == KNOWN // 16:
                 self.columns.clear()
-            pieces = [(first, last, pack_sizes(sizes[first:last])) for first, last in zip([0, *ends], ends)] if max(sizes) <= LARGE else None
-            self.columns[words] = pieces
+            pieces = zip([0, *ends], ends)
+            is_in_range = max(sizes) <= LARGE
+            self.columns[words] = [(*each, pack_sizes(sizes[slice(*each)])) for each in pieces] if is_in_range else None
         return self.columns[words]
 
     def add_cell(self, key: Key, load: int, weight: int, moment: int, size: int, count: int) -> None:

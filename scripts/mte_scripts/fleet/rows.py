@@ -24,9 +24,8 @@ EARLY = 2  # days by which a day may be ahead of the reader's clock: of another 
 LARGE = LARGEST_SIZE + 1
 BOM = b"\xef\xbb\xbf"
 EPOCH = datetime.date(1970, 1, 1).toordinal()
-RANGES = {
-    "load": (0, MOST_LOAD), "weight": (1, MOST_COUNT), "moment": (0, MOST_SNAPSHOTS), "size": (0, LARGE), "count": (1, MOST_SUM)
-}
+RANGES = {"load": (0, MOST_LOAD), "weight": (1, MOST_COUNT), "moment": (0, MOST_SNAPSHOTS)}
+RANGES |= {"size": (0, LARGE), "count": (1, MOST_SUM)}
 
 
 class Key(NamedTuple):
@@ -111,8 +110,8 @@ def parse_row(line: bytes, at: int) -> tuple:
 
 
 def text_of(key: Key, load: int, weight: int, moments: dict) -> str:
-    """The rows of a load, in the order of moments and sizes: at each moment the count of each size. Moment 0 is a profile, those from 1 on are
-    the moments of a history."""
+    """The rows of a load, in the order of moments and sizes: at each moment the count of each size. Moment 0 is a
+    profile, those from 1 on are the moments of a history."""
     begin = "\t".join([*key, str(load), str(weight)])
     lines = []
     for moment, by_size in sorted(moments.items()):
@@ -130,8 +129,8 @@ def group_records(found: Iterable[tuple], by: Iterable[str]) -> "list[tuple]":
 
 
 def sum_profiles(records: "Iterable[tuple[int, dict]]") -> dict:
-    """The profile of all machines, by their weights and moments, each count times its weight: what the machines for which they stand have
-    counted, where the sample is unbiased."""
+    """The profile of all machines, by their weights and moments, each count times its weight: what the machines for which
+    they stand have counted, where the sample is unbiased."""
     sums: dict = {}
     for weight, moments in records:
         count_texts.add_counts(sums, moments.get(0, {}), weight)

@@ -95,14 +95,16 @@ def difference(pairs: Sequence[tuple], level: float) -> Difference:
 
 
 def adjust_for_covariate(groups: "dict[str, list[tuple]]") -> "dict[str, list[tuple]]":
-    """Pairs of a machine's value and what is beside it, with the values as they would be if each machine had the same beside: less what grows
-    with that, by the slope that the groups have in common."""
-    means = {name: [*map(statistics.fmean, zip(*pairs))] for name, pairs in groups.items()}
-    apart = [(beside - means[name][1], value - means[name][0]) for name, pairs in groups.items() for value, beside in pairs]
+    """Pairs of a machine's value and what is beside it, with the values as they would be if each machine had the same
+    beside: less what grows with that, by the slope that the groups have in common."""
+    apart = []
+    for pairs in groups.values():
+        own, other = map(statistics.fmean, zip(*pairs))
+        apart += [(x - other, y - own) for y, x in pairs]
     width = sum(x * x for x, _ in apart)
     slope = sum(x * y for x, y in apart) / width if width else 0.0
-    middle = statistics.fmean(beside for pairs in groups.values() for _, beside in pairs)
-    return {name: [(value - slope * (beside - middle), beside) for value, beside in pairs] for name, pairs in groups.items()}
+    middle = statistics.fmean(x for pairs in groups.values() for _, x in pairs)
+    return {name: [(y - slope * (x - middle), x) for y, x in pairs] for name, pairs in groups.items()}
 
 
 def sample_size(saving: float, spread: float, level: float, power: float) -> int:

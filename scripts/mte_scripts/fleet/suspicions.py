@@ -29,9 +29,9 @@ def number_lines(counts: "Counter[str]") -> "list[str]":
 
 
 class Suspicions:
-    """How many rows have each suspicion, and the first of them; how many loads or rows of loads something is to be said of, and how many
-    came again, of which one counts. With a file, the rows that can't count are written there: the reason, the file and its line, and the
-    row as it came."""
+    """How many rows have each suspicion, and the first of them; of how many loads, or rows of loads, something is to be
+    said, and how many came again, of which one counts. With a file, the rows that can't count are written there: the
+    reason, the file and its line, and the row as it came."""
 
     def __init__(self, path: Optional[str] = None) -> None:
         self.rows: "dict[str, list[Any]]" = {}
@@ -44,17 +44,19 @@ class Suspicions:
 
     def add_row(self, suspicion: Suspicion, path: str, at: int, line: bytes) -> None:
         """A row that can't count."""
-        name, what = text_files.input_name(path), text_layout.shorten_line(suspicion.what.encode(errors="surrogateescape"))
-        first = f"line {at} of {name}{': ' if suspicion.what else ''}{what}"
+        name, what = text_files.input_name(path), suspicion.what.encode(errors="surrogateescape")
+        shown = f": {text_layout.shorten_line(what)}" if what else ""
+        first = f"line {at} of {name}{shown}"
         self.rows.setdefault(suspicion.reason, [0, first])[0] += 1
         if self.path:
             self.lines.append(f"{suspicion.reason}\t{name}\t{at}\t".encode(errors="surrogateescape") + line + b"\n")
 
-    def keep_good(self, path: str, rows: "Iterable[tuple[int, bytes, Any]]", read: "Callable[..., Made]") -> "Iterator[Made]":
-        """What READ makes of the rows of a file, each with its number, its line and READ's words; those that it suspects are left out."""
-        for at, line, row in rows:
+    def keep_good(self, path: str, rows: "Iterable[tuple]", read: "Callable[..., Made]") -> "Iterator[Made]":
+        """What READ makes of the rows of a file, each its number, its line and the words for READ; those that it suspects
+        are left out."""
+        for at, line, words in rows:
             try:
-                yield read(*row)
+                yield read(*words)
             except Suspicion as suspicion:
                 self.add_row(suspicion, path, at, line)
 

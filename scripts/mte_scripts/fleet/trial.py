@@ -98,8 +98,8 @@ def adjust_requests(values: Values) -> Values:
 
 
 class Reading(NamedTuple):
-    """A result: of each program the two groups and their difference, and that of all, in KiB; the mean of the control group, or of what they
-    took before; and the requests of the tuned machines beyond the others', as a share."""
+    """A result: of each program the two groups and their difference, and that of all, in KiB; the mean of the control
+    group, or of what they took before; and the requests of the tuned machines beyond the others', as a share."""
 
     rows: "list[tuple[str, Group, Group, Difference]]"
     whole: Difference
@@ -140,15 +140,18 @@ def share_text(shares: Difference) -> str:
     return f"{mean:.2f}% (from {low:.2f} to {high:.2f}%)"
 
 
-def reading_text(result: Reading, predicted: Optional[float], is_change: bool, is_adjusted: bool, suspicions: "list[str]") -> str:
+def reading_text(
+    result: Reading, predicted: Optional[float], is_change: bool, is_adjusted: bool, suspicions: "list[str]"
+) -> str:
     what = ("change since before, KiB" if is_change else "resident set, KiB") + ", at the same requests" * is_adjusted
     rows = [("Program", "machines", f"control: {what}", "tuned", "saving, KiB", f"{100 * result.level:g}% interval")]
     for program, first, second, each in result.rows:
         interval = f"{each.low:,.0f} to {each.high:,.0f}"
         cells = (f"{first.number} + {second.number}", f"{first.mean:,.0f}", f"{second.mean:,.0f}", f"{each.mean:,.0f}", interval)
         rows.append((printable(program), *cells))
-    said = f"Over all, each program with its share of the machines: the tuned ones take {result.whole.mean:,.0f} KiB less of "
-    lines = [table_text(rows), "\n", wrap_paragraph(f"{said}{result.mean:,.0f}, {share_text(result.shares)}. {result.verdict()}")]
+    less = f"{result.whole.mean:,.0f} KiB less of {result.mean:,.0f}, {share_text(result.shares)}"
+    said = f"Over all, each program with its share of the machines: the tuned ones take {less}. {result.verdict()}"
+    lines = [table_text(rows), "\n", wrap_paragraph(said)]
     if predicted is not None:
         where = "below" if predicted < result.shares.low else "above" if predicted > result.shares.high else "within"
         lines.append(wrap_paragraph(f"Predicted: {100 * predicted:.2f}%, which is {where} the interval."))
@@ -215,7 +218,7 @@ class Prediction(NamedTuple):
 
 
 def predict_programs(tables: "list[list[int]]", given: "Iterable[loads.Load]") -> "list[Prediction]":
-    """The means of the machines of each program, over all days, with the old and the new table; the last one is of all."""
+    """The means of the machines of each program, over all days, with the old and the new table; last those of all."""
     sums: "dict[str, list[tuple]]" = {}
     for load in given:
         if load.kind == "profile":
@@ -232,7 +235,7 @@ def predict_programs(tables: "list[list[int]]", given: "Iterable[loads.Load]") -
 
 
 def predict_saving(words: "list[str]") -> int:
-    given = take_options(words, HELP, ["json"])
+    given = take_options(words, HELP, "json")
     if len(given.names) < 3 or given.names.count("-") > 1:
         raise Refusal(2, "predict takes the old table, the new one and the loads; --help says more")
     tables = [certificate_texts.class_line(name) for name in given.names[:2]]
@@ -252,12 +255,12 @@ def take_file(given: argparse.Namespace) -> str:
 
 
 def print_groups(words: "list[str]") -> int:
-    given = take_options(words, HELP, ["seed"])
+    given = take_options(words, HELP, "seed")
     return text_files.write(assign_groups(read_strictly(take_file(given), MACHINES), given.seed))
 
 
 def print_plan(words: "list[str]") -> int:
-    given = take_options(words, HELP, "saving spread pilot adjust machines power level".split(), "")
+    given = take_options(words, HELP, "saving spread pilot adjust machines power level", "")
     if given.saving is None or (given.spread is None) == (given.pilot is None):
         raise Refusal(2, "plan takes --saving, and --spread or --pilot; --help says more")
     spread, begin = (given.spread or 0) / 100, ""
@@ -273,7 +276,7 @@ def print_plan(words: "list[str]") -> int:
 
 
 def read_result(words: "list[str]") -> int:
-    given = take_options(words, HELP, "predicted adjust json level groups suspects".split())
+    given = take_options(words, HELP, "predicted adjust json level groups suspects")
     path, found = take_file(given), Suspicions(given.suspects)
     text_files.refuse_over([("--suspects", given.suspects)], [path, given.groups])
     values, missing = read_values(path, found, given.groups)
@@ -290,4 +293,4 @@ def read_result(words: "list[str]") -> int:
 
 
 def main(words: "list[str]") -> int:
-    return run_step(words, HELP, {"assign": print_groups, "predict": predict_saving, "plan": print_plan, "read": read_result})
+    return run_step(words, HELP, assign=print_groups, predict=predict_saving, plan=print_plan, read=read_result)

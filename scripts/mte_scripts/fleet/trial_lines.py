@@ -5,7 +5,8 @@ from typing import NamedTuple, Optional
 
 from mte_scripts import text_files
 from mte_scripts.fleet import rows
-from mte_scripts.fleet.machine_values import BEFORE, MACHINES, Amounts, Machine, Values, parse_amounts, read_fields, value_machines
+from mte_scripts.fleet.machine_values import BEFORE, MACHINES, Amounts, Machine, Values, parse_amounts, read_fields
+from mte_scripts.fleet.machine_values import value_machines
 from mte_scripts.fleet.suspicions import AGAIN_LINES, Suspicion, Suspicions
 
 COLUMNS = "program machine group day resident requests".split()
@@ -74,8 +75,8 @@ def read_groups(path: str, found: Suspicions) -> "dict[Machine, str]":
 
 
 def read_values(path: str, found: Suspicions, groups: "Optional[str]" = None) -> "tuple[Values, list[str]]":
-    """The values of the machines, their resident sets in KiB or the changes of these and their requests; and what is to be said of lines that
-    did not come. GROUPS is the file of those that were assigned."""
+    """The values of the machines, their resident sets in KiB or the changes of these and their requests; and what is to
+    be said of lines that did not come. GROUPS is the file of those that were assigned."""
     assigned = read_groups(groups, found) if groups else {}
     lines = read_lines(path, found)
     in_groups: "dict[Machine, set[str]]" = {}
