@@ -7,6 +7,8 @@ import datetime
 import random
 from collections.abc import Iterable
 
+from checks import expect
+
 HOSTS = 200
 PROGRAMS = ("cache", "index", "mail", "proxy", "search")
 DRIFTS = "search"  # from the third week on its strings are longer
@@ -111,6 +113,13 @@ class Month:
             f"{program}/{day}.profile": "".join(f"{size} {counts[size]}\n" for size in sorted(counts))
             for (program, day), counts in self.true.items()
         }
+
+    def expect_profiles(self, what: str, got: "dict[str, str]") -> None:
+        """Compares the files of each program and day."""
+        wanted = self.profiles()
+        wrong = [name for name in wanted if got.get(name) != wanted[name]]
+        is_whole = len(wanted) == 140 and got.keys() == wanted.keys()
+        expect(f"{what}: {len(wanted)} program-days", is_whole and not wrong, wrong)
 
     def turns(self, days: int) -> "Iterable[str]":
         """What came on so many days together, again and again."""
