@@ -26,7 +26,7 @@ MOST_TABLES = MOST_SNAPSHOTS // MOST_CLASSES
 
 
 class TableLimits(NamedTuple):
-    """Which tables are meant: of at most so many classes, multiples of this step, with class 1024 where it is wanted."""
+    """Which tables are meant: of at most so many classes, multiples of a step, with class 1024 where it is wanted."""
 
     limit: int
     step: int
@@ -99,7 +99,9 @@ def certify_columns(parts: Sequence[tuple], divisor: int, among: TableLimits, se
         seen += filter(is_served, first_tables(parts))
     best: Optional[Certified] = None
     for _ in range(ROUNDS):
-        text = history_text(peak_columns(parts, divisor, seen[-MOST_TABLES:]))
+        columns = peak_columns(parts, divisor, seen[-MOST_TABLES:])
+        counts = {size: [column.get(size, 0) for column in columns] for size in sorted(set().union(*columns))}
+        text = count_texts.history_text(count_texts.History(len(columns), counts)).encode()
         _, made = figures.run(["fit", *figures.options(*among)], text)
         found = certificate_texts.parse_fit(made)
         if best is None or found.footprint > best.cost:
@@ -143,9 +145,3 @@ def peak_columns(parts: Sequence[tuple], divisor: int, tables: list) -> list:
             if sums and sums not in found[-2 * MOST_CLASSES :]:
                 found.append(sums)
     return found
-
-
-def history_text(columns: list) -> bytes:
-    """The text of a history of these columns."""
-    counts = {size: [column.get(size, 0) for column in columns] for size in sorted(set().union(*columns))}
-    return count_texts.history_text(count_texts.History(len(columns), counts)).encode()

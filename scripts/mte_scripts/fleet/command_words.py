@@ -1,4 +1,4 @@
-"""The options of the commands of a fleet: what each takes, and what it is where it is left out; and commands in steps."""
+"""The options of the commands of a fleet: what each takes, and what it is where it is left out. And their steps."""
 
 import argparse
 from collections.abc import Callable

@@ -178,7 +178,8 @@ def sum_caps(given: Sequence[Load]) -> "tuple[int, int]":
 
 def sum_loads(given: Sequence[Load]) -> Load:
     """All loads as one, by the sum of their costs."""
-    counts, members = bounds.add_up((1, load.counts) for load in given), [each for load in given for each in load.members]
+    members = [member for load in given for member in load.members]
+    counts = bounds.add_up((1, load.counts) for load in given)
     made = Load("all loads", "histories" if members else "profile", counts, members)
     made.capped, made.cap = sum_caps(given)
     return made
@@ -263,7 +264,7 @@ def main(words: list) -> int:
 
 
 def write_answer(
-    given: argparse.Namespace, among: TableLimits, made: CommonTable, found: list, folds: list, total: "Optional[Regret]"
+    given: argparse.Namespace, among: TableLimits, made: CommonTable, found: list, folds: list, total: Optional[Regret]
 ) -> int:
     """Writes the files, and prints the text or the JSON. What is said is of the TOTAL where that is to be low, else of
     the worst."""

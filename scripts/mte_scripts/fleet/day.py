@@ -68,9 +68,6 @@ class Arrival(NamedTuple):
     machines: set
     expected: set
 
-    def cells(self) -> "tuple[str, ...]":
-        return printable(self.program), f"{len(self.machines):,}", f"{len(self.expected):,}"
-
     def absences(self) -> "Iterator[str]":
         missing, strange = self.expected - self.machines, self.machines - self.expected
         if missing:
@@ -87,9 +84,6 @@ class Drift(NamedTuple):
     percent: Optional[float]
     interval: Optional[resampling.Interval]
     verdict: str
-
-    def cells(self) -> "tuple[str, str]":
-        return percent_text(self.percent), self.interval.text() if self.interval else ""
 
 
 def parse_day(word: str) -> str:
@@ -182,7 +176,9 @@ class Report(NamedTuple):
         by_program = {each.load.program: each for each in self.drifts}
         for each in self.arrivals:
             drift = by_program.get(each.program)
-            cells.append((*each.cells(), *(drift.cells() if drift else ("", ""))))
+            interval = drift.interval.text() if drift and drift.interval else ""
+            percents = percent_text(drift.percent) if drift else "", interval
+            cells.append((printable(each.program), f"{len(each.machines):,}", f"{len(each.expected):,}", *percents))
         lines = [f"{self.day}\n\n", table_text(cells), "\n" * bool(self.late or self.remarks)]
         lines += [f"{self.late:,} loads are of other days.\n"] * bool(self.late)
         lines += [wrap_paragraph(f"{each}.") for each in self.remarks]

@@ -21,8 +21,8 @@ Amounts = tuple[float, ...]  # of a day
 
 
 def read_fields(path: str, form: "dict[int, str]", found: Suspicions) -> "Iterator[tuple[int, bytes, list[str]]]":
-    """The lines of a file that have one of these numbers of fields, none of them empty: their numbers, texts and fields.
-    The others are suspicions."""
+    """The lines of a file that have one of these numbers of fields, none of them empty: their numbers, texts and
+    fields. The others are suspicions."""
     with text_files.open_input(path) as file:
         lines = text_files.lines_of(text_files.next_piece(file, path, None))
     if not lines:

@@ -40,8 +40,8 @@ def marks_between(descriptor: int, begin: int, end: int) -> "Iterator[RunningTab
 
 
 def table_of(pid: int) -> RunningTable:
-    """The table that a process runs, by its memory; where the kernel refuses that, as of another process of the user, by
-    the files that it has mapped. Two marks in one process are refused: nobody knows which one serves."""
+    """The table that a process runs, by its memory; where the kernel refuses that, as of another process of the user,
+    by the files that it has mapped. Two marks in one process are refused: nobody knows which one serves."""
     process = f"/proc/{pid}"
     try:
         with open(f"{process}/maps", "rb") as file:

@@ -3,6 +3,7 @@
 import argparse
 import functools
 import re
+import time
 
 from mte_scripts import count_texts, text_files
 from mte_scripts.entry_point import Refusal, say
@@ -143,7 +144,7 @@ def write_rows(word: str, load: "int | None", files: list) -> int:
         moments = {at + 1: {size: counts[at] for size, counts in found.counts.items()} for at in range(found.snapshots)}
     else:
         moments = {0: found}
-    number = int(rows.read_clock() * 1000) if load is None else load
+    number = int(time.time() * 1000) if load is None else load
     text = rows.text_of(rows.Key(*key), number, int(*weight or "1"), moments)
     if not text:
         raise Refusal(3, "there is no request to count")

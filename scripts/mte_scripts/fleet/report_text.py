@@ -24,11 +24,7 @@ def table_text(rows: "Sequence[Sequence[str]]", most: Optional[int] = None) -> s
 
 def percent_text(percent: Optional[float]) -> str:
     """A percentage above a bound; none or one without end is of a table that does not serve all sizes."""
-    return f"{percent:,.2f}%" if is_finite(percent) else "not served"
-
-
-def is_finite(number: Optional[float]) -> bool:
-    return number is not None and number != math.inf
+    return "not served" if percent in (None, math.inf) else f"{percent:,.2f}%"
 
 
 def write_json(value: Any) -> int:

@@ -26,8 +26,8 @@ class Interval(NamedTuple):
 
 
 def draw_interval(load: loads.Load, percent: Percent, times: int) -> Optional[Interval]:
-    """Of a load of rows, from so many draws; None where too few machines came. PERCENT says what a load comes to; where no
-    machine that was drawn has anything of this kind, that is 0."""
+    """Of a load of rows, from so many draws; None where too few machines came. PERCENT says what a load comes to; where
+    no machine that was drawn has anything of this kind, that is 0."""
     if len(load.hosts) < FEWEST:
         return None
     sample = sample_profiles if load.kind == "profile" else sample_histories

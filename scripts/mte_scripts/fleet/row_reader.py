@@ -142,8 +142,9 @@ class Store:
                 lines = data[place : stop - 1].split(b"\n")
                 number = len(lines)
                 given = ((each, line, (line, each)) for each, line in enumerate(lines, at))
-                for row in self.suspicions.keep_good(path, given, rows.parse_row):
-                    self.add_cell(*row)
+                for key, load, weight, moment, size, count in self.suspicions.keep_good(path, given, rows.parse_row):
+                    sizes, counts = pack_sizes([size]), b"%d" % count
+                    self.add_part("\t".join(key).encode(), load, weight, moment, sizes, counts)
             at, place = at + number, stop
         return at - first
 
@@ -196,10 +197,6 @@ class Store:
             is_in_range = max(sizes) <= LARGE
             self.columns[words] = [(*each, pack_sizes(sizes[slice(*each)])) for each in pieces] if is_in_range else None
         return self.columns[words]
-
-    def add_cell(self, key: Key, load: int, weight: int, moment: int, size: int, count: int) -> None:
-        """A row by itself."""
-        self.add_part("\t".join(key).encode(), load, weight, moment, pack_sizes([size]), b"%d" % count)
 
     def add_part(self, key: bytes, number: int, weight: int, moment: int, sizes: bytes, counts: bytes) -> None:
         """Rows of one load in the order of their sizes."""

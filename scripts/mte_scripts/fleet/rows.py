@@ -47,11 +47,6 @@ def is_rows(data: bytes) -> bool:
     return any(line.count(b"\t") + 1 in (len(COLUMNS), len(NUMBERED)) for line in data.split(b"\n", 9)[:9])
 
 
-def read_clock() -> float:
-    """The seconds since 1970."""
-    return time.time()
-
-
 def day_refusal(day: str) -> str:
     """What is wrong with a day; empty if nothing is."""
     try:
@@ -62,10 +57,11 @@ def day_refusal(day: str) -> str:
         return "a day that does not exist"
     if day < FIRST_DAY:
         return f"a day before {FIRST_DAY}: a clock that is not set"
-    return "a day that is not yet: a clock that is ahead" if number > read_clock() // 86400 + EARLY else ""
+    return "a day that is not yet: a clock that is ahead" if number > time.time() // 86400 + EARLY else ""
 
 
 def check_day(day: str) -> None:
+    """Suspects a wrong day."""
     if wrong := day_refusal(day):
         raise Suspicion(wrong, day)
 
@@ -77,7 +73,7 @@ def parse_head(words: list) -> tuple:
             raise Suspicion(f"no {column} of 1 to {LONGEST_NAME} characters", word)
     check_day(words[3])
     load = parse_number(words[4], "load") if len(words) == len(NUMBERED) else 0
-    if load > (read_clock() + 86400 * EARLY) * 1000:
+    if load > (time.time() + 86400 * EARLY) * 1000:
         raise Suspicion("a load that is not yet: a clock that is ahead", words[4])
     return Key(*words[:4]), load, parse_number(words[-4], "weight"), parse_number(words[-3], "moment")
 
@@ -129,8 +125,8 @@ def group_records(found: Iterable[tuple], by: Iterable[str]) -> "list[tuple]":
 
 
 def sum_profiles(records: "Iterable[tuple[int, dict]]") -> dict:
-    """The profile of all machines, by their weights and moments, each count times its weight: what the machines for which
-    they stand have counted, where the sample is unbiased."""
+    """The profile of all machines, by their weights and moments, each count times its weight: what the machines for
+    which they stand have counted, where the sample is unbiased."""
     sums: dict = {}
     for weight, moments in records:
         count_texts.add_counts(sums, moments.get(0, {}), weight)

@@ -52,8 +52,8 @@ class Suspicions:
             self.lines.append(f"{suspicion.reason}\t{name}\t{at}\t".encode(errors="surrogateescape") + line + b"\n")
 
     def keep_good(self, path: str, rows: "Iterable[tuple]", read: "Callable[..., Made]") -> "Iterator[Made]":
-        """What READ makes of the rows of a file, each its number, its line and the words for READ; those that it suspects
-        are left out."""
+        """What READ makes of the rows of a file, each its number, its line and the words for READ; those that it
+        suspects are left out."""
         for at, line, words in rows:
             try:
                 yield read(*words)

@@ -14,8 +14,9 @@ WIDTH = 120
 
 
 class Form(NamedTuple):
-    """A text for C. WHAT is what --help says of it; %(1)s and so on in the text are what EACH has of a pool, once for each, with what stands
-    between two. Where it HAS_POINTER, the system has one of its own in each block, a part of the overhead."""
+    """A text for C. WHAT is what --help says of it; %(1)s and so on in the text are what EACH has of a pool, once for
+    each, with what stands between two. Where it HAS_POINTER, the system has one of its own in each block, a part of the
+    overhead."""
 
     what: str
     has_pointer: bool
@@ -24,9 +25,10 @@ class Form(NamedTuple):
 
 
 HOLDS = ("%(holds)d", ", ")
+POOL = ("    POOL(%(block)d, %(number)d, %(holds)d)", " \\\n")
 HOLDS_TEXT = "const unsigned %(name)s_pool_holds[%(pools)d] = {%(1)s}; /* the largest request of each */\n"
 FORMS = {
-    "c": Form("a header of a macro that lists the pools", False, (("    POOL(%(block)d, %(number)d, %(holds)d)", " \\\n"),), """\
+    "c": Form("a header of a macro that lists the pools", False, (POOL,), """\
 #ifndef %(big)s_POOLS_H
 #define %(big)s_POOLS_H
 

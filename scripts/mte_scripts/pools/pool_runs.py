@@ -63,6 +63,10 @@ class Timeline:
         """All of it, to put runs in an order that does not depend on how they are given."""
         return self.data
 
+    def sampled_words(self) -> str:
+        """What is not known of it."""
+        return ""
+
     def most(self, holds: list[int]) -> list[int]:
         """The most blocks live at once of each pool, whose largest requests ascend; the last number is of what no pool holds."""
         if tuple(holds) not in self.counted:
@@ -120,8 +124,12 @@ class History:
     def text(self) -> bytes:
         return count_texts.history_text(count_texts.History(self.snapshots, self.counts)).encode()
 
+    def sampled_words(self) -> str:
+        return f" at its {self.snapshots} snapshots; what was live between them is not known"
+
     def most(self, holds: list[int]) -> list[int]:
-        return [max(counts) for counts in self.add_up(lambda size: bisect_left(holds, size), range(len(holds) + 1)).values()]
+        sums = self.add_up(lambda size: bisect_left(holds, size), range(len(holds) + 1))
+        return [max(counts) for counts in sums.values()]
 
     def add_up(self, key: Callable[[int], int], keys: Iterable = ()) -> dict[int, list[int]]:
         """The counts of all sizes of one key, added up."""
@@ -150,7 +158,8 @@ def read_runs(paths: list[str]) -> list[Run]:
     runs = [read_run(path) for path in paths]
     names = {run.is_sampled: run.name for run in reversed(runs)}
     if len(names) > 1:
-        raise Refusal(2, f"{names[False]} is a timeline, and {names[True]} a history: give timelines alone, or histories alone")
+        kinds = f"{names[False]} is a timeline, and {names[True]} a history"
+        raise Refusal(2, f"{kinds}: give timelines alone, or histories alone")
     if not any(run.sizes for run in runs):
         every = " and ".join(run.name for run in runs)
         raise Refusal(3, f"there is no request of at most {LARGEST_SIZE:,} bytes in {every}")
@@ -187,7 +196,8 @@ def join_runs(runs: list[Run], block: Block) -> ToolInput:
     timelines = (run.map_sizes(given, run is runs[-1]) for run in runs if isinstance(run, Timeline))
     text = join_histories(runs, given) if runs[0].is_sampled else b"timeline\n" + b"".join(timelines)
     if len(text) > MOST_INPUT:
-        raise Refusal(2, f"all runs together have {len(text):,} bytes, and mte_tool reads {MOST_INPUT:,}: leave a run out")
+        size = f"{len(text):,} bytes, and mte_tool reads {MOST_INPUT:,}"
+        raise Refusal(2, f"all runs together have {size}: leave a run out")
     return ToolInput(text, scale)
 
 
@@ -197,9 +207,10 @@ def describe_range(least: int, most: int, scale: int, block: Block) -> str:
     text = f"a request of {most:,} bytes takes {units:,} units of {block.unit} bytes, and the limit is {limit:,} units"
     if scale == 2:
         text += f" where a request takes one unit, as one of {least:,} bytes does"
-    larger = [unit for unit in UNITS if unit > block.unit and Block(unit, block.overhead).units(most) <= LARGEST_CLASS // 2]
-    helps = f"take --unit {larger[0]}" if larger else "leave such requests out of the timeline, and give them memory of their own"
-    return f"{text}: {helps}"
+    for unit in UNITS:
+        if unit > block.unit and Block(unit, block.overhead).units(most) <= LARGEST_CLASS // 2:
+            return f"{text}: take --unit {unit}"
+    return f"{text}: leave such requests out of the timeline, and give them memory of their own"
 
 
 def join_histories(runs: list, given: dict[int, int]) -> bytes:
@@ -213,5 +224,6 @@ def join_histories(runs: list, given: dict[int, int]) -> bytes:
     rows = {size: [count for own, none in sums for count in own.get(size, none)] for size in sizes}
     for counts in rows.values():
         if max(counts) > MOST_COUNT:
-            raise Refusal(2, f"{max(counts):,} blocks of one size in units are more than {MOST_COUNT:,}, the most of a history")
+            blocks = f"{max(counts):,} blocks of one size in units"
+            raise Refusal(2, f"{blocks} are more than {MOST_COUNT:,}, the most of a history")
     return count_texts.history_text(count_texts.History(snapshots, rows)).encode()

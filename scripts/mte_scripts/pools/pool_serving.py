@@ -4,7 +4,7 @@ from collections.abc import Iterator
 from typing import NamedTuple
 
 from mte_scripts import claim_words, text_layout
-from mte_scripts.pools.pool_runs import History, Run
+from mte_scripts.pools.pool_runs import Run
 from mte_scripts.pools.pool_sets import Pool
 from mte_scripts.tables.figures import number
 
@@ -28,10 +28,10 @@ class Need(NamedTuple):
         if short := [f"{number(pool.block)} bytes by {number(more)}" for pool, more in self.shortages(pools)]:
             yield f"{self.run.name} is not served: short are the pools of {claim_words.join_words(short)}."
         if self.without:
-            yield f"{self.run.name} is not served: it has requests of more than {number(largest)} bytes, for which there is no pool."
+            requests = f"requests of more than {number(largest)} bytes"
+            yield f"{self.run.name} is not served: it has {requests}, for which there is no pool."
         if self.is_served(pools):
-            moments = f" at its {self.run.snapshots} snapshots; what was live between them is not known" if isinstance(self.run, History) else ""
-            yield f"{self.run.name} is served{moments}."
+            yield f"{self.run.name} is served{self.run.sampled_words()}."
 
 
 def need_of(run: Run, holds: "list[int]") -> Need:

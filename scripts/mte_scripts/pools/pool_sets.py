@@ -59,8 +59,8 @@ class PoolSet(NamedTuple):
 
     def text(self) -> str:
         """The text of pools that have a fit."""
-        lines = [f"unit {self.block.unit}", f"overhead {self.block.overhead}", *(f"pool {block} {number}" for block, number in self.pools)]
-        return "".join(f"{line}\n" for line in lines) + self.fit
+        lines = "".join(f"pool {block} {number}\n" for block, number in self.pools)
+        return f"unit {self.block.unit}\noverhead {self.block.overhead}\n{lines}{self.fit}"
 
 
 def bytes_of(pools: list[Pool]) -> int:
@@ -77,7 +77,8 @@ def find_pools(runs: list[Run], block: Block, limit: int) -> PoolSet:
     wanted = given.bytes_of(int(re.search(r"(?m)^footprint (\d+)$", text)[1]), block)
     pools = count_blocks(runs, [each // given.scale for each in classes], block)
     if bytes_of(pools) != wanted:
-        raise Refusal(3, f"the pools take {bytes_of(pools):,} bytes, and `mte_tool fit` has {wanted:,}: please report it")
+        unlike = f"the pools take {bytes_of(pools):,} bytes, and `mte_tool fit` has {wanted:,}"
+        raise Refusal(3, f"{unlike}: please report it")
     return PoolSet(block, pools, "" if claim.is_bound else text, claim, given)
 
 
@@ -101,8 +102,8 @@ def read_pools(path: str) -> PoolSet:
         form, pattern = FORMS[min(number, 3) - 1]
         match = re.fullmatch(pattern, line)
         if not match:
-            wrong = count_texts.encoding(os.fsencode(line), number) or f"line {number} is no line of pools, `{form}`: {line[:60]}"
-            raise Refusal(2, f"{name}: {wrong}")
+            wrong = f"line {number} is no line of pools, `{form}`: {line[:60]}"
+            raise Refusal(2, f"{name}: {count_texts.encoding(os.fsencode(line), number) or wrong}")
         values.append(tuple(map(int, match.groups())))
     if at < 3 or at == len(lines):
         raise Refusal(2, f"{name}: these are no whole pools: did the command that writes them fail?")
@@ -130,10 +131,10 @@ def judge_pools(pools: PoolSet, runs: list[Run]) -> Verdict:
         raise Refusal(2, f"the pools are of {kinds[not moments]}, and these runs are {kinds[runs[0].is_sampled]}")
     fit = certificate_texts.parse_fit(rows, "the fit of the pools")
     refused: list[claims.Claim] = []
-    how = claim_words.how("units", unit=pools.block.unit)
+    how, what = claim_words.how("units", unit=pools.block.unit), "the fit of the pools"
     for order in [pool_runs.order_runs(runs)] if pools.given else run_orders(runs):
         given = pools.given or pool_runs.join_runs(order, pools.block)
-        claim = pools.claim or claims.check_certificate(pools.fit, given.text, name_runs(order), how, "the fit of the pools")
+        claim = pools.claim or claims.check_certificate(pools.fit, given.text, name_runs(order), how, what)
         if claim.holds:
             listed = "" if order == pool_runs.order_runs(runs) else name_runs(order)
             return Verdict(claim, fit.limit, difference(pools, runs, given, fit), listed)

@@ -163,8 +163,8 @@ def write_lines(lines: Iterable[str]) -> int:
 
 
 def write_form(options: argparse.Namespace, its: PoolSet, said: list[str]) -> int:
-    pools = its.with_reserve(options.reserve)
-    return text_files.write(pool_forms.form_text(options.as_, options.name, its.block, pools, [*said, *reserve_words(options, its)]))
+    pools, said = its.with_reserve(options.reserve), [*said, *reserve_words(options, its)]
+    return text_files.write(pool_forms.form_text(options.as_, options.name, its.block, pools, said))
 
 
 def say_notes(notes: Iterable[str]) -> None:
@@ -250,11 +250,14 @@ def note_lines(notes: Iterable[str]) -> list[str]:
 
 
 def summary_lines(options: argparse.Namespace, runs: list, its: PoolSet, known: str, notes: list[str]) -> list[str]:
-    made = f"Pools for {pool_sets.name_runs(runs)}, in units of {its.block.unit} bytes, {its.block.overhead} of overhead in each block"
+    made = f"units of {its.block.unit} bytes, {its.block.overhead} of overhead in each block"
+    made = f"Pools for {pool_sets.name_runs(runs)}, in {made}"
     lines = [*wrap_text(made, "  "), "", *pool_lines(options, runs, its), ""]
     if options.today:
         lines += [*today_lines(options, runs, its), ""]
-    return [*lines, *(line for text in (known, *reserve_words(options, its)) for line in wrap_text(text)), *note_lines(notes)]
+    for text in (known, *reserve_words(options, its)):
+        lines += wrap_text(text)
+    return lines + note_lines(notes)
 
 
 def pool_lines(options: argparse.Namespace, runs: list, its: PoolSet) -> list[str]:
@@ -282,14 +285,15 @@ def today_lines(options: argparse.Namespace, runs: list, its: PoolSet) -> list[s
     holds = [pool.block - its.block.overhead for pool in options.today]
     used = [max(counts) for counts in zip(*(run.most(holds) for run in runs))]
     total, own = pool_sets.bytes_of(options.today), its.bytes
-    rows = [["Today", "Blocks", "Used", "Bytes"]]
-    rows += [[*map(number, (pool.block, pool.number, most, pool.block * pool.number))] for pool, most in zip(options.today, used)]
+    rows, short = [["Today", "Blocks", "Used", "Bytes"]], []
+    for (block, blocks), most in zip(options.today, used):
+        rows.append([*map(number, (block, blocks, most, block * blocks))])
+        short += [f"{number(block)} by {number(most - blocks)}"] * (most > blocks)
     lines = text_layout.columns([*rows, ["", "", "", number(total)]], left=4)
     change = f"{number(abs(total - own))} bytes {'less' if own <= total else 'more'}"
     change += f", {percent(abs(total - own), total)}" if total else ""
     these = "Without their reserve the pools above" if options.reserve else "The pools above"
     lines += wrap_text(f"Today's pools take {number(total)} bytes. {these} take {change}.")
-    short = [f"{number(pool.block)} by {number(most - pool.number)}" for pool, most in zip(options.today, used) if most > pool.number]
     above = [size for run in runs for size in run.sizes if size > holds[-1]]
     notes = [f"Today's pools are short of blocks: those of {claim_words.join_words(short)}."] if short else []
     notes += [f"Today's pools have no block for a request of {number(min(above))} bytes."] if above else []
