@@ -21,7 +21,7 @@ from mte_scripts.fleet.bounds import Bound, TableLimits
 from mte_scripts.fleet.command_words import take_options
 from mte_scripts.fleet.loads import Load
 from mte_scripts.fleet.regret import Regret
-from mte_scripts.fleet.report_text import percent_text, wrap_paragraph, write_json
+from mte_scripts.fleet.report_text import json_text, percent_text, wrap_paragraph
 from mte_scripts.formats import LARGEST_CLASS
 from mte_scripts.recording import timelines
 from mte_scripts.tables import check_sheet, figures
@@ -279,11 +279,11 @@ def write_answer(
         text_files.write_file(given.output, lines + "\n")
     if given.json:
         held_out = [{"name": each.load.name, "day": each.load.day, "above_percent": each.above} for each in folds]
-        return write_json({
+        return text_files.write(json_text({
             **regret.describe_regrets(found, name, made.classes, among, None), "by": given.by,
             "worst_percent": round_percent(made.worst, True), "low_percent": round_percent(made.low, False),
             "sentence": said, "held_out": held_out,
-        })
+        }))
     text = [regret.regret_table(found, folds), "\n", lines, "\n\n", wrap_paragraph(said)]
     if folds:
         served = [each.above for each in folds if each.above is not None]

@@ -11,7 +11,7 @@ from mte_scripts.entry_point import Refusal, printable
 from mte_scripts.fleet import bounds, caps, loads, regret, resampling, row_reader, rows
 from mte_scripts.fleet.command_words import OPTIONS, take_options
 from mte_scripts.fleet.machine_values import Machine
-from mte_scripts.fleet.report_text import alert_text, percent_text, table_text, wrap_paragraph, write_json
+from mte_scripts.fleet.report_text import alert_text, json_text, percent_text, table_text, wrap_paragraph
 from mte_scripts.fleet.row_reader import PackedLoad
 from mte_scripts.fleet.suspicions import Suspicions
 from mte_scripts.fleet.trial_lines import read_groups, read_values
@@ -190,8 +190,10 @@ class Report(NamedTuple):
             {"program": each.program, "machines": len(each.machines), "missing": sorted(each.expected - each.machines)}
             for each in self.arrivals
         ]
-        names = ("name", "above_percent", "interval_percent", "verdict")
-        found = [dict(zip(names, (drift.load.name, *drift[1:]))) for drift in self.drifts]
+        found = [
+            {"name": load.name, "above_percent": percent, "interval_percent": interval and [*interval], "verdict": verdict}
+            for load, percent, interval, verdict in self.drifts
+        ]
         return {"day": self.day, "programs": programs, "other_days": self.late, "loads": found,
                 "remarks": self.remarks, "suspicions": self.suspicions}
 
@@ -226,8 +228,5 @@ def main(words: "list[str]") -> int:
         raise Refusal(2, "--limit-percent is of a table: name it by --table")
     text_files.refuse_over([("--suspects", given.suspects)], [*given.names, given.hosts, given.table, given.result])
     report = make_report(given)
-    if given.json:
-        write_json(report.describe())
-    else:
-        text_files.write(report.text())
+    text_files.write(json_text(report.describe()) if given.json else report.text())
     return 1 if report.suspicions else 0

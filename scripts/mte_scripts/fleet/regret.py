@@ -8,7 +8,7 @@ from mte_scripts import certificate_texts, claim_words, claims, program_runs, te
 from mte_scripts.entry_point import Refusal, printable
 from mte_scripts.fleet import bounds, caps, loads, resampling
 from mte_scripts.fleet.command_words import take_options
-from mte_scripts.fleet.report_text import percent_text, table_text, wrap_paragraph, write_json
+from mte_scripts.fleet.report_text import json_text, percent_text, table_text, wrap_paragraph
 from mte_scripts.reports import pictures
 from mte_scripts.tables import figures
 
@@ -138,13 +138,14 @@ def describe_regrets(
             "name": each.load.name, "program": each.load.program, "day": each.load.day, "kind": each.load.kind,
             "table_bytes": each.cost, "bound_bytes": each.bound.amount, "above_percent": each.above,
             "unserved_bytes": each.unserved, "sentences": each.sentences(name), "bound_sha256": each.bound.claim.digest,
-            "machines": len(each.load.hosts), "capped_machines": each.load.capped, "interval_percent": interval,
+            "machines": len(each.load.hosts), "capped_machines": each.load.capped,
+            "interval_percent": interval and [*interval],
         }
         for each, interval in zip(found, intervals or [None] * len(found))
     ]
     return {
-        "table": printable(name) or "the table", "classes": classes, "among": among._asdict(), "is_proved": trust.is_proved, "why_not": trust.why,
-        "limit_percent": limit, "is_within": all(each.is_within(limit) for each in found), "loads": each_load,
+        "table": printable(name) or "the table", "classes": classes, "among": among, "is_proved": trust.is_proved,
+        "why_not": trust.why, "limit_percent": limit, "is_within": all(each.is_within(limit) for each in found), "loads": each_load,
     }
 
 
@@ -191,7 +192,7 @@ def main(words: list) -> int:
     percent = percent_of(classes, among)
     intervals = [resampling.draw_interval(each.load, percent, times) if times else None for each in found]
     if given.json:
-        write_json(describe_regrets(found, name, classes, among, limit, intervals))
+        text_files.write(json_text(describe_regrets(found, name, classes, among, limit, intervals)))
     else:
         text_files.write(summary(found, name, limit) + (resampled_text(found, intervals, times) if times else ""))
     return 0 if all(each.is_within(limit) for each in found) else 1

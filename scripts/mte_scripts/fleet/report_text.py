@@ -5,7 +5,7 @@ import math
 from collections.abc import Iterable, Sequence
 from typing import Any, Optional
 
-from mte_scripts import text_files, text_layout
+from mte_scripts import text_layout
 from mte_scripts.entry_point import printable
 
 
@@ -27,14 +27,16 @@ def percent_text(percent: Optional[float]) -> str:
     return "not served" if percent in (None, math.inf) else f"{percent:,.2f}%"
 
 
-def write_json(value: Any) -> int:
-    """Writes a value as JSON. A number without end, which JSON has not, is null."""
-    return text_files.write(json.dumps(replace_infinite(value), indent=1) + "\n")
+def json_text(value: Any) -> str:
+    """A value as JSON: a named tuple with its names, and a number without end, which JSON has not, as null."""
+    return json.dumps(json_value(value), indent=1) + "\n"
 
 
-def replace_infinite(value: Any) -> Any:
+def json_value(value: Any) -> Any:
+    if hasattr(value, "_asdict"):
+        value = value._asdict()
     if isinstance(value, dict):
-        return {name: replace_infinite(each) for name, each in value.items()}
+        return {name: json_value(each) for name, each in value.items()}
     if isinstance(value, (list, tuple)):
-        return [*map(replace_infinite, value)]
+        return [*map(json_value, value)]
     return None if value == math.inf else value

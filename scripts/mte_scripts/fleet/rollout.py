@@ -9,7 +9,7 @@ from mte_scripts.entry_point import Refusal, say
 from mte_scripts.fleet import process_mark, rows
 from mte_scripts.fleet.command_words import run_step, take_options
 from mte_scripts.fleet.machine_values import FEWEST, MACHINES, read_strictly
-from mte_scripts.fleet.report_text import alert_text, table_text, wrap_paragraph, write_json
+from mte_scripts.fleet.report_text import alert_text, json_text, table_text, wrap_paragraph
 from mte_scripts.fleet.rollout_lines import Change, read_changes
 from mte_scripts.fleet.rollout_plan import Plan, assign_steps, parse_steps, read_plan, read_table, small_programs
 from mte_scripts.fleet.suspicions import Suspicions
@@ -161,7 +161,7 @@ class Reading(NamedTuple):
             for each in self.judged
         }
         return {
-            "step": self.step, "steps": self.plan.steps, "old": self.plan.old._asdict(), "new": self.plan.new._asdict(),
+            "step": self.step, "steps": self.plan.steps, "old": self.plan.old, "new": self.plan.new,
             "level_percent": self.level, "verdict": self.verdict, "measures": measures, "suspicions": self.suspicions,
         }
 
@@ -234,10 +234,7 @@ def read_step(words: "list[str]") -> int:
     found.write_rows()
     judged = [judge_change(change, given.stop_if) for change in changes]
     reading = Reading(plan, step, judged, given.level, found.all_lines())
-    if given.json:
-        write_json(reading.describe())
-    else:
-        text_files.write(reading.text(path))
+    text_files.write(json_text(reading.describe()) if given.json else reading.text(path))
     return STATUS[reading.verdict]
 
 

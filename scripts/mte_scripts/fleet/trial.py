@@ -11,7 +11,7 @@ from mte_scripts.entry_point import Refusal, printable
 from mte_scripts.fleet import loads, samples
 from mte_scripts.fleet.command_words import run_step, take_options
 from mte_scripts.fleet.machine_values import FEWEST, MACHINES, Values, read_strictly, shuffle_machines
-from mte_scripts.fleet.report_text import alert_text, table_text, wrap_paragraph, write_json
+from mte_scripts.fleet.report_text import alert_text, json_text, table_text, wrap_paragraph
 from mte_scripts.fleet.samples import Difference, Group
 from mte_scripts.fleet.suspicions import Suspicions
 from mte_scripts.fleet.trial_lines import GROUPS, read_values
@@ -97,11 +97,25 @@ def adjust_requests(values: Values) -> Values:
     return values._replace(by_program=adjusted)
 
 
-class Reading(NamedTuple):
-    """A result: of each program the two groups and their difference, and that of all, in KiB; the mean of the control
-    group, or of what they took before; and the requests of the tuned machines beyond the others', as a share."""
+class Row(NamedTuple):
+    """Of a program: the two groups and their difference, in KiB."""
 
-    rows: "list[tuple[str, Group, Group, Difference]]"
+    program: str
+    control: Group
+    tuned: Group
+    saving_kib: Difference
+
+    def cells(self) -> "tuple[str, ...]":
+        _, first, second, (mean, low, high) = self
+        numbers = f"{first.number} + {second.number}", f"{first.mean:,.0f}", f"{second.mean:,.0f}", f"{mean:,.0f}"
+        return (printable(self.program), *numbers, f"{low:,.0f} to {high:,.0f}")
+
+
+class Reading(NamedTuple):
+    """A result: of each program, and the difference over all, in KiB; the mean of the control group, or of what they
+    took before; and the requests of the tuned machines beyond the others', as a share."""
+
+    rows: "list[Row]"
     whole: Difference
     mean: float
     requests: Difference
@@ -129,7 +143,7 @@ class Reading(NamedTuple):
 
 def read_difference(values: Values, level: float) -> Reading:
     pairs, served = pair_groups(values, 0), [*pair_groups(values, 1).values()]
-    rows = [(program, *pair, samples.difference([pair], level)) for program, pair in pairs.items()]
+    rows = [Row(program, *pair, samples.difference([pair], level)) for program, pair in pairs.items()]
     mean = values.mean_before() or samples.first_mean([*pairs.values()])
     requests = samples.difference(served, level).divide(-(samples.first_mean(served) or 1.0))
     return Reading(rows, samples.difference([*pairs.values()], level), mean, requests, level)
@@ -144,14 +158,10 @@ def reading_text(
     result: Reading, predicted: Optional[float], is_change: bool, is_adjusted: bool, suspicions: "list[str]"
 ) -> str:
     what = ("change since before, KiB" if is_change else "resident set, KiB") + ", at the same requests" * is_adjusted
-    rows = [("Program", "machines", f"control: {what}", "tuned", "saving, KiB", f"{100 * result.level:g}% interval")]
-    for program, first, second, each in result.rows:
-        interval = f"{each.low:,.0f} to {each.high:,.0f}"
-        cells = (f"{first.number} + {second.number}", f"{first.mean:,.0f}", f"{second.mean:,.0f}", f"{each.mean:,.0f}", interval)
-        rows.append((printable(program), *cells))
+    head = ("Program", "machines", f"control: {what}", "tuned", "saving, KiB", f"{100 * result.level:g}% interval")
     less = f"{result.whole.mean:,.0f} KiB less of {result.mean:,.0f}, {share_text(result.shares)}"
     said = f"Over all, each program with its share of the machines: the tuned ones take {less}. {result.verdict()}"
-    lines = [table_text(rows), "\n", wrap_paragraph(said)]
+    lines = [table_text([head, *(each.cells() for each in result.rows)]), "\n", wrap_paragraph(said)]
     if predicted is not None:
         where = "below" if predicted < result.shares.low else "above" if predicted > result.shares.high else "within"
         lines.append(wrap_paragraph(f"Predicted: {100 * predicted:.2f}%, which is {where} the interval."))
@@ -165,14 +175,12 @@ def reading_text(
 def describe_reading(result: Reading, predicted: Optional[float], is_adjusted: bool, suspicions: "list[str]") -> dict:
     """All of it, as JSON has it."""
     return {
-        "is_adjusted": is_adjusted, "level_percent": 100 * result.level, "control_kib": result.mean, "saving_kib": result.whole._asdict(),
-        "saving_percent": result.shares.percents(), "more_requests_percent": result.requests.percents(),
+        "is_adjusted": is_adjusted, "level_percent": 100 * result.level, "control_kib": result.mean,
+        "saving_kib": result.whole, "saving_percent": result.shares.percents(),
+        "more_requests_percent": result.requests.percents(),
         "predicted_percent": None if predicted is None else 100 * predicted, "is_saving": result.is_saving,
         "is_load_alike": result.is_load_alike, "verdict": result.verdict(), "suspicions": suspicions,
-        "programs": [
-            {"program": program, "control": first._asdict(), "tuned": second._asdict(), "saving_kib": each._asdict()}
-            for program, first, second, each in result.rows
-        ],
+        "programs": result.rows,
     }
 
 
@@ -195,9 +203,9 @@ def plan_text(saving: float, spread: float, given: argparse.Namespace) -> str:
     lines = [f"{'Saving':>8}  machines in each group\n"]
     for each in (saving / 2, saving, 2 * saving):
         lines.append(f"{100 * each:>7.2f}%  {samples.sample_size(each, spread, *chances):,}\n")
-    said = f"With these, a trial shows the saving with a chance of {given.power:g}% by an interval of {given.level:g}%, if the spread of a "
-    said += f"machine is {100 * spread:.2f}% of the mean in both groups, chance alone chooses them, and they do not depend on each other."
-    lines.append(wrap_paragraph(said))
+    said = f"With these, a trial shows the saving with a chance of {given.power:g}% by an interval of {given.level:g}%"
+    said += f", if the spread of a machine is {100 * spread:.2f}% of the mean in both groups, chance alone chooses them"
+    lines.append(wrap_paragraph(f"{said}, and they do not depend on each other."))
     if given.machines:
         shown = samples.detectable_saving(given.machines, spread, *chances)
         lines.append(wrap_paragraph(f"{given.machines:,} machines in each group show a saving of {100 * shown:.2f}%."))
@@ -242,7 +250,7 @@ def predict_saving(words: "list[str]") -> int:
     found = predict_programs(tables, loads.read_loads(given.names[2:]))
     if given.json:
         *programs, whole = [{**each._asdict(), "saving_kib": each.saving} for each in found]
-        return write_json({"programs": programs, "all": whole})
+        return text_files.write(json_text({"programs": programs, "all": whole}))
     rows: "list[tuple]" = [("Program", "machines", "old, KiB", "new, KiB", "saving, KiB")]
     rows += [(printable(each.program), *(f"{value:,.0f}" for value in (*each[1:], each.saving))) for each in found]
     return text_files.write(table_text(rows))
@@ -285,10 +293,9 @@ def read_result(words: "list[str]") -> int:
         raise Refusal(2, "the result has no machine in the groups control and tuned")
     result = read_difference(adjust_requests(values) if given.adjust else values, given.level / 100)
     predicted, said = None if given.predicted is None else given.predicted / 100, [*missing, *found.all_lines()]
-    if given.json:
-        write_json(describe_reading(result, predicted, given.adjust, said))
-    else:
-        text_files.write(reading_text(result, predicted, bool(values.before), given.adjust, said))
+    json_of = lambda: json_text(describe_reading(result, predicted, given.adjust, said))
+    text_of = lambda: reading_text(result, predicted, bool(values.before), given.adjust, said)
+    text_files.write(json_of() if given.json else text_of())
     return 0 if result.is_saving else 1
 
 
