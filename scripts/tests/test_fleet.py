@@ -196,7 +196,7 @@ class Rows(checks.Part):
         expect("names of files", made == {"%2E.%2F..%2Fetc/%2E..profile", "%C3%A4/%2Ehidden.profile"}, made)
 
     def test_containers(self):
-        """Two containers on a machine count each by itself, and are one machine that is expected, whatever their names."""
+        """Two containers on a machine count each by itself, and are one machine that is expected by any name."""
         given = table_of(*((KEY.replace("1\t", f"1/pod{count}\t"), 1, 0, 16, count) for count in (5, 9)))
         expect("two containers", run("fleet_profiles", given=given) == "16 14\n")
         store = store_of(given + given.replace("01-02", "01-03").replace("/pod", "/other"))
@@ -444,7 +444,7 @@ class Day(WithProgram):
         expect("a day without a suspicion", "!" not in out, out)
 
     def test_absurd_machine(self):
-        """A machine with a count of 10^17 is named; a cap keeps the table what it is without it, and the claim says so."""
+        """A machine with a count of 10^17 is named; a cap keeps the table what it is without it; the claim says so."""
         honest = self.part("honest.tsv", self.rows, "search\t", "\t2026-03-02\t")
         own = read(honest).split("\t")[:7]
         absurd = self.write("absurd.tsv", read(honest) + table_of((*own, 24, 10**17)))
@@ -755,7 +755,8 @@ class Common(WithProgram):
         every = " ".join(self.files)
         refuse(
             "fleet_table", ("", "name the loads"), ("- -", "name the loads"),
-            (f"{SQLITE} {PHP}", "give one kind alone"), (f"--by mean {SQLITE}", "worst or total"), (f"--hold-out 1 {every}", "from 2 to"),
+            (f"{SQLITE} {PHP}", "give one kind alone"), (f"--by mean {SQLITE}", "worst or total"),
+            (f"--hold-out 1 {every}", "from 2 to"),
             (f"--hold-out 4 {every}", "wants as many days, and there are 3"),
             (("--output", os.path.join(self.work, "no/such"), SQLITE), 3, "can't be written"),
         )
@@ -822,8 +823,8 @@ class Trial(checks.Part):
         """A difference, its interval by Welch and the verdict, of values that a printed example has."""
         control, tuned = [10, 12, 14, 16, 18], [9, 10, 11, 12, 13]
         out = read_trial(result({CONTROL: control, TUNED: tuned}), status=1)
-        # means 14 and 11, variances 10 and 2.5: the error is sqrt(2.5), the freedom (2 + 0.5)^2 / (4/4 + 0.25/4) = 5.88,
-        # the quantile 2.459
+        # means 14 and 11, variances 10 and 2.5: the error is sqrt(2.5), the freedom (2 + 0.5)^2 / (4/4 + 0.25/4) =
+        # 5.88, the quantile 2.459
         wide, got = 2.459 * 2.5**0.5, out["saving_kib"]
         is_wide = abs(got["low"] - (3 - wide)) < 0.02 and abs(got["high"] - (3 + wide)) < 0.02
         expect("Welch", got["mean"] == 3 and is_wide, got)

@@ -191,8 +191,8 @@ class Report(NamedTuple):
             for each in self.arrivals
         ]
         found = [
-            {"name": load.name, "above_percent": percent, "interval_percent": interval and [*interval], "verdict": verdict}
-            for load, percent, interval, verdict in self.drifts
+            {"name": load.name, "above_percent": above, "interval_percent": span and [*span], "verdict": verdict}
+            for load, above, span, verdict in self.drifts
         ]
         return {"day": self.day, "programs": programs, "other_days": self.late, "loads": found,
                 "remarks": self.remarks, "suspicions": self.suspicions}

@@ -145,7 +145,8 @@ def describe_regrets(
     ]
     return {
         "table": printable(name) or "the table", "classes": classes, "among": among, "is_proved": trust.is_proved,
-        "why_not": trust.why, "limit_percent": limit, "is_within": all(each.is_within(limit) for each in found), "loads": each_load,
+        "why_not": trust.why, "limit_percent": limit, "is_within": all(each.is_within(limit) for each in found),
+        "loads": each_load,
     }
 
 
