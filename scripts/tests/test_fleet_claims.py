@@ -29,11 +29,11 @@ def machines(chosen):
     if not any(size > 0 for _, history in found for size in history):
         found.append((1, {1: [1]}))
 
-    def taken(table, given):
+    def cost_of(table, given):
         each = [footprint(table, history) for _, history in given]
         return None if None in each else sum(weight * cost for (weight, _), cost in zip(given, each))
 
-    return found, taken
+    return found, cost_of
 
 
 def fleet_loads(chosen):
@@ -46,9 +46,9 @@ def fleet_loads(chosen):
     text, history = small_timeline(chosen)
     if any(history):
         yield loads.load_of_text(text.encode(), "it"), history, footprint
-    found, taken = machines(chosen)
+    found, cost_of = machines(chosen)
     members = [loads.Member(weight, count_texts.History(len(next(iter(history.values()))), history)) for weight, history in found]
-    yield loads.Load("it", "histories", members=members), found, taken
+    yield loads.Load("it", "histories", members=members), found, cost_of
 
 
 def near_tables(classes, given, step):

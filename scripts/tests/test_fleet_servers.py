@@ -69,11 +69,11 @@ def profiles_of(work, rows):
     return found
 
 
-class Documented:
+class DocumentCommands:
     """A folder in which the documents' commands find what they name: LOAD loads rows.tsv, QUERY makes sums.tsv."""
 
     def __init__(self, work, load, query, **how):
-        self.load, self.query, self.how = load, query, {**how, "cwd": os.path.join(work, "documented")}
+        self.load, self.query, self.how = load, query, {**how, "cwd": os.path.join(work, "commands")}
         shutil.rmtree(self.how["cwd"], ignore_errors=True)
         os.mkdir(self.how["cwd"])
         for linked in ("examples", "scripts"):
@@ -120,8 +120,8 @@ def try_postgresql(work, rows, merged):
     half, older = len(lines) // 2, number_rows(lines, 1)
     with postgresql.run_server() as server:
         how = {"env": {**os.environ, **server}}
-        documented = Documented(work, *postgresql.load().split(" && "), **how)
-        documented.try_loads(
+        commands = DocumentCommands(work, *postgresql.load().split(" && "), **how)
+        commands.try_loads(
             "PostgreSQL", merged, ("half of the rows, a load of them cut", lines[:half], False),
             ("older loads", older, None), ("the other half", lines[half:], True), ("all once more", lines, True),
             ("cut loads once more", lines[:half], True), ("older loads with other counts", older, True),
@@ -161,25 +161,25 @@ def try_month(work, is_numbered):
     """What came of a month, one half of a week after the other."""
     month, what = fleet_month.Month(is_numbered), f"PostgreSQL, a month, numbers: {is_numbered}"
     with postgresql.run_server() as server:
-        documented = Documented(work, *postgresql.load().split(" && "), env={**os.environ, **server})
+        commands = DocumentCommands(work, *postgresql.load().split(" && "), env={**os.environ, **server})
         for text in month.turns(4):
-            documented.load_rows([text])
-        month.expect_profiles(what, documented.profiles())
+            commands.load_rows([text])
+        month.expect_profiles(what, commands.profiles())
         if is_numbered:
-            load_at_once(documented, month)
-            month.expect_profiles(f"{what}, loads at once", documented.profiles())
+            load_at_once(commands, month)
+            month.expect_profiles(f"{what}, loads at once", commands.profiles())
 
 
-def load_at_once(documented, month):
+def load_at_once(commands, month):
     """All of the month by several clients at once, in several orders, into an empty table: they neither count twice nor
     wait for ever."""
-    run(["psql", "-q", "-c", "truncate loads"], **documented.how)
+    run(["psql", "-q", "-c", "truncate loads"], **commands.how)
     lines, clients = month.text().splitlines(True), []
     half = len(lines) // 2
     for at, order in enumerate((lines, lines[::-1], [*lines[half:], *lines[:half]], number_rows(lines, 5))):
-        write("".join(order), documented.how["cwd"], f"rows{at}.tsv")
-        words = ["bash", "-o", "pipefail", "-c", documented.load.replace("rows.tsv", f"rows{at}.tsv")]
-        clients.append(subprocess.Popen(words, stderr=subprocess.PIPE, text=True, **documented.how))
+        write("".join(order), commands.how["cwd"], f"rows{at}.tsv")
+        words = ["bash", "-o", "pipefail", "-c", commands.load.replace("rows.tsv", f"rows{at}.tsv")]
+        clients.append(subprocess.Popen(words, stderr=subprocess.PIPE, text=True, **commands.how))
     for at, client in enumerate(clients):
         _, said = client.communicate(timeout=120)
         expect(f"PostgreSQL: client {at}", client.returncode == 0, said)
@@ -375,10 +375,10 @@ def clickhouse_commands(port, begin="for port in 9101 "):
     return re.sub(r"\b910(?=[1-4]\b)", str(port // 10), block)
 
 
-def load_and_sums(commands):
-    """The query by which these commands load rows, and that of the sums."""
+def load_and_sums(port):
+    """The query by which the documents load rows, and that of the sums."""
     patterns = r"(insert into [^']* format TSV)", r'--query "\s*(select [^"]*)"'
-    return [re.search(pattern, commands)[1] for pattern in patterns]
+    return [re.search(pattern, clickhouse_commands(port))[1] for pattern in patterns]
 
 
 def clickhouse_server(folder, values, ports, has_replicas):
@@ -418,10 +418,9 @@ def ask_clickhouse(port, query, *words, **more):
 def try_clickhouse(work, rows, merged):
     ports, lines = neighbouring_ports(2), rows.splitlines(True)
     with run_clickhouse(work, ports):
-        commands = clickhouse_commands(ports[0])
-        documented = Documented(work, commands, "true")
+        commands = DocumentCommands(work, clickhouse_commands(ports[0]), "true")
         half, older = len(lines) // 2, number_rows(lines, 2)
-        documented.try_loads(
+        commands.try_loads(
             "ClickHouse", merged, ("older loads", number_rows(lines, 1), False), ("all", lines, True),
             ("all once more", lines, True), ("cut and older loads", [*lines[:half], *older[half:]], True),
         )
@@ -430,9 +429,9 @@ def try_clickhouse(work, rows, merged):
         seen = [int(ask_clickhouse(port, query)) for port in ports]
         each_on_one = "ClickHouse: each load is on one server, and each server has some"
         expect(each_on_one, sum(seen) == loads and all(seen), seen)
-        store = store_in_clickhouse(commands, ports)
+        store = store_in_clickhouse(ports)
         for step in (
-            lambda: month_in_clickhouse(documented), lambda: store.try_orders(60, 5), lambda: store.try_names(200, 5),
+            lambda: month_in_clickhouse(commands), lambda: store.try_orders(60, 5), lambda: store.try_names(200, 5),
             lambda: try_earlier_clickhouse(ports[0], lines, merged, work),
         ):
             for port in ports:
@@ -440,20 +439,20 @@ def try_clickhouse(work, rows, merged):
             step()
 
 
-def month_in_clickhouse(documented):
+def month_in_clickhouse(commands):
     """A month, its files in two turns: those of each day, and what came late."""
     month = fleet_month.Month()
     for turn in (slice(1), slice(1, None)):
-        documented.load_rows([text for texts in month.files.values() for text in texts[turn]])
-    month.expect_profiles("ClickHouse, a month", documented.profiles())
+        commands.load_rows([text for texts in month.files.values() for text in texts[turn]])
+    month.expect_profiles("ClickHouse, a month", commands.profiles())
 
 
 COUNTED = "select program, build, machine, day, load, weight, moment, size, count from counted format TSVRaw"
 
 
-def store_in_clickhouse(commands, ports):
+def store_in_clickhouse(ports):
     """Loads on both servers, beside a compaction."""
-    load, sums = load_and_sums(commands)
+    load, sums = load_and_sums(ports[0])
     client = lambda at, query, given="": ask_clickhouse(ports[at], query, given=given)
     compact, take = lambda: client(0, "optimize table arrivals_local final"), lambda at, given: client(at, load, given)
     return Store("ClickHouse", take, [compact], lambda: client(1, sums), lambda: client(0, COUNTED))
@@ -496,9 +495,9 @@ def try_replicas(work, rows, merged):
     ports, lines = neighbouring_ports(4), rows.splitlines(True)
     with run_zookeeper(work) as zookeeper, run_clickhouse(work, ports, zookeeper) as running:
         tables = clickhouse_commands(ports[0], 'sed "s|ReplacingMergeTree')
-        here = Documented(work, tables, "true")
+        here = DocumentCommands(work, tables, "true")
         here.load_rows(())
-        load, sums = load_and_sums(clickhouse_commands(ports[0]))
+        load, sums = load_and_sums(ports[0])
         insert = lambda port, given, *words, **more: ask_clickhouse(port, load, *words, given=arrays_of(given), **more)
         quorum = ("--insert_quorum", "2")
 

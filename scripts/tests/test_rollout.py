@@ -58,7 +58,7 @@ class Fleet:
             self.runs[program, machine] = tuple(table)
         return len(lines)
 
-    def running(self):
+    def write_running(self):
         """The option with the file of what runs."""
         every = table_of(*((*key, *table) for key, table in self.runs.items()))
         return "--running", write(every, self.folder, "running.tsv")
@@ -98,13 +98,13 @@ class Rollout(checks.Part):
         fleet = self.fleet(-0.04, -0.04, 0.0)
         fleet.live(0)
         for step, share in enumerate((5, 20, 50, 100), 1):
-            moved, number = fleet.take("deploy", "--step", str(step), *fleet.running()), fleet.with_new()
+            moved, number = fleet.take("deploy", "--step", str(step), *fleet.write_running()), fleet.with_new()
             is_right = moved > 0 and number == 320 * share // 100
             expect(f"step {step} moves machines alone that it has to", is_right, moved, number)
             text = fleet.read(step, fleet.live(step), 0)
             wanted = "Go on: fleet_rollout deploy --step" if step < 4 else "Go on: v7 is on all machines"
             expect(f"step {step} goes on", wanted in text, text)
-        expect("nothing is left to deploy", fleet.take("deploy", "--step", "4", *fleet.running()) == 0)
+        expect("nothing is left to deploy", fleet.take("deploy", "--step", "4", *fleet.write_running()) == 0)
 
     def test_bad(self):
         """One whose peak rises by 8% at step two is stopped there, and rolled back."""
@@ -123,10 +123,10 @@ class Rollout(checks.Part):
         is_right = 2 < interval["low"] <= 8.2 <= interval["high"] + 1
         expect("by its interval", found["verdict"] == "stop" and is_right, found)
         expect("the others go on", {measures[name]["verdict"] for name in ("saving", "time")} == {"go on"}, found)
-        moved = fleet.take("back", *fleet.running())
+        moved = fleet.take("back", *fleet.write_running())
         is_back = moved == 64 and fleet.with_new() == 0
         expect("what ran the new table gets the old one", is_back, moved, fleet.with_new())
-        expect("and nothing is left", fleet.take("back", *fleet.running()) == 0)
+        expect("and nothing is left", fleet.take("back", *fleet.write_running()) == 0)
         every = rollout("back", fleet.plan).splitlines()
         is_old = all(line.endswith(f"\tv6\t{fleet.old}") for line in every)
         expect("without what runs, all", len(every) == 320 and is_old, every[:2])

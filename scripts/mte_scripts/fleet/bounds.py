@@ -37,7 +37,7 @@ def table_limits(options: argparse.Namespace) -> TableLimits:
     return TableLimits(options.limit, options.step, not options.no_largest)
 
 
-class Certified(NamedTuple):
+class CertifiedTable(NamedTuple):
     """A sheet or a fit, and the counts that it is of, both as texts; its cost; and its table."""
 
     cost: int
@@ -54,7 +54,7 @@ class Bound(NamedTuple):
     claim: claims.Claim
     divisor: int
     is_own: bool
-    table: Certified
+    table: CertifiedTable
 
 
 def bound_load(load: Load, among: TableLimits) -> Bound:
@@ -63,7 +63,7 @@ def bound_load(load: Load, among: TableLimits) -> Bound:
     is_own = divisor <= 1 and load.kind != "histories"
     if is_own and not is_profile:
         timed = figures.over_time(load.kind, load.text, among.largest, among.limit, among.step, load.name)
-        found, claim = Certified(timed.fit.footprint, timed.fit.classes, timed.fit_text, load.text), timed.claim
+        found, claim = CertifiedTable(timed.fit.footprint, timed.fit.classes, timed.fit_text, load.text), timed.claim
     else:
         found = certify_joined([(1, load)], divisor, among, [])
         found = found._replace(counts=is_own and load.text or found.counts)
@@ -79,7 +79,7 @@ def divide_counts(parts: Sequence[tuple]) -> int:
     return -(-sum(factor * load.count_bound() for factor, load in parts) // MOST_COUNT)
 
 
-def certify_joined(parts: Sequence[tuple], divisor: int, among: TableLimits, seen: list) -> Certified:
+def certify_joined(parts: Sequence[tuple], divisor: int, among: TableLimits, seen: list) -> CertifiedTable:
     """The certificate of loads of one kind, each times its number, added up, divided and rounded down: of what each
     table costs there, times the numbers, the sum is at least the divisor times its cost. SEEN are tables whose columns
     over time are taken from the start; it gets those that are found."""
@@ -89,15 +89,15 @@ def certify_joined(parts: Sequence[tuple], divisor: int, among: TableLimits, see
     text = count_texts.profile_text(counts).encode()
     _, made = figures.run(["tune", *figures.options(*among)], text)
     found = certificate_texts.parse_sheet(made)
-    return Certified(found.waste, found.classes, f"{made}\n", text)
+    return CertifiedTable(found.waste, found.classes, f"{made}\n", text)
 
 
-def certify_columns(parts: Sequence[tuple], divisor: int, among: TableLimits, seen: list) -> Certified:
+def certify_columns(parts: Sequence[tuple], divisor: int, among: TableLimits, seen: list) -> CertifiedTable:
     """The same of histories and timelines, and of their footprints."""
-    is_served = lambda classes: all(load.unserved(classes) is None for _, load in parts)
+    is_served = lambda classes: all(load.unserved_size(classes) is None for _, load in parts)
     if not seen:
         seen += filter(is_served, first_tables(parts))
-    best: Optional[Certified] = None
+    best: Optional[CertifiedTable] = None
     for _ in range(ROUNDS):
         columns = peak_columns(parts, divisor, seen[-MOST_TABLES:])
         counts = {size: [column.get(size, 0) for column in columns] for size in sorted(set().union(*columns))}
@@ -105,7 +105,7 @@ def certify_columns(parts: Sequence[tuple], divisor: int, among: TableLimits, se
         _, made = figures.run(["fit", *figures.options(*among)], text)
         found = certificate_texts.parse_fit(made)
         if best is None or found.footprint > best.cost:
-            best = Certified(found.footprint, found.classes, f"{made}\n", text)
+            best = CertifiedTable(found.footprint, found.classes, f"{made}\n", text)
         if found.classes in seen[-MOST_TABLES:] or not is_served(found.classes):
             break
         seen.append(found.classes)

@@ -74,7 +74,7 @@ class CommonTable(NamedTuple):
     classes: list
     worst: Fraction
     low: Fraction
-    certified: bounds.Certified
+    certified: bounds.CertifiedTable
     claim: claims.Claim
     numbers: list
     divisor: int

@@ -162,14 +162,14 @@ class Load:
         """How its counts came of the rows, for a claim."""
         return claim_words.capped_words(self.capped, self.cap)
 
-    def unserved(self, classes: list) -> Optional[int]:
+    def unserved_size(self, classes: list) -> Optional[int]:
         """The least size here that a table does not serve, None where it serves all."""
         above = bisect.bisect_right(self.sizes, GRANULE * classes[-1] - GRANULE if classes else -1)
         return self.sizes[above] if above < len(self.sizes) else None
 
     def cost(self, classes: list) -> Optional[int]:
         """What a table takes, in bytes; None where it does not serve all sizes."""
-        if self.unserved(classes) is not None:
+        if self.unserved_size(classes) is not None:
             return None
         if self.kind != "profile":
             return sum(member.weight * member.footprint(classes) for member in self.members)

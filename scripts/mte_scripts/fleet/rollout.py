@@ -125,7 +125,7 @@ def share_text(share: float) -> str:
     return f"{100 * share + 0.0:.2f}%"
 
 
-class Reading(NamedTuple):
+class StepResult(NamedTuple):
     """What a step's result says."""
 
     plan: Plan
@@ -233,9 +233,9 @@ def read_step(words: "list[str]") -> int:
     changes = read_changes(plan, step, given.since, result, given.level / 100, found)
     found.write_rows()
     judged = [judge_change(change, given.stop_if) for change in changes]
-    reading = Reading(plan, step, judged, given.level, found.all_lines())
-    text_files.write(json_text(reading.describe()) if given.json else reading.text(path))
-    return STATUS[reading.verdict]
+    judgement = StepResult(plan, step, judged, given.level, found.all_lines())
+    text_files.write(json_text(judgement.describe()) if given.json else judgement.text(path))
+    return STATUS[judgement.verdict]
 
 
 def main(words: "list[str]") -> int:

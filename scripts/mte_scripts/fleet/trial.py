@@ -111,7 +111,7 @@ class Row(NamedTuple):
         return (printable(self.program), *numbers, f"{low:,.0f} to {high:,.0f}")
 
 
-class Reading(NamedTuple):
+class TrialResult(NamedTuple):
     """A result: of each program, and the difference over all, in KiB; the mean of the control group, or of what they
     took before; and the requests of the tuned machines beyond the others', as a share."""
 
@@ -141,12 +141,12 @@ class Reading(NamedTuple):
         return "No saving is shown: the interval has 0."
 
 
-def read_difference(values: Values, level: float) -> Reading:
+def read_difference(values: Values, level: float) -> TrialResult:
     pairs, served = pair_groups(values, 0), [*pair_groups(values, 1).values()]
     rows = [Row(program, *pair, samples.difference([pair], level)) for program, pair in pairs.items()]
     mean = values.mean_before() or samples.first_mean([*pairs.values()])
     requests = samples.difference(served, level).divide(-(samples.first_mean(served) or 1.0))
-    return Reading(rows, samples.difference([*pairs.values()], level), mean, requests, level)
+    return TrialResult(rows, samples.difference([*pairs.values()], level), mean, requests, level)
 
 
 def share_text(shares: Difference) -> str:
@@ -155,7 +155,7 @@ def share_text(shares: Difference) -> str:
 
 
 def reading_text(
-    result: Reading, predicted: Optional[float], is_change: bool, is_adjusted: bool, suspicions: "list[str]"
+    result: TrialResult, predicted: Optional[float], is_change: bool, is_adjusted: bool, suspicions: "list[str]"
 ) -> str:
     what = ("change since before, KiB" if is_change else "resident set, KiB") + ", at the same requests" * is_adjusted
     head = ("Program", "machines", f"control: {what}", "tuned", "saving, KiB", f"{100 * result.level:g}% interval")
@@ -172,7 +172,7 @@ def reading_text(
     return "".join(lines) + alert_text(suspicions)
 
 
-def describe_reading(result: Reading, predicted: Optional[float], is_adjusted: bool, suspicions: "list[str]") -> dict:
+def describe_reading(result: TrialResult, predicted: Optional[float], is_adjusted: bool, suspicions: "list[str]") -> dict:
     """All of it, as JSON has it."""
     return {
         "is_adjusted": is_adjusted, "level_percent": 100 * result.level, "control_kib": result.mean,
