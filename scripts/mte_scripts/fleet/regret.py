@@ -83,7 +83,8 @@ def percent_above(cost: int, bound: int) -> float:
 def regret_of(load: loads.Load, bound: bounds.Bound, classes: list) -> Regret:
     """A table beside the bound of a load."""
     cost = load.cost(classes)
-    return Regret(load, bound, cost, None if cost is None else percent_above(cost, bound.amount), load.unserved_size(classes))
+    above = None if cost is None else percent_above(cost, bound.amount)
+    return Regret(load, bound, cost, above, load.unserved_size(classes))
 
 
 def percent_of(classes: list, among: bounds.TableLimits) -> resampling.Percent:

@@ -154,7 +154,7 @@ def share_text(shares: Difference) -> str:
     return f"{mean:.2f}% (from {low:.2f} to {high:.2f}%)"
 
 
-def reading_text(
+def result_text(
     result: TrialResult, predicted: Optional[float], is_change: bool, is_adjusted: bool, suspicions: "list[str]"
 ) -> str:
     what = ("change since before, KiB" if is_change else "resident set, KiB") + ", at the same requests" * is_adjusted
@@ -172,7 +172,9 @@ def reading_text(
     return "".join(lines) + alert_text(suspicions)
 
 
-def describe_reading(result: TrialResult, predicted: Optional[float], is_adjusted: bool, suspicions: "list[str]") -> dict:
+def describe_result(
+    result: TrialResult, predicted: Optional[float], is_adjusted: bool, suspicions: "list[str]"
+) -> dict:
     """All of it, as JSON has it."""
     return {
         "is_adjusted": is_adjusted, "level_percent": 100 * result.level, "control_kib": result.mean,
@@ -293,8 +295,8 @@ def read_result(words: "list[str]") -> int:
         raise Refusal(2, "the result has no machine in the groups control and tuned")
     result = read_difference(adjust_requests(values) if given.adjust else values, given.level / 100)
     predicted, said = None if given.predicted is None else given.predicted / 100, [*missing, *found.all_lines()]
-    json_of = lambda: json_text(describe_reading(result, predicted, given.adjust, said))
-    text_of = lambda: reading_text(result, predicted, bool(values.before), given.adjust, said)
+    json_of = lambda: json_text(describe_result(result, predicted, given.adjust, said))
+    text_of = lambda: result_text(result, predicted, bool(values.before), given.adjust, said)
     text_files.write(json_of() if given.json else text_of())
     return 0 if result.is_saving else 1
 
