@@ -118,9 +118,7 @@ def name_machines(machines: set) -> str:
 def find_drifts(found: "list[tuple[rows.Key, PackedLoad]]", given: argparse.Namespace) -> "list[Drift]":
     """The table beside the bounds of the day."""
     percent = regret.percent_of(certificate_texts.class_line(given.table), bounds.table_limits(given))
-    of_days: "dict[tuple[str, str], list]" = {}
-    for key, record in found:
-        of_days.setdefault((key.program, key.day), []).append((rows.host_of(key.machine), record))
+    of_days = rows.group_pairs(((key.program, key.day), (rows.host_of(key.machine), record)) for key, record in found)
     made = []
     for program in sorted(name for name, day in of_days if day == given.day):
         for load in loads.loads_of_records(program, given.day, [own for _, own in of_days[program, given.day]]):

@@ -27,7 +27,7 @@ PAIR = rb"(?:[0-9]{1,5}|large)\t[1-9][0-9]{0,17}"
 RUN = re.compile(
     rb"((?:[^\t\n]{1,800}\t){3}[0-9-]{10}\t(?:[0-9]{1,18}\t)?[0-9]{1,10}\t[0-9]{1,4}\t)(%(p)s)\n((?:\1%(p)s\n)*)" % {b"p": PAIR}
 )
-KNOWN = 1 << 12  # heads of rows, and columns of sizes, that are read once
+KNOWN = 1 << 12  # heads of rows, and 16 times the columns of sizes, that are read once
 LONG_LINE = 5_000  # bytes of a line: no row has so many
 
 
@@ -101,6 +101,16 @@ def size_of(word: bytes) -> int:
     return LARGE if word == b"large" else int(word)
 
 
+@functools.lru_cache(KNOWN // 16)
+def pack_column(words: tuple) -> "Optional[list[tuple[int, int, bytes]]]":
+    """Sizes in pieces that are in order, with their begin and end, as they are packed; None if not all are in range."""
+    sizes = [*map(size_of, words)]
+    if max(sizes) > LARGE:
+        return None
+    ends = [*(at for at in range(1, len(sizes)) if sizes[at] <= sizes[at - 1]), len(sizes)]
+    return [(first, last, pack_sizes(sizes[first:last])) for first, last in zip([0, *ends], ends)]
+
+
 class Store:
     """The loads of all files that it has read, and their suspicions."""
 
@@ -109,7 +119,6 @@ class Store:
         self.loads: "dict[bytes, list[PackedLoad]]" = {}  # of a key; more than one only of one number
         self.older: "set[tuple[bytes, int]]" = set()
         self.waiting: "dict[bytes, bytearray]" = {}  # by the first fields of their rows
-        self.columns: "dict[tuple, Optional[list]]" = {}
         self.is_resolved = False
 
     def read_files(self, paths: "Iterable[str]") -> None:
@@ -158,7 +167,7 @@ class Store:
 
     def add_pairs(self, begin: bytes, words: "list[bytes]") -> int:
         """The same of rows with these first fields, and these sizes and counts."""
-        fields, pieces, counts = read_head(begin), self.pack_column(tuple(words[::2])), words[1::2]
+        fields, pieces, counts = read_head(begin), pack_column(tuple(words[::2])), words[1::2]
         if fields is None or pieces is None:
             return 0
         for first, last, sizes in pieces:
@@ -185,18 +194,6 @@ class Store:
             words = bytes(self.waiting.pop(begin)).split()
             order = sorted(range(0, len(words), 2), key=lambda at: size_of(words[at]))
             self.add_pairs(begin, [word for at in order for word in words[at : at + 2]])
-
-    def pack_column(self, words: tuple) -> "Optional[list[tuple[int, int, bytes]]]":
-        """Sizes in pieces that are in order, each with its begin and end, as they are packed; None if not all are in range."""
-        if words not in self.columns:
-            sizes = [*map(size_of, words)]
-            ends = [*(at for at in range(1, len(sizes)) if sizes[at] <= sizes[at - 1]), len(sizes)]
-            if len(self.columns) == KNOWN // 16:
-                self.columns.clear()
-            pieces = zip([0, *ends], ends)
-            is_in_range = max(sizes) <= LARGE
-            self.columns[words] = [(*each, pack_sizes(sizes[slice(*each)])) for each in pieces] if is_in_range else None
-        return self.columns[words]
 
     def add_part(self, key: bytes, number: int, weight: int, moment: int, sizes: bytes, counts: bytes) -> None:
         """Rows of one load in the order of their sizes."""

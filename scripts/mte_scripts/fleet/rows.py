@@ -5,7 +5,7 @@ import datetime
 import re
 import time
 from collections.abc import Iterable
-from typing import NamedTuple
+from typing import Any, NamedTuple
 
 from mte_scripts import count_texts
 from mte_scripts.entry_point import Refusal
@@ -116,12 +116,17 @@ def text_of(key: Key, load: int, weight: int, moments: dict) -> str:
     return "".join(lines)
 
 
+def group_pairs(pairs: Iterable[tuple]) -> "dict[Any, list]":
+    """The values of each key."""
+    groups: "dict[Any, list]" = {}
+    for key, value in pairs:
+        groups.setdefault(key, []).append(value)
+    return groups
+
+
 def group_records(found: Iterable[tuple], by: Iterable[str]) -> "list[tuple]":
     """Of keys with their records: the records by the values of these columns, in the order of the values."""
-    groups: dict[tuple, list] = {}
-    for key, record in found:
-        groups.setdefault(tuple(getattr(key, column) for column in by), []).append(record)
-    return sorted(groups.items())
+    return sorted(group_pairs((tuple(getattr(key, column) for column in by), record) for key, record in found).items())
 
 
 def sum_profiles(records: "Iterable[tuple[int, dict]]") -> dict:

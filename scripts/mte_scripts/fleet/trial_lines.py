@@ -58,9 +58,7 @@ def read_lines(path: str, found: Suspicions) -> "list[Line]":
     """The lines that can count: of two of a machine, a group and a day the last one."""
     given = read_fields(path, {len(COLUMNS): ", ".join(COLUMNS)}, found)
     lines = [*found.keep_good(path, ((*each[:2], each) for each in given), parse_line)]
-    by_program: "dict[str, list[float]]" = {}
-    for line in lines:
-        by_program.setdefault(line.key[0], []).append(line.amounts[0])
+    by_program = rows.group_pairs((line.key[0], line.amounts[0]) for line in lines)
     medians = {program: statistics.median(values) for program, values in by_program.items()}
     lines = [*found.keep_good(path, ((line.at, line.text, (line, medians[line.key[0]])) for line in lines), check_unit)]
     last = {line[:3]: line for line in lines}
@@ -79,10 +77,8 @@ def read_values(path: str, found: Suspicions, groups: "Optional[str]" = None) ->
     be said of lines that did not come. GROUPS is the file of those that were assigned."""
     assigned = read_groups(groups, found) if groups else {}
     lines = read_lines(path, found)
-    in_groups: "dict[Machine, set[str]]" = {}
-    for line in lines:
-        in_groups.setdefault(line.key, set()).add(line.group)
-    is_in_both = {key: len(own - {BEFORE}) > 1 for key, own in in_groups.items()}
+    in_groups = rows.group_pairs((line.key, line.group) for line in lines)
+    is_in_both = {key: len({*own} - {BEFORE}) > 1 for key, own in in_groups.items()}
     checked = ((line.at, line.text, (line, assigned.get(line.key, ""), is_in_both[line.key])) for line in lines)
     kept = [*found.keep_good(path, checked, check_group)]
     if not kept:

@@ -8,6 +8,7 @@ since no class is below two granules. So each class of a table there is a pool, 
 Several runs are one text: each but the last is ended by the frees of its live blocks. So at each moment the blocks of one run are live, and
 the most of a class over all is the most in any run."""
 
+import functools
 from bisect import bisect_left
 from collections import Counter
 from collections.abc import Callable, Iterable, Iterator
@@ -57,7 +58,6 @@ class Timeline:
         self.events = set().union(*events_of(self.data))
         self.sizes = {int(event) for event in self.events if event.isdigit()}
         self.has_large = b"large" in self.events
-        self.counted: dict[tuple[int, ...], list[int]] = {}
 
     def text(self) -> bytes:
         """All of it, to put runs in an order that does not depend on how they are given."""
@@ -68,12 +68,12 @@ class Timeline:
         return ""
 
     def most(self, holds: list[int]) -> list[int]:
-        """The most blocks live at once of each pool, whose largest requests ascend; the last number is of what no pool holds."""
-        if tuple(holds) not in self.counted:
-            self.counted[tuple(holds)] = self.count_peaks(holds)
-        return self.counted[tuple(holds)]
+        """The most blocks live at once of each pool, whose largest requests ascend; the last number is of what no pool
+        holds."""
+        return self.count_peaks(tuple(holds))
 
-    def count_peaks(self, holds: list[int]) -> list[int]:
+    @functools.lru_cache(maxsize=None)
+    def count_peaks(self, holds: tuple[int, ...]) -> list[int]:
         """The same, counted."""
         places = {}
         for event in self.events:
