@@ -52,8 +52,11 @@ class PackedLoad(NamedTuple):
     def unpack(self) -> "tuple[int, dict[int, dict]]":
         """Its weight, and at each moment the count of each size."""
         moments: "dict[int, dict]" = {}
-        for (moment, size), count in self.cells().items():
-            moments.setdefault(moment, {})["large" if size == LARGE else size] = count
+        for part in self.parts:
+            counts = moments.setdefault(part.moment, {})
+            counts.update(part.pairs())
+            if LARGE in counts:
+                counts["large"] = counts.pop(LARGE)
         return self.weight, moments
 
     def cells(self) -> "dict[tuple[int, int], int]":
