@@ -7,6 +7,8 @@ import datetime
 import random
 from collections.abc import Iterable
 
+from checks import expect
+
 HOSTS = 200
 PROGRAMS = ("cache", "index", "mail", "proxy", "search")
 DRIFTS = "search"  # from the third week on its strings are longer
@@ -56,10 +58,10 @@ class Month:
         self.true: "dict[tuple[str, str], dict[int, int]]" = {}
         self.wrong_days = self.again = 0
         for day in DAYS:
-            lines = [line for host in range(HOSTS) for line in self.sent(host, day)]
+            lines = [line for host in range(HOSTS) for line in self.rows_sent(host, day)]
             self.files[day].insert(0, "".join(lines))
 
-    def sent(self, host: int, day: str) -> "Iterable[str]":
+    def rows_sent(self, host: int, day: str) -> "Iterable[str]":
         """What a host sends for a day into its file; more of it may come later."""
         if host in SILENT and day >= SILENT_DAY:
             return
@@ -73,9 +75,9 @@ class Month:
         sums = self.true.setdefault((program_of(host), day), {})
         for size, count in counts.items():
             sums[size] = sums.get(size, 0) + (1 + host % 3) * count
-        yield from self.delivered(host, day, counts, whole)
+        yield from self.rows_delivered(host, day, counts, whole)
 
-    def delivered(self, host: int, day: str, counts: "dict[int, int]", whole: "list[str]") -> "Iterable[str]":
+    def rows_delivered(self, host: int, day: str, counts: "dict[int, int]", whole: "list[str]") -> "Iterable[str]":
         """The rows of a load that counts, with what else comes of it."""
         what = (host + 3 * DAYS.index(day)) % 23
         late = self.files[[*DAYS, *AFTER][DAYS.index(day) + 3]]
@@ -111,6 +113,13 @@ class Month:
             f"{program}/{day}.profile": "".join(f"{size} {counts[size]}\n" for size in sorted(counts))
             for (program, day), counts in self.true.items()
         }
+
+    def expect_profiles(self, what: str, got: "dict[str, str]") -> None:
+        """Compares the files of each program and day."""
+        wanted = self.profiles()
+        wrong = [name for name in wanted if got.get(name) != wanted[name]]
+        is_whole = len(wanted) == 140 and got.keys() == wanted.keys()
+        expect(f"{what}: {len(wanted)} program-days", is_whole and not wrong, wrong)
 
     def turns(self, days: int) -> "Iterable[str]":
         """What came on so many days together, again and again."""

@@ -13,7 +13,7 @@ from checks import expect
 from claims_cases import BOUND, CASES, CLAIM, COST, footprint, history_text, lowest, small, small_timeline, waste
 from mte_scripts import count_texts
 from mte_scripts.entry_point import Refusal
-from mte_scripts.fleet import bounds, common, loads, regret
+from mte_scripts.fleet import bounds, common_table, loads, regret
 from mte_scripts.formats import MOST_COUNT
 
 ABOVE = re.compile(r"\"app\" (?:wastes|takes) ([\d,]+) bytes?[;,].*? at most (-?[\d,.]+)% above that\.")
@@ -29,11 +29,11 @@ def machines(chosen):
     if not any(size > 0 for _, history in found for size in history):
         found.append((1, {1: [1]}))
 
-    def taken(table, given):
+    def cost_of(table, given):
         each = [footprint(table, history) for _, history in given]
         return None if None in each else sum(weight * cost for (weight, _), cost in zip(given, each))
 
-    return found, taken
+    return found, cost_of
 
 
 def fleet_loads(chosen):
@@ -42,13 +42,13 @@ def fleet_loads(chosen):
     yield loads.Load("it", "profile", profile), profile, waste
     many = {size: times * 10**9 + chosen.randrange(10**9) for size, times in profile.items()}
     yield loads.Load("it", "profile", many), many, waste
-    yield loads.of_text(history_text(history).encode(), "it"), history, footprint
+    yield loads.load_of_text(history_text(history).encode(), "it"), history, footprint
     text, history = small_timeline(chosen)
     if any(history):
-        yield loads.of_text(text.encode(), "it"), history, footprint
-    found, taken = machines(chosen)
+        yield loads.load_of_text(text.encode(), "it"), history, footprint
+    found, cost_of = machines(chosen)
     members = [loads.Member(weight, count_texts.History(len(next(iter(history.values()))), history)) for weight, history in found]
-    yield loads.Load("it", "histories", members=members), found, taken
+    yield loads.Load("it", "histories", members=members), found, cost_of
 
 
 def near_tables(classes, given, step):
@@ -69,7 +69,7 @@ class Tables(claims_cases.WithProgram):
             among = bounds.TableLimits(limit, step, with_forced)
             for load, given, cost in fleet_loads(chosen):
                 table = sorted({step * chosen.randrange(2, 40) for _ in range(chosen.randrange(1, limit + 1))} | {1024})
-                found = regret.regret_of(load, bounds.bound_of(load, among), table[-limit:])
+                found = regret.regret_of(load, bounds.bound_load(load, among), table[-limit:])
                 said, what = found.sentences("app"), f"{load.kind}, limit {limit}, step {step}, {'forced' if with_forced else 'not forced'}"
                 match = CLAIM.search(said)
                 if not expect(f"{what}: no claim in `{said}`", match):
@@ -83,7 +83,7 @@ class Tables(claims_cases.WithProgram):
                 expect(f"{what}: `{match[0]}`, and {least} is the least, on {given}", bound <= least and int(match[1]) == limit)
                 exact, told = exact + (bound == least), told + 1
                 own = cost(table[-limit:], given)
-                expect(f"{what}: the table costs {own}, not {found.own}", own == found.own)
+                expect(f"{what}: the table costs {own}, not {found.cost}", load.fixed + own == found.cost)
                 above = ABOVE.search(said)
                 if own < least:
                     expect(f"{what}: it is below: `{said}`", not above and ("costs less" in said or own >= bound))
@@ -101,14 +101,14 @@ class Tables(claims_cases.WithProgram):
             pairs = [(load, given, cost) for load, given, cost in [*fleet_loads(chosen), *fleet_loads(chosen)] if (load.kind == "profile") == is_profile]
             pairs = [pair for pair in pairs if max(pair[0].counts.values(), default=0) < 10**9][: chosen.randrange(1, 4)]
             given = [load for load, _, _ in pairs]
-            own = [bounds.bound_of(load, among) for load in given]
+            own = [bounds.bound_load(load, among) for load in given]
             what = f"{[load.kind for load in given]}, limit {limit}, step {step}, {'forced' if with_forced else 'not forced'}"
             try:
-                made = common.common_table(given, own, among)
+                made = common_table.Search(given, own, among).find_table()
             except Refusal as refused:
                 expect(f"{what}: {refused.text}", limit == 1)
                 continue
-            said = common.sentence(made, given)
+            said = common_table.worst_sentence(made, given)
             match, claim = WORST.search(said), CLAIM.search(said)
             if not expect(f"{what}: no claim in `{said}`", match and claim and int(claim[1]) == limit and int(claim[2]) == 16 * step):
                 continue
@@ -122,7 +122,7 @@ class Tables(claims_cases.WithProgram):
             expect(f"{what}: `{match[0]}`, and {least} is the least", float(match[1].replace(",", "")) <= 100 * (least - 1) + 1e-6)
             expect(f"{what}: the table's worst is {own_worst}, not {made.worst}", abs(own_worst - made.worst) < 1e-9)
             expect(f"{what}: `{said}`, and {own_worst} is not {least}", not match[2] or own_worst <= least + 1e-9)
-            expect(f"{what}: its own worst is not in `{said}`", match[2] or f"its worst is {common.percent_of(made.worst, True):,.2f}%" in said)
+            expect(f"{what}: its own worst is not in `{said}`", match[2] or f"its worst is {common_table.round_percent(made.worst, True):,.2f}%" in said)
             exact, cases = exact + bool(match[2]), cases + 1
             better = [table for table in near_tables(made.classes, given, step) if (other := worst(table, None)) is not None and other < own_worst - 1e-9]
             expect(f"{what}: a table with one class moved has a lower worst", not better, made.classes, better)
@@ -136,8 +136,8 @@ class Tables(claims_cases.WithProgram):
             among = bounds.TableLimits(limit, step, False)
             profiles = [{chosen.randrange(1, 600): chosen.randrange(1, 50) for _ in range(14)} for _ in range(chosen.randrange(2, 4))]
             given = [loads.Load(f"load {at}", "profile", counts) for at, counts in enumerate(profiles)]
-            own = [bounds.bound_of(load, among) for load in given]
-            made = common.common_table(given, own, among)
+            own = [bounds.bound_load(load, among) for load in given]
+            made = common_table.Search(given, own, among).find_table()
 
             def worst(table):
                 costs = [waste(table, counts) for counts in profiles]

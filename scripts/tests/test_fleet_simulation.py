@@ -105,9 +105,9 @@ class Fleet:
         done = subprocess.run(recorder, input=given.encode(), stdout=subprocess.PIPE, stderr=subprocess.DEVNULL, check=True, timeout=300)
         history = count_texts.parse_history(done.stdout)
         moments = {at + 1: {size: row[at] for size, row in history.counts.items()} for at in range(history.snapshots)}
-        return rows.text_of(rows.Key(program, "1", f"m{machine}", day), rows.Record(SAMPLE, moments, 1))
+        return rows.text_of(rows.Key(program, "1", f"m{machine}", day), 1, SAMPLE, moments)
 
-    def sampled(self, day):
+    def sample_day(self, day):
         """The rows of a day's sample."""
         with concurrent.futures.ThreadPoolExecutor(TOGETHER) as pool:
             chosen = [(PROGRAMS[at % 3], day, at) for at in range(MACHINES) if is_sampled(day, at)]
@@ -185,7 +185,7 @@ class Simulation(checks.Part):
         fleet = Fleet(self.folder(), scudo_of(work))
         default = os.path.join(ROOT, "examples/scudo.classes")
         tables = {name: os.path.join(fleet.work, f"{name}.classes") for name in ("first", "second")}
-        before = fleet.sampled(FIRST)
+        before = fleet.sample_day(FIRST)
         print(command("fleet_table", "--output", tables["first"], "-", given=before)[0], flush=True)
         fleet.build("first", certificate_texts.class_line(tables["first"]))
 
@@ -207,7 +207,7 @@ class Simulation(checks.Part):
                 pilot = re.sub(r"\t(control|tuned)\t", "\tbefore\t", fleet.day(day, {"control": "first", "tuned": "first"}))
             else:
                 lines[2] += fleet.day(day, {"control": "first", "tuned": "second"})
-            sample = fleet.sampled(day)
+            sample = fleet.sample_day(day)
             found = [regret_of(tables[name], sample) for name in in_use]
             percents = [f"{each['above_percent']:.2f}%" for each in found[0]["loads"]]
             new = [f"{each['above_percent']:.2f}%" for each in found[1]["loads"]] if len(found) > 1 else [""] * len(PROGRAMS)

@@ -104,6 +104,13 @@ def all_sets(runs, unit, overhead, limit):
     return itertools.chain.from_iterable(itertools.combinations(blocks, many) for many in range(1, limit + 1))
 
 
+def least_bytes(*given):
+    """The least that pools of runs take, by their unit, overhead and limit."""
+    runs, unit, overhead, _ = given
+    takes = (bytes_of(runs, blocks, unit, overhead) for blocks in all_sets(*given))
+    return min(each for each in takes if each is not None)
+
+
 # ---- the trials
 
 
@@ -183,12 +190,12 @@ def with_text(text):
     with tempfile.NamedTemporaryFile("w", suffix=".pools") as file:
         file.write(text)
         file.flush()
-        return pool_sets.read(file.name)
+        return pool_sets.read_pools(file.name)
 
 
 def try_verdict(trial, rng, given, found, what):
     """What was found is right for its runs; spoiled it is refused, unless it says the same."""
-    text = pool_sets.text_of(found)
+    text = found.text()
     verdict = pool_sets.judge_pools(with_text(text), given)
     is_right = not verdict.why and verdict.claim.holds and found.given.bytes_of(verdict.claim.cost, found.block) == found.bytes
     trial.expect(is_right, f"{what}: {text!r} is refused: {verdict.why}")
@@ -211,10 +218,10 @@ def try_verdict(trial, rng, given, found, what):
         runs = [run.data.decode().split("\n")[1:-1] for run in given]
         shape = (spoiled.block.unit, spoiled.block.overhead)
         limit = int(next(line for line in other if line.startswith("limit ")).split()[1])
-        takes = [bytes_of(runs, blocks, *shape) for blocks in all_sets(runs, *shape, limit)]
-        least = min(each for each in takes if each is not None)
-        trial.expect(spoiled.bytes == least, f"{what}: {other} is taken for right, and some pools take {least}")
-        trial.expect(not any(refused_requests(run, dict(spoiled.pools), *shape) for run in runs), f"{what}: {other} is taken for right, and refuses a request")
+        least, accepted = least_bytes(runs, *shape, limit), f"{what}: {other} is taken for right"
+        trial.expect(spoiled.bytes == least, f"{accepted}, and some pools take {least}")
+        is_served = not any(refused_requests(run, dict(spoiled.pools), *shape) for run in runs)
+        trial.expect(is_served, f"{accepted}, and refuses a request")
 
 
 def part_of(seed, whole, part, parts):
@@ -238,13 +245,12 @@ def of_histories(trial, rng):
         given = [pool_runs.History(f"{at}.history", each) for at, each in enumerate(histories)]
         # a snapshot is the run of its requests
         runs = [[str(size) for size, its in each.counts.items() for _ in range(its[at])] for each in histories for at in range(3)]
-        takes = [bytes_of(runs, blocks, unit, overhead) for blocks in all_sets(runs, unit, overhead, limit)]
         found = pool_sets.find_pools(given, pool_runs.Block(unit, overhead), limit)
         what = f"--limit {limit} --unit {unit} --overhead {overhead} of {histories}"
-        trial.expect(found.bytes == min(each for each in takes if each is not None), f"{what}: {found.pools}")
+        trial.expect(found.bytes == least_bytes(runs, unit, overhead, limit), f"{what}: {found.pools}")
         trial.expect(not any(refused_requests(run, dict(found.pools), unit, overhead) for run in runs), f"{what}: {found.pools} refuse a request")
         trial.expect(
-            not pool_sets.judge_pools(with_text(pool_sets.text_of(found)), given).why, f"{what}: they are refused"
+            not pool_sets.judge_pools(with_text(found.text()), given).why, f"{what}: they are refused"
         )
 
 
@@ -253,17 +259,16 @@ def of_histories(trial, rng):
 
 def run(words, status, says=(), given=None, folder=None, both=False):
     """Runs the script; what it prints, and with BOTH what it says on standard error too."""
+    words = words.split() if isinstance(words, str) else words
     done = subprocess.run([SCRIPT, *words], input=given, capture_output=True, text=True, cwd=folder, timeout=120)
     shown = f"{words}: status {done.returncode}: {done.stdout[-900:]} {done.stderr[-600:]}"
-    TRIAL.expect(done.returncode == status, f"{shown}, and not {status}")
+    expect(f"{shown}, and not {status}", done.returncode == status and "not foreseen" not in done.stderr)
     said = done.stdout + done.stderr
-    for text in says:  # a long name of a folder may break a line elsewhere
-        TRIAL.expect(text in said or text in " ".join(said.split()), f"{shown}: it does not say `{text}`")
-    TRIAL.expect("not foreseen" not in done.stderr, shown)
+    for text in [says] if isinstance(says, str) else says:  # a long name of a folder may break a line elsewhere
+        expect(f"{shown}: it does not say `{text}`", text in said or text in " ".join(said.split()))
     return said if both else done.stdout
 
 
-TRIAL = Trial()
 LEFT = "timeline\n24\n100\n24\n-24\n60\n"  # its blocks are live at the end
 OTHER = "timeline\n60\n60\n60\n-60\n-60\n-60\n8\n"
 
@@ -275,148 +280,177 @@ def write(folder, name, text):
     return path
 
 
+def cells_in(made):
+    return [line.split() for line in made.split("\n")]
+
+
 def words_and_files(work):
     """What the script prints of runs, and what it refuses."""
-    one, other = write(work, "one.timeline", LEFT), write(work, "other.timeline", OTHER)
-    shown = run(["--help"], 0, ["Usage: ", "Exit status:", "What is proved: "])
-    TRIAL.expect(max(map(len, shown.split("\n"))) <= 132, "--help: a line has more than 132 columns")
-    made = run(["--limit", "2", "--unit", "4", "one.timeline", "other.timeline"], 0, ["Needed by"], folder=work)
+    one, _ = write(work, "one.timeline", LEFT), write(work, "other.timeline", OTHER)
+    shown = run("--help", 0, ["Usage: ", "Exit status:", "What is proved: "])
+    expect("--help: a line has more than 132 columns", max(map(len, shown.split("\n"))) <= 132)
+    wanted = ["Needed by", "none takes less than 280 bytes"]
+    made = run("--limit 2 --unit 4 one.timeline other.timeline", 0, wanted, folder=work)
     # 24 twice and 100 in the one, 60 three times in the other: by hand
-    rows = [line.split() for line in made.split("\n")]
-    TRIAL.expect(["60", "60", "3", "180", "other.timeline"] in rows and ["100", "100", "1", "100", "one.timeline"] in rows, made)
-    TRIAL.expect("none takes less than 280 bytes" in " ".join(made.split()), made)
-    run(["--limit", "1", "--unit", "4", one, one], 0, ["one.timeline and 1 more"])
-    run(["--limit=2", "--unit=4", "--", one], 0, ["none takes less than 220 bytes"])
-    run(["--limit", "2", "-"], 0, ["standard input"], given=LEFT)
+    for row in (["60", "60", "3", "180", "other.timeline"], ["100", "100", "1", "100", "one.timeline"]):
+        expect(made, row in cells_in(made))
+    run(f"--limit 1 --unit 4 {one} {one}", 0, "one.timeline and 1 more")
+    run(f"--limit=2 --unit=4 -- {one}", 0, "none takes less than 220 bytes")
+    run("--limit 2 -", 0, "standard input", given=LEFT)
     # today's pools, by hand: 24 takes 32, 60 and 100 take 128
-    made = run(["--limit", "3", "--today", "32x1,128x9", one], 0, ["Today's pools take 1,184 bytes", "short of blocks: those of 32 by 1"])
-    TRIAL.expect(["32", "1", "2", "32"] in [line.split() for line in made.split("\n")], made)
-    run(["--limit", "3", "--today", "32x2", one], 0, ["no block for a request of 60 bytes"])
+    today = ["Today's pools take 1,184 bytes", "short of blocks: those of 32 by 1"]
+    made = run(f"--limit 3 --today 32x1,128x9 {one}", 0, today)
+    expect(made, ["32", "1", "2", "32"] in cells_in(made))
+    run(f"--limit 3 --today 32x2 {one}", 0, "no block for a request of 60 bytes")
     # a reserve is rounded up for each pool: three blocks of 60 for two, and two of 100 for one
-    run(["--limit", "2", "--unit", "4", "--reserve", "10", one], 0, ["With reserve", "With a reserve of 10% they take 380 bytes, 160 more."])
-    made = run(["--limit", "3", "--unit", "4", "--each", one], 0, ["holds of each number"])
+    reserve = ["With reserve", "With a reserve of 10% they take 380 bytes, 160 more."]
+    run(f"--limit 2 --unit 4 --reserve 10 {one}", 0, reserve)
+    made = run(f"--limit 3 --unit 4 --each {one}", 0, "holds of each number")
     # one pool of 100 for three blocks; 60 and 100; 24, 60 and 100: by hand
-    TRIAL.expect([line.split() for line in made.split("\n")[1:4]] == [["1", "300"], ["2", "220"], ["3", "208"]], made)
+    expect(made, cells_in(made)[1:4] == [["1", "300"], ["2", "220"], ["3", "208"]])
     large = write(work, "large.timeline", LEFT + "large\n-large\n")
-    run(["--limit", "2", large], 0, [f"more than {LARGEST_SIZE:,} bytes, which have no pool"])
+    run(f"--limit 2 {large}", 0, f"more than {LARGEST_SIZE:,} bytes, which have no pool")
     history = write(work, "app.history", "snapshots 2\n24 2 1\n60 0 3\n")
-    run(["--limit", "2", history], 0, ["sampled"])
-    run(["--limit", "2", "--as", "c", history], 0, ["sampled"])
-    run(["--limit", "2", history, one], 2, ["timelines alone, or histories alone"])
-    what_is_refused(one, work)
+    run(f"--limit 2 {history}", 0, "sampled")
+    run(f"--limit 2 --as c {history}", 0, "sampled")
+    run(f"--limit 2 {history} {one}", 2, "timelines alone, or histories alone")
+    refused_words(one)
+    refused_texts(one, work)
 
 
-def what_is_refused(one, work):
-    """What is refused of words, texts, units and files."""
+def refused_words(one):
     for words, says in (
-        ([], "name a timeline"), ([one], "--limit K is wanted"), (["--limit", "0", one], "from 1 to 32"), (["--limit", "33", one], "from 1 to 32"),
-        (["--limit", "2", "--each", "--as", "c", one], "alone"), (["--limit"], "takes a value"), (["--wrong"], "no option"),
-        (["--limit", "2", "--unit", "12", one], "4, 8, 16 or 32"),
-        (["--limit", "2", "--overhead", "-1", one], "from 0 to"), (["--limit", "2", "--today", "8", one], "128x156"),
-        (["--limit", "2", "--today", "8x1,8x2", one], "twice"), (["--limit", "2", "--as", "ada", one], "takes c,"),
-        (["--limit", "2", "--name", "1", one], "name in C"), (["--limit", "2", "-", "-"], "once"), (["--units=1", one], "takes no value"),
-        (["--limit", "2", "--reserve", "1001", one], "from 0 to 1000"), (["--check", "p", "--as", "c", one], "no place"),
-        (["--read", "p", one], "by --as FORM"), (["--read", "p", "--as", "c", one], "by --as FORM"), (["--limit", "2", "nowhere"], "No such file"),
+        ("", "name a timeline"), (one, "--limit K is wanted"), (f"--limit 0 {one}", "from 1 to 32"),
+        (f"--limit 33 {one}", "from 1 to 32"), (f"--limit 2 --each --as c {one}", "alone"),
+        ("--limit", "takes a value"), ("--wrong", "no option"), (f"--limit 2 --unit 12 {one}", "4, 8, 16 or 32"),
+        (f"--limit 2 --overhead -1 {one}", "from 0 to"), (f"--limit 2 --today 8 {one}", "128x156"),
+        (f"--limit 2 --today 8x1,8x2 {one}", "twice"), (f"--limit 2 --as ada {one}", "takes c,"),
+        (f"--limit 2 --name 1 {one}", "name in C"), ("--limit 2 - -", "once"), (f"--units=1 {one}", "takes no value"),
+        (f"--limit 2 --reserve 1001 {one}", "from 0 to 1000"), (f"--check p --as c {one}", "no place"),
+        (f"--read p {one}", "by --as FORM"), (f"--read p --as c {one}", "by --as FORM"),
+        ("--limit 2 nowhere", "No such file"),
     ):
-        run(words, 2, [says])
+        run(words, 2, says)
+
+
+def refused_texts(one, work):
+    """What is refused of texts, units and files."""
     for text, status, says in (
-        ("", 2, "is empty"), ("timeline\n", 3, "no request"), ("timeline\nlarge\n", 3, "no request"), ("timeline\n-8\n", 2, "line 2: a free"),
-        ("timeline\n8\n-9\n", 2, "line 3: a free"), ("timeline\n08\n", 2, "line 2: a line of the timeline"), ("timeline\n8\n\n8\n", 2, "line 3:"),
-        ("timeline\r\n8\r\n", 2, "CRLF"), ("timeline\n8\r\n", 2, "CRLF"), ("\ufefftimeline\n8\n", 2, "BOM"), ("16 4\n", 2, "a profile"),
-        ("malloc 1 16\n", 2, "`timeline`"), ("timeline 8\n8\n", 2, "`timeline`"), ("snapshots 2\n8 1\n", 2, "2 counts"),
-        ("snapshots 1\n", 3, "no request"), ("timeline\n16369\n", 2, "line 2:"),
+        ("", 2, "is empty"), ("timeline\n", 3, "no request"), ("timeline\nlarge\n", 3, "no request"),
+        ("timeline\n-8\n", 2, "line 2: a free"), ("timeline\n8\n-9\n", 2, "line 3: a free"),
+        ("timeline\n08\n", 2, "line 2: a line of the timeline"), ("timeline\n8\n\n8\n", 2, "line 3:"),
+        ("timeline\r\n8\r\n", 2, "CRLF"), ("timeline\n8\r\n", 2, "CRLF"), ("\ufefftimeline\n8\n", 2, "BOM"),
+        ("16 4\n", 2, "a profile"), ("malloc 1 16\n", 2, "`timeline`"), ("timeline 8\n8\n", 2, "`timeline`"),
+        ("snapshots 2\n8 1\n", 2, "2 counts"), ("snapshots 1\n", 3, "no request"), ("timeline\n16369\n", 2, "line 2:"),
     ):
-        run(["--limit", "2", write(work, "given", text)], status, [says])
+        run(["--limit", "2", write(work, "given", text)], status, says)
     # the range of units, and where it ends
+    above = ["takes 1,025 units of 4 bytes, and the limit is 1,024", "take --unit 16"]
+    by_one = ["513 units", "the limit is 512 units where a request takes one unit", "take --unit 8"]
     for unit, text, says in (
-        ("4", "5\n4096", []), ("4", "5\n4097", ["takes 1,025 units of 4 bytes, and the limit is 1,024", "take --unit 16"]), ("4", "4\n2048", []),
-        ("4", "4\n2049", ["513 units", "the limit is 512 units where a request takes one unit", "take --unit 8"]), ("32", f"4\n{LARGEST_SIZE}", []),
+        ("4", "5\n4096", ()), ("4", "5\n4097", above), ("4", "4\n2048", ()), ("4", "4\n2049", by_one),
+        ("32", f"4\n{LARGEST_SIZE}", ()),
     ):
         run(["--limit", "2", "--unit", unit, write(work, "wide", f"timeline\n{text}\n")], 2 if says else 0, says)
-    run(["--limit", "2", "--unit", "32", "--overhead", "17", os.path.join(work, "wide")], 2, ["memory of their own"])
-    run(["--limit", "2", "--unit", "32", "--overhead", "16", os.path.join(work, "wide")], 0)
+    wide = os.path.join(work, "wide")
+    run(f"--limit 2 --unit 32 --overhead 17 {wide}", 2, "memory of their own")
+    run(f"--limit 2 --unit 32 --overhead 16 {wide}", 0)
     many = write(work, "many.history", "snapshots 99\n24 " + " ".join(["1"] * 99) + "\n")
-    run(["--limit", "2", *[many] * 11], 2, ["1,089 snapshots"])
+    run(["--limit", "2", *[many] * 11], 2, "1,089 snapshots")
     counted = write(work, "counted.history", "snapshots 1\n17 900000000\n18 900000000\n")
-    run(["--limit", "2", counted], 2, ["1,800,000,000 blocks"])
+    run(f"--limit 2 {counted}", 2, "1,800,000,000 blocks")
     for output in ("/dev/full", work + "/no/folder"):
-        run(["--limit", "2", "--certificate", output, one], 3, ["can't be written"])
+        run(f"--limit 2 --certificate {output} {one}", 3, "can't be written")
 
 
-def try_serve(work, one, other):
+def try_serve(work):
     """--serve says which pools are short for a run, by how much, and which requests have none."""
-    pools = os.path.join(work, "served.pools")
-    base = write(work, "base.timeline", "timeline\n16\n16\n64\n-16\n16\n")
-    run(["--limit", "2", "--certificate", pools, base], 0)
-    out = run(["--serve", pools, base], 0, ["base.timeline is served."])
-    TRIAL.expect([line.split() for line in out.splitlines()[1:3]] == [["16", "2", "2"], ["64", "1", "1"]], f"--serve prints {out}")
-    less = write(work, "less.timeline", "timeline\n8\n-8\n8\n60\n-60\n60\n")
-    run(["--serve", pools, base, less], 0, ["less.timeline is served."])
-    more = write(work, "greater.timeline", "timeline\n16\n12\n9\n64\n40\n")
-    out = run(["--serve", pools, less, more], 1, ["greater.timeline is not served: short are the pools of 16 bytes by 1 and 64 bytes by 1.", "does not serve"], both=True)
-    TRIAL.expect("less.timeline is served." in out, f"--serve prints {out}")
-    run(["--serve", pools, "--reserve", "100", more], 0, ["greater.timeline is served."])
-    run(["--serve", pools, "--reserve", "50", more], 0)
-    wide = write(work, "wide.timeline", "timeline\n65\n")
-    run(["--serve", pools, wide], 1, ["it has requests of more than 64 bytes, for which there is no pool"], both=True)
-    run(["--serve", pools, write(work, "large.timeline", "timeline\n16\nlarge\n")], 1, ["for which there is no pool"], both=True)
-    run(["--serve", pools, write(work, "a.history", "snapshots 2\n16 2 1\n")], 0, ["is served at its 2 snapshots"])
-    run(["--serve", pools, write(work, "b.history", "snapshots 2\n16 2 3\n")], 1, ["of 16 bytes by 1"], both=True)
-    run(["--serve", pools, "--limit", "2", base], 2, ["--limit has no place"])
-    run(["--serve", pools], 2, ["name a timeline"])
+    pools, runs = os.path.join(work, "served.pools"), {}
+    for name, text in {
+        "base.timeline": "timeline\n16\n16\n64\n-16\n16\n", "less.timeline": "timeline\n8\n-8\n8\n60\n-60\n60\n",
+        "greater.timeline": "timeline\n16\n12\n9\n64\n40\n", "wide.timeline": "timeline\n65\n",
+        "large.timeline": "timeline\n16\nlarge\n", "a.history": "snapshots 2\n16 2 1\n",
+        "b.history": "snapshots 2\n16 2 3\n",
+    }.items():
+        runs[name.split(".")[0]] = write(work, name, text)
+    base, less, more = (runs[name] for name in ("base", "less", "greater"))
+    run(f"--limit 2 --certificate {pools} {base}", 0)
+    out = run(f"--serve {pools} {base}", 0, "base.timeline is served.")
+    expect(f"--serve prints {out}", cells_in(out)[1:3] == [["16", "2", "2"], ["64", "1", "1"]])
+    short = "greater.timeline is not served: short are the pools of 16 bytes by 1 and 64 bytes by 1."
+    no_pool = "for which there is no pool"
+    for words, status, says in (
+        (f"{base} {less}", 0, "less.timeline is served."),
+        (f"{less} {more}", 1, [short, "does not serve", "less.timeline is served."]),
+        (f"--reserve 100 {more}", 0, "greater.timeline is served."), (f"--reserve 50 {more}", 0, ()),
+        (runs["wide"], 1, f"it has requests of more than 64 bytes, {no_pool}"), (runs["large"], 1, no_pool),
+        (runs["a"], 0, "is served at its 2 snapshots"), (runs["b"], 1, "of 16 bytes by 1"),
+        (f"--limit 2 {base}", 2, "--limit has no place"), ("", 2, "name a timeline"),
+    ):
+        run(f"--serve {pools} {words}", status, says)
 
 
 def certificates(work):
-    """A certificate is checked by this script and by the program alone; of other runs, or with other options, it is refused."""
+    """A certificate is checked by this script and by the program alone; of other runs, or with other options, it is
+    refused."""
     one, other = write(work, "one.timeline", LEFT), write(work, "other.timeline", OTHER)
-    pools = os.path.join(work, "app.pools")
-    run(["--limit", "2", "--unit", "4", "--overhead", "4", "--certificate", pools, one, other], 0)
-    run(["--check", pools, one, other], 0, ["the pools are 2", "none takes less"])
-    run(["--check", pools, "--limit", "2", "--unit", "4", "--overhead", "4", one, other], 0)
-    for option, value in (("--limit", "3"), ("--unit", "8"), ("--overhead", "0")):
-        run(["--check", pools, option, value, one, other], 1, [f"and not for {option} {value}"])
-    run(["--check", pools, one], 1, ["app.pools: "])
-    run(["--check", pools, one, other, write(work, "more.timeline", "timeline\n100\n100\n")], 1, ["app.pools: "])
+    pools, options = os.path.join(work, "app.pools"), "--limit 2 --unit 4 --overhead 4"
+    more = write(work, "more.timeline", "timeline\n100\n100\n")
+    history = write(work, "one.history", "snapshots 1\n24 2\n")
+    run(f"{options} --certificate {pools} {one} {other}", 0)
+    run(f"--check {pools} {one} {other}", 0, ["the pools are 2", "none takes less"])
+    run(f"--check {pools} {options} {one} {other}", 0)
+    for option in ("--limit 3", "--unit 8", "--overhead 0"):
+        run(f"--check {pools} {option} {one} {other}", 1, f"and not for {option}")
+    run(f"--check {pools} {one}", 1, "app.pools: ")
+    run(f"--check {pools} {one} {other} {more}", 1, "app.pools: ")
+    run(f"--check {pools} {history}", 2, "are of timelines")
     with open(pools) as file:
         text = file.read()
-    run(["--check", write(work, "more.pools", text.replace(" 1\nclasses", " 2\nclasses")), one, other], 1, ["has 2 blocks, and the runs need 1"])
-    run(["--check", write(work, "cut.pools", text[: text.index("classes")]), one, other], 2, ["no whole pools"])
-    run(["--check", write(work, "moved.pools", "".join(text.splitlines(True)[1:])), one, other], 2, ["line 1 is no line of pools, `unit BYTES`: overhead"])
-    run(["--check", pools, write(work, "one.history", "snapshots 1\n24 2\n")], 2, ["are of timelines"])
-    in_units = run(["--units", "--unit", "4", "--overhead", "4", one, other], 0)
-    status, out, _ = program_runs.mte_tool(["check-fit"], (text[text.index("classes") :] + in_units).encode())
-    TRIAL.expect((status, out) == (0, b"optimal\n"), f"the program says {out} of the fit and the runs in units")
+    fit = text[text.index("classes") :]
+    for name, spoiled, status, says in (
+        ("more.pools", text.replace(" 1\nclasses", " 2\nclasses"), 1, "has 2 blocks, and the runs need 1"),
+        ("cut.pools", text.removesuffix(fit), 2, "no whole pools"),
+        ("moved.pools", text.split("\n", 1)[1], 2, "line 1 is no line of pools, `unit BYTES`: overhead"),
+    ):
+        run(["--check", write(work, name, spoiled), one, other], status, says)
+    in_units = run(f"--units --unit 4 --overhead 4 {one} {other}", 0)
+    status, out, _ = program_runs.mte_tool(["check-fit"], (fit + in_units).encode())
+    expect(f"the program says {out} of the fit and the runs in units", (status, out) == (0, b"optimal\n"))
     orders_of_runs(work, one, other, pools)
-    try_serve(work, one, other)
-    run(["--limit", "2", "--unit", "4", "--overhead", "4", "--certificate", pools, one, other], 0)
+    try_serve(work)
+    run(f"{options} --certificate {pools} {one} {other}", 0)
     # the same C from the certificate as from the runs, but for its comment
     for form in pool_forms.FORMS:
-        made = run(["--read", pools, "--as", form, "--reserve", "50"], 0)
-        again = run(["--limit", "2", "--unit", "4", "--overhead", "4", "--reserve", "50", "--as", form, one, other], 0)
-        TRIAL.expect(made.split("*/\n", 1)[1] == again.split("*/\n", 1)[1], f"--as {form}: {made} and {again}")
+        made = run(f"--read {pools} --as {form} --reserve 50", 0)
+        again = run(f"{options} --reserve 50 --as {form} {one} {other}", 0)
+        expect(f"--as {form}: {made} and {again}", made.split("*/\n", 1)[1] == again.split("*/\n", 1)[1])
 
 
 def orders_of_runs(work, one, other, pools):
-    """The runs in another order have the same certificate; one of an earlier release, in the order that was given then, is still right."""
+    """The runs in another order have the same certificate; one of an earlier release, in the order that was given then,
+    is still right."""
     third = write(work, "third.timeline", "timeline\n100\n9\n9\n-9\n")
     orders = [list(order) for order in itertools.permutations((one, other, third))]
-    made = set()
+    made, said = set(), 0
     for order in orders:
         run(["--limit", "2", "--certificate", pools, *order], 0)
         made.add(text_files.read(pools))
         for again in orders:
-            TRIAL.expect("another order" not in run(["--check", pools, *again], 0, ["none takes less"], both=True), f"{order} and {again}: their order is said")
-    TRIAL.expect(len(made) == 1, f"the order of the runs shows in {len(made)} certificates")
-    said = 0
+            out = run(["--check", pools, *again], 0, "none takes less", both=True)
+            expect(f"{order} and {again}: their order is said", "another order" not in out)
+    expect(f"the order of the runs shows in {len(made)} certificates", len(made) == 1)
     for order in orders:
-        runs = pool_runs.runs_of(order)
-        given = pool_runs.join_runs(runs, pool_runs.Block(8, 0))
-        status, fit = figures.run(["fit", "--limit", "2", *(["--step", str(given.scale)] if given.scale > 1 else [])], given.text)
-        its = pool_sets.find_pools(runs, pool_runs.Block(8, 0), 2)
-        older = write(work, "older.pools", pool_sets.text_of(its._replace(fit=f"{fit}\n")))
-        out = run(["--check", older, *orders[0]], 0, ["none takes less"], both=True)
-        said += f"in another order, as an earlier release wrote it: {claim_words.join_words(map(str, order))}" in out
-    TRIAL.expect(said, "no order of an earlier release is said")
+        runs, block = pool_runs.read_runs(order), pool_runs.Block(8, 0)
+        given = pool_runs.join_runs(runs, block)
+        step = ["--step", str(given.scale)] if given.scale > 1 else []
+        _, fit = figures.run(["fit", "--limit", "2", *step], given.text)
+        its = pool_sets.find_pools(runs, block, 2)._replace(fit=f"{fit}\n")
+        older = write(work, "older.pools", its.text())
+        out = run(["--check", older, *orders[0]], 0, "none takes less", both=True)
+        listed = claim_words.join_words(map(str, order))
+        said += f"in another order, as an earlier release wrote it: {listed}" in out
+    expect("no order of an earlier release is said", said)
 
 
 # ---- C
@@ -502,87 +536,83 @@ int main(void)
     printf("%lu\\n", total);
 }
 """,
-    "zephyr": """
+}
+LISTED = """
 #include "made.h"
 #include <stdio.h>
 int main(void)
 {
     unsigned long total = 0;
+    FIRST
     for (size_t at = 0; at < sizeof app_pools / sizeof *app_pools; at++) {
-        printf("%zu %zu\\n", app_pools[at]->block, app_pools[at]->number);
-        total += app_pools[at]->block * app_pools[at]->number;
-        if (app_pool_holds[at] + 8 != app_pools[at]->block) return 1;
+        size_t block = BLOCK, number = NUMBER;
+        printf("%zu %zu\\n", block, number);
+        total += BYTES;
+        if (!(RIGHT)) return 1;
     }
     printf("%lu\\n", total);
 }
-""",
-    "threadx": """
-#include "made.h"
-#include <stdio.h>
-int main(void)
-{
-    unsigned long total = 0;
-    if (app_pools_create() != TX_SUCCESS) return 1;
-    for (size_t at = 0; at < sizeof app_pools / sizeof *app_pools; at++) {
-        printf("%lu %lu\\n", app_pools[at].block_size + sizeof(UCHAR *), app_pools[at].total);
-        total += app_pools[at].pool_size;
-        if (app_pools[at].block_size != app_pool_holds[at]) return 1;
-    }
-    printf("%lu\\n", total);
+"""
+APART = "(size_t)((char *)app_pools[at]->items[1] - (char *)app_pools[at]->items[0])"
+# of the systems that have a list: what comes first; the bytes of a block, the blocks and the bytes of a pool; what is so
+SYSTEMS = {
+    "zephyr": ("", "app_pools[at]->block", "app_pools[at]->number", "block * number", "app_pool_holds[at] + 8 == block"),
+    "threadx": (
+        "if (app_pools_create() != TX_SUCCESS) return 1;", "app_pools[at].block_size + sizeof(UCHAR *)",
+        "app_pools[at].total", "app_pools[at].pool_size", "app_pools[at].block_size == app_pool_holds[at]",
+    ),
+    "freertos": (
+        "app_pools_create();", f"(app_pools[at]->used > 1 ? {APART} : app_pool_holds[at]) + sizeof(void *)",
+        "app_pools[at]->used", "block * number",
+        "number == app_pools[at]->length && block == app_pool_holds[at] + sizeof(void *)",
+    ),
 }
-""",
-    "freertos": """
-#include "made.h"
-#include <stdio.h>
-int main(void)
-{
-    unsigned long total = 0;
-    app_pools_create();
-    for (size_t at = 0; at < sizeof app_pools / sizeof *app_pools; at++) {
-        QueueHandle_t queue = app_pools[at];
-        size_t apart = queue->used > 1 ? (char *)queue->items[1] - (char *)queue->items[0] : app_pool_holds[at];
-        printf("%zu %u\\n", apart + sizeof(void *), queue->used);
-        total += queue->used * (apart + sizeof(void *));
-        if (queue->used != queue->length || apart != app_pool_holds[at]) return 1;
-    }
-    printf("%lu\\n", total);
-}
-""",
-}
+for system, parts in SYSTEMS.items():
+    words = dict(zip(("FIRST", "BLOCK", "NUMBER", "BYTES", "RIGHT"), parts))
+    PROGRAMS[system] = re.sub("|".join(words), lambda match: words[match[0]], LISTED)
+
+
+def compile_program(work, form, *words):
+    """What the compiler says of the program of a form."""
+    words = ["gcc", "-std=c11", *words, "-I", work, os.path.join(work, f"{form}.c")]
+    return subprocess.run(words, capture_output=True, text=True)
 
 
 def compile_forms(work):
     """Each form is compiled against a stub of its system. The program that results has the blocks that were found."""
-    for name, text in STUBS.items():
+    for name, text in {**STUBS, **{f"{form}.c": text for form, text in PROGRAMS.items()}}.items():
         os.makedirs(os.path.dirname(os.path.join(work, name)), exist_ok=True)
         write(work, name, text)
-    run_of = write(work, "app.timeline", "timeline\n" + "24\n" * 7 + "100\n24\n" + "-24\n" * 8 + "60\n61\n" * 3 + "1000\n")
-    pools = os.path.join(work, "app.pools")
-    run(["--limit", "3", "--unit", "8", "--overhead", "8", "--certificate", pools, run_of], 0)
-    for form in pool_forms.FORMS:
-        for reserve in ("0", "25"):
-            write(work, "made.h", run(["--read", pools, "--as", form, "--reserve", reserve], 0))
-            source = write(work, f"{form}.c", PROGRAMS[form])
-            program = os.path.join(work, f"{form}.run")
-            words = ["gcc", "-std=c11", "-Wall", "-Wextra", "-Werror", "-Wno-unused-function", "-I", work, source, "-o", program]
-            made = subprocess.run(words, capture_output=True, text=True)
-            TRIAL.expect(made.returncode == 0, f"--as {form} does not compile: {made.stderr[:1500]}")
-            done = subprocess.run([program], capture_output=True, text=True) if made.returncode == 0 else made
-            its = pool_sets.read(pools).with_reserve(int(reserve))
-            wanted = "".join(f"{pool.block} {pool.number}\n" for pool in its) + f"{pool_sets.bytes_of(its)}\n"
-            TRIAL.expect((done.returncode, done.stdout) == (0, wanted), f"--as {form}: {done.returncode} {done.stdout!r}, and not {wanted!r}")
+    events = "24\n" * 7 + "100\n24\n" + "-24\n" * 8 + "60\n61\n" * 3 + "1000\n"
+    run_of, pools = write(work, "app.timeline", f"timeline\n{events}"), os.path.join(work, "app.pools")
+    run(f"--limit 3 --unit 8 --overhead 8 --certificate {pools} {run_of}", 0)
+    strict = ["-Wall", "-Wextra", "-Werror", "-Wno-unused-function", "-o"]
+    for form, reserve in itertools.product(pool_forms.FORMS, ("0", "25")):
+        write(work, "made.h", run(f"--read {pools} --as {form} --reserve {reserve}", 0))
+        program = os.path.join(work, f"{form}.run")
+        made = compile_program(work, form, *strict, program)
+        expect(f"--as {form} does not compile: {made.stderr[:1500]}", made.returncode == 0)
+        done = subprocess.run([program], capture_output=True, text=True) if made.returncode == 0 else made
+        its = pool_sets.read_pools(pools).with_reserve(int(reserve))
+        wanted = "".join(f"{pool.block} {pool.number}\n" for pool in its) + f"{pool_sets.bytes_of(its)}\n"
+        got = done.returncode, done.stdout
+        expect(f"--as {form}: {got!r}, and not {wanted!r}", got == (0, wanted))
     # what a system takes for granted is asserted, or refused before
-    for form, unit, overhead in (("zephyr", "4", "4"), ("threadx", "8", "4"), ("freertos", "4", "4")):
-        write(work, "made.h", run(["--limit", "3", "--unit", unit, "--overhead", overhead, "--as", form, run_of], 0))
-        made = subprocess.run(["gcc", "-std=c11", "-fsyntax-only", "-I", work, os.path.join(work, f"{form}.c")], capture_output=True, text=True)
-        TRIAL.expect(made.returncode and "static assertion failed" in made.stderr, f"--as {form} with pointers of 8 bytes: {made.stderr[:500]}")
-    for form, unit, overhead, says in (("threadx", "8", "0", "4 or 8"), ("freertos", "8", "0", "4 or 8"), ("freertos", "8", "4", "a multiple of")):
-        run(["--limit", "3", "--unit", unit, "--overhead", overhead, "--as", form, run_of], 2, [says])
+    for form, unit, overhead, says in (
+        ("zephyr", "4", "4", ""), ("threadx", "8", "4", ""), ("freertos", "4", "4", ""),
+        ("threadx", "8", "0", "4 or 8"), ("freertos", "8", "0", "4 or 8"), ("freertos", "8", "4", "a multiple of"),
+    ):
+        words = f"--limit 3 --unit {unit} --overhead {overhead} --as {form} {run_of}"
+        write(work, "made.h", run(words, 2 if says else 0, says))
+        if not says:
+            made = compile_program(work, form, "-fsyntax-only")
+            is_refused = made.returncode and "static assertion failed" in made.stderr
+            expect(f"--as {form} with pointers of 8 bytes: {made.stderr[:500]}", is_refused)
     # a name of a file cannot end the comment
     os.mkdir(os.path.join(work, "a*"))
     odd = write(os.path.join(work, "a*"), "b", LEFT)
     made = run(["--limit", "2", "--as", "c", odd], 0)
-    TRIAL.expect("a* /b" in made and made.count("*/") == 2, made)
+    expect(made, "a* /b" in made and made.count("*/") == 2)
 
 
 class Pools(checks.Part):
@@ -592,19 +622,15 @@ class Pools(checks.Part):
             pytest.skip("without a program: pools")
         program_runs.program()
 
-    def teardown_method(self):
-        checks.add_outcomes(TRIAL.count, TRIAL.failures)
-        TRIAL.count, TRIAL.failures = 0, []
-
     def test_small_runs(self):
-        parts = os.cpu_count() or 1
+        parts, own, seed = os.cpu_count() or 1, Trial(), checks.options.seed
         with ProcessPoolExecutor(parts) as jobs:
-            started = [jobs.submit(part_of, checks.options.seed, checks.options.all, part, parts) for part in range(parts)]
-            of_histories(TRIAL, random.Random(checks.options.seed))
-            trials = [each.result() for each in started]
+            started = [jobs.submit(part_of, seed, checks.options.all, part, parts) for part in range(parts)]
+            of_histories(own, random.Random(seed))
+            trials = [own, *(each.result() for each in started)]
         for trial in trials:
             checks.add_outcomes(trial.count, trial.failures)
-        refusals = sum((trial.refused for trial in [TRIAL, *trials]), Counter())
+        refusals = sum((trial.refused for trial in trials), Counter())
         expect("spoiled pools are refused in eight ways", len(refusals) >= 8, dict(refusals))
 
     def test_words_and_files(self):
@@ -629,23 +655,16 @@ class Sentences(claims_cases.WithProgram):
             options = ["--limit", str(limit), "--unit", str(unit), "--overhead", str(overhead)]
             certificate = os.path.join(place, f"{at}.pools")
             ways = ([*options, "--certificate", certificate], [*options, "--as", "c"], ["--check", certificate])
-            costs = [bytes_of(runs, blocks, unit, overhead) for blocks in all_sets(runs, unit, overhead, limit)]
-            least = min(each for each in costs if each is not None)
+            names = claim_words.join_words(map(claim_words.quote_name, files))
+            wanted = [(str(limit), names, str(unit), str(overhead), f"{least_bytes(runs, unit, overhead, limit):,}")]
             for words in ways:
                 done = claims_cases.run(SCRIPT, *words, *files)
                 said = " ".join(done.stdout.replace("\n * ", " ").split())
                 found = [match.groups() for match in CLAIM.finditer(said)]
-                wanted = [
-                    (
-                        str(limit),
-                        claim_words.join_words(map(claim_words.quote_name, files)),
-                        str(unit),
-                        str(overhead),
-                        f"{least:,}",
-                    )
-                ]
-                expect(f"{done.args}: {found}, and not {wanted}: {said} {done.stderr}", found == wanted and done.returncode == 0)
-                expect(f"{done.args}: what is proved: {said}", ("Proved" in said) == program_runs.trust().is_proved)
+                is_right = found == wanted and done.returncode == 0
+                expect(f"{done.args}: {found}, and not {wanted}: {said} {done.stderr}", is_right)
+                is_proved = program_runs.trust().is_proved
+                expect(f"{done.args}: what is proved: {said}", ("Proved" in said) == is_proved)
 
 
 def add_options(parser):

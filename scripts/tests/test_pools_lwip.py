@@ -109,8 +109,8 @@ def row_of(work):
         path = find_pools(work, limit, timeline)
         text = run([SCRIPT, "--read", path, "--as", "lwip"], work)
         takes = pool_bytes(work, f"{limit} pools", text)
-        if takes != pool_sets.read(path).bytes:
-            fail(f"lwIP's {limit} pools take {takes} bytes, and pools says {pool_sets.read(path).bytes}")
+        if takes != pool_sets.read_pools(path).bytes:
+            fail(f"lwIP's {limit} pools take {takes} bytes, and pools says {pool_sets.read_pools(path).bytes}")
         if not statistics(work, fewer(text))[0][3]:
             fail(f"lwIP with one block less than {limit} pools refuses nothing")
         cells.append(f"{takes:,} ({100 * (takes - today) / today:+.1f}%)")

@@ -8,21 +8,17 @@ import operator
 import os
 import struct
 import sys
-from collections import Counter
 from collections.abc import Iterable
-from typing import Optional
+from typing import Any, Optional
 
 from mte_scripts import claim_words, count_texts, text_files
 from mte_scripts.entry_point import Refusal, printable
 from mte_scripts.fleet import caps, row_reader, rows
-from mte_scripts.fleet.suspicions import Suspicions
-from mte_scripts.formats import LARGEST_CLASS, LARGEST_SIZE
+from mte_scripts.formats import LARGEST_SIZE
 from mte_scripts.recording import timelines
 from mte_scripts.tables import figures
 
-
 GRANULE = figures.GRANULE
-FORCED = LARGEST_CLASS
 WORD = 8  # bytes of a number that struct reads
 SPARSE = 16  # times the sizes of a machine: so many in a load are packed anew each time
 
@@ -58,15 +54,15 @@ class Member:
 
     def __init__(self, weight: int, history: count_texts.History, timeline: Optional[bytes] = None) -> None:
         self.weight, self.timeline = weight, timeline
-        self.take(history)
+        self.set_history(history)
 
-    def take(self, history: count_texts.History) -> None:
+    def set_history(self, history: count_texts.History) -> None:
         """These moments, with sums from which the blocks of a span of needs follow."""
         self.history = history
+        self.counts = {size: counts for size, counts in history.counts.items() if size != "large"}
         by_need: dict[int, list] = {}
-        for size, counts in history.counts.items():
-            if size != "large":
-                count_texts.add_row(by_need, timelines.need_of(size), counts)
+        for size, counts in self.counts.items():
+            count_texts.add_row(by_need, timelines.need_of(size), counts)
         self.needs = sorted(by_need)
         self.sums = [[0] * history.snapshots]
         for need in self.needs:
@@ -75,7 +71,7 @@ class Member:
         self.known_peaks: "dict[tuple[int, int], tuple[int, int]]" = {}
         self.packed: "dict[int, int]" = {}
 
-    def times(self, number: int) -> "Member":
+    def multiply(self, number: int) -> "Member":
         """The same, standing for so many times as many machines."""
         found = copy.copy(self)
         found.weight *= number
@@ -83,7 +79,7 @@ class Member:
 
     def sizes(self) -> set:
         """The sizes of which it has blocks, at whatever moment."""
-        counts = self.history.counts if self.timeline is None else timelines.requests_of(self.timeline)
+        counts = self.counts if self.timeline is None else timelines.requests_of(self.timeline)
         return counts.keys() - {"large"}
 
     def peaks(self, classes: list) -> "list[tuple[int, int]]":
@@ -104,38 +100,36 @@ class Member:
     def footprint(self, classes: list) -> int:
         """Of a table that serves it: at each class the block times the most of its blocks at a moment."""
         if self.timeline is not None:
-            return int(figures.run(["footprint"], self.timeline, classes)[1].split()[-1])
-        return self.at_moments(classes)
+            return figures.footprint(classes, self.timeline)
+        return self.known_footprint(classes)
 
-    def at_moments(self, classes: list) -> int:
+    def known_footprint(self, classes: list) -> int:
         """The same, at the moments that are known."""
         return sum(GRANULE * each * most for each, (most, _) in zip(classes, self.peaks(classes)))
 
-    def refine(self, classes: list) -> None:
+    def add_moments(self, classes: list) -> None:
         """Of a timeline: also the moments at which the classes of this table have the most blocks."""
-        if self.timeline is None or self.at_moments(classes) == self.footprint(classes):
+        if self.timeline is None or self.known_footprint(classes) == self.footprint(classes):
             return
         more = timelines.history_at(self.timeline, figures.peaks(classes, self.timeline).reached())
-        both = {
-            size: [*self.history.counts.get(size, [0] * self.history.snapshots), *more.counts.get(size, [0] * more.snapshots)]
-            for size in {**self.history.counts, **more.counts}
-        }
-        self.take(count_texts.History(self.history.snapshots + more.snapshots, both))
+        both = [(each.counts, [0] * each.snapshots) for each in (self.history, more)]
+        sizes = {**self.history.counts, **more.counts}
+        counts = {size: [count for own, none in both for count in own.get(size, none)] for size in sizes}
+        self.set_history(count_texts.History(self.history.snapshots + more.snapshots, counts))
 
     def count_bound(self) -> int:
         """No size has more blocks at any moment."""
         return self.most if self.timeline is None else self.timeline.count(b"\n")
 
-    def at(self, moment: int, places: Places) -> int:
+    def pack_moment(self, moment: int, places: Places) -> int:
         """The live blocks at a moment, as they are packed for its load; that is kept where the load has not many more
         sizes."""
-        if moment not in self.packed:
-            counts = self.history.counts
-            live = places.pack({size: row[moment] for size, row in counts.items() if size != "large" and row[moment]})
-            if len(places.begins) > SPARSE * len(counts):
-                return live
+        if moment in self.packed:
+            return self.packed[moment]
+        live = places.pack({size: row[moment] for size, row in self.counts.items() if row[moment]})
+        if len(places.begins) <= SPARSE * len(self.history.counts):
             self.packed[moment] = live
-        return self.packed[moment]
+        return live
 
 
 class Load:
@@ -148,62 +142,60 @@ class Load:
         self.members = list(members)
         served = {size: count for size, count in (counts or {}).items() if size != "large" and count}
         self.counts = dict(sorted(served.items()))
-        sizes = set(self.counts).union(*(member.sizes() for member in self.members))
-        if not any(sizes):
+        self.sizes = sorted(set(self.counts).union(*(member.sizes() for member in self.members)))
+        if not any(self.sizes):
             raise Refusal(3, f"{name}: {figures.NOTHING}")
-        self.sizes = sorted(sizes)
         # of a profile, what every table takes: headers and requests
         self.fixed = sum((GRANULE + size) * count for size, count in self.counts.items())
         self.machines = sum(member.weight for member in self.members)
-        self.known_peaks: dict[tuple, list] = {}
+        self.known_columns: dict[tuple, list] = {}
         # also of its machines drawn anew, of which one may be there as often as there are machines
         self.places = places or Places(self.sizes, self.count_bound() * len(self.members))
         self.hosts: list = []  # of rows, what each machine counted
         self.capped, self.cap = 0, 0  # how many machines are cut, and at how many times the median
 
-    def drawn(self, counts: Optional[dict] = None, members: Iterable[Member] = ()) -> "Load":
+    def replace_machines(self, counts: Optional[dict] = None, members: Iterable[Member] = ()) -> "Load":
         """The same of machines that are drawn anew of its own."""
         return Load(self.name, self.kind, counts, members, b"", self.program, self.day, self.places)
 
-    @property
-    def how(self) -> str:
+    def cap_words(self) -> str:
         """How its counts came of the rows, for a claim."""
         return claim_words.capped_words(self.capped, self.cap)
 
-    def unserved(self, classes: list) -> Optional[int]:
+    def unserved_size(self, classes: list) -> Optional[int]:
         """The least size here that a table does not serve, None where it serves all."""
         above = bisect.bisect_right(self.sizes, GRANULE * classes[-1] - GRANULE if classes else -1)
         return self.sizes[above] if above < len(self.sizes) else None
 
     def cost(self, classes: list) -> Optional[int]:
         """What a table takes, in bytes; None where it does not serve all sizes."""
-        if self.unserved(classes) is not None:
+        if self.unserved_size(classes) is not None:
             return None
         if self.kind != "profile":
             return sum(member.weight * member.footprint(classes) for member in self.members)
         return sum(figures.block_of(classes, size) * count for size, count in self.counts.items())
 
-    def at_peaks(self, classes: list) -> list:
+    def peak_columns(self, classes: list) -> list:
         """For each class of a table, by size, the blocks of all members, each at its own moment of the most blocks of
         the class, times its weight; none where it has no block. So over these columns this table takes what it takes
         over the members, and no table takes more."""
         key = tuple(classes)
-        if key not in self.known_peaks:
+        if key not in self.known_columns:
             sums = [0] * len(classes)
             for member in self.members:
-                member.refine(classes)
+                member.add_moments(classes)
                 for at, (most, moment) in enumerate(member.peaks(classes)):
                     if most:
-                        sums[at] += member.weight * member.at(moment, self.places)
-            self.known_peaks[key] = [*map(self.places.unpack, sums)]
-        return self.known_peaks[key]
+                        sums[at] += member.weight * member.pack_moment(moment, self.places)
+            self.known_columns[key] = [*map(self.places.unpack, sums)]
+        return self.known_columns[key]
 
     def count_bound(self) -> int:
         """A count that none of these columns, or of the profile, is above."""
         return max([*self.counts.values(), sum(member.weight * member.count_bound() for member in self.members)])
 
 
-def read(paths: Iterable[str], cap: int = caps.MOST) -> list[Load]:
+def read_loads(paths: Iterable[str], cap: int = caps.MOST) -> list[Load]:
     """The loads of files: of rows one for each program and day, and of such a file's profiles and histories each, with
     each machine capped."""
     found: list[Load] = []
@@ -212,45 +204,40 @@ def read(paths: Iterable[str], cap: int = caps.MOST) -> list[Load]:
         with text_files.open_input(path) as file:
             begin = text_files.next_piece(file, path)
             if rows.is_rows(begin):
-                store.take(file, path, begin)
+                store.read_rows(file, path, begin)
                 continue
             data = begin + text_files.next_piece(file, path, None)
         if not data:
             raise Refusal(3, f"{text_files.input_name(path)} is empty: did the command that writes it fail?")
-        found.append(of_text(data, path))
+        found.append(load_of_text(data, path))
     capped = caps.cap_machines(store.items(), cap)
     for (program, day), records in rows.group_records(capped.found, ("program", "day")):
-        for load in of_records(program, day, records):
-            load.capped, load.cap = capped.number(caps.Group(program, day, load.kind != "profile")), cap
+        for load in loads_of_records(program, day, records):
+            load.capped, load.cap = capped.count_over(caps.Group(program, day, load.kind != "profile")), cap
             found.append(load)
-    caps.note(capped, f"its counts are cut at {cap:,} times the median", store.suspicions)
-    store.suspicions.say(sys.argv[0])
+    capped.note_machines(caps.cut_words(cap), store.suspicions)
+    store.suspicions.say_all(sys.argv[0])
     if not found:
-        wrong = store.suspicions.text()
-        raise Refusal(
-            2,
-            f"no row can count: {wrong[0]}"
-            if wrong
-            else "name a profile, a history, a timeline or rows; --help says more",
-        )
+        nothing = Refusal(2, "name a profile, a history, a timeline or rows; --help says more")
+        raise store.suspicions.refuse_all("row", nothing)
     return found
 
 
-def of_text(data: bytes, path: str) -> Load:
+def load_of_text(data: bytes, path: str) -> Load:
     """Of a file that is no text of rows. Its folder is the program, where it lies in one, and its name the day."""
-    name = figures.without_ending(path, ".profile", ".history", ".timeline")
-    program = os.path.basename(os.path.dirname(path))
+    of: "dict[str, Any]" = {"program": os.path.basename(os.path.dirname(path))}
+    of["day"] = figures.without_ending(path, ".profile", ".history", ".timeline")
     shown = printable(text_files.input_name(path))
     if count_texts.is_timeline(data):
         figures.refuse_timeline(data, shown)
-        return Load(shown, "timeline", members=[Member(1, count_texts.History(0, {}), data)], text=data, program=program, day=name)
+        return Load(shown, "timeline", members=[Member(1, count_texts.History(0, {}), data)], text=data, **of)
     if count_texts.is_history(data):
         history = count_texts.parse_history(data, shown)
         if not history.counts.keys() - {"large"}:
             raise Refusal(3, f"{shown} counts no block of at most {LARGEST_SIZE:,} bytes")
-        return Load(shown, "history", members=[Member(1, history)], text=text_of(history), program=program, day=name)
+        return Load(shown, "history", members=[Member(1, history)], text=text_of(history), **of)
     profile = count_texts.parse_profile(data, path)
-    return Load(shown, "profile", profile, text=text_of(profile), program=program, day=name)
+    return Load(shown, "profile", profile, text=text_of(profile), **of)
 
 
 def text_of(found: "dict | count_texts.History") -> bytes:
@@ -260,16 +247,15 @@ def text_of(found: "dict | count_texts.History") -> bytes:
     return (count_texts.history_text(found) if isinstance(found, count_texts.History) else count_texts.profile_text(found)).encode()
 
 
-def of_records(program: str, day: str, records: list) -> list[Load]:
+def loads_of_records(program: str, day: str, records: list) -> list[Load]:
     """What the machines of a program counted on a day: their profiles together, and their histories."""
     name, found = printable(f"{program} {day}"), []
-    profile = rows.profile_of(records)
+    of: "dict[str, Any]" = {"program": program, "day": day}
+    profile = rows.sum_profiles(each.unpack() for each in records)
     if any(size != "large" for size in profile):
-        found.append(Load(name, "profile", profile, program=program, day=day))
-    histories = rows.histories_of(records)
-    if histories:
-        members = [Member(*each) for each in histories]
-        found.append(Load(f"{name} over time" if found else name, "histories", members=members, program=program, day=day))
+        found.append(Load(name, "profile", profile, **of))
+    if members := [Member(*each) for each in rows.histories_of(each.unpack() for each in records)]:
+        found.append(Load(f"{name} over time" if found else name, "histories", members=members, **of))
     for load in found:
         load.hosts = list(records)
     return found

@@ -3,14 +3,14 @@
 import argparse
 import functools
 import re
+import time
 
 from mte_scripts import count_texts, text_files
 from mte_scripts.entry_point import Refusal, say
 from mte_scripts.fleet import caps, row_reader, rows
-from mte_scripts.fleet.suspicions import Suspicions
+from mte_scripts.fleet.command_words import OPTIONS, take_options
+from mte_scripts.fleet.suspicions import Suspicion, Suspicions
 from mte_scripts.formats import LARGEST_SIZE, MOST_SNAPSHOTS
-
-from mte_scripts.words import Words, number_between
 
 HELP = f"""\
 Make profiles and histories of the rows of a fleet's database, each count times its weight; or rows of a profile or a history.
@@ -71,34 +71,27 @@ UNSAFE = re.compile(r"[^A-Za-z0-9._+@=,-]")
 LINES = 1000  # that are written at once
 
 
-def days(word: str) -> "tuple[str, str]":
+def parse_days(word: str) -> "tuple[str, str]":
     first, dots, last = word.partition("..")
     if not dots or not all(rows.DAY.fullmatch(day) for day in (first, last)) or first > last:
         raise argparse.ArgumentTypeError(f"takes a first and a last day as 2026-01-01..2026-01-31, and not {word}")
     return first, last
 
 
-def columns(word: str) -> list:
-    chosen = word.split(",")
-    if len(set(chosen)) < len(chosen) or not set(chosen) <= set(rows.COLUMNS[:4]):
-        raise argparse.ArgumentTypeError(f"takes columns of {', '.join(rows.COLUMNS[:4])} with commas between, and not {word}")
+def parse_columns(word: str) -> list:
+    chosen, every = word.split(","), rows.COLUMNS[:4]
+    if len(set(chosen)) < len(chosen) or not set(chosen) <= set(every):
+        raise argparse.ArgumentTypeError(f"takes columns of {', '.join(every)} with commas between, and not {word}")
     return chosen
 
 
 def texts_of(records: list) -> list:
     """The profile and the history of records, each with its ending, as far as there are such."""
-    found = []
-    profile, histories = rows.profile_of(records), rows.histories_of(records)
-    if profile:
-        found.append((".profile", count_texts.fitting_text(profile, functools.partial(say, "fleet_profiles"))))
-    if histories:
-        found.append(
-            (
-                ".history",
-                count_texts.fitting_text(rows.add_histories(histories), functools.partial(say, "fleet_profiles")),
-            )
-        )
-    return found
+    histories = rows.histories_of(each.unpack() for each in records)
+    found: dict = {".profile": rows.sum_profiles(each.unpack() for each in records)}
+    found[".history"] = histories and rows.add_histories(histories)
+    tell = functools.partial(say, "fleet_profiles")
+    return [(ending, count_texts.fitting_text(counts, tell)) for ending, counts in found.items() if counts]
 
 
 def name_of(value: str) -> str:
@@ -109,8 +102,7 @@ def name_of(value: str) -> str:
 
 def write_folder(folder: str, groups: list) -> int:
     """A file for each group, where no file was before. All texts are made before the first is written."""
-    every = [(values, ending, text) for values, records in groups for ending, text in texts_of(records)]
-    made = [([*map(name_of, values)], ending, text) for values, ending, text in every]
+    made = [([*map(name_of, values)], ending, text) for values, records in groups for ending, text in texts_of(records)]
     with text_files.new_folder(folder, "--output") as place:
         for names, ending, text in made:
             place.make_below(names[:-1])
@@ -118,7 +110,7 @@ def write_folder(folder: str, groups: list) -> int:
     return len(made)
 
 
-def write_arrays(found: "list[tuple[rows.Key, row_reader.Load]]") -> int:
+def write_arrays(found: "list[tuple[rows.Key, row_reader.PackedLoad]]") -> int:
     """Each load as one row with arrays, in the order of the keys. The databases read a backslash as the begin of an escape."""
     lines: "list[str]" = []
     for key, load in sorted(found, key=lambda each: each[0]):
@@ -141,11 +133,10 @@ def cells_of(moment: int, sizes: bytes) -> "tuple[str, str]":
 
 def write_rows(word: str, load: "int | None", files: list) -> int:
     """The rows of one profile or history."""
-    values = word.split(",")
-    if len(values) not in (4, 5) or len(values) == 5 and not re.fullmatch("[0-9]{1,10}", values[4]):
-        raise Refusal(
-            2, f"--rows takes PROGRAM,BUILD,MACHINE,DAY and perhaps a weight, with commas between, and not {word}"
-        )
+    key, weight = word.split(",")[:4], word.split(",")[4:]
+    if len(key) < 4 or len(weight) > 1 or weight and not re.fullmatch("[0-9]{1,10}", weight[0]):
+        form = "PROGRAM,BUILD,MACHINE,DAY and perhaps a weight, with commas between"
+        raise Refusal(2, f"--rows takes {form}, and not {word}")
     if len(files) > 1:
         raise Refusal(2, f"--rows takes one profile or history, so there is no place for {files[1]}")
     found = count_texts.read_either(files[0])
@@ -153,37 +144,36 @@ def write_rows(word: str, load: "int | None", files: list) -> int:
         moments = {at + 1: {size: counts[at] for size, counts in found.counts.items()} for at in range(found.snapshots)}
     else:
         moments = {0: found}
-    number = int(rows.clock() * 1000) if load is None else load
-    text = rows.text_of(rows.Key(*values[:4]), rows.Record(int(values[4]) if len(values) == 5 else 1, moments, number))
+    number = int(time.time() * 1000) if load is None else load
+    text = rows.text_of(rows.Key(*key), number, int(*weight or "1"), moments)
     if not text:
         raise Refusal(3, "there is no request to count")
     try:
         for line in text_files.lines_of(text.encode(errors="surrogateescape")):
-            rows.row_of(line, 0)
-    except rows.Suspicion as suspicion:
+            rows.parse_row(line, 0)
+    except Suspicion as suspicion:
         raise Refusal(2, f"--rows: {suspicion.reason}: {suspicion.what}") from None
     return text_files.write(text)
 
 
 def main(words: list) -> int:
-    kinds: "dict" = {"by": columns, "days": days, "load": number_between(1, rows.MOST_LOAD), "cap": caps.NUMBER}
-    given = Words(HELP, "files", {"by": ["program", "day"]}, **kinds).take(words, once=True)
+    columns, days, cap = (parse_columns, ["program", "day"]), (parse_days, ("", "~")), (OPTIONS["cap"][0], None)
+    given = take_options(words, HELP, rest="files", by=columns, days=days, cap=cap)
     files = given.files or ["-"]
     if not given.files:
         text_files.say_reading("fleet_profiles")
     if given.rows:
         return write_rows(given.rows, given.load, files)
     text_files.refuse_over([("--output", given.output), ("--suspects", given.suspects)], files)
-    found = row_reader.read(files, Suspicions(given.suspects))
-    first, last = given.days or ("", "~")
+    found, (first, last) = row_reader.read_rows(files, Suspicions(given.suspects)), given.days
     kept = [(key, load) for key, load in found.items() if given.program in (None, key.program) and first <= key.day <= last]
     capped = caps.cap_machines(kept, given.cap or caps.MOST)
-    cut = f"its counts are cut at {given.cap:,} times the median" if given.cap else ""
-    caps.note(capped, cut or f"--cap {caps.MOST} would cut its counts", found.suspicions)
+    what = caps.cut_words(given.cap) if given.cap else f"--cap {caps.MOST} would cut its counts"
+    capped.note_machines(what, found.suspicions)
     kept = capped.found if given.cap else kept
-    found.suspicions.say("fleet_profiles")
+    found.suspicions.say_all("fleet_profiles")
     if not kept:
-        raise Refusal(3, f"none of the {len(found)} loads is of this program and these days")
+        raise Refusal(3, f"none of the {len(found.loads)} loads is of this program and these days")
     if given.arrays:
         return write_arrays(kept)
     if given.output:

@@ -1,17 +1,16 @@
 """How far a table is above a bound of all tables, day by day. `fleet_regret --help` says all."""
 
-import json
 import math
 from collections.abc import Iterable, Sequence
 from typing import NamedTuple, Optional
 
-from mte_scripts import certificate_texts, claim_words, claims, program_runs, text_files, text_layout
+from mte_scripts import certificate_texts, claim_words, claims, program_runs, text_files
 from mte_scripts.entry_point import Refusal, printable
 from mte_scripts.fleet import bounds, caps, loads, resampling
+from mte_scripts.fleet.command_words import take_options
+from mte_scripts.fleet.report_text import json_text, percent_text, table_text, wrap_paragraph
 from mte_scripts.reports import pictures
 from mte_scripts.tables import figures
-
-from mte_scripts.words import TABLES, Words, decimal, number_between
 
 HELP = f"""\
 Say how far a table of size classes is at most above a bound of all tables of each day, by a certificate for each day; for a
@@ -65,20 +64,15 @@ class Regret(NamedTuple):
     above: Optional[float]
     unserved: Optional[int]  # the least size that the table does not serve
 
-    @property
-    def own(self) -> Optional[int]:
-        """The waste or the footprint of the table."""
-        return None if self.cost is None else self.cost - self.load.fixed
-
-    def percent(self) -> Optional[float]:
-        """For JSON, which has no number without end."""
-        return None if self.above == math.inf else self.above
-
     def sentences(self, name: str) -> str:
         """What is known of the load's bound, and of the table beside it, which may have a name."""
         bound = claims.bound(self.bound.claim, self.load.name, self.bound.divisor, self.bound.is_own)
         table = claim_words.quote_name(name) if name else "The table"
-        return f"{bound} {claims.regret(self.bound.claim, self.load.name, table, self.own, self.above, self.unserved)}"
+        own = None if self.cost is None else self.cost - self.load.fixed  # the waste or the footprint
+        return f"{bound} {claims.regret(self.bound.claim, self.load.name, table, own, self.above, self.unserved)}"
+
+    def is_within(self, limit: Optional[float]) -> bool:
+        return limit is None or self.above is not None and self.above <= limit
 
 
 def percent_above(cost: int, bound: int) -> float:
@@ -89,14 +83,13 @@ def percent_above(cost: int, bound: int) -> float:
 def regret_of(load: loads.Load, bound: bounds.Bound, classes: list) -> Regret:
     """A table beside the bound of a load."""
     cost = load.cost(classes)
-    return Regret(load, bound, cost, None if cost is None else percent_above(cost, bound.amount), load.unserved(classes))
+    above = None if cost is None else percent_above(cost, bound.amount)
+    return Regret(load, bound, cost, above, load.unserved_size(classes))
 
 
-def interval_of(
-    load: loads.Load, classes: list, among: bounds.TableLimits, times: int
-) -> Optional[resampling.Interval]:
-    """How far the percentage of a load of rows depends on which machines came."""
-    return resampling.interval(load, lambda each: regret_of(each, bounds.bound_of(each, among), classes).above, times)
+def percent_of(classes: list, among: bounds.TableLimits) -> resampling.Percent:
+    """What says how far a table is above the bound of a load."""
+    return lambda load: regret_of(load, bounds.bound_load(load, among), classes).above
 
 
 def resampled_text(found: list, intervals: list, times: int) -> str:
@@ -104,96 +97,77 @@ def resampled_text(found: list, intervals: list, times: int) -> str:
     lines = []
     for each, interval in zip(found, intervals):
         if each.load.hosts:
-            what = f"from {interval.low:,.2f} to {interval.high:,.2f}% in the middle 95% of the draws" if interval else "too few for an interval"
+            what = f"from {interval.text()} in the middle 95% of the draws" if interval else "too few for an interval"
             lines.append(f"{each.load.name}, {len(each.load.hosts)} machines: {what}.\n")
     return "".join(["\n", f"The machines drawn anew {times} times:\n", *lines] if lines else [])
 
 
-def is_within(found: Iterable[Regret], limit: Optional[float]) -> bool:
-    return limit is None or all(each.above is not None and each.above <= limit for each in found)
-
-
-def farthest(found: Iterable[Regret]) -> Regret:
+def farthest_regret(found: Iterable[Regret]) -> Regret:
     """The load that is farthest above its bound, or that is not served."""
     return max(found, key=lambda each: math.inf if each.above is None else each.above)
 
 
-def percent_cell(each: Regret) -> str:
-    """Its percentage, as a cell."""
-    return "not served" if each.above is None else f"{each.above:,.2f}%"
-
-
-def table_text(found: list, held_out: Sequence[Regret] = ()) -> str:
+def regret_table(found: list, held_out: Sequence[Regret] = ()) -> str:
     """The loads in columns; the last has what a table came to that was made without the load's day."""
     rows: list[tuple] = [("Load", "table, bytes", "bound, bytes", "above the bound")]
     for each in found:
         cost = "not served" if each.cost is None else figures.number(each.cost)
-        rows.append((each.load.name, cost, figures.number(each.bound.amount), percent_cell(each)))
+        rows.append((each.load.name, cost, figures.number(each.bound.amount), percent_text(each.above)))
     if held_out:
-        rows = [(*row, cell) for row, cell in zip(rows, ["held out", *map(percent_cell, held_out)])]
-    return "".join(f"{line}\n" for line in text_layout.columns(rows, most=WIDTH))
+        rows = [(*row, cell) for row, cell in zip(rows, ["held out", *(percent_text(each.above) for each in held_out)])]
+    return table_text(rows, WIDTH)
 
 
 def summary(found: list, name: str, limit: Optional[float]) -> str:
-    lines = [table_text(found), "\n", wrap_paragraph(farthest(found).sentences(name))]
+    lines = [regret_table(found), "\n", wrap_paragraph(farthest_regret(found).sentences(name))]
     if len(found) > 1:
         lines.append("Each line has its own certificate; --json has its sentence.\n")
-    for each in found if limit is not None else []:
-        if not is_within([each], limit):
+    for each in found:
+        if not each.is_within(limit):
             why = "it does not serve all sizes" if each.above is None else f"{each.above:,.2f}% is above the limit of {limit:g}%"
             lines.append(wrap_paragraph(f"! {each.load.name}: {why}"))
     return "".join(lines)
 
 
-def wrap_paragraph(text: str) -> str:
-    return "".join(f"{line}\n" for line in text_layout.wrap_text(text))
-
-
-def as_json(
+def describe_regrets(
     found: list, name: str, classes: list, among: bounds.TableLimits, limit: Optional[float], intervals: Sequence = ()
-) -> str:
+) -> dict:
+    """All of it, as JSON has it."""
     trust = program_runs.trust()
     each_load = [
         {
             "name": each.load.name, "program": each.load.program, "day": each.load.day, "kind": each.load.kind,
-            "table_bytes": each.cost, "bound_bytes": each.bound.amount, "above_percent": each.percent(),
+            "table_bytes": each.cost, "bound_bytes": each.bound.amount, "above_percent": each.above,
             "unserved_bytes": each.unserved, "sentences": each.sentences(name), "bound_sha256": each.bound.claim.digest,
             "machines": len(each.load.hosts), "capped_machines": each.load.capped,
-            "interval_percent": ends_of(interval),
+            "interval_percent": interval and [*interval],
         }
         for each, interval in zip(found, intervals or [None] * len(found))
     ]
-    whole = {
-        "table": printable(name) or "the table", "classes": classes, "among": among._asdict(), "is_proved": trust.is_proved, "why_not": trust.why,
-        "limit_percent": limit, "is_within": is_within(found, limit), "loads": each_load,
+    return {
+        "table": printable(name) or "the table", "classes": classes, "among": among, "is_proved": trust.is_proved,
+        "why_not": trust.why, "limit_percent": limit, "is_within": all(each.is_within(limit) for each in found),
+        "loads": each_load,
     }
-    return json.dumps(whole, indent=1) + "\n"
 
 
-def ends_of(interval: Optional[resampling.Interval]) -> "Optional[list]":
-    """For JSON, which has no number without end."""
-    return [None if end == math.inf else end for end in interval] if interval else None
-
-
-def picture(title: str, points: list, limit: Optional[float], note: str) -> str:
+def draw_days(title: str, points: list, limit: Optional[float], note: str = "") -> str:
     """The picture of (program, day, percent), a line for each program, in the order of the days; the limit as a broken line."""
     programs = sorted({program for program, _, _ in points})
     days = sorted({day for _, day, _ in points})
     drawing = pictures.Drawing(WIDE, HIGH, BELOW + 18 * len(programs), title)
     top = 1.15 * max([limit or 0.0, *(percent for _, _, percent in points)], default=0.0) or 1.0
     drawing.levels(top, 6, lambda value: f"{value:g}%")
-
-    def across(day: str) -> float:
-        return drawing.x((days.index(day) + 0.5) / len(days))
-
+    across = {day: drawing.x((at + 0.5) / len(days)) for at, day in enumerate(days)}
     for day in days[:: max(-(-len(days) // MOST_DAYS), 1)]:
-        drawing.tick(across(day), day)
+        drawing.tick(across[day], day)
     if limit is not None:
         y = pictures.coordinate(drawing.y(limit, top))
         drawing.parts.append(f'<path class="limit" d="M{drawing.left} {y}H{drawing.right}"><title>the limit, {limit:g}%</title></path>')
     for at, program in enumerate(programs):
         own = sorted((day, percent) for name, day, percent in points if name == program)
-        drawing.curve(at, [(across(day), drawing.y(percent, top), f"{program}, {day}: {percent:,.2f}%") for day, percent in own])
+        shown = [(across[day], drawing.y(percent, top), f"{program}, {day}: {percent:,.2f}%") for day, percent in own]
+        drawing.curve(at, shown)
         drawing.key(at, drawing.left, HIGH - 12 - 18 * (len(programs) - 1 - at), program or "all")
     if note:
         drawing.text(drawing.right, 12, note, "end")
@@ -201,26 +175,26 @@ def picture(title: str, points: list, limit: Optional[float], note: str) -> str:
 
 
 def main(words: list) -> int:
-    percentage, draws = decimal(0, 1_000_000, "a percentage"), number_between(20, 10_000)
-    kinds: dict = {"limit_percent": percentage, "resample": draws, "cap": caps.NUMBER, **TABLES}
-    given = Words(HELP, "names", {"cap": caps.MOST, **bounds.AMONG_DEFAULTS}, **kinds).take(words, once=True)
+    given = take_options(words, HELP)
     if len(given.names) < 2:
         raise Refusal(2, "name a table, and then the loads of its days; --help says more")
     if given.names.count("-") > 1:
         raise Refusal(2, "standard input can be named once")
     text_files.refuse_over([("--plot", given.plot)], given.names)
-    among = bounds.TableLimits.of(given)
+    among, limit, times = bounds.table_limits(given), given.limit_percent, given.resample
     classes = certificate_texts.class_line(given.names[0])
     name = figures.without_ending(given.names[0], ".classes", ".sheet", ".fit")
-    found = [regret_of(load, bounds.bound_of(load, among), classes) for load in loads.read(given.names[1:], given.cap)]
+    every = loads.read_loads(given.names[1:], given.cap)
+    found = [regret_of(load, bounds.bound_load(load, among), classes) for load in every]
     if given.plot:
         title = f"{claim_words.quote_name(name)}: at most so far above the bound of each day"
         points = [(each.load.program, each.load.day, each.above) for each in found if each.above is not None]
         note = "" if program_runs.trust().is_proved else claims.unproved_note(program_runs.trust())
-        text_files.write_file(given.plot, picture(title, points, given.limit_percent, note))
-    intervals = [interval_of(each.load, classes, among, given.resample) if given.resample else None for each in found]
+        text_files.write_file(given.plot, draw_days(title, points, limit, note))
+    percent = percent_of(classes, among)
+    intervals = [resampling.draw_interval(each.load, percent, times) if times else None for each in found]
     if given.json:
-        text_files.write(as_json(found, name, classes, among, given.limit_percent, intervals))
+        text_files.write(json_text(describe_regrets(found, name, classes, among, limit, intervals)))
     else:
-        text_files.write(summary(found, name, given.limit_percent) + (resampled_text(found, intervals, given.resample) if given.resample else ""))
-    return 0 if is_within(found, given.limit_percent) else 1
+        text_files.write(summary(found, name, limit) + (resampled_text(found, intervals, times) if times else ""))
+    return 0 if all(each.is_within(limit) for each in found) else 1

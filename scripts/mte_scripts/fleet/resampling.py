@@ -21,18 +21,23 @@ class Interval(NamedTuple):
     low: float
     high: float
 
+    def text(self) -> str:
+        return f"{self.low:,.2f} to {self.high:,.2f}%"
 
-def interval(load: loads.Load, percent: Percent, times: int) -> Optional[Interval]:
-    """Of a load of rows, from so many draws; None where too few machines came. PERCENT says what a load comes to."""
+
+def draw_interval(load: loads.Load, percent: Percent, times: int) -> Optional[Interval]:
+    """Of a load of rows, from so many draws; None where too few machines came. PERCENT says what a load comes to; where
+    no machine that was drawn has anything of this kind, that is 0."""
     if len(load.hosts) < FEWEST:
         return None
-    samples = sample_profiles if load.kind == "profile" else sample_histories
-    found = sorted(sample_percent(each, percent) for each in samples(load, draws(load, times)))
+    sample = sample_profiles if load.kind == "profile" else sample_histories
+    drawn = [percent(each) if each else 0.0 for each in sample(load, draw_places(load, times))]
+    found = sorted(math.inf if each is None else each for each in drawn)
     left_out = int(times * (1 - LEVEL) / 2)
     return Interval(found[left_out], found[-1 - left_out])
 
 
-def draws(load: loads.Load, times: int) -> "Iterator[list[int]]":
+def draw_places(load: loads.Load, times: int) -> "Iterator[list[int]]":
     """For each draw as many machines as there are, by their places; one may be there twice, and then counts twice."""
     chance, number = random.Random(f"{load.program} {load.day} {load.kind}"), len(load.hosts)
     for _ in range(times):
@@ -44,16 +49,15 @@ def sample_profiles(load: loads.Load, drawn: "Iterator[list[int]]") -> "Iterator
     overflows, as no draw has a count above that of all machines, times their number."""
     width = (len(load.hosts) * max(load.counts.values(), default=0)).bit_length()
     while together := [places for _, places in zip(range(TOGETHER), drawn)]:
-        often = [0] * len(load.hosts)
+        often: "Counter[int]" = Counter()
         for at, places in enumerate(together):
-            once = 1 << at * width
             for place in places:
-                often[place] += once
-        hosts = (rows.Record(host.weight * number, host.moments) for host, number in zip(load.hosts, often) if number)
-        sums = rows.profile_of(hosts)
+                often[place] += 1 << at * width
+        machines = ((load.hosts[at].unpack(), number) for at, number in often.items())
+        sums = rows.sum_profiles((weight * number, moments) for (weight, moments), number in machines)
         for at in range(len(together)):
             own = {size: count >> at * width & (1 << width) - 1 for size, count in sums.items() if size != "large"}
-            yield load.drawn(counts=own) if any(own.values()) else None
+            yield load.replace_machines(counts=own) if any(own.values()) else None
 
 
 def sample_histories(load: loads.Load, drawn: "Iterator[list[int]]") -> "Iterator[Optional[loads.Load]]":
@@ -61,11 +65,5 @@ def sample_histories(load: loads.Load, drawn: "Iterator[list[int]]") -> "Iterato
     its = iter(load.members)
     members = [next(its) if any(part.moment for part in host.parts) else None for host in load.hosts]
     for places in drawn:
-        own = [member.times(number) for at, number in sorted(Counter(places).items()) if (member := members[at])]
-        yield load.drawn(members=own) if own else None
-
-
-def sample_percent(sample: Optional[loads.Load], percent: Percent) -> float:
-    """The percentage of these machines; 0 where none of them has anything of this kind."""
-    found = percent(sample) if sample else 0.0
-    return math.inf if found is None else found
+        own = [member.multiply(number) for at, number in sorted(Counter(places).items()) if (member := members[at])]
+        yield load.replace_machines(members=own) if own else None

@@ -1,17 +1,19 @@
 """A rollout of a new table in steps, with a stop and a way back. `fleet_rollout --help` says all."""
 
 import argparse
-import json
 import re
-from typing import NamedTuple, Optional
+from typing import Any, NamedTuple, Optional
 
-from mte_scripts import shell_words, text_files, text_layout
-from mte_scripts.entry_point import Refusal, printable, say
-from mte_scripts.fleet import process_mark, regret, results, rows
+from mte_scripts import shell_words, text_files
+from mte_scripts.entry_point import Refusal, say
+from mte_scripts.fleet import process_mark, rows
+from mte_scripts.fleet.command_words import run_step, take_options
+from mte_scripts.fleet.machine_values import FEWEST, MACHINES, read_strictly
+from mte_scripts.fleet.report_text import alert_text, json_text, table_text, wrap_paragraph
+from mte_scripts.fleet.rollout_lines import Change, read_changes
+from mte_scripts.fleet.rollout_plan import Plan, assign_steps, parse_steps, read_plan, read_table, small_programs
 from mte_scripts.fleet.suspicions import Suspicions
-from mte_scripts.fleet.rollout_plan import Plan, assign_steps, read_plan, remarks, steps_of, table_of
-from mte_scripts.fleet.rollout_result import Change, changes_of
-from mte_scripts.words import Words, decimal, number_between
+from mte_scripts.words import number_between
 
 HELP = """\
 Roll a new table out over a fleet in steps: which machines get it when, whether the next step may be taken, and what to
@@ -66,17 +68,18 @@ Examples:
   fleet_rollout read --step 1 --since 2026-03-02 v7.plan result.tsv; [ $? != 1 ] || fleet_rollout back v7.plan
 """
 
-STEPS = [5.0, 20.0, 50.0, 100.0]
 CONDITION = re.compile(r"(?:(saving)<|(peak|time)>)(-?[0-9]{1,3}(?:\.[0-9]{1,3})?)")
 GO_ON, STOP, WAIT = "go on", "stop", "wait"
 STATUS = {GO_ON: 0, STOP: 1, WAIT: 3}
 NEXT = {
-    STOP: "Stop: {why}. What to deploy, the old table for all: fleet_rollout back {plan}",
+    STOP: "Stop: {why} is beyond its limit. What to deploy, the old table for all: fleet_rollout back {plan}",
     WAIT: "Wait: {why} is not shown to be within its limit, nor beyond it. Read again after more days.",
+    GO_ON: "Go on: fleet_rollout deploy --step {next} {plan}",
 }
+LAST = "Go on: {new} is on all machines, and is the old table of the next rollout."
 
 
-def conditions_of(word: str) -> "dict[str, float]":
+def parse_conditions(word: str) -> "dict[str, float]":
     """The limits of the measures, as shares."""
     found = {}
     for each in word.split(","):
@@ -87,6 +90,13 @@ def conditions_of(word: str) -> "dict[str, float]":
     return found
 
 
+OPTIONS: "dict[str, Any]" = {
+    "steps": (parse_steps, [5.0, 20.0, 50.0, 100.0]),
+    "step": (number_between(0, 1000), None),
+    "stop_if": (parse_conditions, parse_conditions("saving<0,peak>2,time>2")),
+}
+
+
 class Judgement(NamedTuple):
     """A change with its limit, or None without one; and what that says: go on, stop or wait."""
 
@@ -94,99 +104,66 @@ class Judgement(NamedTuple):
     limit: "Optional[float]"
     verdict: str
 
+    def cells(self) -> "tuple[str, ...]":
+        measure, old, new, share = self.change
+        name = f"{'rise of' if measure.is_rise else 'saving,'} {measure.unit}"
+        limit = "" if self.limit is None else f"{'above' if measure.is_rise else 'below'} {share_text(self.limit)}"
+        interval = f"{share_text(share.low)} to {share_text(share.high)}"
+        return name, f"{old:,.2f}", f"{new:,.2f}", share_text(share.mean), interval, limit, self.verdict
 
-def judge(change: Change, limits: "dict[str, float]") -> Judgement:
+
+def judge_change(change: Change, limits: "dict[str, float]") -> Judgement:
     limit = limits.get(change.measure.name)
     if limit is None:
         return Judgement(change, None, GO_ON)
     _, low, high = change.share
-    broken, kept = (low > limit, high <= limit) if change.measure.is_rise else (high < limit, low >= limit)
-    return Judgement(change, limit, STOP if broken else GO_ON if kept else WAIT)
+    is_broken, is_kept = (low > limit, high <= limit) if change.measure.is_rise else (high < limit, low >= limit)
+    return Judgement(change, limit, STOP if is_broken else GO_ON if is_kept else WAIT)
 
 
-def verdict_of(judged: "list[Judgement]") -> str:
-    """The worst of them."""
-    return next((verdict for verdict in (STOP, WAIT) if any(each.verdict == verdict for each in judged)), GO_ON)
-
-
-def percent(share: float) -> str:
+def share_text(share: float) -> str:
     return f"{100 * share + 0.0:.2f}%"
 
 
-def text_of(plan: Plan, path: str, step: int, judged: "list[Judgement]", level: float, suspicions: "list[str]") -> str:
-    share = plan.steps[step - 1]
-    begin = f"Step {step} of {len(plan.steps)}: {plan.new.version} on {share:g}% of the machines, "
-    begin += f"after {plan.old.version}.\n"
-    table = [("Measure", plan.old.version, plan.new.version, "change", f"{100 * level:g}% interval", "stop if", "")]
-    for each in judged:
-        measure, change = each.change.measure, each.change
-        name = f"{'rise of' if measure.is_rise else 'saving,'} {measure.unit}"
-        interval = f"{percent(change.share.low)} to {percent(change.share.high)}"
-        limit = "" if each.limit is None else f"{'above' if measure.is_rise else 'below'} {percent(each.limit)}"
-        table.append(
-            (
-                name,
-                f"{change.old:,.2f}",
-                f"{change.new:,.2f}",
-                percent(change.share.mean),
-                interval,
-                limit,
-                each.verdict,
-            )
-        )
-    verdict = verdict_of(judged)
-    why = " and ".join(
-        f"the {'rise of the ' * each.change.measure.is_rise}{each.change.measure.name}"
-        for each in judged
-        if each.verdict == verdict
-    )
-    if verdict != GO_ON:
-        said = NEXT[verdict].format(
-            why=f"{why} is beyond its limit" if verdict == STOP else why, plan=shell_words.path_word(path)
-        )
-    elif step < len(plan.steps):
-        said = f"Go on: fleet_rollout deploy --step {step + 1} {shell_words.path_word(path)}"
-    else:
-        said = f"Go on: {plan.new.version} is on all machines, and is the old table of the next rollout."
-    lines = [begin, *(f"{line}\n" for line in text_layout.columns(table)), "\n", regret.wrap_paragraph(said)]
-    return "".join([*lines, *(regret.wrap_paragraph(f"! {printable(each)}") for each in suspicions)])
+class StepResult(NamedTuple):
+    """What a step's result says."""
 
+    plan: Plan
+    step: int
+    judged: "list[Judgement]"
+    level: float  # a percentage
+    suspicions: "list[str]"
 
-def as_json(plan: Plan, step: int, judged: "list[Judgement]", level: float, suspicions: "list[str]") -> str:
-    measures = {
-        each.change.measure.name: {
-            "old": each.change.old,
-            "new": each.change.new,
-            "verdict": each.verdict,
-            "limit_percent": None if each.limit is None else 100 * each.limit,
-            "percent": {name: 100 * value for name, value in each.change.share._asdict().items()},
+    @property
+    def verdict(self) -> str:
+        """The worst of them."""
+        return max((each.verdict for each in self.judged), key=(GO_ON, WAIT, STOP).index)
+
+    def text(self, path: str) -> str:
+        plan, verdict, share = self.plan, self.verdict, self.plan.steps[self.step - 1]
+        begin = f"Step {self.step} of {len(plan.steps)}: {plan.new.version} on {share:g}% of the machines"
+        head = ("Measure", plan.old.version, plan.new.version, "change", f"{self.level:g}% interval", "stop if", "")
+        measures = [each.change.measure for each in self.judged if each.verdict == verdict]
+        why = " and ".join(f"the {'rise of the ' * each.is_rise}{each.name}" for each in measures)
+        said = LAST if verdict == GO_ON and self.step == len(plan.steps) else NEXT[verdict]
+        said = said.format(why=why, plan=shell_words.path_word(path), next=self.step + 1, new=plan.new.version)
+        table = table_text([head, *(each.cells() for each in self.judged)])
+        return f"{begin}, after {plan.old.version}.\n{table}\n{wrap_paragraph(said)}{alert_text(self.suspicions)}"
+
+    def describe(self) -> dict:
+        """All of it, as JSON has it."""
+        measures = {
+            each.change.measure.name: {
+                "old": each.change.old, "new": each.change.new, "verdict": each.verdict,
+                "limit_percent": None if each.limit is None else 100 * each.limit,
+                "percent": each.change.share.percents(),
+            }
+            for each in self.judged
         }
-        for each in judged
-    }
-    made = {
-        "step": step,
-        "steps": plan.steps,
-        "old": plan.old._asdict(),
-        "new": plan.new._asdict(),
-        "level_percent": 100 * level,
-        "verdict": verdict_of(judged),
-        "measures": measures,
-        "suspicions": suspicions,
-    }
-    return json.dumps(made, indent=1) + "\n"
-
-
-def options_of(words: list, *names: str) -> argparse.Namespace:
-    """The options of a command, those of these names, and other words as `names`."""
-    kinds = {
-        "steps": steps_of,
-        "seed": number_between(0, 10**9),
-        "step": number_between(0, 1000),
-        "stop_if": conditions_of,
-        "level": decimal(50, 99.9999, "a chance in percent"),
-    }
-    defaults = {"seed": 1, "level": 95.0, "steps": STEPS, "stop_if": conditions_of("saving<0,peak>2,time>2")}
-    return Words(HELP, "names", defaults, names, **kinds).take(words, once=True)
+        return {
+            "step": self.step, "steps": self.plan.steps, "old": self.plan.old, "new": self.plan.new,
+            "level_percent": self.level, "verdict": self.verdict, "measures": measures, "suspicions": self.suspicions,
+        }
 
 
 def take_names(given: argparse.Namespace, least: int, most: int, what: str) -> "list[str]":
@@ -195,88 +172,73 @@ def take_names(given: argparse.Namespace, least: int, most: int, what: str) -> "
     return [*given.names, *["-"] * (most - len(given.names))]
 
 
-def step_of(given: argparse.Namespace, plan: Plan, first: int) -> int:
+def check_step(given: argparse.Namespace, plan: Plan, first: int) -> int:
     if given.step is None or not first <= given.step <= len(plan.steps):
         raise Refusal(2, f"--step takes a number from {first} to {len(plan.steps)}, the steps of the plan")
     return given.step
 
 
-def make_plan(words: list) -> int:
-    given = options_of(words, "steps", "seed")
+def print_plan(words: "list[str]") -> int:
+    given = take_options(words, HELP, "steps seed", **OPTIONS)
     old, new, path = take_names(given, 2, 3, "VERSION=OLD, VERSION=NEW and a file of machines")
-    tables, found = (table_of(old), table_of(new)), Suspicions()
+    tables = read_table(old), read_table(new)
     if tables[0].digest == tables[1].digest or tables[0].version == tables[1].version:
         raise Refusal(2, "the old and the new table are one, or have one version")
-    machines = [(fields[0], fields[1]) for _, _, fields in results.fields_of(path, {2: "program and machine"}, found)]
-    if found.rows:
-        raise Refusal(2, found.text()[0])
-    plan = Plan(*tables, given.steps, assign_steps(machines, given.steps, given.seed))
-    for remark in remarks(plan):
-        say("fleet_rollout", remark)
+    plan = Plan(*tables, given.steps, assign_steps(read_strictly(path, MACHINES), given.steps, given.seed))
+    if small := ", ".join(small_programs(plan)):
+        why = f"fewer than {FEWEST} machines get the new table, too few to be read"
+        say("fleet_rollout", f"at step 1 {why}, of {small}")
     return text_files.write(plan.text())
 
 
-def deploy_lines(plan: Plan, step: int, path: "Optional[str]") -> str:
+def print_tables(plan: Plan, step: int, path: "Optional[str]") -> int:
     """What each machine has to run; with the file of what they run, those that don't."""
-    found = Suspicions()
-    form = {4: "program, machine, version, digest"}
-    runs = {(line[0], line[1]): line[3] for _, _, line in results.fields_of(path, form, found)} if path else {}
-    if found.rows:
-        raise Refusal(2, found.text()[0])
-    lines = []
-    for key in sorted(plan.machines):
-        table = plan.table_at(step, key)
-        if not path or runs.get(key) != table.digest:
-            lines.append("\t".join([*key, table.version, table.digest]) + "\n")
-    return "".join(lines)
+    running = read_strictly(path, {4: "program, machine, version, digest"}) if path else []
+    digests = {(program, machine): digest for program, machine, _, digest in running}
+    tables = [(key, plan.table_at(step, key)) for key in sorted(plan.machines)]
+    lines = ["\t".join([*key, *table[:2]]) for key, table in tables if digests.get(key) != table.digest]
+    return text_files.write("".join(f"{line}\n" for line in lines))
 
 
-def deploy(words: list) -> int:
-    given = options_of(words, "step", "running")
-    (path,) = take_names(given, 1, 1, "a plan")
-    plan = read_plan(path)
-    return text_files.write(deploy_lines(plan, step_of(given, plan, 0), given.running))
+def print_new(words: "list[str]") -> int:
+    given = take_options(words, HELP, "step running", **OPTIONS)
+    plan = read_plan(*take_names(given, 1, 1, "a plan"))
+    return print_tables(plan, check_step(given, plan, 0), given.running)
 
 
-def print_old(words: list) -> int:
-    given = options_of(words, "running")
-    (path,) = take_names(given, 1, 1, "a plan")
-    return text_files.write(deploy_lines(read_plan(path), 0, given.running))
+def print_old(words: "list[str]") -> int:
+    given = take_options(words, HELP, "running", **OPTIONS)
+    return print_tables(read_plan(*take_names(given, 1, 1, "a plan")), 0, given.running)
 
 
-def print_running(words: list) -> int:
-    given = options_of(words, "rows")
+def print_running(words: "list[str]") -> int:
+    given = take_options(words, HELP, "rows", **OPTIONS)
     if not given.names or not all(re.fullmatch("[1-9][0-9]{0,9}", name) for name in given.names):
         raise Refusal(2, "running takes the numbers of processes; --help says more")
     first = given.rows.split(",") if given.rows else None
     if first and (len(first) != 2 or not all(first) or re.search(r"[\x00-\x1f\x7f]", given.rows)):
         raise Refusal(2, f"--rows takes PROGRAM,MACHINE, and not {given.rows}")
-    lines = {"\t".join([*(first or [name]), *process_mark.table_of(int(name))]) + "\n": None for name in given.names}
-    return text_files.write("".join(lines))
+    lines = ("\t".join([*(first or [name]), *process_mark.table_of(int(name))]) for name in given.names)
+    return text_files.write("".join(f"{line}\n" for line in dict.fromkeys(lines)))
 
 
-def read(words: list) -> int:
-    given = options_of(words, "step", "since", "stop_if", "level", "suspects", "json")
+def read_step(words: "list[str]") -> int:
+    given = take_options(words, HELP, "step since stop_if level suspects json", **OPTIONS)
     path, result = take_names(given, 1, 2, "a plan and a result")
     text_files.refuse_over([("--suspects", given.suspects)], [path, result])
     plan, found = read_plan(path), Suspicions(given.suspects)
-    step = step_of(given, plan, 1)
+    step = check_step(given, plan, 1)
     if given.since is None or rows.day_refusal(given.since):
         raise Refusal(2, "--since takes the first day of the step, as 2026-03-02")
-    changes = changes_of(plan, step, given.since, result, given.level / 100, found)
-    found.end()
-    judged = [judge(change, given.stop_if) for change in changes]
-    said, level = found.text(), given.level / 100
-    text_files.write(
-        as_json(plan, step, judged, level, said) if given.json else text_of(plan, path, step, judged, level, said)
+    changes = read_changes(plan, step, given.since, result, given.level / 100, found)
+    found.write_rows()
+    judged = [judge_change(change, given.stop_if) for change in changes]
+    judgement = StepResult(plan, step, judged, given.level, found.all_lines())
+    text_files.write(json_text(judgement.describe()) if given.json else judgement.text(path))
+    return STATUS[judgement.verdict]
+
+
+def main(words: "list[str]") -> int:
+    return run_step(
+        words, HELP, plan=print_plan, deploy=print_new, back=print_old, running=print_running, read=read_step
     )
-    return STATUS[verdict_of(judged)]
-
-
-def main(words: list) -> int:
-    steps = {"plan": make_plan, "deploy": deploy, "back": print_old, "running": print_running, "read": read}
-    if words[:1] in (["-h"], ["--help"], ["-V"], ["--version"]):
-        Words(HELP).take(words[:1])
-    if not words or words[0] not in steps:
-        raise Refusal(2, "the first word is plan, deploy, back, running or read; --help says more")
-    return steps[words[0]](words[1:])

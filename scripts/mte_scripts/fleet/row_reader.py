@@ -9,6 +9,7 @@ earlier one. Rows in another order count by themselves: the last of those that a
 
 import array
 import functools
+import itertools
 import re
 from collections import Counter
 from collections.abc import Iterable, Iterator
@@ -17,8 +18,8 @@ from typing import BinaryIO, NamedTuple, Optional
 from mte_scripts import count_texts, text_files
 from mte_scripts.entry_point import Refusal
 from mte_scripts.fleet import rows, suspicions
-from mte_scripts.fleet.suspicions import Suspicions
-from mte_scripts.fleet.rows import LARGE, Key, Suspicion
+from mte_scripts.fleet.rows import LARGE, Key
+from mte_scripts.fleet.suspicions import Suspicion, Suspicions
 from mte_scripts.text_files import PIECE
 
 PAIR = rb"(?:[0-9]{1,5}|large)\t[1-9][0-9]{0,17}"
@@ -26,7 +27,7 @@ PAIR = rb"(?:[0-9]{1,5}|large)\t[1-9][0-9]{0,17}"
 RUN = re.compile(
     rb"((?:[^\t\n]{1,800}\t){3}[0-9-]{10}\t(?:[0-9]{1,18}\t)?[0-9]{1,10}\t[0-9]{1,4}\t)(%(p)s)\n((?:\1%(p)s\n)*)" % {b"p": PAIR}
 )
-KNOWN = 1 << 12  # heads of rows, and columns of sizes, that are read once
+KNOWN = 1 << 12  # heads of rows, and 16 times the columns of sizes, that are read once
 LONG_LINE = 5_000  # bytes of a line: no row has so many
 
 
@@ -41,24 +42,22 @@ class Part(NamedTuple):
         return zip(unpack_sizes(self.sizes), map(int, self.counts.split()))
 
 
-class Load:
+class PackedLoad(NamedTuple):
     """Rows of one load in the order of moment and size."""
 
-    __slots__ = ("number", "weight", "parts")
+    number: int
+    weight: int
+    parts: "list[Part]"
 
-    def __init__(self, number: int, weight: int, parts: "list[Part]") -> None:
-        self.number, self.weight, self.parts = number, weight, parts
-
-    @property
-    def moments(self) -> "dict[int, dict]":
-        """As of rows.Record."""
-        found: "dict[int, dict]" = {}
+    def unpack(self) -> "tuple[int, dict[int, dict]]":
+        """Its weight, and at each moment the count of each size."""
+        moments: "dict[int, dict]" = {}
         for part in self.parts:
-            counts = found.setdefault(part.moment, {})
+            counts = moments.setdefault(part.moment, {})
             counts.update(part.pairs())
             if LARGE in counts:
                 counts["large"] = counts.pop(LARGE)
-        return found
+        return self.weight, moments
 
     def cells(self) -> "dict[tuple[int, int], int]":
         return {(part.moment, size): count for part in self.parts for size, count in part.pairs()}
@@ -79,29 +78,22 @@ def unpack_sizes(sizes: bytes) -> "array.array[int]":
     return found
 
 
-def load_of(number: int, weight: int, cells: dict) -> Load:
+def pack_load(number: int, weight: int, cells: dict) -> PackedLoad:
     """A load of these cells."""
-    parts: "dict[int, list]" = {}
-    for (moment, size), count in sorted(cells.items()):
-        parts.setdefault(moment, []).append((size, count))
-    return Load(
-        number,
-        weight,
-        [
-            Part(moment, pack_sizes(size for size, _ in found), b" ".join(b"%d" % count for _, count in found))
-            for moment, found in parts.items()
-        ],
-    )
+    parts = []
+    for moment, found in itertools.groupby(sorted(cells.items()), lambda each: each[0][0]):
+        sizes, counts = zip(*((size, b"%d" % count) for (_, size), count in found))
+        parts.append(Part(moment, pack_sizes(sizes), b" ".join(counts)))
+    return PackedLoad(number, weight, parts)
 
 
 @functools.lru_cache(KNOWN)
-def head(text: bytes) -> "Optional[tuple[bytes, int, int, int]]":
+def read_head(text: bytes) -> "Optional[tuple[bytes, int, int, int]]":
     """The key as bytes, load, weight and moment of the first fields of rows; None if something is wrong with them."""
     try:
         if text.startswith(rows.BOM) or count_texts.binary(text):
             return None
-        words = text.decode().split("\t")
-        key, load, weight, moment = rows.head_of([*words[:-1], "0", "0"])
+        key, load, weight, moment = rows.parse_head([*text.decode().split("\t")[:-1], "0", "0"])
     except (Suspicion, UnicodeDecodeError):
         return None
     return "\t".join(key).encode(), load, weight, moment
@@ -112,22 +104,33 @@ def size_of(word: bytes) -> int:
     return LARGE if word == b"large" else int(word)
 
 
+@functools.lru_cache(KNOWN // 16)
+def pack_column(words: tuple) -> "Optional[list[tuple[int, int, bytes]]]":
+    """Sizes in pieces that are in order, with their begin and end, as they are packed; None if not all are in range."""
+    sizes = [*map(size_of, words)]
+    if max(sizes) > LARGE:
+        return None
+    ends = [*(at for at in range(1, len(sizes)) if sizes[at] <= sizes[at - 1]), len(sizes)]
+    return [(first, last, pack_sizes(sizes[first:last])) for first, last in zip([0, *ends], ends)]
+
+
 class Store:
     """The loads of all files that it has read, and their suspicions."""
 
     def __init__(self, found: "Optional[Suspicions]" = None) -> None:
         self.suspicions = found or Suspicions()
-        self.loads: "dict[bytes, list[Load]]" = {}  # of a key; more than one only of one number
+        self.loads: "dict[bytes, list[PackedLoad]]" = {}  # of a key; more than one only of one number
         self.older: "set[tuple[bytes, int]]" = set()
         self.waiting: "dict[bytes, bytearray]" = {}  # by the first fields of their rows
-        self.columns: "dict[tuple, Optional[list]]" = {}
         self.is_resolved = False
 
-    def read(self, path: str) -> None:
-        with text_files.open_input(path) as file:
-            self.take(file, path)
+    def read_files(self, paths: "Iterable[str]") -> None:
+        """The rows of these files, `-` for standard input."""
+        for path in paths:
+            with text_files.open_input(path) as file:
+                self.read_rows(file, path)
 
-    def take(self, file: BinaryIO, path: str, begin: bytes = b"") -> None:
+    def read_rows(self, file: BinaryIO, path: str, begin: bytes = b"") -> None:
         """The rows of an open file; what was read of it already is BEGIN."""
         rest, at = begin, 1
         while piece := text_files.next_piece(file, path):
@@ -138,7 +141,7 @@ class Store:
         end = rest.rfind(b"\n") + 1
         at += self.add_lines(rest, end, path, at)
         if rest[end:]:
-            self.suspicions.add(Suspicion("a line without its end: the file is cut there"), path, at, rest[end:])
+            self.suspicions.add_row(Suspicion("a line without its end: the file is cut there"), path, at, rest[end:])
 
     def add_lines(self, data: bytes, end: int, path: str, at: int) -> int:
         """The lines up to END, of which the first is AT; how many there are."""
@@ -148,9 +151,12 @@ class Store:
             stop = match.end() if match else data.index(b"\n", place) + 1
             number = self.add_run(match) if match else 0
             if not number:  # something is wrong, or in no order
-                for line in data[place : stop - 1].split(b"\n"):
-                    self.add_row(line, path, at + number)
-                    number += 1
+                lines = data[place : stop - 1].split(b"\n")
+                number = len(lines)
+                given = ((each, line, (line, each)) for each, line in enumerate(lines, at))
+                for key, load, weight, moment, size, count in self.suspicions.keep_good(path, given, rows.parse_row):
+                    sizes, counts = pack_sizes([size]), b"%d" % count
+                    self.add_part("\t".join(key).encode(), load, weight, moment, sizes, counts)
             at, place = at + number, stop
         return at - first
 
@@ -158,26 +164,26 @@ class Store:
         """Rows with the same first fields; how many, or 0 where they have to be read one by one."""
         begin = match[1]
         pairs = match[2] + b"\n" + match[3].replace(begin, b"")
-        if (begin in self.waiting or not match[3]) and self.keep(begin, pairs):
+        if (begin in self.waiting or not match[3]) and self.keep_waiting(begin, pairs):
             return pairs.count(b"\n")
         return self.add_pairs(begin, pairs.split())
 
     def add_pairs(self, begin: bytes, words: "list[bytes]") -> int:
         """The same of rows with these first fields, and these sizes and counts."""
-        fields, pieces, counts = head(begin), self.column(tuple(words[::2])), words[1::2]
+        fields, pieces, counts = read_head(begin), pack_column(tuple(words[::2])), words[1::2]
         if fields is None or pieces is None:
             return 0
         for first, last, sizes in pieces:
-            self.add(*fields, sizes, b" ".join(counts[first:last]))
+            self.add_part(*fields, sizes, b" ".join(counts[first:last]))
         return len(counts)
 
-    def keep(self, begin: bytes, pairs: bytes) -> bool:
+    def keep_waiting(self, begin: bytes, pairs: bytes) -> bool:
         """Keeps a row that comes by itself until all are there, as where rows are in no order; not one that is wrong, nor
         of a load without a number, of which the order counts. Whether it is kept."""
         if max(map(size_of, pairs.split()[::2])) > LARGE:
             return False
         if begin not in self.waiting:
-            fields = head(begin)
+            fields = read_head(begin)
             if fields is None or not fields[1]:
                 return False
             self.loads.setdefault(fields[0], [])
@@ -192,112 +198,71 @@ class Store:
             order = sorted(range(0, len(words), 2), key=lambda at: size_of(words[at]))
             self.add_pairs(begin, [word for at in order for word in words[at : at + 2]])
 
-    def column(self, words: tuple) -> "Optional[list[tuple[int, int, bytes]]]":
-        """Sizes in pieces that are in order, each with its begin and end, as they are packed; None if not all are in range."""
-        if words not in self.columns:
-            sizes = [*map(size_of, words)]
-            ends = [*(at for at in range(1, len(sizes)) if sizes[at] <= sizes[at - 1]), len(sizes)]
-            if len(self.columns) == KNOWN // 16:
-                self.columns.clear()
-            is_in_range = max(sizes) <= LARGE
-            self.columns[words] = (
-                [(first, last, pack_sizes(sizes[first:last])) for first, last in zip([0, *ends], ends)]
-                if is_in_range
-                else None
-            )
-        return self.columns[words]
-
-    def add_row(self, line: bytes, path: str, at: int) -> None:
-        """A row by itself, which may be wrong."""
-        try:
-            key, load, weight, moment, size, count = rows.row_of(line, at)
-        except Suspicion as suspicion:
-            self.suspicions.add(suspicion, path, at, line)
-            return
-        self.add("\t".join(key).encode(), load, weight, moment, pack_sizes([size]), b"%d" % count)
-
-    def add(self, key: bytes, number: int, weight: int, moment: int, sizes: bytes, counts: bytes) -> None:
+    def add_part(self, key: bytes, number: int, weight: int, moment: int, sizes: bytes, counts: bytes) -> None:
         """Rows of one load in the order of their sizes."""
-        loads = self.loads.setdefault(key, [])
-        last = loads[-1] if loads else None
-        if last and number < last.number:
+        loads, part = self.loads.setdefault(key, []), Part(moment, sizes, counts)
+        last = loads[-1] if loads else PackedLoad(-1, 0, [])
+        if number < last.number:
             self.older.add((key, number))
-            return
-        part = Part(moment, sizes, counts)
-        if (
-            last
-            and number == last.number
-            and weight == last.weight
-            and last.is_before(moment, unpack_sizes(sizes[:2])[0])
-        ):
+        elif (number, weight) == last[:2] and last.is_before(moment, unpack_sizes(sizes[:2])[0]):
             last.parts.append(part)
-            return
-        if last and number > last.number:
-            self.older.add((key, last.number))
-            loads.clear()
-        loads.append(Load(number, weight, [part]))
+        else:
+            if loads and number > last.number:
+                self.older.add((key, last.number))
+                loads.clear()
+            loads.append(PackedLoad(number, weight, [part]))
 
-    def items(self) -> "list[tuple[Key, Load]]":
+    def items(self) -> "list[tuple[Key, PackedLoad]]":
         """Each key with the load that counts."""
         if not self.is_resolved:
             self.is_resolved = True
             self.add_waiting()
-            self.suspicions.count_again(suspicions.AGAIN, len(self.older))
+            self.suspicions.repeats[suspicions.AGAIN] += len(self.older)
             for loads in self.loads.values():
                 if len(loads) > 1:
                     loads[:] = [merge_loads(loads, self.suspicions)]
         return [(Key(*key.decode().split("\t")), loads[0]) for key, loads in self.loads.items()]
 
-    def __len__(self) -> int:
-        return len(self.loads)
 
-
-def merge_loads(loads: "list[Load]", found: Suspicions) -> Load:
+def merge_loads(loads: "list[PackedLoad]", found: Suspicions) -> PackedLoad:
     """The load of runs of rows, each in order, that have one key and one number."""
     last = loads[-1]
     if last.number:
         return merge_parts(loads, found)
     cells = [each.cells() for each in loads]
-    often = max(Counter(cell for each in cells for cell in each).values())
+    often = max(Counter(itertools.chain(*cells)).values())
     if often == len(loads):
-        found.count_again(suspicions.AGAIN, often - 1)
+        found.repeats[suspicions.AGAIN] += often - 1
         whole = [at for at, each in enumerate(cells) if loads[at].weight == last.weight and cells[-1].items() <= each.items()]
         return loads[max(whole, key=lambda at: (len(cells[at]), at))]
-    found.count(suspicions.MIXED, int(often > 1 or any(each.weight != last.weight for each in loads)))
+    found.loads[suspicions.MIXED] += often > 1 or any(each.weight != last.weight for each in loads)
     merged: dict = {}
     for each, own in zip(loads, cells):
         if each.weight == last.weight:
             merged.update(own)
-    return load_of(0, last.weight, merged)
+    return pack_load(0, last.weight, merged)
 
 
-def merge_parts(loads: "list[Load]", found: Suspicions) -> Load:
+def merge_parts(loads: "list[PackedLoad]", found: Suspicions) -> PackedLoad:
     """The rows of one load, that came in several parts or several times: of each moment and size the greatest count, of the greatest
     weight, whatever came first."""
     weight = max(each.weight for each in loads)
     merged: dict = {}
-    unlike = 0
     for each in loads:
         own = each.cells()
         if each.weight != weight:
-            unlike += len(own)
+            found.loads[suspicions.UNLIKE] += len(own)
             continue
         for cell, count in own.items():
-            unlike += merged.get(cell, count) != count
+            found.loads[suspicions.UNLIKE] += merged.get(cell, count) != count
             merged[cell] = max(merged.get(cell, 0), count)
-    found.count(suspicions.UNLIKE, unlike)
-    return load_of(loads[0].number, weight, merged)
+    return pack_load(loads[0].number, weight, merged)
 
 
-def read(paths: "Iterable[str]", found: "Optional[Suspicions]" = None) -> Store:
-    """The loads in files of rows, `-` for standard input."""
+def read_rows(paths: "Iterable[str]", found: "Optional[Suspicions]" = None) -> Store:
+    """The loads in files of rows; there is one."""
     store = Store(found)
-    for path in paths:
-        store.read(path)
+    store.read_files(paths)
     if not store.loads:
-        store.suspicions.end()
-        wrong = store.suspicions.text()
-        raise Refusal(2, f"no row can count: {wrong[0]}") if wrong else Refusal(
-            3, "there is no row: did the query that prints them fail?"
-        )
+        raise store.suspicions.refuse_all("row", Refusal(3, "there is no row: did the query that prints them fail?"))
     return store

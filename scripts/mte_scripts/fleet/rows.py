@@ -5,12 +5,12 @@ import datetime
 import re
 import time
 from collections.abc import Iterable
-from typing import NamedTuple
+from typing import Any, NamedTuple
 
 from mte_scripts import count_texts
 from mte_scripts.entry_point import Refusal
+from mte_scripts.fleet.suspicions import Suspicion
 from mte_scripts.formats import LARGEST_SIZE, MOST_COUNT, MOST_SNAPSHOTS
-
 
 COLUMNS = "program build machine day weight moment size count".split()
 NUMBERED = "program build machine day load weight moment size count".split()
@@ -24,7 +24,8 @@ EARLY = 2  # days by which a day may be ahead of the reader's clock: of another 
 LARGE = LARGEST_SIZE + 1
 BOM = b"\xef\xbb\xbf"
 EPOCH = datetime.date(1970, 1, 1).toordinal()
-RANGES = {"load": (0, MOST_LOAD), "weight": (1, MOST_COUNT), "moment": (0, MOST_SNAPSHOTS), "size": (0, LARGE), "count": (1, MOST_SUM)}
+RANGES = {"load": (0, MOST_LOAD), "weight": (1, MOST_COUNT), "moment": (0, MOST_SNAPSHOTS)}
+RANGES |= {"size": (0, LARGE), "count": (1, MOST_SUM)}
 
 
 class Key(NamedTuple):
@@ -34,14 +35,6 @@ class Key(NamedTuple):
     build: str
     machine: str
     day: str
-
-
-class Record(NamedTuple):
-    """Its weight, and at each moment the count of each size. Moment 0 is a profile, those from 1 on are the moments of a history."""
-
-    weight: int
-    moments: dict
-    load: int = 0
 
 
 def host_of(machine: str) -> str:
@@ -54,47 +47,38 @@ def is_rows(data: bytes) -> bool:
     return any(line.count(b"\t") + 1 in (len(COLUMNS), len(NUMBERED)) for line in data.split(b"\n", 9)[:9])
 
 
-class Suspicion(Exception):
-    """A row that can't count: why, in words that rows with the same suspicion have alike; and what of the row shows it."""
-
-    def __init__(self, reason: str, what: str = "") -> None:
-        super().__init__(reason)
-        self.reason, self.what = reason, what
-
-
-def clock() -> float:
-    """The seconds since 1970."""
-    return time.time()
-
-
 def day_refusal(day: str) -> str:
     """What is wrong with a day; empty if nothing is."""
     try:
         if not DAY.fullmatch(day):
             raise ValueError
-        found = datetime.date.fromisoformat(day)
+        number = datetime.date.fromisoformat(day).toordinal() - EPOCH
     except ValueError:
         return "a day that does not exist"
     if day < FIRST_DAY:
         return f"a day before {FIRST_DAY}: a clock that is not set"
-    return "a day that is not yet: a clock that is ahead" if found.toordinal() - EPOCH > clock() // 86400 + EARLY else ""
+    return "a day that is not yet: a clock that is ahead" if number > time.time() // 86400 + EARLY else ""
 
 
-def head_of(words: list) -> tuple:
+def check_day(day: str) -> None:
+    """Suspects a wrong day."""
+    if wrong := day_refusal(day):
+        raise Suspicion(wrong, day)
+
+
+def parse_head(words: list) -> tuple:
     """The key, load, weight and moment of the fields of a row."""
-    is_numbered = len(words) == len(NUMBERED)
     for column, word in zip(COLUMNS[:3], words):
         if not word.strip() or len(word) > LONGEST_NAME:
             raise Suspicion(f"no {column} of 1 to {LONGEST_NAME} characters", word)
-    if wrong := day_refusal(words[3]):
-        raise Suspicion(wrong, words[3])
-    load = number(words[4], "load") if is_numbered else 0
-    if load > (clock() + 86400 * EARLY) * 1000:
+    check_day(words[3])
+    load = parse_number(words[4], "load") if len(words) == len(NUMBERED) else 0
+    if load > (time.time() + 86400 * EARLY) * 1000:
         raise Suspicion("a load that is not yet: a clock that is ahead", words[4])
-    return Key(*words[:4]), load, number(words[-4], "weight"), number(words[-3], "moment")
+    return Key(*words[:4]), load, parse_number(words[-4], "weight"), parse_number(words[-3], "moment")
 
 
-def number(word: str, column: str) -> int:
+def parse_number(word: str, column: str) -> int:
     """The number in a column."""
     least, most = RANGES[column]
     if not re.fullmatch("[0-9]{1,19}", word) or not least <= int(word) <= most:
@@ -102,7 +86,7 @@ def number(word: str, column: str) -> int:
     return int(word)
 
 
-def fields_of(line: bytes, at: int) -> "list[str]":
+def split_fields(line: bytes, at: int) -> "list[str]":
     """The fields of line AT of a file. A byte order mark comes also where files that have one are joined."""
     if line.startswith(BOM):
         raise Suspicion(r"a line that begins with a byte order mark (BOM): remove it by `sed 's/^\xef\xbb\xbf//'`")
@@ -111,65 +95,70 @@ def fields_of(line: bytes, at: int) -> "list[str]":
     return line.decode().split("\t")
 
 
-def row_of(line: bytes, at: int) -> tuple:
+def parse_row(line: bytes, at: int) -> tuple:
     """The key, load, weight, moment, size and count of a row, which is line AT of its file. Large sizes are one above the largest."""
-    words = fields_of(line, at)
+    words = split_fields(line, at)
     if len(words) not in (len(COLUMNS), len(NUMBERED)):
         raise Suspicion(f"not the {len(NUMBERED)} fields of a row, with tabs between: {FORM}", f"{len(words)} fields")
-    head = head_of(words)
-    return *head, LARGE if words[-2] == "large" else number(words[-2], "size"), number(words[-1], "count")
+    head = parse_head(words)
+    size = LARGE if words[-2] == "large" else parse_number(words[-2], "size")
+    return *head, size, parse_number(words[-1], "count")
 
 
-def text_of(key: Key, record: Record) -> str:
-    """The rows of a load, in the order of moments and sizes."""
-    begin = "\t".join([*key, str(record.load), str(record.weight)])
+def text_of(key: Key, load: int, weight: int, moments: dict) -> str:
+    """The rows of a load, in the order of moments and sizes: at each moment the count of each size. Moment 0 is a
+    profile, those from 1 on are the moments of a history."""
+    begin = "\t".join([*key, str(load), str(weight)])
     lines = []
-    for moment in sorted(record.moments):
-        counts = {LARGE if size == "large" else size: count for size, count in record.moments[moment].items()}
-        lines += [f"{begin}\t{moment}\t{size}\t{counts[size]}\n" for size in sorted(counts) if counts[size]]
+    for moment, by_size in sorted(moments.items()):
+        counts = sorted((LARGE if size == "large" else size, count) for size, count in by_size.items() if count)
+        lines += [f"{begin}\t{moment}\t{size}\t{count}\n" for size, count in counts]
     return "".join(lines)
+
+
+def group_pairs(pairs: Iterable[tuple]) -> "dict[Any, list]":
+    """The values of each key."""
+    groups: "dict[Any, list]" = {}
+    for key, value in pairs:
+        groups.setdefault(key, []).append(value)
+    return groups
 
 
 def group_records(found: Iterable[tuple], by: Iterable[str]) -> "list[tuple]":
     """Of keys with their records: the records by the values of these columns, in the order of the values."""
-    groups: dict[tuple, list] = {}
-    for key, record in found:
-        groups.setdefault(tuple(getattr(key, column) for column in by), []).append(record)
-    return sorted(groups.items())
+    return sorted(group_pairs((tuple(getattr(key, column) for column in by), record) for key, record in found).items())
 
 
-def profile_of(records: Iterable) -> dict:
-    """The profile of all, each count times its weight: what the machines for which they stand have counted, where the sample is
-    unbiased."""
+def sum_profiles(records: "Iterable[tuple[int, dict]]") -> dict:
+    """The profile of all machines, by their weights and moments, each count times its weight: what the machines for
+    which they stand have counted, where the sample is unbiased."""
     sums: dict = {}
-    for record in records:
-        count_texts.add_counts(sums, record.moments.get(0, {}), record.weight)
+    for weight, moments in records:
+        count_texts.add_counts(sums, moments.get(0, {}), weight)
     return sums
 
 
-def histories_of(records: Iterable) -> list:
-    """The history of each machine that has one, with its weight."""
-    decoded = (Record(record.weight, record.moments) for record in records)
-    return [(record.weight, history_of(record)) for record in decoded if any(record.moments)]
+def histories_of(records: "Iterable[tuple[int, dict]]") -> list:
+    """The weight and the history of each machine that has one."""
+    return [(weight, history_of(moments)) for weight, moments in records if any(moments)]
 
 
-def history_of(record: Record) -> count_texts.History:
+def history_of(moments: dict) -> count_texts.History:
     """The moments from 1 to the last; one of which there is no row has no block."""
-    moments = max(record.moments)
-    sizes = set().union(*(record.moments[moment] for moment in record.moments if moment))
-    rows = {size: [record.moments.get(moment, {}).get(size, 0) for moment in range(1, moments + 1)] for size in sizes}
-    return count_texts.History(moments, rows)
+    last = max(moments)
+    sizes = set().union(*(counts for moment, counts in moments.items() if moment))
+    counts = {size: [moments.get(moment, {}).get(size, 0) for moment in range(1, last + 1)] for size in sizes}
+    return count_texts.History(last, counts)
 
 
 def add_histories(histories: list) -> count_texts.History:
     """The histories added moment by moment, each count times its weight; the machines took them at the same stages."""
     longest = max(history.snapshots for _, history in histories)
     if any(history.snapshots != longest for _, history in histories):
-        raise Refusal(
-            2, f"the machines have different numbers of moments, up to {longest}: they can't be added moment by moment"
-        )
-    rows: dict = {}
+        why = f"the machines have different numbers of moments, up to {longest}"
+        raise Refusal(2, f"{why}: they can't be added moment by moment")
+    sums: dict = {}
     for weight, history in histories:
         for size, counts in history.counts.items():
-            count_texts.add_row(rows, size, counts, weight)
-    return count_texts.History(longest, rows)
+            count_texts.add_row(sums, size, counts, weight)
+    return count_texts.History(longest, sums)

@@ -4,7 +4,7 @@ of Student; it is computed here."""
 import functools
 import math
 import statistics
-from collections.abc import Iterable, Sequence
+from collections.abc import Sequence
 from typing import NamedTuple
 
 NORMAL = statistics.NormalDist()
@@ -33,10 +33,8 @@ def student(share: float, freedom: float) -> float:
     low, high = 0.0, 1e6
     for _ in range(60):
         middle = (low + high) / 2
-        if beta_part(freedom / (freedom + middle**2), freedom / 2, 0.5) > 2 * (1 - share):
-            low = middle
-        else:
-            high = middle
+        is_below = beta_part(freedom / (freedom + middle**2), freedom / 2, 0.5) > 2 * (1 - share)
+        low, high = (middle, high) if is_below else (low, middle)
     return high
 
 
@@ -60,11 +58,31 @@ class Difference(NamedTuple):
     low: float
     high: float
 
+    def divide(self, amount: float) -> "Difference":
+        """It as a share of an amount; of one below 0, that of the first group below the second."""
+        low, high = sorted((self.low / amount, self.high / amount))
+        return Difference(self.mean / amount, low, high)
 
-def difference(pairs: Iterable[tuple], level: float) -> Difference:
-    """Of strata, each (share, first group, second group): the shares, of 1, times the differences, by Welch's test."""
+    def percents(self) -> "dict[str, float]":
+        """Of shares, as JSON has them."""
+        return {name: 100 * value for name, value in self._asdict().items()}
+
+
+def weigh_pairs(pairs: Sequence[tuple]) -> "list[tuple[float, Group, Group]]":
+    """Pairs of groups, each with its share of all machines."""
+    whole = sum(first.number + second.number for first, second in pairs)
+    return [((first.number + second.number) / whole, first, second) for first, second in pairs]
+
+
+def first_mean(pairs: Sequence[tuple]) -> float:
+    """The mean of the first groups, each pair with its share of the machines."""
+    return sum(share * first.mean for share, first, _ in weigh_pairs(pairs))
+
+
+def difference(pairs: Sequence[tuple], level: float) -> Difference:
+    """Of pairs of groups, each with its share of the machines, by Welch's test."""
     mean = variance = freedom = 0.0
-    for share, first, second in pairs:
+    for share, first, second in weigh_pairs(pairs):
         mean += share * (first.mean - second.mean)
         for group in (first, second):
             own = share * share * group.variance / group.number
@@ -76,15 +94,17 @@ def difference(pairs: Iterable[tuple], level: float) -> Difference:
     return Difference(mean, mean - wide, mean + wide)
 
 
-def adjust_for_covariate(groups: dict, beside: dict) -> dict:
-    """The values of some groups, as they would be if each machine had the same of what is beside them: less what grows with that, by
-    the slope that the groups have in common."""
-    means = {name: (statistics.fmean(values), statistics.fmean(beside[name])) for name, values in groups.items()}
-    pairs = [(x - means[name][1], y - means[name][0]) for name, values in groups.items() for x, y in zip(beside[name], values)]
-    width = sum(x * x for x, _ in pairs)
-    slope = sum(x * y for x, y in pairs) / width if width else 0.0
-    middle = statistics.fmean(value for values in beside.values() for value in values)
-    return {name: [y - slope * (x - middle) for x, y in zip(beside[name], values)] for name, values in groups.items()}
+def adjust_for_covariate(groups: "dict[str, list[tuple]]") -> "dict[str, list[tuple]]":
+    """Pairs of a machine's value and what is beside it, with the values as they would be if each machine had the same
+    beside: less what grows with that, by the slope that the groups have in common."""
+    apart = []
+    for pairs in groups.values():
+        own, other = map(statistics.fmean, zip(*pairs))
+        apart += [(x - other, y - own) for y, x in pairs]
+    width = sum(x * x for x, _ in apart)
+    slope = sum(x * y for x, y in apart) / width if width else 0.0
+    middle = statistics.fmean(x for pairs in groups.values() for _, x in pairs)
+    return {name: [(y - slope * (x - middle), x) for y, x in pairs] for name, pairs in groups.items()}
 
 
 def sample_size(saving: float, spread: float, level: float, power: float) -> int:
@@ -92,12 +112,11 @@ def sample_size(saving: float, spread: float, level: float, power: float) -> int
     SPREAD, the standard deviation of one machine, are shares of the mean."""
     number = 2.0 * ((NORMAL.inv_cdf((1 + level) / 2) + NORMAL.inv_cdf(power)) * spread / saving) ** 2
     for _ in range(20):  # the quantiles of Student depend on the number
-        freedom = max(2 * number - 2, 4.0)
-        number = 2.0 * ((student((1 + level) / 2, freedom) + student(power, freedom)) * spread / saving) ** 2
+        number *= (detectable_saving(number, spread, level, power) / saving) ** 2
     return max(math.ceil(number - 1e-9), 5)
 
 
-def detectable_saving(number: int, spread: float, level: float, power: float) -> float:
+def detectable_saving(number: float, spread: float, level: float, power: float) -> float:
     """The saving, as a share of the mean, that so many machines in each group show with the chance POWER."""
     freedom = max(2.0 * number - 2, 4.0)
     return (student((1 + level) / 2, freedom) + student(power, freedom)) * spread * math.sqrt(2 / number)

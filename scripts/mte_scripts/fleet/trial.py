@@ -2,19 +2,19 @@
 all."""
 
 import argparse
-import json
 import math
-import random
 from collections.abc import Iterable
 from typing import NamedTuple, Optional
 
-from mte_scripts import certificate_texts, text_files, text_layout
+from mte_scripts import certificate_texts, text_files
 from mte_scripts.entry_point import Refusal, printable
-from mte_scripts.fleet import loads, regret, results, samples
-from mte_scripts.fleet.suspicions import Suspicions
-from mte_scripts.fleet.results import FEWEST, GROUPS, Values, values_of
+from mte_scripts.fleet import loads, samples
+from mte_scripts.fleet.command_words import run_step, take_options
+from mte_scripts.fleet.machine_values import FEWEST, MACHINES, Values, read_strictly, shuffle_machines
+from mte_scripts.fleet.report_text import alert_text, json_text, table_text, wrap_paragraph
 from mte_scripts.fleet.samples import Difference, Group
-from mte_scripts.words import Words, decimal, number_between
+from mte_scripts.fleet.suspicions import Suspicions
+from mte_scripts.fleet.trial_lines import GROUPS, read_values
 
 HELP = """\
 Plan the trial of a new table on some machines beside others, and read its result: difference, interval and verdict.
@@ -69,54 +69,53 @@ Examples:
   fleet_trial read --predicted 3.4 result.tsv
 """
 
-def assign_groups(machines: Iterable[list], seed: int) -> str:
+
+def assign_groups(machines: "Iterable[list[str]]", seed: int) -> str:
     """Each program's machines, half of them tuned; an odd one out goes to either group by chance."""
-    by_program: dict[str, list] = {}
-    for program, machine in machines:
-        if machine in by_program.setdefault(program, []):
-            raise Refusal(2, f"the machine {machine} of {program} is there twice")
-        by_program[program].append(machine)
     lines = []
-    for program in sorted(by_program):
-        chance = random.Random(f"{seed} {program}")
-        order = sorted(by_program[program])
-        chance.shuffle(order)
+    for program, order, chance in shuffle_machines(machines, seed):
         first = len(order) // 2 + (len(order) % 2 and chance.randrange(2))
-        lines += [(program, machine, "control" if at < first else "tuned") for at, machine in enumerate(order)]
+        lines += [(program, machine, GROUPS[at >= first]) for at, machine in enumerate(order)]
     return "".join("\t".join(line) + "\n" for line in sorted(lines))
 
 
-def strata(values: dict) -> list:
-    """For each program its share of all machines, and its groups control and tuned."""
-    found = []
-    for program in sorted(values):
-        groups = values[program]
-        for group in GROUPS[:2]:
-            if len(groups.get(group, ())) < FEWEST:
-                raise Refusal(
-                    3,
-                    f"the group {group} of {program} has {len(groups.get(group, ()))} machines, and wants {FEWEST} or "
-                    "more",
-                )
-        found.append((program, sum(map(len, groups.values())), samples.group_of(groups["control"]), samples.group_of(groups["tuned"])))
-    whole = sum(machines for _, machines, _, _ in found)
-    return [(program, machines / whole, first, second) for program, machines, first, second in found]
+def pair_groups(values: Values, at: int) -> "dict[str, tuple[Group, Group]]":
+    """Of each program the groups control and tuned, by the amounts at this place."""
+    found = {}
+    for program, groups in sorted(values.by_program.items()):
+        own = [[amounts[at] for amounts in groups.get(group, ())] for group in GROUPS]
+        for group, each in zip(GROUPS, own):
+            if len(each) < FEWEST:
+                raise Refusal(3, f"the group {group} of {program} has {len(each)} machines, and wants {FEWEST} or more")
+        found[program] = samples.group_of(own[0]), samples.group_of(own[1])
+    return found
 
 
-def at_same_requests(values: Values) -> Values:
+def adjust_requests(values: Values) -> Values:
     """The values that each machine would have with the mean requests of its program."""
-    resident = {
-        program: samples.adjust_for_covariate(groups, values.requests[program])
-        for program, groups in values.resident.items()
-    }
-    return values._replace(resident=resident)
+    adjusted = {program: samples.adjust_for_covariate(groups) for program, groups in values.by_program.items()}
+    return values._replace(by_program=adjusted)
 
 
-class Read(NamedTuple):
-    """A result: of each program and of all, the means of both groups and their difference, in KiB and as a share of the control's mean;
-    of the requests the difference as a share."""
+class Row(NamedTuple):
+    """Of a program: the two groups and their difference, in KiB."""
 
-    rows: list
+    program: str
+    control: Group
+    tuned: Group
+    saving_kib: Difference
+
+    def cells(self) -> "tuple[str, ...]":
+        _, first, second, (mean, low, high) = self
+        numbers = f"{first.number} + {second.number}", f"{first.mean:,.0f}", f"{second.mean:,.0f}", f"{mean:,.0f}"
+        return (printable(self.program), *numbers, f"{low:,.0f} to {high:,.0f}")
+
+
+class TrialResult(NamedTuple):
+    """A result: of each program, and the difference over all, in KiB; the mean of the control group, or of what they
+    took before; and the requests of the tuned machines beyond the others', as a share."""
+
+    rows: "list[Row]"
     whole: Difference
     mean: float
     requests: Difference
@@ -128,107 +127,90 @@ class Read(NamedTuple):
 
     @property
     def shares(self) -> Difference:
-        return Difference(*(amount / self.mean for amount in self.whole))
-
-    @property
-    def more(self) -> Difference:
-        """The requests of the tuned machines beyond the others', as a share."""
-        return Difference(-self.requests.mean, -self.requests.high, -self.requests.low)
+        return self.whole.divide(self.mean)
 
     @property
     def is_load_alike(self) -> bool:
         return self.requests.low <= 0 <= self.requests.high
 
-
-def read(values: Values, level: float) -> Read:
-    parts = strata(values.resident)
-    rows = [(program, first, second, samples.difference([(1.0, first, second)], level)) for program, _, first, second in parts]
-    whole = samples.difference([part[1:] for part in parts], level)
-    mean = values.before or sum(share * first.mean for _, share, first, _ in parts)
-    load = strata(values.requests)
-    served = sum(share * first.mean for _, share, first, _ in load) or 1.0
-    requests = samples.difference([part[1:] for part in load], level)
-    return Read(rows, whole, mean, Difference(*(amount / served for amount in requests)), level)
+    def verdict(self) -> str:
+        if self.is_saving:
+            return "A saving is shown."
+        if self.whole.high < 0:
+            return "The tuned machines take more: this is shown."
+        return "No saving is shown: the interval has 0."
 
 
-def percents(shares: Difference) -> str:
+def read_difference(values: Values, level: float) -> TrialResult:
+    pairs, served = pair_groups(values, 0), [*pair_groups(values, 1).values()]
+    rows = [Row(program, *pair, samples.difference([pair], level)) for program, pair in pairs.items()]
+    mean = values.mean_before() or samples.first_mean([*pairs.values()])
+    requests = samples.difference(served, level).divide(-(samples.first_mean(served) or 1.0))
+    return TrialResult(rows, samples.difference([*pairs.values()], level), mean, requests, level)
+
+
+def share_text(shares: Difference) -> str:
     mean, low, high = (round(100 * share, 2) + 0.0 for share in shares)  # and no -0.00
     return f"{mean:.2f}% (from {low:.2f} to {high:.2f}%)"
 
 
-def verdict(result: Read) -> str:
-    if result.is_saving:
-        return "A saving is shown."
-    if result.whole.high < 0:
-        return "The tuned machines take more: this is shown."
-    return "No saving is shown: the interval has 0."
-
-
-def text_of(result: Read, predicted: Optional[float], is_change: bool, is_adjusted: bool, suspicions: "list[str]") -> str:
+def result_text(
+    result: TrialResult, predicted: Optional[float], is_change: bool, is_adjusted: bool, suspicions: "list[str]"
+) -> str:
     what = ("change since before, KiB" if is_change else "resident set, KiB") + ", at the same requests" * is_adjusted
-    rows = [("Program", "machines", f"control: {what}", "tuned", "saving, KiB", f"{100 * result.level:g}% interval")]
-    for program, first, second, each in result.rows:
-        interval = f"{each.low:,.0f} to {each.high:,.0f}"
-        cells = (f"{first.number} + {second.number}", f"{first.mean:,.0f}", f"{second.mean:,.0f}", f"{each.mean:,.0f}", interval)
-        rows.append((printable(program), *cells))
-    lines = [f"{line}\n" for line in text_layout.columns(rows)]
-    said = f"Over all, each program with its share of the machines: the tuned ones take {result.whole.mean:,.0f} KiB less of "
-    said += f"{result.mean:,.0f}, {percents(result.shares)}. {verdict(result)}"
-    lines += ["\n", regret.wrap_paragraph(said)]
+    head = ("Program", "machines", f"control: {what}", "tuned", "saving, KiB", f"{100 * result.level:g}% interval")
+    less = f"{result.whole.mean:,.0f} KiB less of {result.mean:,.0f}, {share_text(result.shares)}"
+    said = f"Over all, each program with its share of the machines: the tuned ones take {less}. {result.verdict()}"
+    lines = [table_text([head, *(each.cells() for each in result.rows)]), "\n", wrap_paragraph(said)]
     if predicted is not None:
-        where = "within" if result.shares.low <= predicted <= result.shares.high else "below" if predicted < result.shares.low else "above"
-        lines.append(regret.wrap_paragraph(f"Predicted: {100 * predicted:.2f}%, which is {where} the interval."))
-    lines.append(regret.wrap_paragraph(f"Requests: the tuned machines differ by {percents(result.more)}."))
+        where = "below" if predicted < result.shares.low else "above" if predicted > result.shares.high else "within"
+        lines.append(wrap_paragraph(f"Predicted: {100 * predicted:.2f}%, which is {where} the interval."))
+    lines.append(wrap_paragraph(f"Requests: the tuned machines differ by {share_text(result.requests)}."))
     if not result.is_load_alike:
         also = "" if is_adjusted else ": what is measured may be of that, unless it is read with --adjust"
-        lines.append(regret.wrap_paragraph(f"! The groups did not serve alike{also}."))
-    return "".join([*lines, *(regret.wrap_paragraph(f"! {printable(each)}") for each in suspicions)])
+        lines.append(wrap_paragraph(f"! The groups did not serve alike{also}."))
+    return "".join(lines) + alert_text(suspicions)
 
 
-def as_json(result: Read, predicted: Optional[float], is_adjusted: bool, suspicions: "list[str]") -> str:
-    whole = {
-        "is_adjusted": is_adjusted, "level_percent": 100 * result.level, "control_kib": result.mean, "saving_kib": result.whole._asdict(),
-        "saving_percent": {name: 100 * value for name, value in result.shares._asdict().items()},
-        "more_requests_percent": {name: 100 * value for name, value in result.more._asdict().items()},
+def describe_result(
+    result: TrialResult, predicted: Optional[float], is_adjusted: bool, suspicions: "list[str]"
+) -> dict:
+    """All of it, as JSON has it."""
+    return {
+        "is_adjusted": is_adjusted, "level_percent": 100 * result.level, "control_kib": result.mean,
+        "saving_kib": result.whole, "saving_percent": result.shares.percents(),
+        "more_requests_percent": result.requests.percents(),
         "predicted_percent": None if predicted is None else 100 * predicted, "is_saving": result.is_saving,
-        "is_load_alike": result.is_load_alike, "verdict": verdict(result), "suspicions": suspicions,
-        "programs": [
-            {"program": program, "control": first._asdict(), "tuned": second._asdict(), "saving_kib": each._asdict()}
-            for program, first, second, each in result.rows
-        ],
+        "is_load_alike": result.is_load_alike, "verdict": result.verdict(), "suspicions": suspicions,
+        "programs": result.rows,
     }
-    return json.dumps(whole, indent=1) + "\n"
 
 
-def spread_of(values: Values) -> tuple[float, float]:
+def measure_spread(values: Values) -> "tuple[float, float]":
     """The mean of all machines, and the standard deviation of one within its program, as a share of the mean."""
-    groups: list[Group] = []
-    for program, by_group in values.resident.items():
+    groups: "list[Group]" = []
+    for program, by_group in values.by_program.items():
         for group, own in by_group.items():
             if len(own) < 2:
-                raise Refusal(
-                    3, f"the pilot has {len(own)} machine of {program} in the group {group}: the spread wants more"
-                )
-            groups.append(samples.group_of(own))
+                has = f"the pilot has {len(own)} machine of {program} in the group {group}"
+                raise Refusal(3, f"{has}: the spread wants more")
+            groups.append(samples.group_of([amounts[0] for amounts in own]))
     whole = sum(group.number for group in groups)
-    mean = values.before or sum(group.number * group.mean for group in groups) / whole
+    mean = values.mean_before() or sum(group.number * group.mean for group in groups) / whole
     return mean, math.sqrt(sum(group.number * group.variance for group in groups) / whole) / mean
 
 
 def plan_text(saving: float, spread: float, given: argparse.Namespace) -> str:
+    chances = given.level / 100, given.power / 100
     lines = [f"{'Saving':>8}  machines in each group\n"]
     for each in (saving / 2, saving, 2 * saving):
-        lines.append(
-            f"{100 * each:>7.2f}%  {samples.sample_size(each, spread, given.level / 100, given.power / 100):,}\n"
-        )
-    said = f"With these, a trial shows the saving with a chance of {given.power:g}% by an interval of {given.level:g}%, if the spread of a "
-    said += f"machine is {100 * spread:.2f}% of the mean in both groups, chance alone chooses them, and they do not depend on each other."
-    lines.append(regret.wrap_paragraph(said))
+        lines.append(f"{100 * each:>7.2f}%  {samples.sample_size(each, spread, *chances):,}\n")
+    said = f"With these, a trial shows the saving with a chance of {given.power:g}% by an interval of {given.level:g}%"
+    said += f", if the spread of a machine is {100 * spread:.2f}% of the mean in both groups, chance alone chooses them"
+    lines.append(wrap_paragraph(f"{said}, and they do not depend on each other."))
     if given.machines:
-        shown = samples.detectable_saving(given.machines, spread, given.level / 100, given.power / 100)
-        lines.append(
-            regret.wrap_paragraph(f"{given.machines:,} machines in each group show a saving of {100 * shown:.2f}%.")
-        )
+        shown = samples.detectable_saving(given.machines, spread, *chances)
+        lines.append(wrap_paragraph(f"{given.machines:,} machines in each group show a saving of {100 * shown:.2f}%."))
     return "".join(lines)
 
 
@@ -240,109 +222,84 @@ class Prediction(NamedTuple):
     old: float
     new: float
 
+    @property
+    def saving(self) -> float:
+        return self.old - self.new
 
-def predict_programs(old: list, new: list, given: Iterable[loads.Load]) -> list[Prediction]:
-    """The means of the machines of each program, over all days."""
-    sums: dict[str, list] = {}
+
+def predict_programs(tables: "list[list[int]]", given: "Iterable[loads.Load]") -> "list[Prediction]":
+    """The means of the machines of each program, over all days, with the old and the new table; last those of all."""
+    sums: "dict[str, list[tuple]]" = {}
     for load in given:
         if load.kind == "profile":
             raise Refusal(2, f"{load.name} is a profile, which has no footprint: give histories or timelines")
-        costs = [load.cost(classes) for classes in (old, new)]
+        costs = [load.cost(classes) for classes in tables]
         if None in costs:
             raise Refusal(2, f"a table does not serve all sizes of {load.name}")
-        own = sums.setdefault(load.program, [0, 0, 0])
-        sums[load.program] = [own[0] + load.machines, own[1] + (costs[0] or 0), own[2] + (costs[1] or 0)]
-    return [
-        Prediction(name, machines, was / machines / 1024, now / machines / 1024)
-        for name, (machines, was, now) in sorted(sums.items())
-    ]
+        sums.setdefault(load.program, []).append((load.machines, *costs))
+    found = []
+    for name, each in [*sorted(sums.items()), ("all", [own for each in sums.values() for own in each])]:
+        machines, old, new = map(sum, zip(*each))
+        found.append(Prediction(name, machines, old / machines / 1024, new / machines / 1024))
+    return found
 
 
-def options_of(words: list, rest: str, *names: str) -> argparse.Namespace:
-    """The options of a step: those of these names, and other words as REST."""
-    chance = decimal(50, 99.9999, "a chance in percent")
-    kinds = {
-        "seed": number_between(0, 10**9),
-        "machines": number_between(FEWEST, 10**9),
-        "saving": decimal(0.001, 99, "a percentage"),
-        "spread": decimal(0.001, 10_000, "a percentage"),
-        "predicted": decimal(0, 99, "a percentage"),
-        "level": chance,
-        "power": chance,
-    }
-    return Words(HELP, rest, {"seed": 1, "level": 95.0, "power": 90.0}, names, **kinds).take(words, once=True)
-
-
-def predict(words: list) -> int:
-    given = options_of(words, "names", "json")
+def predict_saving(words: "list[str]") -> int:
+    given = take_options(words, HELP, "json")
     if len(given.names) < 3 or given.names.count("-") > 1:
         raise Refusal(2, "predict takes the old table, the new one and the loads; --help says more")
-    old, new = (certificate_texts.class_line(name) for name in given.names[:2])
-    found = predict_programs(old, new, loads.read(given.names[2:]))
-    machines = sum(each.machines for each in found)
-    whole_old, whole_new = sum(each.machines * each.old for each in found), sum(each.machines * each.new for each in found)
-    whole = Prediction("all", machines, whole_old / machines, whole_new / machines)
+    tables = [certificate_texts.class_line(name) for name in given.names[:2]]
+    found = predict_programs(tables, loads.read_loads(given.names[2:]))
     if given.json:
-        each_row = [{**each._asdict(), "saving_kib": each.old - each.new} for each in (*found, whole)]
-        return text_files.write(json.dumps({"programs": each_row[:-1], "all": each_row[-1]}, indent=1) + "\n")
-    rows: list[tuple] = [("Program", "machines", "old, KiB", "new, KiB", "saving, KiB")]
-    for each in (*found, whole):
-        rows.append((printable(each.program), *(f"{value:,.0f}" for value in (each.machines, each.old, each.new, each.old - each.new))))
-    return text_files.write("".join(f"{line}\n" for line in text_layout.columns(rows)))
+        *programs, whole = [{**each._asdict(), "saving_kib": each.saving} for each in found]
+        return text_files.write(json_text({"programs": programs, "all": whole}))
+    rows: "list[tuple]" = [("Program", "machines", "old, KiB", "new, KiB", "saving, KiB")]
+    rows += [(printable(each.program), *(f"{value:,.0f}" for value in (*each[1:], each.saving))) for each in found]
+    return text_files.write(table_text(rows))
 
 
-def file_of(given: argparse.Namespace) -> str:
+def take_file(given: argparse.Namespace) -> str:
     if len(given.names) > 1:
         raise Refusal(2, f"there is one file, so no place for {given.names[1]}")
     return given.names[0] if given.names else "-"
 
 
-def assign(words: list) -> int:
-    given = options_of(words, "names", "seed")
-    path, found = file_of(given), Suspicions()
-    machines = [words for _, _, words in results.fields_of(path, {2: "program and machine"}, found)]
-    if found.rows:
-        raise Refusal(2, found.text()[0])
-    return text_files.write(assign_groups(machines, given.seed))
+def print_groups(words: "list[str]") -> int:
+    given = take_options(words, HELP, "seed")
+    return text_files.write(assign_groups(read_strictly(take_file(given), MACHINES), given.seed))
 
 
-def plan(words: list) -> int:
-    given = options_of(words, "", "saving", "spread", "pilot", "adjust", "machines", "power", "level")
+def print_plan(words: "list[str]") -> int:
+    given = take_options(words, HELP, "saving spread pilot adjust machines power level", "")
     if given.saving is None or (given.spread is None) == (given.pilot is None):
         raise Refusal(2, "plan takes --saving, and --spread or --pilot; --help says more")
     spread, begin = (given.spread or 0) / 100, ""
     if given.pilot:
         found = Suspicions()
-        values = values_of(given.pilot, found)
-        found.say("fleet_trial")
-        mean, spread = spread_of(at_same_requests(values) if given.adjust else values)
+        values, _ = read_values(given.pilot, found)
+        found.say_all("fleet_trial")
+        mean, spread = measure_spread(adjust_requests(values) if given.adjust else values)
         begin = f"The pilot: a mean of {mean:,.0f} KiB, and a spread of {100 * spread:.2f}%.\n"
         if not spread:
             raise Refusal(3, "all machines of the pilot take the same: there is no spread to plan with")
     return text_files.write(begin + plan_text(given.saving / 100, spread, given))
 
 
-def read_result(words: list) -> int:
-    given = options_of(words, "names", "predicted", "adjust", "json", "level", "groups", "suspects")
-    text_files.refuse_over([("--suspects", given.suspects)], [file_of(given), given.groups])
-    found = Suspicions(given.suspects)
-    values = values_of(file_of(given), found, given.groups)
-    found.end()
-    if not any(group in groups for groups in values.resident.values() for group in GROUPS[:2]):
+def read_result(words: "list[str]") -> int:
+    given = take_options(words, HELP, "predicted adjust json level groups suspects")
+    path, found = take_file(given), Suspicions(given.suspects)
+    text_files.refuse_over([("--suspects", given.suspects)], [path, given.groups])
+    values, missing = read_values(path, found, given.groups)
+    found.write_rows()
+    if not any(group in groups for groups in values.by_program.values() for group in GROUPS):
         raise Refusal(2, "the result has no machine in the groups control and tuned")
-    if given.adjust:
-        values = at_same_requests(values)
-    predicted = None if given.predicted is None else given.predicted / 100
-    result = read(values, given.level / 100)
-    is_change, said = values.before is not None, [*values.missing, *found.text()]
-    text_files.write(as_json(result, predicted, given.adjust, said) if given.json else text_of(result, predicted, is_change, given.adjust, said))
+    result = read_difference(adjust_requests(values) if given.adjust else values, given.level / 100)
+    predicted, said = None if given.predicted is None else given.predicted / 100, [*missing, *found.all_lines()]
+    json_of = lambda: json_text(describe_result(result, predicted, given.adjust, said))
+    text_of = lambda: result_text(result, predicted, bool(values.before), given.adjust, said)
+    text_files.write(json_of() if given.json else text_of())
     return 0 if result.is_saving else 1
 
 
-def main(words: list) -> int:
-    steps = {"assign": assign, "predict": predict, "plan": plan, "read": read_result}
-    if words[:1] in (["-h"], ["--help"], ["-V"], ["--version"]):
-        Words(HELP).take(words[:1])
-    if not words or words[0] not in steps:
-        raise Refusal(2, "the first word is assign, predict, plan or read; --help says more")
-    return steps[words[0]](words[1:])
+def main(words: "list[str]") -> int:
+    return run_step(words, HELP, assign=print_groups, predict=predict_saving, plan=print_plan, read=read_result)

@@ -8,6 +8,7 @@ since no class is below two granules. So each class of a table there is a pool, 
 Several runs are one text: each but the last is ended by the frees of its live blocks. So at each moment the blocks of one run are live, and
 the most of a class over all is the most in any run."""
 
+import functools
 from bisect import bisect_left
 from collections import Counter
 from collections.abc import Callable, Iterable, Iterator
@@ -53,24 +54,26 @@ class Timeline:
     is_sampled = False
 
     def __init__(self, name: str, data: bytes) -> None:
-        self.name = name
-        self.data = data
+        self.name, self.data = name, data
         self.events = set().union(*events_of(self.data))
         self.sizes = {int(event) for event in self.events if event.isdigit()}
         self.has_large = b"large" in self.events
-        self.counted: dict[tuple[int, ...], list[int]] = {}
 
     def text(self) -> bytes:
         """All of it, to put runs in an order that does not depend on how they are given."""
         return self.data
 
-    def most(self, holds: list[int]) -> list[int]:
-        """The most blocks live at once of each pool, whose largest requests ascend; the last number is of what no pool holds."""
-        if tuple(holds) not in self.counted:
-            self.counted[tuple(holds)] = self.peaks(holds)
-        return self.counted[tuple(holds)]
+    def sampled_words(self) -> str:
+        """What is not known of it."""
+        return ""
 
-    def peaks(self, holds: list[int]) -> list[int]:
+    def most(self, holds: list[int]) -> list[int]:
+        """The most blocks live at once of each pool, whose largest requests ascend; the last number is of what no pool
+        holds."""
+        return self.count_peaks(tuple(holds))
+
+    @functools.lru_cache(maxsize=None)
+    def count_peaks(self, holds: tuple[int, ...]) -> list[int]:
         """The same, counted."""
         places = {}
         for event in self.events:
@@ -89,20 +92,15 @@ class Timeline:
                         most[place] = live[place]
         return most
 
-    def mapped(self, given: dict[int, int], is_last: bool) -> bytes:
-        """The events with each size as it is given to the program."""
-        words = {b"large": b"large", b"-large": b"-large"}
-        for size, other in given.items():
-            words[b"%d" % size], words[b"-%d" % size] = b"%d" % other, b"-%d" % other
-        made = bytearray()
-        for piece in events_of(self.data):
-            made += b"\n".join(map(words.__getitem__, piece)) + b"\n"
-        if not is_last:
-            for event, count in self.left().items():
-                made += (b"-" + words[event] + b"\n") * count
-        return bytes(made)
+    def map_sizes(self, given: dict[int, int], is_last: bool) -> bytes:
+        """The events with each size as it is given to the program; one that IS_LAST keeps what is live at its end."""
+        words = {b"large": b"large", **{b"%d" % size: b"%d" % other for size, other in given.items()}}
+        words |= {b"-" + word: b"-" + other for word, other in words.items()}
+        made = [b"\n".join(map(words.__getitem__, piece)) + b"\n" for piece in events_of(self.data)]
+        live = Counter() if is_last else self.count_live()
+        return b"".join([*made, *((b"-" + words[event] + b"\n") * count for event, count in live.items())])
 
-    def left(self) -> Counter[bytes]:
+    def count_live(self) -> Counter[bytes]:
         """How many blocks of each size are live at the end."""
         live: Counter[bytes] = Counter()
         for piece in events_of(self.data):
@@ -118,8 +116,7 @@ class History:
     is_sampled = True
 
     def __init__(self, name: str, history: count_texts.History) -> None:
-        self.name = name
-        self.snapshots = history.snapshots
+        self.name, self.snapshots = name, history.snapshots
         self.has_large = "large" in history.counts
         self.counts = {size: counts for size, counts in history.counts.items() if size != "large"}
         self.sizes = set(self.counts)
@@ -127,10 +124,14 @@ class History:
     def text(self) -> bytes:
         return count_texts.history_text(count_texts.History(self.snapshots, self.counts)).encode()
 
-    def most(self, holds: list[int]) -> list[int]:
-        return [max(counts) for counts in self.summed(lambda size: bisect_left(holds, size), range(len(holds) + 1)).values()]
+    def sampled_words(self) -> str:
+        return f" at its {self.snapshots} snapshots; what was live between them is not known"
 
-    def summed(self, key: Callable[[int], int], keys: Iterable = ()) -> dict[int, list[int]]:
+    def most(self, holds: list[int]) -> list[int]:
+        sums = self.add_up(lambda size: bisect_left(holds, size), range(len(holds) + 1))
+        return [max(counts) for counts in sums.values()]
+
+    def add_up(self, key: Callable[[int], int], keys: Iterable = ()) -> dict[int, list[int]]:
         """The counts of all sizes of one key, added up."""
         sums: dict[int, list[int]] = {each: [0] * self.snapshots for each in keys}
         for size, counts in self.counts.items():
@@ -152,22 +153,20 @@ class ToolInput(NamedTuple):
         return -(-footprint // (GRANULE_BYTES * self.scale)) * block.unit
 
 
-def runs_of(paths: list[str]) -> list[Run]:
+def read_runs(paths: list[str]) -> list[Run]:
     """The runs in these files: timelines alone, or histories alone."""
-    runs = [run_of(path) for path in paths]
-    if len({type(run) for run in runs}) > 1:
-        names = [next(run.name for run in runs if run.is_sampled is sampled) for sampled in (False, True)]
-        raise Refusal(
-            2, f"{names[0]} is a timeline, and {names[1]} a history: give timelines alone, or histories alone"
-        )
+    runs = [read_run(path) for path in paths]
+    names = {run.is_sampled: run.name for run in reversed(runs)}
+    if len(names) > 1:
+        kinds = f"{names[False]} is a timeline, and {names[True]} a history"
+        raise Refusal(2, f"{kinds}: give timelines alone, or histories alone")
     if not any(run.sizes for run in runs):
-        raise Refusal(
-            3, f"there is no request of at most {LARGEST_SIZE:,} bytes in {' and '.join(run.name for run in runs)}"
-        )
+        every = " and ".join(run.name for run in runs)
+        raise Refusal(3, f"there is no request of at most {LARGEST_SIZE:,} bytes in {every}")
     return runs
 
 
-def run_of(path: str) -> Run:
+def read_run(path: str) -> Run:
     data, name = text_files.read_some(path), printable(text_files.input_name(path))
     first = data.split(b"\n", 1)[0]
     if first == b"timeline":
@@ -178,11 +177,8 @@ def run_of(path: str) -> Run:
     if wrong := count_texts.encoding(first):
         raise Refusal(2, f"{name}: {wrong}")
     kind = "a profile, which has no moments" if count_texts.parse_count_line(first) else "no timeline and no history"
-    raise Refusal(
-        2,
-        f"{name}: line 1 is of {kind}: `timeline` or `snapshots T` has to stand there, and not "
-        f"{text_layout.shorten_line(first)}",
-    )
+    wanted = "`timeline` or `snapshots T` has to stand there"
+    raise Refusal(2, f"{name}: line 1 is of {kind}: {wanted}, and not {text_layout.shorten_line(first)}")
 
 
 def order_runs(runs: list[Run]) -> list[Run]:
@@ -194,42 +190,40 @@ def join_runs(runs: list[Run], block: Block) -> ToolInput:
     """The text of all runs for the program, one after the other."""
     sizes = sorted(set().union(*(run.sizes for run in runs)))
     scale = 2 if block.units(sizes[0]) == 1 else 1
-    most = LARGEST_CLASS // scale
-    if block.units(sizes[-1]) > most:
-        raise Refusal(2, out_of_range(sizes, scale, most, block))
+    if block.units(sizes[-1]) > LARGEST_CLASS // scale:
+        raise Refusal(2, describe_range(sizes[0], sizes[-1], scale, block))
     given = {size: GRANULE_BYTES * scale * block.units(size) - GRANULE_BYTES for size in sizes}
-    timeline = (run.mapped(given, run is runs[-1]) for run in runs if isinstance(run, Timeline))
-    text = joined_histories(runs, given) if runs[0].is_sampled else b"timeline\n" + b"".join(timeline)
+    timelines = (run.map_sizes(given, run is runs[-1]) for run in runs if isinstance(run, Timeline))
+    text = join_histories(runs, given) if runs[0].is_sampled else b"timeline\n" + b"".join(timelines)
     if len(text) > MOST_INPUT:
-        raise Refusal(
-            2, f"all runs together have {len(text):,} bytes, and mte_tool reads {MOST_INPUT:,}: leave a run out"
-        )
+        size = f"{len(text):,} bytes, and mte_tool reads {MOST_INPUT:,}"
+        raise Refusal(2, f"all runs together have {size}: leave a run out")
     return ToolInput(text, scale)
 
 
-def out_of_range(sizes: list[int], scale: int, most: int, block: Block) -> str:
-    """Why the program has no class for a request, and what helps."""
-    larger = [unit for unit in UNITS if unit > block.unit]
-    helps = [unit for unit in larger if Block(unit, block.overhead).units(sizes[-1]) <= LARGEST_CLASS // 2]
-    text = f"a request of {sizes[-1]:,} bytes takes {block.units(sizes[-1]):,} units of {block.unit} bytes, and the limit is {most:,} units"
+def describe_range(least: int, most: int, scale: int, block: Block) -> str:
+    """Why the program has no class for the largest request, and what helps."""
+    units, limit = block.units(most), LARGEST_CLASS // scale
+    text = f"a request of {most:,} bytes takes {units:,} units of {block.unit} bytes, and the limit is {limit:,} units"
     if scale == 2:
-        text += f" where a request takes one unit, as one of {sizes[0]:,} bytes does"
-    return text + (f": take --unit {helps[0]}" if helps else ": leave such requests out of the timeline, and give them memory of their own")
+        text += f" where a request takes one unit, as one of {least:,} bytes does"
+    for unit in UNITS:
+        if unit > block.unit and Block(unit, block.overhead).units(most) <= LARGEST_CLASS // 2:
+            return f"{text}: take --unit {unit}"
+    return f"{text}: leave such requests out of the timeline, and give them memory of their own"
 
 
-def joined_histories(runs: list, given: dict[int, int]) -> bytes:
+def join_histories(runs: list, given: dict[int, int]) -> bytes:
     """The snapshots of all side by side, as if one run came after the other."""
     snapshots = sum(run.snapshots for run in runs)
     if snapshots > MOST_SNAPSHOTS:
         merge = "merge them by `merge_profiles` first"
         raise Refusal(2, f"the histories have {snapshots:,} snapshots, and mte_tool reads {MOST_SNAPSHOTS:,}: {merge}")
-    sums = [run.summed(given.__getitem__) for run in runs]
-    rows = {}
-    for size in sorted(set().union(*sums)):
-        rows[size] = [count for run, its in zip(runs, sums) for count in its.get(size, [0] * run.snapshots)]
-        if max(rows[size]) > MOST_COUNT:
-            raise Refusal(
-                2,
-                f"{max(rows[size]):,} blocks of one size in units are more than {MOST_COUNT:,}, the most of a history",
-            )
+    sums = [(run.add_up(given.__getitem__), [0] * run.snapshots) for run in runs]
+    sizes = sorted(set().union(*(own for own, _ in sums)))
+    rows = {size: [count for own, none in sums for count in own.get(size, none)] for size in sizes}
+    for counts in rows.values():
+        if max(counts) > MOST_COUNT:
+            blocks = f"{max(counts):,} blocks of one size in units"
+            raise Refusal(2, f"{blocks} are more than {MOST_COUNT:,}, the most of a history")
     return count_texts.history_text(count_texts.History(snapshots, rows)).encode()

@@ -6,22 +6,26 @@ ratio of every table from below. Loads with a high ratio get higher numbers, rou
 whose worst ratio is the bound has the lowest one of all. Else other tables may be between the two."""
 
 import argparse
-import json
 import math
+import operator
 import os
 import re
 from collections.abc import Sequence
 from fractions import Fraction
 from typing import NamedTuple, Optional
 
-from mte_scripts import claim_words, claims, count_texts, text_files
+from mte_scripts import claim_words, claims, text_files
 from mte_scripts.entry_point import Refusal
 from mte_scripts.fleet import bounds, caps, loads, regret
-from mte_scripts.formats import MOST_COUNT
+from mte_scripts.fleet.bounds import Bound, TableLimits
+from mte_scripts.fleet.command_words import take_options
+from mte_scripts.fleet.loads import Load
+from mte_scripts.fleet.regret import Regret
+from mte_scripts.fleet.report_text import json_text, percent_text, wrap_paragraph
+from mte_scripts.formats import LARGEST_CLASS
 from mte_scripts.recording import timelines
 from mte_scripts.tables import check_sheet, figures
-
-from mte_scripts.words import TABLES, Words, name_among, number_between
+from mte_scripts.words import name_among
 
 HELP = f"""\
 Find a table of size classes for several programs or days: one that is nowhere far above the bound of each.
@@ -64,7 +68,7 @@ PRECISION = 1 << 20  # of the numbers that loads are joined with
 MOST_WORK = 60_000  # of classes that are moved, times the machines that are looked at
 
 
-class Table(NamedTuple):
+class CommonTable(NamedTuple):
     """A table in common; the worst ratio to a bound, and what bounds that of every table; and what shows that."""
 
     classes: list
@@ -79,8 +83,9 @@ class Table(NamedTuple):
 class Search:
     """The loads with their bounds, and the candidate that is the first so far."""
 
-    def __init__(self, given: Sequence[loads.Load], own: Sequence[bounds.Bound], among: bounds.TableLimits):
+    def __init__(self, given: Sequence[Load], own: Sequence[Bound], among: TableLimits):
         self.given, self.own, self.among = list(given), list(own), among
+        self.amounts = [max(bound.amount, 1) for bound in own]
         self.tables: list = []  # whose columns are known, of histories
         self.first: Optional[tuple] = None
         self.low: Optional[tuple] = None
@@ -89,10 +94,10 @@ class Search:
         """The cost on each load by its bound; None for a table that is not among those meant, or that does not serve all."""
         if len(classes) > self.among.limit or any(each % self.among.step for each in classes):
             return None
-        if self.among.largest and classes[-1] != loads.FORCED:
+        if self.among.largest and classes[-1] != LARGEST_CLASS:
             return None
         costs = [load.cost(classes) for load in self.given]
-        return None if None in costs else [Fraction(cost, max(bound.amount, 1)) for cost, bound in zip(costs, self.own)]
+        return None if None in costs else [*map(Fraction, costs, self.amounts)]
 
     def offer(self, classes: list) -> Optional[list]:
         """Takes a candidate if its worst ratio is lower, or the same with a lower sum."""
@@ -101,22 +106,18 @@ class Search:
             self.first = (max(ratios), sum(ratios)), list(classes)
         return ratios
 
-    def joined(self, weights: Sequence[float]) -> list:
+    def join_loads(self, weights: Sequence[float]) -> list:
         """The table of the loads joined, each with its weight of their bounds; and its bound of the worst ratio of all tables."""
-        amounts = [max(bound.amount, 1) for bound in self.own]
-        scale = PRECISION / max(weight / amount for weight, amount in zip(weights, amounts))
-        numbers = [max(round(weight / amount * scale), 1) for weight, amount in zip(weights, amounts)]
+        shares = [weight / amount for weight, amount in zip(weights, self.amounts)]
+        numbers = [max(round(share * (PRECISION / max(shares))), 1) for share in shares]
         if len(set(numbers)) == 1:
             numbers = [1] * len(numbers)
         parts = list(zip(numbers, self.given))
-        divisor = -(-sum(each * load.count_bound() for each, load in parts) // MOST_COUNT)
-        if self.given[0].kind == "profile":
-            found = bounds.sheet(parts, divisor, self.among)
-        else:
-            found = bounds.fit(parts, divisor, self.among, self.tables)
+        divisor = bounds.divide_counts(parts)
+        found = bounds.certify_joined(parts, divisor, self.among, self.tables)
         cost = divisor * found.cost + sum(each * load.fixed for each, load in parts)
         # no table is below the bound of a load, so none has a ratio below 1
-        low = max(Fraction(cost, sum(each * amount for each, amount in zip(numbers, amounts))), Fraction(1))
+        low = max(Fraction(cost, sum(map(operator.mul, numbers, self.amounts))), Fraction(1))
         if self.low is None or low > self.low[0]:
             self.low = low, found, numbers, divisor
         return found.classes
@@ -124,15 +125,14 @@ class Search:
     def is_closed(self) -> bool:
         return self.first is not None and self.low is not None and self.first[0][0] <= self.low[0]
 
-    def run(self) -> Table:
+    def find_table(self) -> CommonTable:
         """The table that is found round by round, with more weight on what the round's table is far above."""
-        for bound in self.own:
-            self.offer(bound.classes)
-        for _, classes in figures.other_tables([]):
+        others = [classes for _, classes in figures.other_tables([])]
+        for classes in [*(bound.table.classes for bound in self.own), *others]:
             self.offer(classes)
         weights = [1.0 / len(self.given)] * len(self.given)
         for at in range(ROUNDS if len(self.given) > 1 else 1):
-            ratios = self.offer(self.served(self.joined(weights)))
+            ratios = self.offer(self.serve_all(self.join_loads(weights)))
             if self.is_closed() or not ratios:
                 break
             spread = float(max(ratios) - min(ratios)) or 1.0
@@ -140,65 +140,58 @@ class Search:
             weights = [weight * math.exp(step * float(ratio - max(ratios))) for weight, ratio in zip(weights, ratios)]
             weights = [max(weight / sum(weights), 1e-9) for weight in weights]
         if self.first and not self.is_closed():
-            self.move()
-        return self.table()
+            self.move_classes()
+        if self.first is None or self.low is None:
+            raise Refusal(3, "no candidate serves all sizes of all loads: take more classes")
+        (worst, _), classes = self.first
+        low, found, numbers, divisor = self.low
+        how = claim_words.capped_words(*sum_caps(self.given))
+        claim = claims.check_certificate(found.certificate, found.counts, "the loads joined", how)
+        return CommonTable(classes, worst, low, found, claim, numbers, divisor)
 
-    def served(self, classes: list) -> list:
+    def need_of(self, size: int) -> int:
+        """The least class of the tables that are meant which serves a size."""
+        return -(-timelines.need_of(size) // self.among.step) * self.among.step
+
+    def serve_all(self, classes: list) -> list:
         """A table of joined loads of which small counts were rounded away: with the largest need, where it lacks that."""
-        step = self.among.step
-        need = max(-(-timelines.need_of(load.sizes[-1]) // step) * step for load in self.given)
-        if classes and classes[-1] >= need:
-            return classes
-        return [*classes[: self.among.limit - 1], need]
+        need = max(self.need_of(load.sizes[-1]) for load in self.given)
+        return classes if classes and classes[-1] >= need else [*classes[: self.among.limit - 1], need]
 
-    def move(self) -> None:
+    def move_classes(self) -> None:
         """Moves one class at a time to another need, while the worst ratio falls."""
-        step = self.among.step
-        needs = sorted({-(-timelines.need_of(size) // step) * step for load in self.given for size in load.sizes})
+        needs = sorted({self.need_of(size) for load in self.given for size in load.sizes})
         each = sum(50 if load.kind == "timeline" else max(len(load.members), 1) for load in self.given)
         left, before = MOST_WORK // each, None
         while before != self.first and left > 0:
             before, classes = self.first, self.first[1]
-            for place, own in enumerate(classes[:-1]):
-                below = classes[place - 1] if place else 1
-                for need in needs:
-                    if below < need < classes[place + 1] and need != own and left > 0:
-                        left -= 1
-                        self.offer([*classes[:place], need, *classes[place + 1 :]])
-
-    def table(self) -> Table:
-        if self.first is None or self.low is None:
-            raise Refusal(3, "no candidate serves all sizes of all loads: take more classes")
-        low, found, numbers, divisor = self.low
-        classes = self.first[1]
-        how = claim_words.capped_words(sum(load.capped for load in self.given), max(load.cap for load in self.given))
-        claim = claims.check_certificate(found.certificate, found.counts, "the loads joined", how)
-        return Table(classes, self.first[0][0], low, found, claim, numbers, divisor)
+            for place, (below, own, above) in enumerate(zip([1, *classes], classes, classes[1:])):
+                for need in [need for need in needs if below < need < above and need != own][: max(left, 0)]:
+                    left -= 1
+                    self.offer([*classes[:place], need, *classes[place + 1 :]])
 
 
-def common_table(given: Sequence[loads.Load], own: Sequence[bounds.Bound], among: bounds.TableLimits) -> Table:
-    """A table in common for these loads, of which the bounds are known."""
-    return Search(given, own, among).run()
+def sum_caps(given: Sequence[Load]) -> "tuple[int, int]":
+    """How many machines of loads are cut, and at how many times the median."""
+    return sum(load.capped for load in given), max(load.cap for load in given)
 
 
-def sum_loads(given: Sequence[loads.Load]) -> loads.Load:
+def sum_loads(given: Sequence[Load]) -> Load:
     """All loads as one, by the sum of their costs."""
-    sums: dict = {}
-    for load in given:
-        count_texts.add_counts(sums, load.counts)
     members = [member for load in given for member in load.members]
-    made = loads.Load("all loads", "histories" if members else "profile", sums, members)
-    made.capped, made.cap = sum(load.capped for load in given), max(load.cap for load in given)
+    counts = bounds.add_up((1, load.counts) for load in given)
+    made = Load("all loads", "histories" if members else "profile", counts, members)
+    made.capped, made.cap = sum_caps(given)
     return made
 
 
-def percent_of(ratio: Fraction, is_up: bool) -> float:
+def round_percent(ratio: Fraction, is_up: bool) -> float:
     """How many percent a ratio is above 1, in hundredths."""
     value = (ratio - 1) * 10_000
     return (math.ceil(value) if is_up else math.floor(value)) / 100
 
 
-def runs_of(days: Sequence[str], number_of: int) -> list:
+def cut_days(days: Sequence[str], number_of: int) -> list:
     """The days in their order, cut into so many runs as equal as can be."""
     if number_of > len(days):
         raise Refusal(2, f"--hold-out {number_of} wants as many days, and there are {len(days)}")
@@ -206,41 +199,38 @@ def runs_of(days: Sequence[str], number_of: int) -> list:
     return [list(days[begin:end]) for begin, end in zip(cuts, cuts[1:])]
 
 
-def hold_out_regrets(
-    given: Sequence[loads.Load], own: Sequence[bounds.Bound], among: bounds.TableLimits, folds: int
-) -> list:
+def hold_out_regrets(given: Sequence[Load], own: Sequence[Bound], among: TableLimits, folds: int) -> list:
     """For each load, how far the table of the loads of other days is above its bound: a Regret."""
     found: dict = {}
-    for days in runs_of(sorted({load.day for load in given}), folds):
+    for days in cut_days(sorted({load.day for load in given}), folds):
         seen = [(load, bound) for load, bound in zip(given, own) if load.day not in days]
-        table = common_table([load for load, _ in seen], [bound for _, bound in seen], among)
+        table = Search([load for load, _ in seen], [bound for _, bound in seen], among).find_table()
         for load, bound in zip(given, own):
             if load.day in days:
                 found[load.name] = regret.regret_of(load, bound, table.classes)
     return [found[load.name] for load in given]
 
 
-def sentence(table: Table, given: Sequence[loads.Load]) -> str:
-    names = (
-        claim_words.join_words(claim_words.quote_name(load.name) for load in given)
-        if len(given) <= 4
-        else f"all {len(given)} loads"
-    )
-    return claims.worst(table.claim, names, percent_of(table.low, False), percent_of(table.worst, True), table.worst == table.low)
+def worst_sentence(table: CommonTable, given: Sequence[Load]) -> str:
+    few = claim_words.join_words(claim_words.quote_name(load.name) for load in given)
+    names = few if len(given) <= 4 else f"all {len(given)} loads"
+    low, worst = round_percent(table.low, False), round_percent(table.worst, True)
+    return claims.worst(table.claim, names, low, worst, table.worst == table.low)
 
 
-def write_certificates(folder: str, pairs: list, table: Table, among: bounds.TableLimits) -> None:
-    """The folder with the sheet or fit of each load, and of the loads joined, each beside its counts: PAIRS are these, their claim, and what is
-    said of it."""
+def write_certificates(folder: str, pairs: list, table: CommonTable, among: TableLimits) -> None:
+    """The folder with the sheet or fit of each load, and of the loads joined, each beside its counts: PAIRS are these,
+    their claim, and what is said of it."""
     files, lines = {}, []
-    for at, (shown, claim, said) in enumerate(pairs):
-        name = "joined" if at == len(pairs) - 1 else f"load{at + 1}"
+    for at, (shown, claim, said) in enumerate(pairs, 1):
+        name = "joined" if at == len(pairs) else f"load{at}"
         names = [f"{name}.{'sheet' if claim.kind == 'profile' else 'fit'}", f"{name}.{claim.kind}"]
         files[names[0]], files[names[1]] = shown.certificate.encode(), shown.counts
         command = check_sheet.command(claim, among, *(os.path.join(folder, each) for each in names))
         lines.append(f"{said}\n\n    {command}\n\nThe SHA-256 of what it is of is {claim.digest}.\n\n")
     each = ", ".join(map(str, table.numbers))
-    lines.append(f"Joined: the loads in their order, times {each}, added up, divided by {table.divisor:,} and rounded down.\n")
+    joined = f"times {each}, added up, divided by {table.divisor:,} and rounded down"
+    lines.append(f"Joined: the loads in their order, {joined}.\n")
     files["claims.txt"] = "".join(lines).encode(errors="surrogateescape")
     with text_files.new_folder(folder, "--certificates") as place:
         for name, data in files.items():
@@ -248,67 +238,57 @@ def write_certificates(folder: str, pairs: list, table: Table, among: bounds.Tab
 
 
 def main(words: list) -> int:
-    defaults = {"by": "worst", "cap": caps.MOST, **bounds.AMONG_DEFAULTS}
-    kinds: dict = {
-        "by": name_among("worst", "total"),
-        "hold_out": number_between(2, 1000),
-        "cap": caps.NUMBER,
-        **TABLES,
-    }
-    options = Words(HELP, "names", defaults, **kinds).take(words, once=True)
+    options = take_options(words, HELP, by=(name_among("worst", "total"), "worst"))
     if not options.names or options.names.count("-") > 1:
         raise Refusal(2, "name the loads, standard input once; --help says more")
     written = [("--certificates", options.certificates)]
     if options.certificates and options.output and OWN_FILES.fullmatch(os.path.basename(options.output)):
         written.append(("--certificates", os.path.join(options.certificates, os.path.basename(options.output))))
     text_files.refuse_over([*written, ("--output", options.output)], options.names)
-    among = bounds.TableLimits.of(options)
-    given = loads.read(options.names, options.cap)
+    among = bounds.table_limits(options)
+    given = loads.read_loads(options.names, options.cap)
     if len({load.kind == "profile" for load in given}) > 1:
         raise Refusal(2, "there are profiles, and histories or timelines: give one kind alone")
-    own = [bounds.bound_of(load, among) for load in given]
+    own = [bounds.bound_load(load, among) for load in given]
     total = None
     if options.by == "total":
         whole = sum_loads(given)
-        bound = bounds.bound_of(whole, among)
-        made = common_table([whole], [bound], among)
+        bound = bounds.bound_load(whole, among)
+        made = Search([whole], [bound], among).find_table()
         total = regret.regret_of(whole, bound, made.classes)
     else:
-        made = common_table(given, own, among)
+        made = Search(given, own, among).find_table()
     found = [regret.regret_of(load, bound, made.classes) for load, bound in zip(given, own)]
     folds = hold_out_regrets(given, own, among, options.hold_out) if options.hold_out else []
-    return finish(options, among, made, found, folds, total)
+    return write_answer(options, among, made, found, folds, total)
 
 
-def finish(
-    given: argparse.Namespace,
-    among: bounds.TableLimits,
-    made: Table,
-    found: list,
-    folds: list,
-    total: "Optional[regret.Regret]",
+def write_answer(
+    given: argparse.Namespace, among: TableLimits, made: CommonTable, found: list, folds: list, total: Optional[Regret]
 ) -> int:
-    """Writes the files, and prints the text or the JSON. What is said is of the TOTAL where that is to be low, else of the worst."""
+    """Writes the files, and prints the text or the JSON. What is said is of the TOTAL where that is to be low, else of
+    the worst."""
     lines = figures.class_text(made.classes)
     name = figures.without_ending(given.output, ".classes") if given.output else ""
-    said = total.sentences(name) if total else sentence(made, [each.load for each in found])
+    said = total.sentences(name) if total else worst_sentence(made, [each.load for each in found])
     if given.certificates:
-        joined = total.bound if total else made.certified
-        pairs = [*((each.bound, each.bound.claim, each.sentences(name)) for each in found), (joined, made.claim if not total else total.bound.claim, said)]
+        joined = (total.bound.table, total.bound.claim) if total else (made.certified, made.claim)
+        pairs = [*((each.bound.table, each.bound.claim, each.sentences(name)) for each in found), (*joined, said)]
         write_certificates(given.certificates, pairs, made, among)
     if given.output:
         text_files.write_file(given.output, lines + "\n")
     if given.json:
-        whole = json.loads(regret.as_json(found, name, made.classes, among, None))
-        whole.update(by=given.by, worst_percent=percent_of(made.worst, True), low_percent=percent_of(made.low, False), sentence=said)
-        whole["held_out"] = [{"name": each.load.name, "day": each.load.day, "above_percent": each.percent()} for each in folds]
-        return text_files.write(json.dumps(whole, indent=1) + "\n")
-    text = [regret.table_text(found, folds), "\n", lines, "\n\n", regret.wrap_paragraph(said)]
+        held_out = [{"name": each.load.name, "day": each.load.day, "above_percent": each.above} for each in folds]
+        return text_files.write(json_text({
+            **regret.describe_regrets(found, name, made.classes, among, None), "by": given.by,
+            "worst_percent": round_percent(made.worst, True), "low_percent": round_percent(made.low, False),
+            "sentence": said, "held_out": held_out,
+        }))
+    text = [regret.regret_table(found, folds), "\n", lines, "\n\n", wrap_paragraph(said)]
     if folds:
         served = [each.above for each in folds if each.above is not None]
         mean = f"{sum(served) / len(served):,.2f}%" if served else "none"
-        worst = regret.percent_cell(regret.farthest(folds))
-        text.append(
-            regret.wrap_paragraph(f"Held out, in {given.hold_out} runs of days: the worst is {worst}, the mean {mean}.")
-        )
+        worst = percent_text(regret.farthest_regret(folds).above)
+        said = f"Held out, in {given.hold_out} runs of days: the worst is {worst}, the mean {mean}."
+        text.append(wrap_paragraph(said))
     return text_files.write("".join(text))
