@@ -7,7 +7,7 @@ import re
 
 import checks
 from checks import expect
-from crate_sources import name_of, rust_files, text_of
+from mte_scripts.gate.crate_texts import name_of, rust_files, text_of
 
 ITEM = re.compile(r"\s*pub(\([a-z]+\))? (?:(?:const |unsafe |ghost |extern \"C\" )*(?:fn|struct|enum|trait|const|type|static)\b|\w+:)")
 # a field of the crate alone

@@ -9,7 +9,7 @@ import re
 
 import checks
 from checks import expect
-from crate_sources import CRATES, name_of, text_of, without_comments
+from mte_scripts.gate.crate_texts import CRATES, name_of, text_of, without_comments
 
 EXAMPLES = re.compile(r"(Worked|Realloc)?Example\w*\.antt$")
 # files in which the check itself looks for names that it gives

@@ -9,10 +9,10 @@ import re
 import checks
 import hand_answers
 from checks import expect
-from crate_sources import name_of, spec_files, text_of
 from mte_scripts import formats
 from mte_scripts.gate import definition_changes
 from mte_scripts.places import ROOT
+from mte_scripts.gate.crate_texts import name_of, spec_files, text_of
 
 FEWEST = 100
 ROW = re.compile(r"(?m)^\| `(\w+)` of `(\w+)` \| [^|]+ \| ([^|]+) \| ([^|]+) \| ([^|]+) \|$")

@@ -76,7 +76,7 @@ def fold_definition(each: Definition, places: "dict[Key, str]", example: "Exampl
 
 
 def names(found: Statement, places: "dict[Key, str]") -> str:
-    order = sorted(found.definitions, key=lambda it: (it.key.name.lower(), it.key.place))
+    order = sorted(found.definitions, key=lambda it: (it.key.name.lower(), not it.key.is_source, it.key.place))
     items = "".join(f'<li><a href="#{places[it.key]}">{escape(it.key.name)}</a></li>\n' for it in order)
     return f'<details><summary>All names</summary>\n<ul class="names">\n{items}</ul>\n</details>\n'
 
