@@ -163,10 +163,10 @@ def any_program(place: str) -> Optional[str]:
     return compiled_plain(place)
 
 
-def compiled_plain(place: str, fast: bool = True) -> str:
-    """The plain program, compiled in PLACE: for speed, or in a third of the time."""
+def compiled_plain(place: str) -> str:
+    """The plain program, compiled in PLACE for speed."""
     plain = os.path.join(place, "plain")
-    subprocess.run(["rustc", *["-O"] * fast, "--edition", "2021", os.path.join(ROOT, "scripts/tests/plain/main.rs"), "-o", plain], check=True)
+    subprocess.run(["rustc", "-O", "--edition", "2021", os.path.join(ROOT, "scripts/tests/plain/main.rs"), "-o", plain], check=True)
     return plain
 
 
