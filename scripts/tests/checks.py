@@ -64,6 +64,11 @@ def expect(name: str, condition: object, *seen: object) -> bool:
     return bool(condition)
 
 
+def expect_equal(name: str, got: object, wanted: object, *seen: object) -> bool:
+    """Counts a check that two values are the same. Where they are not, it prints both."""
+    return expect(name, got == wanted, got, "and not", wanted, *seen)
+
+
 def least(measure: "Callable[[], float]", most: float, rounds: int = 5) -> float:
     """The least of up to so many measurements, each taken only where those before are above MOST: what else runs makes one larger, and none
     smaller."""
