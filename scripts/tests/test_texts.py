@@ -184,8 +184,7 @@ class Words(commands.Commands):
         self.runs(2, "", "bench", "--runs", "0")
         self.runs(2, "", "bench", "scores")
         self.runs(2, "", "bench", "--growth", "score")
-        self.runs(3, "", "bench", RUSTC="no_such_compiler")
-        self.says("no no_such_compiler")
+        self.runs(3, "", "bench", RUSTC="no_such_compiler", says="no no_such_compiler")
         if not checks.skip_without("scripts/traced_cc", "its help to a full disk"):
             self.unwritten("traced_cc", "--help", closed="standard output can't be written")
 
@@ -307,13 +306,11 @@ class Merges(commands.Commands):
         self.says("all are divided by 4 and rounded up")
         self.merges("1 1000000000", "1 1000000000\n")
         self.write("f", "16 3\nx 1\n")
-        self.runs(2, "", "merge_profiles", "a", "f")
-        self.says("f: line 2 is not SIZE COUNT: x 1")
+        self.runs(2, "", "merge_profiles", "a", "f", says="f: line 2 is not SIZE COUNT: x 1")
         self.refuses("16\n")
         self.runs(2, "", "merge_profiles", "nowhere")
         self.runs(3, "", "merge_profiles", "empty")
-        self.runs(3, "", "merge_profiles", "a", "empty")
-        self.says("empty is empty")
+        self.runs(3, "", "merge_profiles", "a", "empty", says="empty is empty")
 
     def test_lists(self):
         """The names of files in a list, one on a line or each ended by a zero byte."""
@@ -324,12 +321,10 @@ class Merges(commands.Commands):
             self.write("names", text)
             self.runs(0, self.both, "merge_profiles", "--files-from", "names")
         self.runs(0, self.both, "merge_profiles", "--files-from", "-", given=self.read("list"))
-        self.runs(3, "", "merge_profiles", "--files-from", "empty")
-        self.says("empty names no file")
+        self.runs(3, "", "merge_profiles", "--files-from", "empty", says="empty names no file")
         for text, says in (("a\n\nb\n", "name 2 is empty"), ("a\n-\n", "a list can't name"), ("a\nnowhere\n", "nowhere can't be read")):
             self.write("names", text)
-            self.runs(2, "", "merge_profiles", "--files-from", "names")
-            self.says(says)
+            self.runs(2, "", "merge_profiles", "--files-from", "names", says=says)
         self.runs(2, "", "merge_profiles", "--files-from")
         self.runs(2, "", "merge_profiles", "--files-from", "/dev/zero")  # it never ends
         self.runs(2, "", "merge_profiles", "--files-from", "list", "a")
@@ -342,8 +337,7 @@ class Merges(commands.Commands):
         self.runs(0, self.both, "merge_profiles", "x=1.profile", "./-counts")
         self.runs(0, self.both, "merge_profiles", "--", "x=1.profile", "-counts")
         self.runs(2, "", "merge_profiles", "-counts")
-        self.runs(2, "", "merge_profiles", "nowhere\x1b[1m")
-        self.says(r"nowhere\x1b[1m")
+        self.runs(2, "", "merge_profiles", "nowhere\x1b[1m", says=r"nowhere\x1b[1m")
 
     def test_odd_numbers(self):
         """Sums that no double has; odd spaces, large sizes and long numbers."""
@@ -358,8 +352,7 @@ class Merges(commands.Commands):
         """What is given by mistake is named, and no byte that is no text is shown."""
         for says, text in MISTAKES:
             self.write("given", text)
-            self.runs(2, "", "merge_profiles", "a", "given")
-            self.says(f"given: {says}")
+            self.runs(2, "", "merge_profiles", "a", "given", says=f"given: {says}")
             expect(f"{says}: nothing but text is shown", self.err.isascii() and self.err.replace("\n", "").isprintable(), self.err)
         self.runs(2, "", "merge_profiles", "/")
         self.runs(2, "", "merge_profiles", "-", take={"stdin": None, "preexec_fn": lambda: os.close(0)})
@@ -443,8 +436,7 @@ class ScudoClasses(commands.Commands):
 
     def test_refusals(self):
         self.write("one.history", "snapshots 2\n16 4 0\n")
-        self.runs(2, "", "scudo_classes", "one.history")
-        self.says("line 1 is of a history")
+        self.runs(2, "", "scudo_classes", "one.history", says="line 1 is of a history")
         for line in ("classes", "classes 1024", "classes 1", "classes 3 2", "classes 2 1025", "classes 02", "class 2", ""):
             self.runs(2, "", "scudo_classes", given=f"{line}\n")
         self.runs(2, "", "scudo_classes")
@@ -454,8 +446,7 @@ class ScudoClasses(commands.Commands):
             (b"malloc 1 16\n", "of a trace"), (b"16 3\n", "of a profile"),
         ):
             self.write("sheet", text)
-            self.runs(2, "", "scudo_classes", "sheet")
-            self.says(says)
+            self.runs(2, "", "scudo_classes", "sheet", says=says)
 
     def test_most(self):
         """The most classes that a map may have, whose numbers of classes are bytes; one class more."""
@@ -598,8 +589,7 @@ class Plain(commands.Commands):
             self.says(says)
         self.runs(2, "", "draw_waste", "-", "-", given=FOUR, **over)
         self.says("standard input is named twice")
-        self.runs(3, "", "draw_waste", "four.profile", MTE_TOOL=self.path("nowhere"))
-        self.says("nowhere can't be run")
+        self.runs(3, "", "draw_waste", "four.profile", MTE_TOOL=self.path("nowhere"), says="nowhere can't be run")
         self.runs(3, "", "draw_waste", "four.profile", MTE_TOOL="/bin/false")
 
     def test_path_of_program(self):

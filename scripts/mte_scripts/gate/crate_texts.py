@@ -13,7 +13,7 @@ from mte_scripts.places import ROOT
 
 CRATES = pathlib.Path(ROOT, "crates")
 ITEM = re.compile(r'(?m)^(?P<indent> *)(?P<pub>pub(?:\([^)]*\))? )?(?:(?:const|unsafe|(?P<ghost>ghost)|(?P<c>extern "C")) )*'
-                  r"(?P<kind>fn|enum|struct|trait|type|const) (?P<name>\w+)")
+                  r"(?P<kind>fn|enum|struct|trait|type|const|static) (?P<name>\w+)")
 BLOCK = re.compile(r"(?m)^ *(?P<pub>pub )?(?:unsafe )?(?P<kind>impl|trait)\b(?P<head>[^{;]*)\{")
 RESULT = re.compile(r"(?s)(?:\s*->\s*(?P<type>.*?))?(?=\s+(?:where|requires|ensures|decreases)\b|\s*(?:\{|;(?![^][{;]*\])))")
 CLAUSE = re.compile(r"\s*(?:where\b[^{;]*?(?=\s(?:requires|ensures|decreases)\b|\{|;))?\s*(requires|ensures|decreases)\b[^{]*")
@@ -100,7 +100,7 @@ def code_of(text: str) -> str:
     return HIDDEN.sub(lambda found: re.sub(r"[^\n]", " ", found[0]), text)
 
 
-def closing(code: str, at: int, marks: str = "()[]{}", stops: str = ")]}") -> int:
+def close_bracket(code: str, at: int, marks: str = "()[]{}", stops: str = ")]}") -> int:
     """The place after the bracket that closes the one at this place, or after the first of STOPS outside of brackets."""
     depth = 0
     for found in re.compile(f"[;{re.escape(marks)}]").finditer(code, at):
@@ -112,7 +112,7 @@ def closing(code: str, at: int, marks: str = "()[]{}", stops: str = ")]}") -> in
 
 def past_generics(code: str, at: int) -> int:
     """The place after the parameters `<..>` that stand there, if any do."""
-    return closing(code.replace("->", "  "), at, "<>", ">") if code.startswith("<", at) else at
+    return close_bracket(code.replace("->", "  "), at, "<>", ">") if code.startswith("<", at) else at
 
 
 def items_in(text: str, name: str) -> "list[re.Match[str]]":
@@ -122,7 +122,7 @@ def items_in(text: str, name: str) -> "list[re.Match[str]]":
 
 def item_end(text: str, start: int) -> int:
     """Where an item ends, or what begins with a brace: after its braces, or its semicolon."""
-    return closing(code_of(text), start, stops="};")
+    return close_bracket(code_of(text), start, stops="};")
 
 
 def comment_above(text: str, start: int) -> str:
@@ -156,15 +156,15 @@ def owner_of(block: "re.Match[str] | None") -> "tuple[str, str]":
 def function_at(said: str, code: str, found: "re.Match[str]", block: "re.Match[str] | None") -> Function:
     """The function that begins there, in a block or in none."""
     at = past_generics(code, found.end())
-    end = closing(code, at)
+    end = close_bracket(code, at)
     result = RESULT.match(code, end)
     clauses: "dict[str, list[str]]" = {"requires": [], "ensures": [], "decreases": []}
     place = result.end()
     while clause := CLAUSE.match(code, place):
-        place = closing(code, clause.end())
+        place = close_bracket(code, clause.end())
         clauses[clause[1]].append(in_a_line(said[clause.end() + 1 : place - 1]))
     body = re.compile("[{;]").search(code, place).end()
-    stop = closing(code, body - 1) if code[body - 1] == "{" else body
+    stop = close_bracket(code, body - 1) if code[body - 1] == "{" else body
     head = (found["pub"] or "").strip()
     is_public = head == "pub" or bool(block and block["pub"])
     return Function(found["name"], *owner_of(block), head, is_public, bool(found["c"]), said[at + 1 : end - 1], in_a_line(result["type"] or ""),
@@ -175,7 +175,7 @@ def function_at(said: str, code: str, found: "re.Match[str]", block: "re.Match[s
 def functions_in(text: str) -> "list[Function]":
     """The functions of a text of Rust."""
     said, code = hide_comments(text), code_of(text)
-    blocks = [(it.end(), closing(code, it.end() - 1), it) for it in BLOCK.finditer(code)]
+    blocks = [(it.end(), close_bracket(code, it.end() - 1), it) for it in BLOCK.finditer(code)]
     return [function_at(said, code, found, next((it for start, end, it in reversed(blocks) if start <= found.start() < end), None))
             for found in ITEM.finditer(said) if found["kind"] == "fn"]
 

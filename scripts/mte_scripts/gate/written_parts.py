@@ -112,7 +112,7 @@ def rust_number(number: "int | None") -> str:
     return "None" if number is None else f"{number:_}" if number > 9999 else str(number)
 
 
-def some(text: str, option: Option) -> str:
+def rust_option(text: str, option: Option) -> str:
     """Rust's value for what an option's default is."""
     return "None" if option.default is None else f"Some({text})"
 
@@ -142,8 +142,8 @@ def row_of_option(name: str, it: Option) -> Row:
         "name": name, "Name": pascal(name), "NAME": name.upper(), "option": hyphenate_name(name), "letter": it.letter, "bits": it.bits,
         "Words": rust_words(it.described()), "help": it.with_values(it.help), "number": it.default, "python": f"{default:_}",
         "least": rust_number(it.least), "most": rust_number(it.most), "from": it.least, "to": it.most,
-        "first": rust_number(it.least if it.default is None else it.default), "plain": some(rust_number(default), it),
-        "clap": some(f'"{it.default}"', it), "codes": "None" if it.default is None else f'Some (codes "{it.default}")',
+        "first": rust_number(it.least if it.default is None else it.default), "plain": rust_option(rust_number(default), it),
+        "clap": rust_option(f'"{it.default}"', it), "codes": "None" if it.default is None else f'Some (codes "{it.default}")',
         "as_u32": f"self.{name}" if is_wide else f"u32::from(self.{name})", "cast": "" if is_wide else f" as u{it.bits}",
         "as_u64": f"u64::from(self.{name})" if is_flag else f"self.{name}", "type": "bool" if is_flag else "u64",
         "value": name if it.default is None else f"{name}: {str(bool(default)).lower() if is_flag else rust_number(it.default)}",
