@@ -65,25 +65,28 @@ def plant_body(text: str, plant: Plant) -> str:
     return text
 
 
-def plant_of(crate: str, path: str, block: str) -> Plant:
-    """A wrong body of the lines of a block."""
-    said, pairs, old = {}, [], None
+def lines_in(block: str, keys: "tuple[str, ...]", often: "tuple[str, ...]" = ("old", "new")) -> "list[tuple[str, str]]":
+    """The lines of a block, `KEY: TEXT`. Each key is of one line, but those that may be there OFTEN."""
+    found: "list[tuple[str, str]]" = []
     for line in block.split("\n"):
         key, colon, text = line.partition(":")
-        text = text.removeprefix(" ")
-        if not colon or key not in KEYS or (key in said and key not in ("old", "new")):
+        if not colon or key not in keys or key not in often and key in dict(found):
             raise Unread(f"its line `{line}` is none, or there twice")
-        said[key] = text
-        if key == "new":
-            pairs.append((old or "", text))
-        old = text if key == "old" else None
-    lacking = [key for key in ("name", "of", "what", "old", "new") if not (said.get(key) or key == "new" and pairs)]
-    if lacking:
+        found.append((key, text.removeprefix(" ")))
+    return found
+
+
+def plant_of(crate: str, path: str, block: str) -> Plant:
+    """A wrong body of the lines of a block."""
+    lines = lines_in(block, KEYS)
+    said = dict(lines)
+    pairs = tuple((dict([before]).get("old", ""), text) for before, (key, text) in zip([("", ""), *lines], lines) if key == "new")
+    if lacking := [key for key in ("name", "of", "what", "old", "new") if not (said.get(key) or key == "new" and pairs)]:
         raise Unread(f"it has no line `{lacking[0]}:` ({said.get('name', block[:40])})")
     kind, _, why = said.get("passes", "").partition(": ")
     if "passes" in said and (kind not in KINDS or not why.strip()):
         raise Unread(f"{said['name']}: `passes:` has a kind ({', '.join(KINDS)}), a colon and a reason")
-    return Plant(crate, path, said["name"], said["of"], said["what"], tuple(pairs), kind, why, said.get("breaks", ""))
+    return Plant(crate, path, said["name"], said["of"], said["what"], pairs, kind, why, said.get("breaks", ""))
 
 
 def blocks_of(crate: str, root: str = ROOT) -> "Iterator[tuple[str, str]]":
