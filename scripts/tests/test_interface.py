@@ -21,12 +21,11 @@ import checks
 from checks import expect
 from mte_scripts import formats
 from mte_scripts.builds import library
-from mte_scripts.places import ROOT, SCRIPTS
+from mte_scripts.places import ROOT
 
 DUMP = f"{ROOT}/library/abi.xml"
 NODE = f"MTE_TOOL_{formats.INTERFACE}"
 HEADER = f"{ROOT}/include/mte_tool.h"
-OTHERS = ("mte_tool", "refuse_memory", "step", "traced_c++", "traced_cc")  # the program's, none, none, and the compiler's
 
 
 def read(name):
@@ -218,7 +217,7 @@ class Interface(checks.Part):
             expect("a library with one more option", done[0] == 0, done)
 
     def test_versions(self):
-        """One version everywhere."""
+        """One version everywhere; the scripts' own is tested with `texts`."""
         version, number = formats.VERSION, formats.VERSION.replace(".", r"\.")
         for name, pattern in {
             "include/mte_tool.h": rf'(?m)^#define MTE_TOOL_VERSION "{number}"$',
@@ -231,10 +230,6 @@ class Interface(checks.Part):
         }.items():
             expect(f"{name} has the version {version}", re.search(pattern, read(name)))
         expect("pkg-config", library.VERSION == version and "\nVersion: {version}\n" in library.PKG_CONFIG)
-        for name in sorted(os.listdir(SCRIPTS)):
-            path = f"{SCRIPTS}/{name}"
-            if os.path.isfile(path) and name not in OTHERS:
-                expect(f"{name} --version", output([path, "--version"], stdin=subprocess.DEVNULL) == (0, f"{name} {version}\n"))
 
     def test_abi(self):
         checks.need("abidw abidiff", "the interface and the one of library/abi.xml")
