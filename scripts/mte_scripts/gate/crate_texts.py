@@ -1,5 +1,6 @@
-"""The texts of the crates, as scripts and tests read them: the items of a file of Rust, its functions with their contracts and bodies, and the
-definitions, imports and equations of a file of antt. (statements.py says what the names in them mean.)"""
+"""The texts of the crates, as scripts and tests read them: the items of a file of Rust, its functions with their
+contracts and bodies, and the definitions, imports and equations of a file of antt. (statements.py says what the names
+in them mean.)"""
 
 import functools
 import itertools
@@ -12,18 +13,20 @@ from mte_scripts.entry_point import Refusal
 from mte_scripts.places import ROOT
 
 CRATES = pathlib.Path(ROOT, "crates")
-ITEM = re.compile(r'(?m)^(?P<indent> *)(?P<pub>pub(?:\([^)]*\))? )?(?:(?:const|unsafe|(?P<ghost>ghost)|(?P<c>extern "C")) )*'
+ITEM = re.compile(r'(?m)^(?P<indent> *)(?P<pub>pub(?:\([^)]*\))? )?(?:(?:const|unsafe|ghost|(?P<c>extern "C")) )*'
                   r"(?P<kind>fn|enum|struct|trait|type|const|static) (?P<name>\w+)")
 BLOCK = re.compile(r"(?m)^ *(?P<pub>pub )?(?:unsafe )?(?P<kind>impl|trait)\b(?P<head>[^{;]*)\{")
-RESULT = re.compile(r"(?s)(?:\s*->\s*(?P<type>.*?))?(?=\s+(?:where|requires|ensures|decreases)\b|\s*(?:\{|;(?![^][{;]*\])))")
-CLAUSE = re.compile(r"\s*(?:where\b[^{;]*?(?=\s(?:requires|ensures|decreases)\b|\{|;))?\s*(requires|ensures|decreases)\b[^{]*")
+OF_CONTRACT = r"(requires|ensures|decreases)\b"
+RESULT = re.compile(rf"(?s)(?:\s*->\s*(?P<type>.*?))?(?=\s+(?:where\b|{OF_CONTRACT})|\s*(?:\{{|;(?![^][{{;]*\])))")
+CLAUSE = re.compile(rf"\s*(?:where\b[^{{;]*?(?=\s{OF_CONTRACT}|\{{|;))?\s*(?P<kind>requires|ensures|decreases)\b[^{{]*")
 HIDDEN = re.compile(r"""//[^\n]*|"(?:\\.|[^"\\])*"|'(?:\\.|[^'\\])'""", re.S)
 RUST_USE = re.compile(r"(?ms)^(?:pub )?use ([a-z_][\w:]*?)(?:::\{([^}]*)\}|::(\w+))?(?: as (\w+))?;")
-IMPORT = re.compile(r"(?m)^(?:ghost |    ghost )?(?:pub )?use ((?:Rattle|base|denote|contract)[\w.-]*)(?:\.\{((?:[^{}]|\{[^}]*\})*)\}| as (\w+))?;?$")
+IMPORT = re.compile(r"(?m)^(?:ghost |    ghost )?(?:pub )?use ((?:Rattle|base|denote|contract)[\w.-]*)"
+                    r"(?:\.\{((?:[^{}]|\{[^}]*\})*)\}| as (\w+))?;?$")
 LISTED = re.compile(r"([\w.-]+)\.\{([^}]*)\}|([^\s,{}][^,{}]*)")
 WORDS = r"(?:abbrev|unfoldable|opaque|pub|record|data) "
-DEFINITION = re.compile(rf"(?m)(?P<comment>(?:^--(?! ----).*\n)*)(?P<text>(?:^infix.*\n)?^(?!pub (?:use|mod) )(?P<words>(?:{WORDS})+)"
-                        rf"(?P<name>[^\s(){{}}:]+).*(?:\n(?!--|use |{WORDS})[^\n]*\S[^\n]*)*)")
+DEFINITION = re.compile(r"(?m)(?P<comment>(?:^--(?! ----).*\n)*)(?P<text>(?:^infix.*\n)?^(?!pub (?:use|mod) )"
+                        rf"(?P<words>(?:{WORDS})+)(?P<name>[^\s(){{}}:]+).*(?:\n(?!--|use |{WORDS})[^\n]*\S[^\n]*)*)")
 OUTSIDE = re.compile(r"--|(?:pub )?use |pub mod |infix|\s*$")
 EQUATION = re.compile(r"(?m)^([A-Za-z_][\w'-]*)((?: [^=\n]*?)?) =\s*((?:.|\n)*?)(?=^\S|\Z)")
 
@@ -96,12 +99,12 @@ def hide_comments(text: str) -> str:
 
 @functools.lru_cache(maxsize=None)
 def code_of(text: str) -> str:
-    """A text of Rust with spaces in the place of comments, strings and characters: its brackets are those of the code."""
+    """A text of Rust with spaces in place of comments, strings and characters: its brackets are those of the code."""
     return HIDDEN.sub(lambda found: re.sub(r"[^\n]", " ", found[0]), text)
 
 
 def close_bracket(code: str, at: int, marks: str = "()[]{}", stops: str = ")]}") -> int:
-    """The place after the bracket that closes the one at this place, or after the first of STOPS outside of brackets."""
+    """The place after the bracket that closes the one there, or after the first of STOPS outside of brackets."""
     depth = 0
     for found in re.compile(f"[;{re.escape(marks)}]").finditer(code, at):
         depth += (found[0] in marks[::2]) - (found[0] in marks[1::2])
@@ -128,7 +131,8 @@ def item_end(text: str, start: int) -> int:
 def comment_above(text: str, start: int) -> str:
     """The comment above an item; attributes are left out."""
     lines = [line.strip() for line in text[:start].split("\n")[:-1]]
-    above = itertools.takewhile(lambda line: line.startswith(("//", "#[")) and not line.startswith("//!"), reversed(lines))
+    above = itertools.takewhile(lambda line: line.startswith(("//", "#[")) and not line.startswith("//!"),
+                                reversed(lines))
     return "\n".join([line for line in above if line.startswith("//")][::-1])
 
 
@@ -162,12 +166,13 @@ def function_at(said: str, code: str, found: "re.Match[str]", block: "re.Match[s
     place = result.end()
     while clause := CLAUSE.match(code, place):
         place = close_bracket(code, clause.end())
-        clauses[clause[1]].append(in_a_line(said[clause.end() + 1 : place - 1]))
+        clauses[clause["kind"]].append(in_a_line(said[clause.end() + 1 : place - 1]))
     body = re.compile("[{;]").search(code, place).end()
     stop = close_bracket(code, body - 1) if code[body - 1] == "{" else body
     head = (found["pub"] or "").strip()
     is_public = head == "pub" or bool(block and block["pub"])
-    return Function(found["name"], *owner_of(block), head, is_public, bool(found["c"]), said[at + 1 : end - 1], in_a_line(result["type"] or ""),
+    params, gives = said[at + 1 : end - 1], in_a_line(result["type"] or "")
+    return Function(found["name"], *owner_of(block), head, is_public, bool(found["c"]), params, gives,
                     clauses["requires"], clauses["ensures"], found.start(), body, stop, found["indent"], said[body:stop])
 
 
@@ -176,7 +181,8 @@ def functions_in(text: str) -> "list[Function]":
     """The functions of a text of Rust."""
     said, code = hide_comments(text), code_of(text)
     blocks = [(it.end(), close_bracket(code, it.end() - 1), it) for it in BLOCK.finditer(code)]
-    return [function_at(said, code, found, next((it for start, end, it in reversed(blocks) if start <= found.start() < end), None))
+    return [function_at(said, code, found,
+                        next((it for start, end, it in reversed(blocks) if start <= found.start() < end), None))
             for found in ITEM.finditer(said) if found["kind"] == "fn"]
 
 

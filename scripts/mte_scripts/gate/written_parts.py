@@ -1,8 +1,9 @@
 """What scripts/tests/test_formats.py writes of the table of the formats (formats.py): parts of other files.
 
-A part is a form and its rows: a form is a line or more with names between « and », and the part is the first run of it in the file after the part
-before, which becomes a form for each row. So the text around the rows stands in the files alone. A part of another shape is a pattern that finds
-it, and its text, or a function that makes that of what then stands in other files."""
+A part is a form and its rows: a form is a line or more with names between « and », and the part is the first run of it
+in the file after the part before, which becomes a form for each row. So the text around the rows stands in the files
+alone. A part of another shape is a pattern that finds it, and its text, or a function that makes that of what then
+stands in other files."""
 
 import functools
 import os
@@ -15,7 +16,8 @@ from collections.abc import Callable, Iterable, Sequence
 from typing import Any, NamedTuple, Union
 
 from mte_scripts import formats
-from mte_scripts.formats import CODES, COMMANDS, ENDS, LIBRARY_CODES, LIBRARY_OPTIONS, OPTIONS, TOTALS, Command, Option, Total, in_code
+from mte_scripts.formats import CODES, COMMANDS, ENDS, LIBRARY_CODES, LIBRARY_OPTIONS, OPTIONS, TOTALS
+from mte_scripts.formats import Command, Option, Total, in_code
 from mte_scripts.gate import statements
 from mte_scripts.places import ROOT
 
@@ -34,7 +36,8 @@ class Rows(NamedTuple):
 
     def values(self, name: str) -> str:
         texts = [str(row[name]) for row in self.rows]
-        return r"[\s\S]*?" if "\n" in "".join(texts) else r"\w+" if all(re.fullmatch(r"\w+", text) for text in texts) else ".*"
+        return r"[\s\S]*?" if "\n" in "".join(texts) else r"\w+" if all(re.fullmatch(r"\w+", text)
+                                                                        for text in texts) else ".*"
 
     def text(self) -> str:
         return "".join(re.sub("«(\\w+)»", lambda found: str(row[str(found[1])]), self.form) for row in self.rows)
@@ -138,28 +141,36 @@ def with_values(form: str, values: "dict[str, Any]") -> str:
 def row_of_option(name: str, it: Option) -> Row:
     most, is_flag, is_wide = f"UINT{it.bits}_MAX", it.most == 1, it.bits == 32
     default = it.default or 0
+    value = str(bool(default)).lower() if is_flag else rust_number(it.default)
     return {
-        "name": name, "Name": pascal(name), "NAME": name.upper(), "option": hyphenate_name(name), "letter": it.letter, "bits": it.bits,
-        "Words": rust_words(it.described()), "help": it.with_values(it.help), "number": it.default, "python": f"{default:_}",
+        "name": name, "Name": pascal(name), "NAME": name.upper(), "option": hyphenate_name(name), "letter": it.letter,
+        "bits": it.bits, "Words": rust_words(it.described()), "help": it.with_values(it.help), "number": it.default,
+        "python": f"{default:_}",
         "least": rust_number(it.least), "most": rust_number(it.most), "from": it.least, "to": it.most,
-        "first": rust_number(it.least if it.default is None else it.default), "plain": rust_option(rust_number(default), it),
-        "clap": rust_option(f'"{it.default}"', it), "codes": "None" if it.default is None else f'Some (codes "{it.default}")',
-        "as_u32": f"self.{name}" if is_wide else f"u32::from(self.{name})", "cast": "" if is_wide else f" as u{it.bits}",
-        "as_u64": f"u64::from(self.{name})" if is_flag else f"self.{name}", "type": "bool" if is_flag else "u64",
-        "value": name if it.default is None else f"{name}: {str(bool(default)).lower() if is_flag else rust_number(it.default)}",
+        "first": rust_number(it.least if it.default is None
+                             else it.default), "plain": rust_option(rust_number(default), it),
+        "clap": rust_option(f'"{it.default}"',
+                            it), "codes": "None" if it.default is None else f'Some (codes "{it.default}")',
+        "as_u32": f"self.{name}" if is_wide else f"u32::from(self.{name})",
+        "cast": "" if is_wide else f" as u{it.bits}",
+        "as_u64": f"u64::from(self.{name})" if is_flag else f"self.{name}",
+        "type": "bool" if is_flag else "u64",
+        "value": name if it.default is None else f"{name}: {value}",
         "c_most": most, "c_beyond": 0 if it.least else most,
     }  # fmt: skip
 
 
 def row_of_code(code: int) -> Row:
     sentence, name = formats.code_sentence(code), formats.own_name(code)
-    return {"code": code, "name": CODES[code].name, "Name": name, "NAME": formats.upper_name(code), "sentence": sentence, "Words": rust_words(sentence)}
+    return {"code": code, "name": CODES[code].name, "Name": name, "NAME": formats.upper_name(code),
+            "sentence": sentence, "Words": rust_words(sentence)}
 
 
 def row_of_command(name: str, it: Command) -> Row:
     options = formats.in_help(it.options)
     return {
-        "name": name, "Name": pascal(name), "NAME": name.upper(), "inputs": len(it.inputs), "on": "_ON" if len(it.inputs) > 1 else "",
+        "name": name, "Name": pascal(name), "NAME": name.upper(), "inputs": len(it.inputs),
+        "on": "_ON" if len(it.inputs) > 1 else "",
         "list": " ∷ ".join([*map(pascal, options), "[]"]), "const": FIRST_WITH.get(tuple(options), "&[]"),
         "first": "        first: *const c_void,\n        first_length: usize,\n" if len(it.inputs) > 1 else "",
     }  # fmt: skip
@@ -167,7 +178,8 @@ def row_of_command(name: str, it: Command) -> Row:
 
 def row_of_total(name: str, it: Total) -> Row:
     value = it.value or f"count_by (λ p. {it.test} p.1) happened"
-    return {"name": name, "code": in_code(name), "words": group_digits(it.words), "Words": rust_words(it.words), "test": it.test,
+    return {"name": name, "code": in_code(name), "words": group_digits(it.words), "Words": rust_words(it.words),
+            "test": it.test,
             "value": value.removesuffix(" happened"), "lead": "" if name == [*TOTALS][0] else "∷ "}
 
 
@@ -180,7 +192,8 @@ OF_LIBRARY = [OF_OPTIONS[name] for name in LIBRARY_OPTIONS]
 OF_PROGRAM = [OF_OPTIONS[name] for name, it in OPTIONS.items() if it.is_of_program]
 OF_CODES = [row_of_code(code) for code in LIBRARY_CODES]
 NO_CODE = {"code": 0, "Name": "NoCode", "NAME": "NONE", "Words": "There is none."}
-OF_ENDS = [{"number": number, "NAME": name, "sentence": it.sentence, "Words": rust_words(it.sentence)} for number, (name, it) in enumerate(ENDS.items())]
+OF_ENDS = [{"number": number, "NAME": name, "sentence": it.sentence, "Words": rust_words(it.sentence)} for number,
+           (name, it) in enumerate(ENDS.items())]
 OF_COMMANDS = [row_of_command(*each) for each in COMMANDS.items()]
 OF_TOTALS = [row_of_total(*each) for each in TOTALS.items()]
 COUNTED = [row for row in OF_TOTALS if row["test"]]
@@ -192,7 +205,8 @@ COUNTS_OF_EVENTS = [row for row in OF_TOTALS if row["test"] or row["value"].star
 
 def comment(words: str, width: int, indent: str) -> str:
     """A comment of C in lines of at most so many columns, the first of which begins where it stands."""
-    filled = textwrap.fill(f"/* {words}\0*/", width - len(indent), subsequent_indent="   ", break_long_words=False, break_on_hyphens=False)
+    filled = textwrap.fill(f"/* {words}\0*/", width - len(indent), subsequent_indent="   ", break_long_words=False,
+                           break_on_hyphens=False)
     return filled.replace("\0", " ").replace("\n", f"\n{indent}")
 
 
@@ -205,7 +219,8 @@ def in_columns(heads: "list[str]", words: "Iterable[str]", width: int = 0) -> st
 
 def enumeration(name: str, values: "list[tuple[str, int, str]]") -> Piece:
     """An enumeration of the header: each name, number and words."""
-    heads = [f"    {each} = {number}{',' if at < len(values) else ''}" for at, (each, number, _) in enumerate(values, 1)]
+    heads = [f"    {each} = {number}{',' if at < len(values) else ''}" for at,
+             (each, number, _) in enumerate(values, 1)]
     text = in_columns(heads, (words for *_, words in values), WIDTH)
     return Piece(rf"(?s)typedef enum {name} \{{.*?\n\}} {name};", f"typedef enum {name} {{\n{text}}} {name};")
 
@@ -240,18 +255,20 @@ def options_of_c() -> str:
         if command.library_options:
             calls.setdefault(tuple(command.library_options), []).append(name)
     calls[formats.HEAP].append("mte_tool_heap_new")
-    reads = (f"{join_words(names)} {'reads' if len(names) == 1 else 'read'} {join_words(options)}" for options, names in calls.items())
+    reads = (f"{join_words(names)} {'reads' if len(names) == 1 else 'read'} {join_words(options)}" for options,
+             names in calls.items())
     readers = f"Each call reads its own options, and the others may have any value: {'; '.join(reads)}. */"
     members = [("size_t size;", "sizeof (mte_tool_options)")]
     for name, option in LIBRARY_OPTIONS.items():
-        members.append((f"uint64_t {name};", option.described() + ("; it has no default" if option.default is None else "")))
+        members.append((f"uint64_t {name};", option.described() + ("; it has no default" if option.default is None
+                                                                   else "")))
     defaults = ["(limit)" if option.default is None else str(option.default) for option in LIBRARY_OPTIONS.values()]
     lines = in_columns([f"    {member}" for member, _ in members], (words for _, words in members))
     return (
         f"{textwrap.fill(readers, WIDTH, initial_indent='   ', subsequent_indent='   ')}\n"
         f"typedef struct mte_tool_options {{\n{lines}}} mte_tool_options;\n\n"
-        "/* The program's own defaults, with this limit; for a call that reads no limit, any number. In C++ a `limit` that is no constant\n"
-        "   has to be unsigned. */\n"
+        "/* The program's own defaults, with this limit; for a call that reads no limit, any number. In C++ a `limit` "
+        "that is no constant\n   has to be unsigned. */\n"
         f"#define MTE_TOOL_OPTIONS(limit) {{sizeof(mte_tool_options), {', '.join(defaults)}}}"
     )
 
@@ -260,9 +277,11 @@ def declaration_of_c(name: str, command: Command) -> str:
     """A function that returns an end, in lines that are cut between two arguments."""
     head = f"MTE_TOOL_CHECKED mte_tool_end mte_tool_{name}("
     first = ["const void *first", "size_t first_length"] if len(command.inputs) > 1 else []
-    given = ["const mte_tool_options *options", *first, "const void *input", "size_t length", "mte_tool_text *output", "mte_tool_result *result"]
+    given = ["const mte_tool_options *options", *first, "const void *input", "size_t length", "mte_tool_text *output",
+             "mte_tool_result *result"]
     kept = ", ".join(given).replace(" ", "\0").replace(",\0", ", ")
-    return textwrap.fill(f"{kept});", WIDTH, initial_indent=head, subsequent_indent=" " * len(head)).replace("\0", " ") + "\n"
+    return textwrap.fill(f"{kept});", WIDTH, initial_indent=head,
+                         subsequent_indent=" " * len(head)).replace("\0", " ") + "\n"
 
 
 def byte_of(name: str) -> int:
@@ -279,7 +298,8 @@ def byte_of(name: str) -> int:
 
 def version_of_c() -> str:
     first, second, third = map(int, formats.VERSION.split("."))
-    return f'#define MTE_TOOL_VERSION "{formats.VERSION}"\n#define MTE_TOOL_VERSION_NUMBER {10000 * first + 100 * second + third}\n'
+    number = 10000 * first + 100 * second + third
+    return f'#define MTE_TOOL_VERSION "{formats.VERSION}"\n#define MTE_TOOL_VERSION_NUMBER {number}\n'
 
 
 def by_options(command: Command, before: str = "", mark: str = "") -> str:
@@ -295,7 +315,8 @@ def command_of_cpp(name: str, command: Command) -> str:
         has_default = all(OPTIONS[option].default is not None for option in command.library_options)
         takes.append("const Options &options" + (" = Options()" if has_default else ""))
     words = f"{command.words}{by_options(command, before='options.')}.".replace("`", '"')
-    called = f"detail::Called(mte_tool_{name}, {', '.join(command.inputs)}, {'&options' if command.library_options else 'nullptr'})"
+    options = "&options" if command.library_options else "nullptr"
+    called = f"detail::Called(mte_tool_{name}, {', '.join(command.inputs)}, {options})"
     head = f"inline {capital(command.gives)} {name}({', '.join(takes)}) {{"
     return f"{comment(words, WIDTH, ' ')}\n{head}\n    return {called}.{command.gives}();\n}}\n"
 
@@ -323,8 +344,8 @@ def command_of_python(name: str, command: Command) -> str:
 RUST_FAULTS = "The input's first fault, or that memory ran out."
 RUST_ERRORS = "The input's first fault, an option out of its range, or that memory ran out."
 
-# The commands whose function has taken options since the first version of the interface. A function of Rust keeps its
-# parameters: that of another command takes none, and where the command has options, one that takes them stands beside it.
+# The commands whose function has taken options since the first version of the interface. A function of Rust keeps
+# its parameters: that of another command takes none, and where it has options, one that takes them stands beside it.
 TAKING_OPTIONS = ("tune", "fit", "replay", "run")
 
 
@@ -335,8 +356,9 @@ def row_of_rust(function: str, name: str, is_taking: bool) -> Row:
     words = f"The same as [`{name}`]" if function != name else command.words
     return {
         "words": words + by_options(command, mark="`") * is_taking, "errors": RUST_ERRORS if is_taking else RUST_FAULTS,
-        "function": function, "takes": ", ".join(takes), "gives": capital(command.gives), "call": "call_on" if len(command.inputs) > 1 else "call",
-        "given": f"c::mte_tool_{name}, {', '.join(command.inputs)}, {'options' if is_taking else '&Options::default()'}",
+        "function": function, "takes": ", ".join(takes), "gives": capital(command.gives),
+        "call": "call_on" if len(command.inputs) > 1 else "call",
+        "given": ", ".join([f"c::mte_tool_{name}", *command.inputs, "options" if is_taking else "&Options::default()"]),
         "answer": ".text" if command.gives == "text" else f".{command.gives}()",
     }  # fmt: skip
 
@@ -374,15 +396,17 @@ def arms_of_plain() -> "list[Row]":
     arms: "dict[tuple[str, ...], list[str]]" = {}
     for name, command in COMMANDS.items():
         arms.setdefault(command.options, []).append(f'"{hyphenate_name(name)}"')
-    found = [{"said": " | ".join(said), "names": quote_names(f"--{hyphenate_name(each)}" for each in options)} for options, said in arms.items()]
+    found = [{"said": " | ".join(said), "names": quote_names(f"--{hyphenate_name(each)}" for each in options)}
+             for options, said in arms.items()]
     return [*found, {"said": "_", "names": ""}]
 
 
 # ---- the recorders and the page
 
-OF_RECORDERS = """LARGEST_SIZE MOST_CLASSES MOST_SNAPSHOTS MOST_INPUT LARGEST_REQUEST MOST_EVENTS LAST_VARIABLE FARTHEST_ACCESS
-    FARTHEST_MOVE""".split()
-OF_PAGE = {"GRANULE": "GRANULE_BYTES", **{name: name for name in "LARGEST_CLASS LARGEST_SIZE MOST_CLASSES MOST_INPUT".split()}}
+OF_RECORDERS = """LARGEST_SIZE MOST_CLASSES MOST_SNAPSHOTS MOST_INPUT LARGEST_REQUEST MOST_EVENTS LAST_VARIABLE
+    FARTHEST_ACCESS FARTHEST_MOVE""".split()
+OF_PAGE = {"GRANULE": "GRANULE_BYTES", **{name: name
+                                          for name in "LARGEST_CLASS LARGEST_SIZE MOST_CLASSES MOST_INPUT".split()}}
 LIMIT = 8  # with which the page's heap begins; its tables begin with as many as there can be, as Scudo's default has
 
 
@@ -391,12 +415,13 @@ def numbers(names: "dict[str, str]") -> "list[Row]":
 
 
 def inputs_of_page() -> "list[Piece]":
-    """The ranges of the page's inputs, each of which has the name of its option, and perhaps `heap-` before it; others are the page's own."""
+    """The ranges of the page's inputs, each with the name of its option, and perhaps `heap-` before it, or its own."""
     made = []
     for name in re.findall(r'id="([\w-]+)" min="', read("web/page.html")):
         if it := OPTIONS.get(name.removeprefix("heap-")):
             value = it.default or (LIMIT if name.startswith("heap-") else it.most)
-            made.append(Piece(rf'id="{name}" min="\d+" max="\d+" value="\d+"', f'id="{name}" min="{it.least}" max="{it.most}" value="{value}"'))
+            made.append(Piece(rf'id="{name}" min="\d+" max="\d+" value="\d+"',
+                              f'id="{name}" min="{it.least}" max="{it.most}" value="{value}"'))
     return made
 
 
@@ -412,13 +437,16 @@ def script_of_page() -> "list[Rows]":
         Rows("const «name» = «value»;\n", numbers(OF_PAGE)),
         line("const REGION = 1n << «bits»n;\n", bits=formats.REGION_START.bit_length() - 1),
         line("const DEFAULTS = { «all» };\n", all=with_values("{}: {}", defaults)),
-        line("const OPTION_BITS = { «all» };\n", all=with_values("{}: {}", {name: it.bits for name, it in OPTIONS.items()})),
+        line("const OPTION_BITS = { «all» };\n", all=with_values("{}: {}",
+                                                                 {name: it.bits for name, it in OPTIONS.items()})),
         line("const HEAP_OPTIONS = [«all»];\n", all=quote_names(formats.HEAP)),
         line("const COMMANDS = [«all»];\n", all=quote_names(map(hyphenate_name, COMMANDS))),
         line("const OF_TWO_TEXTS = [«all»];\n", all=quote_names(of_two)),
         line("const ENDED = [«all»];\n", all=quote_names(name.lower().replace("_", " ") for name in ENDS)),
-        Rows('  «code»: "«text»",\n', [{"code": code, "text": on_page(it.words)} for code, it in CODES.items() if it.status == 2]),
-        Rows('  «name»: "«text»",\n', [{"name": name if name.isalpha() else f'"{name}"', "text": on_page(words)} for name, words in causes.items()]),
+        Rows('  «code»: "«text»",\n', [{"code": code, "text": on_page(it.words)} for code, it in CODES.items()
+                                       if it.status == 2]),
+        Rows('  «name»: "«text»",\n', [{"name": name if name.isalpha() else f'"{name}"', "text": on_page(words)}
+                                       for name, words in causes.items()]),
     ]
 
 
@@ -427,19 +455,22 @@ def script_of_page() -> "list[Rows]":
 
 def tests_of_totals() -> str:
     """The import of the tests in the definitions, in lines of at most 140 columns."""
-    head, tests = "use Rattle.replay_theory.specs.Replay.{", dict.fromkeys(["Answer", *(row["test"] for row in COUNTED), "is_silent"])
-    return "".join(f"{head}{names}}}\n" for names in map(lambda it: it.rstrip(","), textwrap.wrap(", ".join(tests), WIDTH - len(head))))
+    head, tests = "use Rattle.replay_theory.specs.Replay.{", dict.fromkeys(["Answer", *(row["test"] for row in COUNTED),
+                                                                            "is_silent"])
+    return "".join(f"{head}{names}}}\n" for names in map(lambda it: it.rstrip(","),
+                                                         textwrap.wrap(", ".join(tests), WIDTH - len(head))))
 
 
 def lines_written() -> str:
     """The goal of `Totals::write` by its calls, from the last one to the first."""
     calls = [f"append_total{f'-{number}' if number > 1 else ''}" for number in range(1, len(TOTALS) + 1)]
-    return f"    sym (append-nil c.{calls[-1]}.new.text.items)\n" + "".join(f"    ∙ c.{call}.ensures.items _\n" for call in reversed(calls))
+    return f"    sym (append-nil c.{calls[-1]}.new.text.items)\n" + "".join(f"    ∙ c.{call}.ensures.items _\n"
+                                                                            for call in reversed(calls))
 
 
 def totals_in_help() -> str:
     """What the help of `replay` says after the events' lines."""
-    number = "no one two three four five six seven eight nine ten eleven twelve thirteen fourteen fifteen sixteen".split()[len(TOTALS)]
+    number = "six seven eight nine ten eleven twelve thirteen fourteen fifteen sixteen".split()[len(TOTALS) - 6]
     *names, last = [f"`{name}`".replace(" ", "\0") for name in TOTALS]
     words = f"and then {number} totals: {', '.join(names)}, and {last}, the bytes of the served requests' payloads"
     return textwrap.fill(f"{words} beyond what they asked for.", 95, break_on_hyphens=False).replace("\0", " ")
@@ -464,21 +495,23 @@ def rules_of_totals() -> "list[Row]":
 def compile_plain(place: str) -> str:
     """The plain program, compiled in PLACE in the least time."""
     plain = os.path.join(place, "plain")
-    subprocess.run(["rustc", "--edition", "2021", os.path.join(ROOT, "scripts/tests/plain/main.rs"), "-o", plain], check=True)
+    subprocess.run(["rustc", "--edition", "2021", os.path.join(ROOT, "scripts/tests/plain/main.rs"), "-o", plain],
+                   check=True)
     return plain
 
 
 @functools.lru_cache(maxsize=None)
 def count_totals() -> "list[list[str]]":
-    """The lines of totals of the run of crates/mte_tool, and those of README.md's session, as the plain program counts them. Without rustc they
-    are those that stand there, and a new one is 0."""
+    """The lines of totals of the run of crates/mte_tool, and those of README.md's session, as the plain program counts
+    them. Without rustc they are those that stand there, and a new one is 0."""
     if not shutil.which("rustc"):
         return [read_totals("crates/mte_tool/stdout", TOTALS_IN_TEXT), read_totals("README.md", TOTALS_IN_README)]
     session, trace = re.findall(r"\$ scripts/mte_tool (run .*) < (examples/\S+)", read("README.md"))[0]
     runs = ((read("crates/mte_tool/args").split(), "crates/mte_tool/stdin"), (session.split(), trace))
     with tempfile.TemporaryDirectory() as place:
         plain = compile_plain(place)
-        outs = [subprocess.run([plain, *words], input=read(path), stdout=subprocess.PIPE, text=True, check=True).stdout for words, path in runs]
+        outs = [subprocess.run([plain, *words], input=read(path), stdout=subprocess.PIPE, text=True, check=True).stdout
+                for words, path in runs]
     return [out.splitlines()[-len(TOTALS) :] for out in outs]
 
 
@@ -490,7 +523,8 @@ def read_totals(path: str, pattern: str) -> "list[str]":
 
 def totals_in_literal() -> str:
     """The totals of the run of crates/mte_tool as a literal in lines of at most 140 columns."""
-    lines = textwrap.wrap(" ".join(f"{each}\\n".replace(" ", "\0") for each in count_totals()[0]), 120, break_on_hyphens=False)
+    lines = textwrap.wrap(" ".join(f"{each}\\n".replace(" ", "\0") for each in count_totals()[0]), 120,
+                          break_on_hyphens=False)
     text = "\\\n    ".join(each.replace(" ", "").replace("\0", " ") for each in lines)
     return f'const TOTALS: &str =\n    "{text}";'
 
@@ -523,14 +557,17 @@ PARTS_OF_TOTALS: Parts = {
         Rows("        «code»: 0,\n", OF_TOTALS),
         Rows('        append_total(text, b"«name»", self.«code»);\n', OF_TOTALS),
     ],
-    "crates/replay_core/proofs/totals/Totals/write/Answers.antt": [Piece(r"    sym .*\n(    ∙ c\.append_total.*\n)+", lines_written())],
+    "crates/replay_core/proofs/totals/Totals/write/Answers.antt": [Piece(r"    sym .*\n(    ∙ c\.append_total.*\n)+",
+                                                                         lines_written())],
     "crates/command_words/src/commands/replay.rt": [Piece(r"(?s)and then \w+ totals: .*?\.(?=\n\n)", totals_in_help())],
     "crates/engine_tests/src/tests/totals.rt": [
         line("        totals!(@«first» [$before] $($name $n)*)\n", first=OF_TOTALS[0]["code"]),
         Rows(RULES, rules_of_totals()),
     ],
-    "docs/FORMATS.md": [Piece(r"(?<=\| Line of totals \| What it counts \|\n\|---\|---\|\n)(\|.*\n)+", Rows("| `«name» N` | «words» |\n", OF_TOTALS).text())],
-    "scripts/tests/plain/replay.rs": [Rows("    «code»: u64,\n", OF_TOTALS), Rows('            ("«name» ", t.«code»),\n', OF_TOTALS)],
+    "docs/FORMATS.md": [Piece(r"(?<=\| Line of totals \| What it counts \|\n\|---\|---\|\n)(\|.*\n)+",
+                              Rows("| `«name» N` | «words» |\n", OF_TOTALS).text())],
+    "scripts/tests/plain/replay.rs": [Rows("    «code»: u64,\n", OF_TOTALS),
+                                      Rows('            ("«name» ", t.«code»),\n', OF_TOTALS)],
 }
 
 # Made of other parts, and so written after them.
@@ -557,26 +594,29 @@ PARTS_OF_OPTIONS: Parts = {
         Rows("        «name»: 0,\n", EVERY_OPTION),
         Rows("        «name»: «first»,\n", EVERY_OPTION),
         Rows("            OptionName::«Name» => «as_u32»,\n", OF_HELP),
-        Rows("            OptionName::«Name» => Options {\n                «name»: n«cast»,\n                ..self\n            },\n", OF_HELP),
+        Rows("            OptionName::«Name» => Options {\n                «name»: n«cast»,\n"
+             "                ..self\n            },\n", OF_HELP),  # fmt: skip
         Piece(r"(?s)const \w+: &\[OptionName\].*\];\n", rows_of_commands()),
         Rows("        CommandName::«Name» => «const»,\n", OF_COMMANDS),
     ],
     "crates/tool_call/specs/OptionTable.antt": [
         line("OptionName.TheVariants.{«names»}\n", names=", ".join(row["Name"] for row in OF_HELP)),
-        Rows('facts «Name» = record { name = codes "«option»"; least = «from»; most = «to»; default = «codes» }\n', OF_HELP),
+        Rows('facts «Name» = record { name = codes "«option»"; least = «from»; most = «to»; default = «codes» }\n',
+             OF_HELP),
         Rows("number_of «Name» options = options.«name»\n", OF_HELP),
         Rows("with_number options «Name» n = record options { «name» = n }\n", OF_HELP),
         line("no_options = record { «all» }\n", all="; ".join(f"{name} = 0" for name in OPTIONS)),
         Rows("options_of command.«Name» = «list»\n", OF_COMMANDS),
     ],
     "crates/command_words/src/option_table.rt": [
-        Rows('const «NAME»: NumberOption = NumberOption {\n    name: "«option»",\n    value_name: "«letter»",\n    least: «least»,\n'
-             '    most: «most»,\n    default: «clap»,\n    help: "«help»",\n};\n\n', OF_HELP),  # fmt: skip
+        Rows('const «NAME»: NumberOption = NumberOption {\n    name: "«option»",\n    value_name: "«letter»",\n'
+             '    least: «least»,\n    most: «most»,\n    default: «clap»,\n    help: "«help»",\n};\n\n', OF_HELP),
         Rows("        OptionName::«Name» => «NAME»,\n", OF_HELP),
     ],
     "scripts/tests/plain/formats.rs": [
         line("pub const NUMBERS: [Number; «number»] = [\n", number=len(OPTIONS)),
-        Rows('    Number {\n        name: "--«option»",\n        least: «least»,\n        most: «most»,\n        default: «plain»,\n    },\n', EVERY_OPTION),
+        Rows('    Number {\n        name: "--«option»",\n        least: «least»,\n        most: «most»,\n'
+             '        default: «plain»,\n    },\n', EVERY_OPTION),  # fmt: skip
         Rows("        «said» => &[«names»],\n", arms_of_plain()),
     ],
 }
@@ -584,21 +624,28 @@ PARTS_OF_OPTIONS: Parts = {
 PARTS_OF_LIBRARY: Parts = {
     "include/mte_tool.h": [
         Piece(r"#define MTE_TOOL_VERSION .*\n#define MTE_TOOL_VERSION_NUMBER .*\n", version_of_c()),
-        Piece(r"(#define MTE_TOOL_(?!VERSION)\w+ \d+.*\n)+", in_columns([f"#define MTE_TOOL_{name} {formats.NUMBERS[name]}" for name in LIMITS], LIMITS.values())),
+        Piece(r"(#define MTE_TOOL_(?!VERSION)\w+ \d+.*\n)+",
+              in_columns([f"#define MTE_TOOL_{name} {formats.NUMBERS[name]}" for name in LIMITS], LIMITS.values())),
         enumeration("mte_tool_end", ENDS_OF_C),
         enumeration("mte_tool_code", [("MTE_TOOL_CODE_NONE", 0, "there is none"), *CODES_OF_C]),
         Piece(r"(?s)   Each call reads its own options.*?#define MTE_TOOL_OPTIONS\(limit\)[^\n]*", options_of_c()),
-        Piece(r"(?s)MTE_TOOL_CHECKED mte_tool_end mte_tool_score\(.*?(?=\n/\* Appends)", "".join(declaration_of_c(*each) for each in COMMANDS.items())),
+        Piece(r"(?s)MTE_TOOL_CHECKED mte_tool_end mte_tool_score\(.*?(?=\n/\* Appends)",
+              "".join(declaration_of_c(*each) for each in COMMANDS.items())),
     ],
     "include/mte_tool.hpp": [
-        line("enum class Code : std::uint32_t {\n«all»\n};", all=",\n".join(f"    {row['Name']} = {row['code']}" for row in (NO_CODE, *OF_CODES))),
-        Piece(r"(?s)(?<=   line\. \*/\n\n).*?(?=\n/\* ---- what a check showed)", "\n".join(command_of_cpp(*each) for each in COMMANDS.items())),
+        line("enum class Code : std::uint32_t {\n«all»\n};",
+             all=",\n".join(f"    {row['Name']} = {row['code']}" for row in (NO_CODE, *OF_CODES))),
+        Piece(r"(?s)(?<=   line\. \*/\n\n).*?(?=\n/\* ---- what a check showed)",
+              "\n".join(command_of_cpp(*each) for each in COMMANDS.items())),
     ],
     "library/layer.h": [line("enum { «all» };", all=", ".join(row["NAME"] for row in OF_COMMANDS))],
     "library/pointers.c": [Rows("CALL«on»(«NAME», «name»)\n", OF_COMMANDS)],
-    "library/sentences.h": [Rows('    "«sentence»",\n', OF_ENDS), Rows('    {«code», "«name»", "«sentence»"},\n', OF_CODES)],
-    "python/mte_tool/_formats.py": [Rows('    "«name»": «python»,\n', OF_LIBRARY), Rows('    "«name»": «inputs»,\n', OF_COMMANDS)],
-    "python/mte_tool/_codes.py": [Rows("    «NAME» = «number»\n", OF_ENDS), Rows("    «NAME» = «code»\n", [NO_CODE, *OF_CODES])],
+    "library/sentences.h": [Rows('    "«sentence»",\n', OF_ENDS),
+                            Rows('    {«code», "«name»", "«sentence»"},\n', OF_CODES)],
+    "python/mte_tool/_formats.py": [Rows('    "«name»": «python»,\n', OF_LIBRARY),
+                                    Rows('    "«name»": «inputs»,\n', OF_COMMANDS)],
+    "python/mte_tool/_codes.py": [Rows("    «NAME» = «number»\n", OF_ENDS),
+                                  Rows("    «NAME» = «code»\n", [NO_CODE, *OF_CODES])],
     "python/mte_tool/_commands.py": [
         line("and has at most «most» bytes.\n", most=f"{formats.MOST_INPUT:,}"),
         Piece(r"(?s)(?<=\n\n\n)def .*", "\n\n".join(command_of_python(*each) for each in COMMANDS.items())),
@@ -607,8 +654,9 @@ PARTS_OF_LIBRARY: Parts = {
         Rows("/// «Words»\npub const MTE_TOOL_«NAME»: mte_tool_end = «number»;\n", OF_ENDS),
         Rows("/// «Words»\npub const MTE_TOOL_CODE_«NAME»: u32 = «code»;\n", [NO_CODE, *OF_CODES]),
         Rows("    pub «name»: u64,\n", OF_LIBRARY),
-        Rows("    pub fn mte_tool_«name»(\n        options: *const mte_tool_options,\n«first»        input: *const c_void,\n        length: usize,\n"
-             "        output: *mut mte_tool_text,\n        result: *mut mte_tool_result,\n    ) -> mte_tool_end;\n", OF_COMMANDS),  # fmt: skip
+        Rows("    pub fn mte_tool_«name»(\n        options: *const mte_tool_options,\n«first»"
+             "        input: *const c_void,\n        length: usize,\n        output: *mut mte_tool_text,\n"
+             "        result: *mut mte_tool_result,\n    ) -> mte_tool_end;\n", OF_COMMANDS),  # fmt: skip
     ],
     "rust/mte-tool/src/codes.rs": [
         Rows("    /// «Words»\n    «Name»,\n", OF_CODES),
@@ -620,7 +668,8 @@ PARTS_OF_LIBRARY: Parts = {
         line("        Options { «all» }\n", all=", ".join(row["value"] for row in OF_LIBRARY)),
         Rows("\n    /// «Words»\n    #[must_use]\n    pub fn «name»(mut self, «name»: «type») -> Options {\n"
              "        self.«name» = «name»;\n        self\n    }\n", OF_LIBRARY),  # fmt: skip
-        Rows("            «name»: «as_u64»,\n", [{"name": "size", "as_u64": "std::mem::size_of::<c::mte_tool_options>()"}, *OF_LIBRARY]),
+        Rows("            «name»: «as_u64»,\n",
+             [{"name": "size", "as_u64": "std::mem::size_of::<c::mte_tool_options>()"}, *OF_LIBRARY]),
     ],
     "rust/mte-tool/src/commands.rs": [
         line("each of at most «most» bytes.", most=f"{formats.MOST_INPUT:,}"),
@@ -629,7 +678,8 @@ PARTS_OF_LIBRARY: Parts = {
     ],
     "rust/mte-tool/src/lib.rs": [Piece(r"(?s)pub use commands::\{.*?\};", names_of_rust())],
     "web/checker.c": [
-        line("CHECK = «check», CHECK_FIT = «fit»", **dict(zip(("check", "fit"), map([*COMMANDS].index, ("check", "check_fit"))))),
+        line("CHECK = «check», CHECK_FIT = «fit»",
+             **dict(zip(("check", "fit"), map([*COMMANDS].index, ("check", "check_fit"))))),
         line("CLAIM_BYTE = «byte»", byte=byte_of("claim")),
     ],
     "web/formats.js": script_of_page(),
