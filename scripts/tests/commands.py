@@ -71,6 +71,11 @@ class Commands(checks.Part):
         self.says(*([says] if isinstance(says, str) else says))
         return self.out
 
+    def refuses_all(self, script: str, *lines: str, **more) -> None:
+        """A script refuses the words of each of these lines."""
+        for line in lines:
+            self.runs(2, "", script, *line.split(), **more)
+
     def says(self, *texts: str) -> None:
         """The last command's standard error has these words."""
         for text in texts:

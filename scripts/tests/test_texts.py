@@ -168,9 +168,7 @@ class Words(commands.Commands):
 
     def test_words(self):
         self.helped("merge_profiles", "scudo_classes", "draw_waste", "bench", "edits", "crates", "refuse_memory")
-        self.runs(2, "", "bench", "--runs", "0")
-        self.runs(2, "", "bench", "scores")
-        self.runs(2, "", "bench", "--growth", "score")
+        self.refuses_all("bench", "--runs 0", "scores", "--growth score")
         self.runs(3, "", "bench", RUSTC="no_such_compiler", says="no no_such_compiler")
         if not checks.skip_without("scripts/traced_cc", "its help to a full disk"):
             self.unwritten("traced_cc", "--help", closed="standard output can't be written")
@@ -253,8 +251,7 @@ class Crates(commands.Commands):
         self.runs(0, "raw_region: *", "crates", "tag_machine")
         names = [line.split(":")[0] for line in self.out.splitlines()]
         expect("crates tag_machine", names == ["raw_region", "machine_theory", "granule_memory", "tag_machine", "of the kit"], names)
-        self.runs(2, "", "crates", "no_crate")
-        self.runs(2, "", "crates")
+        self.refuses_all("crates", "no_crate", "")
         self.runs(0, "", "crates", "--copy", "copied", "class_tuner", "raw_region")
         folder = self.path("copied", "crates")
         copied = {name for name in os.listdir(folder) if os.path.exists(os.path.join(folder, name, "src/lib.rt"))}
@@ -312,10 +309,8 @@ class Merges(commands.Commands):
         for text, says in (("a\n\nb\n", "name 2 is empty"), ("a\n-\n", "a list can't name"), ("a\nnowhere\n", "nowhere can't be read")):
             self.write("names", text)
             self.runs(2, "", "merge_profiles", "--files-from", "names", says=says)
-        self.runs(2, "", "merge_profiles", "--files-from")
-        self.runs(2, "", "merge_profiles", "--files-from", "/dev/zero")  # it never ends
-        self.runs(2, "", "merge_profiles", "--files-from", "list", "a")
-        self.runs(2, "", "merge_profiles", "--files-from", "nowhere")
+        # of which one never ends
+        self.refuses_all("merge_profiles", *(f"--files-from {name}" for name in ("", "/dev/zero", "list a", "nowhere")))
 
     def test_odd_names(self):
         """Names that look like an assignment, an option or an escape."""
@@ -383,8 +378,7 @@ class Merges(commands.Commands):
             self.write(name, history([{16 * (first + at): 1} for at in range(33)]) + "\n")
         out = self.runs(0, "snapshots 64\n48 1 *", "merge_profiles", "--snapshots", "64", "lower", "upper")
         expect("merge_profiles of 66 snapshots", out.count("\n") == 65 and sum(" 1" in line for line in out.splitlines()) == 64, out)
-        self.runs(2, "", "merge_profiles", "--snapshots", "1025", "lower")
-        self.runs(2, "", "merge_profiles", "--snapshots")
+        self.refuses_all("merge_profiles", "--snapshots 1025 lower", "--snapshots")
         self.runs(0, "snapshots 66\n16 1 *", "merge_profiles", "lower", "upper")
 
     def test_limit_by_sentences(self):
@@ -549,8 +543,7 @@ class Plain(commands.Commands):
     def test_refused_profiles(self):
         over = {"MTE_TOOL": self.path("plain")}
         self.write("four.profile", FOUR)
-        self.runs(2, "", "draw_waste", **over)
-        self.runs(2, "", "draw_waste", "nowhere", **over)
+        self.refuses_all("draw_waste", "", "nowhere", **over)
         for text, says in (
             ("", "given counts no bytes"), ("0 5\n", "given counts no bytes"), ("large 5\n", "given counts no bytes"),
             ("malloc 1 16\n", "given: line 1 is of a trace"), ("40 1\n16 3\n", "merge_profiles"),

@@ -17,8 +17,8 @@ def picture(rows: "list[Row]") -> str:
         drawing.text(middle, drawing.bottom + 18, name, "middle")
         for place, (peak, (words, color)) in enumerate(zip(peaks, BARS)):
             x, y = middle + (place - 1.5) * WIDE, drawing.y(peak / 1024, top)
-            place, title = box(x + 1, y, WIDE - 2, drawing.bottom - y), escape(f"{name}, {words}: {peak:,} KiB")
-            drawing.parts.append(f'<g class="c{color}"><rect class="mark" {place}><title>{title}</title></rect></g>')
+            area, title = box(x + 1, y, WIDE - 2, drawing.bottom - y), escape(f"{name}, {words}: {peak:,} KiB")
+            drawing.parts.append(f'<g class="c{color}"><rect class="mark" {area}><title>{title}</title></rect></g>')
             drawing.text(x + WIDE / 2, y - 4, f"{peak / 1024:.0f}", "middle")
     for at, (words, color) in enumerate(BARS):
         x = drawing.left + 10 + at * 190
