@@ -102,16 +102,22 @@ def crate_of(file: str) -> str:
     return file.split(os.sep)[1]
 
 
+def read(file: str) -> str:
+    """The text of a file of the repository that a name leads to."""
+    try:
+        return text_of(file)
+    except FileNotFoundError:
+        raise UnresolvedName(f"there is no file {file}") from None
+
+
 @functools.lru_cache(maxsize=None)
 def module(name: str) -> Module:
     """A module of specs/, `Rattle.crate.specs.Name`."""
     crate, _, path = name.removeprefix("Rattle.").partition(".specs.")
     file = f"crates/{crate}/specs/{path.replace('.', '/')}.antt"
+    text = read(file)
     try:
-        text = text_of(file)
         blocks = {it.name: it for it in crate_texts.definitions_in(text)}
-    except FileNotFoundError:
-        raise UnresolvedName(f"there is no file {file}") from None
     except ValueError as error:
         raise UnresolvedName(f"{file}: {error}") from None
     return Module(file, blocks, {name: it.name for it in blocks.values() for name in it.constructors}, imports_in(text))
@@ -407,7 +413,7 @@ def law_names(text: str) -> "list[str]":
 
 def laws(crate: str) -> "list[Definition]":
     """The laws of a file `laws.rt`, and those that it hands on from other crates."""
-    text = text_of(f"crates/{crate}/src/laws.rt")
+    text = read(f"crates/{crate}/src/laws.rt")
     lent = re.findall(r"(?ms)^pub use (\w+)[\w:]*::\{([^}]*)\};", text)
     found = [(of, name.strip()) for of, names in lent for name in names.split(",") if name.strip()]
     return [function(*each) for each in (*found, *((crate, name) for name in law_names(text)))]
