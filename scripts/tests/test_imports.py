@@ -15,6 +15,7 @@ import tempfile
 import tracemalloc
 from collections import Counter
 from unittest import mock
+from pathlib import Path
 
 import checks
 from checks import expect, expect_equal, skip_without
@@ -56,8 +57,7 @@ def data_of(name):
     """The bytes of a file that a tool wrote."""
     path = os.path.join(DATA, name)
     if os.path.exists(path):
-        with open(path, "rb") as file:
-            return file.read()
+        return Path(path).read_bytes()
     with open(f"{path}.base64", "rb") as file:
         return base64.b64decode(file.read())
 
@@ -75,8 +75,7 @@ class Files(checks.Part):
 
     def file(self, name, data):
         path = os.path.join(self.place, name)
-        with open(path, "wb") as made:
-            made.write(data)
+        Path(path).write_bytes(data)
         return path
 
     def given(self, data):
@@ -616,8 +615,7 @@ class Command(Files):
 
 def jobs(folder):
     """The programs: their words, and their standard input."""
-    with open(os.path.join(EXAMPLES, "sqlite_large.sql")) as file:
-        rows = file.read().replace("200000", "20000").encode()
+    rows = Path(EXAMPLES, "sqlite_large.sql").read_text().replace("200000", "20000").encode()
     chance, path = random.Random(1), os.path.join(folder, "documents.json")
     with open(path, "w") as file:
         for at in range(4000):
@@ -671,8 +669,7 @@ def print_table(options):
     if not options.table:
         return None
     shares = {name: [] for name in RECORDERS}
-    with open(os.path.join(EXAMPLES, "scudo.classes"), "rb") as file:
-        default = file.read().strip()
+    default = Path(EXAMPLES, "scudo.classes").read_bytes().strip()
     with tempfile.TemporaryDirectory() as folder:
         for words, given in jobs(folder).values():
             done = subprocess.run([SCRIPT, *words], input=given, capture_output=True, env={**os.environ, "PERL_HASH_SEED": "0"}, check=True)

@@ -16,6 +16,7 @@ import shutil
 import subprocess
 import sys
 import tempfile
+from pathlib import Path
 
 import checks
 from checks import expect
@@ -29,8 +30,7 @@ HEADER = f"{ROOT}/include/mte_tool.h"
 
 
 def read(name):
-    with open(os.path.join(ROOT, name), encoding="utf-8") as file:
-        return file.read()
+    return Path(ROOT, name).read_text(encoding="utf-8")
 
 
 def output(words, **how):
@@ -66,8 +66,7 @@ def dump(path, to):
     status, text = output(["abidw", "--no-corpus-path", "--no-comp-dir-path", "--no-show-locs", path])
     if status:
         raise AssertionError(f"abidw: {text}")
-    with open(to, "w", encoding="utf-8") as file:
-        file.write(text)
+    Path(to).write_text(text, encoding="utf-8")
 
 
 # one option more, with the default 7: in the header, and on the way to the proved functions
@@ -110,8 +109,7 @@ def build_changed_library(folder, changes, *more):
             text = read(f"{part}/{name}")
             for pattern, by in changes:
                 text = re.sub(pattern, by, text)
-            with open(f"{folder}/{part}/{name}", "w", encoding="utf-8") as file:
-                file.write(text)
+            Path(f"{folder}/{part}/{name}").write_text(text, encoding="utf-8")
     sources = [f"{folder}/library/{name}.c" for name in library.names_of_layer()]
     path = f"{folder}/{library.SHARED}"
     names = [f"-Wl,--version-script={folder}/library/mte_tool.map", f"-Wl,-soname,{library.SHARED}"]

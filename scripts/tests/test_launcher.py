@@ -10,6 +10,7 @@ import shutil
 import signal
 import subprocess
 import time
+from pathlib import Path
 
 import checks
 from checks import expect
@@ -91,8 +92,7 @@ class Launcher(Repository):
                 file.write(text)
 
         def another():
-            with open(self.program, "w") as file:
-                file.write(ANOTHER)
+            Path(self.program).write_text(ANOTHER)
 
         yield "another program", another
         yield "no manifest", lambda: os.remove(f"{self.program}.manifest")
@@ -143,8 +143,7 @@ class Launcher(Repository):
     def another(self, text: str = ANOTHER) -> None:
         """Another program in the place of the built one, with its times."""
         status = os.stat(self.program)
-        with open(self.program, "w") as file:
-            file.write(text)
+        Path(self.program).write_text(text)
         os.utime(self.program, ns=(status.st_atime_ns, status.st_mtime_ns))
 
     def renamed(self, path: str, text: str) -> None:
@@ -282,8 +281,7 @@ class Launcher(Repository):
             for name in [*odd, "Z.rt"]:
                 path = self.path("repo", "crates", "low", part, name)
                 os.makedirs(os.path.dirname(path), exist_ok=True)
-                with open(path, "w") as file:
-                    file.write(name.encode("utf-8", "replace").decode())
+                Path(path).write_text(name.encode("utf-8", "replace").decode())
         self.launched(0, "score", "score", says="mte_tool: mte_tool")
         for locale in ("C", "C.UTF-8", "en_US.UTF-8"):
             self.launched(0, "score", "score", LC_ALL=locale)

@@ -215,8 +215,7 @@ def test_heap(compiler, place):
     heap = compiler.build("library_heap", ["cc", "-O2", *flags])
     sanitized = compiler.build("library_heap_asan", ["cc", *SANITIZED, *flags])
     small = f"{place}/small.trace"
-    with open(small, "wb") as file:
-        file.write(HEAP_TRACE)
+    Path(small).write_bytes(HEAP_TRACE)
     tables = [read("scudo.classes").split()[1:], [b"2", b"4", b"33"], [b"3"]]
     for trace, runs in ((small, [heap, sanitized]), *((f"{EXAMPLES}/{name}.trace", [heap]) for name in ("sqlite", "jq", "perl"))):
         for classes in tables:
@@ -280,8 +279,7 @@ def test_c_callers(compiler, place):
     callers, profile = f"{EXAMPLES}/callers", f"{EXAMPLES}/jq.profile"
     strict = ["cc", "-std=c99", *STRICT]
     _, sheet = program("tune", {"limit": 8}, read("jq.profile"))
-    with open(f"{place}/sheet", "wb") as file:
-        file.write(sheet)
+    Path(f"{place}/sheet").write_bytes(sheet)
     check = compiler.build("check_sheet", [*strict, f"{callers}/check_sheet.c", *compiler.flags()])
     for data, status, said in ((profile, 0, b"optimal\n"), (f"{EXAMPLES}/perl.profile", 1, b"the verdict is no: "),
                                (f"{place}/sheet", 2, b"the input is refused: a line is not "), (f"{place}/none", 2, b""),
@@ -356,8 +354,7 @@ def test_go(library, place):
     """A call over two texts, and the caller."""
     checks.need("go cc pkg-config", "a caller in Go")
     environment = {**os.environ, "PKG_CONFIG_PATH": f"{library}/lib/pkgconfig", "LD_LIBRARY_PATH": f"{library}/lib", "GOCACHE": f"{place}/go"}
-    with open(f"{place}/verdict.go", "w", encoding="utf-8") as file:
-        file.write(GO)
+    Path(f"{place}/verdict.go").write_text(GO, encoding="utf-8")
     made = run_command(["go", "run", f"{place}/verdict.go"], env=environment)
     wanted = b"optimal\n true 48 BadSheet line 1 false\n"
     expect("a call over two texts in Go", (made.returncode, made.stderr) == (0, wanted), made.returncode, made.stderr)
@@ -402,8 +399,7 @@ def test_cpp(compiler, place):
     sheet = program("tune", {"limit": 8}, read("jq.profile"))[1]
     with open(f"{ROOT}/include/mte_tool.hpp", encoding="utf-8") as file:
         example = re.search(r"\n((?: {7}.*\n|\n)+)\*/", file.read())[1]
-    with open(f"{place}/example.cpp", "w", encoding="utf-8") as file:
-        file.write(example)
+    Path(f"{place}/example.cpp").write_text(example, encoding="utf-8")
     for standard, more in (("17", []), ("20", SANITIZED)):
         words = ["c++", f"-std=c++{standard}", *STRICT, *more]
         made = run_command([compiler.build("example", [*words, f"{place}/example.cpp", *compiler.flags()])])

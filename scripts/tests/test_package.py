@@ -21,6 +21,7 @@ import tempfile
 import zipfile
 from collections import namedtuple
 from unittest import mock
+from pathlib import Path
 
 import checks
 import clean_debian
@@ -50,8 +51,7 @@ def run_command(words, **given):
 
 
 def read(path):
-    with open(path, "rb") as file:
-        return file.read()
+    return Path(path).read_bytes()
 
 
 # ---- the packages
@@ -69,8 +69,7 @@ def parts(work):
         expect("the library is known to be proved", not packaging.library_unproved(library), packaging.library_unproved(library))
     if not page and web_page.at_hand():
         page = f"{work}/page.html"
-        with open(page, "w", encoding="utf-8") as file:
-            file.write(web_page.page(web_page.at_hand()))
+        Path(page).write_text(web_page.page(web_page.at_hand()), encoding="utf-8")
     for name, value, how in (("library", library, "scripts/library"), ("page", page, "scripts/page")):
         if not value:
             skip(f"since it is not kept ({how} keeps it): the {name} in the package")
@@ -325,8 +324,7 @@ def test_release(inputs, work):
     for wrong in ([], ["--no-page", "a"], ["a", "b"], ["--gate", f"{ROOT}/LICENSE", f"{work}/no"]):
         made = run(*wrong)
         expect(f"release {wrong} is refused", made.returncode == 2 and made.stderr and not made.stdout, made)
-    with open(f"{clone}/file of nobody", "w", encoding="ascii") as file:
-        file.write("x")
+    Path(f"{clone}/file of nobody").write_text("x", encoding="ascii")
     made = run("--program", PROGRAM, f"{work}/no")
     expect("a tree that is not clean is refused", made.returncode == 1 and b"file of nobody" in made.stderr, made)
     os.remove(f"{clone}/file of nobody")
@@ -334,15 +332,13 @@ def test_release(inputs, work):
     shutil.copy(PROGRAM, other)
     made = run("--program", other, f"{work}/no")
     expect("a program without a manifest is refused", made.returncode == 1 and b"not known to be proved" in made.stderr, made)
-    with open(f"{work}/gate", "w", encoding="ascii") as file:
-        file.write("all: 5 passed, 1 failed, 0 skipped\n")
+    Path(f"{work}/gate").write_text("all: 5 passed, 1 failed, 0 skipped\n", encoding="ascii")
     made = run("--gate", f"{work}/gate", "--program", other, f"{work}/no")
     expect("a gate that failed is refused", made.returncode == 1 and b"the gate failed" in made.stderr, made)
     # what a manifest says is believed here, so that a release can be made of any program
     sources, verdict = manifest.sources_of(clone), "logic=proved functions=1"
     said = manifest.Manifest(manifest.hash_of(other), sources, "kit-of-the-test logic 1", "proved", verdict)
-    with open(manifest.path_of(other), "w", encoding="ascii") as file:
-        file.write(manifest.text_of(said))
+    Path(manifest.path_of(other)).write_text(manifest.text_of(said), encoding="ascii")
     if not inputs.library or not inputs.page or not shutil.which("dpkg-deb"):
         skip("without the library or the page: a whole release")
         return
@@ -561,8 +557,7 @@ def test_manifest(user):
     packed = f"{user.root}/usr/lib/mte-tool/mte_tool"
     expect("the manifest has the hash of the packed program", manifest.read(packed).program == manifest.hash_of(packed))
     os.rename(f"{user.root}/usr/bin/mte_tool", f"{user.root}/kept")
-    with open(f"{user.root}/usr/bin/mte_tool", "w", encoding="utf-8") as file:
-        file.write(f'#!/bin/sh\nexec {user.root}/kept "$@"\n')
+    Path(f"{user.root}/usr/bin/mte_tool").write_text(f'#!/bin/sh\nexec {user.root}/kept "$@"\n', encoding="utf-8")
     os.chmod(f"{user.root}/usr/bin/mte_tool", 0o755)
     made = user.run("mte_tune_program", "--output", "swapped", "--read", "examples/jq.profile")
     said = made.stdout + made.stderr
@@ -592,8 +587,7 @@ def test_builds(user, packages):
         os.mkdir(temporary)
         shutil.copy(packages.tar, folder)
         shutil.copy(f"{user.home}/examples/sqlite.profile", f"{folder}/app.profile")
-        with open(f"{folder}/app.sheet", "wb") as file:
-            file.write(sheet)
+        Path(f"{folder}/app.sheet").write_bytes(sheet)
         environment = {"PATH": "/usr/bin:/bin", "HOME": user.home, "LANG": "C.UTF-8"}
         done = workflow.run_all(read(f"{path}/workflow.yml").decode(), folder, temporary, environment)
         good = done.returncode == 0 and "optimal" in done.stdout and os.path.isfile(f"{folder}/tuned_map.inc")

@@ -19,6 +19,7 @@ import tempfile
 import threading
 import zlib
 from unittest import mock
+from pathlib import Path
 
 import browser
 import checks
@@ -238,8 +239,7 @@ def open_page(page, seconds, ready="document.body && document.body.dataset.ready
     """A page in the browser, once it is ready: its text, or its address."""
     with tempfile.TemporaryDirectory() as folder:
         if not page.startswith("file:"):
-            with open(os.path.join(folder, "page.html"), "w", encoding="utf-8") as out:
-                out.write(page)
+            Path(folder, "page.html").write_text(page, encoding="utf-8")
             page = f"file://{folder}/page.html"
         with browser.Page(page, seconds=seconds) as it:
             it.until(ready)
@@ -722,8 +722,7 @@ def begins_at_the_default(it):
 
 def files_are_taken(it, folder):
     def file(name, data):
-        with open(os.path.join(folder, name), "wb") as out:
-            out.write(data)
+        Path(folder, name).write_bytes(data)
         return os.path.join(folder, name)
 
     data = "scripts/tests/imports_data"
@@ -1112,12 +1111,10 @@ def report_keeps_to_itself(folder):
     """report.html shows a hostile name, has no byte that is no text, and has the same policy."""
     counts, sheet, path = (os.path.join(folder, name) for name in ("it's \x01\udcff\\\n.profile", "jq.sheet", "report.html"))
     shutil.copy(os.path.join(EXAMPLES, "jq.profile"), counts)
-    with open(sheet, "w", encoding="utf-8") as out:
-        out.write(answer("tune", {"limit": 8, "step": 1}, web_page.example("jq.profile"))[1])
+    Path(sheet).write_text(answer("tune", {"limit": 8, "step": 1}, web_page.example("jq.profile"))[1], encoding="utf-8")
     with open(path, "wb") as out:
         done = subprocess.run([f"{ROOT}/scripts/report", "--title", os.fsencode(HOSTILE), counts, sheet], stdout=out)
-    with open(path, "rb") as file:
-        page = file.read()
+    page = Path(path).read_bytes()
     expect("report.html is made", done.returncode == 0, done)
     expect("report.html is all text", page.decode(errors="replace").encode() == page and not re.search(rb"[^\n\x20-\x7e\x80-\xff]", page), page[:400])
     with open_page(f"file://{path}", 30, "document.readyState === 'complete'") as it:
@@ -1194,8 +1191,7 @@ class Words(checks.Part):
 
 def begin_of(path):
     """The first bytes of a file, each as a character."""
-    with open(path, "rb") as file:
-        data = file.read()
+    data = Path(path).read_bytes()
     return (base64.b64decode(data) if path.endswith(".base64") else data)[:4096].decode("latin-1")
 
 
@@ -1218,8 +1214,7 @@ class Page(checks.Part):
             pytest.skip(f"without {missing}: the page")
         cls.place = cls.folder()
         cls.path = os.path.join(cls.place, "page.html")
-        with open(cls.path, "w", encoding="utf-8") as out:
-            out.write(web_page.page(cls.modules))
+        Path(cls.path).write_text(web_page.page(cls.modules), encoding="utf-8")
 
     def test_another_module(self):
         another_module_is_not_taken(self.folder())

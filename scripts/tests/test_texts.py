@@ -15,6 +15,7 @@ import time
 import unittest
 import unittest.mock
 import xml.etree.ElementTree as tree
+from pathlib import Path
 
 import checks
 import commands
@@ -83,8 +84,7 @@ TAGS_LINES = """5 data 7a
 
 
 def read(*names: str) -> str:
-    with open(os.path.join(ROOT, *names), encoding="utf-8") as file:
-        return file.read()
+    return Path(ROOT, *names).read_text(encoding="utf-8")
 
 
 # ---- merging by the sentences of the help alone

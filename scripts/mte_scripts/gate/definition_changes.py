@@ -16,6 +16,7 @@ import sys
 from collections import namedtuple
 from collections.abc import Iterator
 from concurrent.futures import ThreadPoolExecutor
+from pathlib import Path
 
 from mte_scripts import entry_point, private_folder
 from mte_scripts.gate import plant_files
@@ -130,8 +131,7 @@ def with_choices(name: str, text: str, spans: "dict[tuple[int, int], list[tuple[
 def compile_changes(changes: "list[Change]", folder: str) -> str:
     """The program with all changes."""
     for name, text in changed_texts(changes).items():
-        with open(os.path.join(folder, name), "w", encoding="utf-8") as file:
-            file.write(text)
+        Path(folder, name).write_text(text, encoding="utf-8")
     program = os.path.join(folder, "changed")
     words = ["rustc", "-C", "opt-level=1", "-A", "warnings", "--edition", "2021", os.path.join(folder, "main.rs"), "-o", program]
     try:
@@ -239,8 +239,7 @@ def write_table(text: str) -> None:
     with open(DOCUMENT, encoding="utf-8") as file:
         before, _, rest = file.read().partition(HEAD)
     after = re.sub(r"\A(?:\|.*\n)*", "", rest)
-    with open(DOCUMENT, "w", encoding="utf-8") as file:
-        file.write(before + text + after)
+    Path(DOCUMENT).write_text(before + text + after, encoding="utf-8")
 
 
 def run(jobs: int, is_written: bool) -> int:

@@ -19,6 +19,7 @@ import os
 import re
 from collections import namedtuple
 from collections.abc import Iterator
+from pathlib import Path
 
 from mte_scripts.gate.crate_texts import Function, functions_in
 from mte_scripts.places import ROOT
@@ -114,8 +115,7 @@ def reasons_of(crate: str, root: str = ROOT) -> "dict[tuple[str, str], str]":
 
 def source(plant: Plant, root: str = ROOT) -> str:
     try:
-        with open(os.path.join(root, "crates", plant.crate, plant.path), encoding="utf-8") as file:
-            return file.read()
+        return Path(root, "crates", plant.crate, plant.path).read_text(encoding="utf-8")
     except OSError as error:
         raise Unread(f"{plant.path} can't be read: {error.strerror}") from None
 

@@ -12,7 +12,7 @@ from dataclasses import dataclass, field
 from typing import NamedTuple, Union
 
 from mte_scripts.gate import crate_texts
-from mte_scripts.gate.crate_texts import CRATES, code_of, comment_above, imports_in, item_end, items_in, name_of, rust_files, text_of, uses_in
+from mte_scripts.gate.crate_texts import CRATES, comment_above, imports_in, item_end, items_in, name_of, rust_files, text_of, uses_in
 
 ENGINES = ("score", "tune", "check", "footprint", "fit", "check-fit", "peaks", "profile", "replay", "run")
 # the public functions whose contracts are a promise: crates and names

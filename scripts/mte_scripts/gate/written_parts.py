@@ -14,6 +14,7 @@ import tempfile
 import textwrap
 from collections.abc import Callable, Iterable, Sequence
 from typing import Any, NamedTuple, Union
+from pathlib import Path
 
 from mte_scripts import formats
 from mte_scripts.formats import CODES, COMMANDS, ENDS, LIBRARY_CODES, LIBRARY_OPTIONS, OPTIONS, TOTALS
@@ -60,8 +61,7 @@ def line(form: str, **values: object) -> Rows:
 
 
 def read(name: str) -> str:
-    with open(os.path.join(ROOT, name), encoding="utf-8") as file:
-        return file.read()
+    return Path(ROOT, name).read_text(encoding="utf-8")
 
 
 def text_to_write(name: str) -> str:
@@ -78,8 +78,7 @@ def text_to_write(name: str) -> str:
 def write() -> None:
     for name in PARTS:
         text = text_to_write(name)
-        with open(os.path.join(ROOT, name), "w", encoding="utf-8") as file:
-            file.write(text)
+        Path(ROOT, name).write_text(text, encoding="utf-8")
 
 
 # ---- words
