@@ -67,7 +67,8 @@ def read(name: str) -> str:
 def text_to_write(name: str) -> str:
     """A file with the parts that the table writes."""
     text, at = read(name), 0
-    for part in PARTS[name]:
+    parts = PARTS[name]
+    for part in parts() if callable(parts) else parts:
         if not (found := re.compile(part.pattern()).search(text, at)):
             raise LookupError(f"{name} has no part as {part[0][:60]!r}")
         made = part.text()
@@ -539,7 +540,7 @@ TOTALS_IN_TEXT = r"(?m)^events \d+\n(?:[a-z -]+ \d+\n)*"
 
 # ---- the files
 
-Parts = dict[str, Sequence[Union[Rows, Piece]]]
+Parts = dict[str, Union[Sequence[Union[Rows, Piece]], "Callable[[], list[Piece]]"]]
 PARTS_OF_TOTALS: Parts = {
     "crates/replay_theory/specs/Totals.antt": [
         Piece(r"(use Rattle\.replay_theory\.specs\.Replay\.\{.*\}\n)+", tests_of_totals()),
@@ -682,7 +683,7 @@ PARTS_OF_LIBRARY: Parts = {
         line("CLAIM_BYTE = «byte»", byte=byte_of("claim")),
     ],
     "web/formats.js": script_of_page(),
-    "web/page.html": inputs_of_page(),
+    "web/page.html": inputs_of_page,  # made of the names that are there
     "scripts/shims/formats.h": [Rows("  «name» = «value»,\n", numbers({name: name for name in OF_RECORDERS}))],
 }
 
