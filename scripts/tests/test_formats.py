@@ -247,7 +247,8 @@ def test_spelled_numbers():
 
 # The files in which the largest size may be spelled, so that the rest goes by its names.
 HOMES = """README.md crates/command_words/src/commands/shared_help.rt crates/engine_tests/src/tests/engines/profile_texts.rt
-    crates/engine_tests/src/tests/tuner/sizes_and_profiles.rt crates/mte_engine/src/laws.rt docs/FORMATS.md docs/PROOFS.md
+    crates/engine_tests/src/tests/tuner/sizes_and_profiles.rt crates/mte_engine/src/laws.rt docs/FORMATS.md
+    crates/definition_examples/proofs/TheoryExamples.antt docs/PROOFS.md
     docs/TUNING.md docs/page.html include/mte_tool.h library/sentences.h python/mte_tool/_arrays.py
     rust/mte-tool-sys/src/lib.rs rust/mte-tool/src/arrays.rs rust/mte-tool/src/codes.rs scripts/mte_scripts/formats.py
     scripts/shims/formats.h scripts/tests/definition_changes.txt scripts/tests/hand_answers.py scripts/tests/help.txt

@@ -186,10 +186,10 @@ class Refusals(checks.Part):
         node = f"{self.TOOLS} node"
         self.expect_runs("Node runs the module", self.launch("--version", tools=node), "Node")
         self.spoil("program.wasm", gzip.compress)
-        for word in ("--version", "score"):
-            got = self.launch(word, tools=node)
-            self.expect_refused(f"one changed byte in Node, {word}", got, "not the one of its manifest")
-            expect(f"one changed byte in Node, {word}: it is called nothing else", got[2].count("\n") == 1, got)
+        got = {word: self.launch(word, tools=node) for word in ("score", "--version")}
+        for word, each in got.items():
+            self.expect_refused(f"one changed byte in Node, {word}", each, "not the one of its manifest")
+        expect("one changed byte in Node: it is called nothing else", got["--version"][2].count("\n") == 1, got)
 
     def test_changed_code(self):
         checks.need("gcc", "the C of a module with a changed byte")
