@@ -7,7 +7,7 @@ import os
 import re
 from collections.abc import Iterator
 
-from mte_scripts.places import ROOT
+from mte_scripts.gate.crate_texts import ITEM, text_of
 from python_sources import python_files, tracked_files, tree_of
 
 # of words that end as a participle does, those that are nouns or verbs
@@ -29,7 +29,6 @@ SMALL_WORDS = set(
     which who whom whose with within without""".split()
 )
 POSSESSIVE = set("her his its my our their whose your".split())
-RUST = re.compile(r'(?m)^(?:pub(?:\([a-z]+\))? )?(?:const |unsafe |ghost |extern "C" )*(?:fn|struct|enum|trait|type) (\w+)')
 
 
 def words_of(name: str) -> "list[str]":
@@ -62,8 +61,7 @@ def names_of_rust(path: str, is_only: bool) -> "Iterator[str]":
     stem = os.path.basename(path).removesuffix(".rt")
     if not (is_only and re.fullmatch(r"[a-z]+ing", stem)):
         yield stem
-    with open(os.path.join(ROOT, path), encoding="utf-8") as file:
-        yield from RUST.findall(file.read())
+    yield from (it["name"] for it in ITEM.finditer(text_of(path)) if not it["indent"] and it["kind"] not in ("const", "static"))
 
 
 def bare_names() -> "Iterator[str]":

@@ -64,6 +64,11 @@ def expect(name: str, condition: object, *seen: object) -> bool:
     return bool(condition)
 
 
+def expect_equal(name: str, got: object, wanted: object, *seen: object) -> bool:
+    """Counts a check that two values are the same. Where they are not, it prints both."""
+    return expect(name, got == wanted, got, "and not", wanted, *seen)
+
+
 def least(measure: "Callable[[], float]", most: float, rounds: int = 5) -> float:
     """The least of up to so many measurements, each taken only where those before are above MOST: what else runs makes one larger, and none
     smaller."""
@@ -163,10 +168,10 @@ def any_program(place: str) -> Optional[str]:
     return compiled_plain(place)
 
 
-def compiled_plain(place: str, fast: bool = True) -> str:
-    """The plain program, compiled in PLACE: for speed, or in a third of the time."""
+def compiled_plain(place: str) -> str:
+    """The plain program, compiled in PLACE for speed."""
     plain = os.path.join(place, "plain")
-    subprocess.run(["rustc", *["-O"] * fast, "--edition", "2021", os.path.join(ROOT, "scripts/tests/plain/main.rs"), "-o", plain], check=True)
+    subprocess.run(["rustc", "-O", "--edition", "2021", os.path.join(ROOT, "scripts/tests/plain/main.rs"), "-o", plain], check=True)
     return plain
 
 

@@ -61,14 +61,20 @@ class Commands(checks.Part):
         """Runs a script: its status and what it prints, or what that begins with where `*` ends OUT; a refusal says why. What it prints."""
         return self.ends(status, out, os.path.join(SCRIPTS, script), *words, **more)
 
-    def ends(self, status: int, out: str, *words: str, **more) -> str:
-        """The same of any command."""
+    def ends(self, status: int, out: str, *words: str, says: "str | tuple[str, ...]" = (), **more) -> str:
+        """The same of any command. SAYS is what its standard error has."""
         got = self.call(*words, **more)
         printed = self.out.startswith(out[:-1]) if out.endswith("*") else self.out.rstrip("\n") == out
         name = " ".join([os.path.basename(words[0]), *words[1:]])
         expect(f"{name}: status {status}", got == status and (status == 0 or bool(self.err)), got, self.err)
         expect(f"{name}: what it prints", printed, self.out, "and not", out)
+        self.says(*([says] if isinstance(says, str) else says))
         return self.out
+
+    def refuses_all(self, script: str, *lines: str, **more) -> None:
+        """A script refuses the words of each of these lines."""
+        for line in lines:
+            self.runs(2, "", script, *line.split(), **more)
 
     def says(self, *texts: str) -> None:
         """The last command's standard error has these words."""

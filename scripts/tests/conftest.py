@@ -63,6 +63,13 @@ def work():
         yield folder
 
 
+@pytest.fixture(scope="module")
+def place():
+    """A folder that goes with the part."""
+    with tempfile.TemporaryDirectory() as folder:
+        yield folder
+
+
 @pytest.hookimpl(hookwrapper=True)
 def pytest_runtest_makereport(item, call):
     """A test of which a check has failed fails; one in which nothing is checked is one check."""

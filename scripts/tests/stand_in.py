@@ -112,10 +112,11 @@ class Repository(commands.Commands):
         self.program = self.path("repo", "crates", "mte_tool", "out", "mte_tool")
         self.with_rt = {"WORK": self.place, "PATH": f"{self.path('bin')}:{os.environ['PATH']}"}
 
-    def launched(self, status: int, out: str, *words: str, **more) -> None:
-        """What the launcher prints for these words; what it says stays in `err`."""
+    def launched(self, status: int, out: str, *words: str, says: "str | tuple[str, ...]" = (), **more) -> None:
+        """What the launcher prints for these words, and what it SAYS, which stays in `err`."""
         got = self.call(self.launcher, *words, **{**self.with_rt, **more})
         expect(f"mte_tool {' '.join(words)}: {status} and {out!r}", (got, self.out.rstrip("\n")) == (status, out), got, self.out, self.err)
+        self.says(*([says] if isinstance(says, str) else says))
 
     def call(self, *words: str, **more) -> int:
         status = super().call(*words, **more)

@@ -5,6 +5,7 @@ import re
 import resource
 import shutil
 import subprocess
+from pathlib import Path
 
 import checks
 import workflow
@@ -35,8 +36,7 @@ def limit_memory():
 
 def write(folder, name, text):
     path = os.path.join(folder, name)
-    with open(path, "w") as file:
-        file.write(text)
+    Path(path).write_text(text)
     return path
 
 
@@ -44,8 +44,7 @@ def read(folder, name):
     """The text of a file, and none of one that is not there."""
     if not os.path.exists(os.path.join(folder, name)):
         return ""
-    with open(os.path.join(folder, name)) as file:
-        return file.read()
+    return Path(folder, name).read_text()
 
 
 def tuned_sheet(*words):

@@ -130,6 +130,12 @@ class Checker(checks.Part):
         Path(place).write_text(script)
         return subprocess.run(["node", place, self.path], input=given, stdout=subprocess.PIPE, check=True).stdout
 
+    def called(self, calls: "list[tuple]") -> "tuple[list[tuple[int, bytes]], int]":
+        """How each of these calls of one instance ends, with its answer; and how large the memory was in the end."""
+        encoded = [[command, *(base64.b64encode(text).decode() for text in given)] for command, *given in calls]
+        answers, memory = json.loads(self.in_node(MANY, json.dumps(encoded).encode()))
+        return [(end, base64.b64decode(answer)) for end, answer in answers], memory
+
     def test_it_imports_nothing(self):
         checks.need("wasm-objdump", "what the checker imports and exports")
         said = subprocess.run(["wasm-objdump", "-x", self.path], stdout=subprocess.PIPE, check=True, text=True).stdout
@@ -142,27 +148,23 @@ class Checker(checks.Part):
     def test_drawn_cases(self):
         checks.need("node", "drawn cases of the checker")
         made, ends = drawn_certificates.draw_certificates(checks.options.cases), {}
-        given = [[command, *(base64.b64encode(text).decode() for text in data)] for command, *data in made]
         for claim in (0, 1):
-            calls = [[f"{command}{'-claim' * claim}", *data] for command, *data in given]
-            answers, memory = json.loads(self.in_node(MANY, json.dumps(calls).encode()))
-            for case, (end, encoded) in zip(made, answers):
-                answer = base64.b64decode(encoded)
-                wanted = answer_of(*case, claim)
-                expect(f"{'--claim ' * claim}{case}", is_told(case, end, answer, claim), end, answer, wanted)
+            calls = [(f"{command}{'-claim' * claim}", *data) for command, *data in made]
+            answers, memory = self.called(calls)
+            for case, (end, answer) in zip(made, answers):
+                expect(f"{'--claim ' * claim}{case}", is_told(case, end, answer, claim), end, answer, answer_of(*case, claim))
                 ends.setdefault((case[0], claim), set()).add(end)
-            _, once = json.loads(self.in_node(MANY, json.dumps(calls[:40]).encode()))
+            once = self.called(calls[:40])[1]
             expect(f"the memory does not grow with the calls: {once} and {memory}", memory <= 4 * once)
         expect("each command says yes, no and refuses", all(seen >= {0, 1, 2} for seen in ends.values()) and len(ends) == 4, ends)
 
     def test_borders(self):
         checks.need("node", "the border of two texts")
         made = [(command, data, want, more) for command, data, want, more in library_cases.BORDERS if command.startswith("check")]
-        given = [[command, *(base64.b64encode(text).decode() for text in data)] for command, data, _, _ in made]
-        for (command, data, want, more), (end, answer) in zip(made, json.loads(self.in_node(MANY, json.dumps(given).encode()))[0]):
-            text = base64.b64decode(answer).decode()
-            is_fault = end == 2 and re.fullmatch(rf"{want} \w+ line {more}", text)
-            expect(f"{command} of {data}: the border", end == want if want in (0, 1) else bool(is_fault), end, text)
+        answers, _ = self.called([(command, *data) for command, data, _, _ in made])
+        for (command, data, want, more), (end, answer) in zip(made, answers):
+            is_fault = end == 2 and re.fullmatch(rf"{want} \w+ line {more}", answer.decode())
+            expect(f"{command} of {data}: the border", end == want if want in (0, 1) else bool(is_fault), end, answer)
 
     def test_own_answer(self):
         checks.need("node", "an answer that is a text of the next call")
@@ -175,10 +177,9 @@ class Checker(checks.Part):
         checks.need("node", "an empty second text")
         sheet, fit = library_cases.SMALL_SHEET, library_cases.SMALL_FIT
         firsts = (b"", b"x", b"classes\nlimit 1\nwaste 0\nrow\n", b"classes\nlimit 1\nfootprint 0\nrow\n", sheet, fit)
-        encoded = [base64.b64encode(first).decode() for first in firsts]
-        given = [[command, first, ""] for command in ("check", "check-fit") for first in encoded]
-        for words, answer in zip(given, json.loads(self.in_node(MANY, json.dumps(given).encode()))[0]):
-            expect(f"{words}: an empty second text is refused", answer == [library_cases.MISUSE, ""], answer)
+        calls = [(command, first, b"") for command in ("check", "check-fit") for first in firsts]
+        for words, answer in zip(calls, self.called(calls)[0]):
+            expect(f"{words}: an empty second text is refused", answer == (library_cases.MISUSE, b""), answer)
 
     def test_astray(self):
         checks.need("node", "places outside of the memory")

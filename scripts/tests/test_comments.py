@@ -7,36 +7,29 @@ import re
 
 import checks
 from checks import expect
-from crate_sources import name_of, rust_files, text_of
+from mte_scripts.gate.crate_texts import ITEM, comment_above, name_of, rust_files, text_of
 
-ITEM = re.compile(r"\s*pub(\([a-z]+\))? (?:(?:const |unsafe |ghost |extern \"C\" )*(?:fn|struct|enum|trait|const|type|static)\b|\w+:)")
-# a field of the crate alone
-FIELD = re.compile(r"\s+pub\(crate\) \w+:")
+# a field, but of the crate alone
+FIELD = re.compile(r"(?m)^ +pub(?!\(crate\))(?:\([a-z]+\))? \w+:")
 # what may stand before the first item of a file
 BEFORE = re.compile(r"$|\s|[}\]]|#\[|(pub )?(ghost )?use |(pub )?mod ")
 
 
-def without_comment(lines):
+def without_comment(text):
     """Yields the numbers, from 1, of the lines of public items that no comment `///` stands above."""
-    for i, line in enumerate(lines):
-        if ITEM.match(line) and not FIELD.match(line):
-            above = i - 1
-            while above >= 0 and lines[above].strip().startswith("#"):
-                above -= 1
-            if above < 0 or not lines[above].strip().startswith("///"):
-                yield i + 1
+    items = [it.start() for it in ITEM.finditer(text) if it["pub"]] + [it.start() for it in FIELD.finditer(text)]
+    yield from (text.count("\n", 0, start) + 1 for start in items if not comment_above(text, start).split("\n")[-1].startswith("///"))
 
 
-def says_what_it_is(lines):
-    first = next((line for line in lines if not BEFORE.match(line)), "///")
-    return lines[0].startswith("//!") or first.startswith("///")
+def says_what_it_is(text):
+    first = next((line for line in text.split("\n") if not BEFORE.match(line)), "///")
+    return text.startswith("//!") or first.startswith("///")
 
 
 class Comments(checks.Part):
     def test_crates(self):
         wrong = []
         for path in rust_files():
-            lines = text_of(path).split("\n")
-            wrong += [f"{name_of(path)}: no comment at line {n}" for n in without_comment(lines)]
-            wrong += [f"{name_of(path)} does not begin with what it is"] * (not says_what_it_is(lines))
+            wrong += [f"{name_of(path)}: no comment at line {n}" for n in without_comment(text_of(path))]
+            wrong += [f"{name_of(path)} does not begin with what it is"] * (not says_what_it_is(text_of(path)))
         expect("comments in the crates", not wrong, *wrong)

@@ -9,7 +9,7 @@ import re
 
 import checks
 from checks import expect
-from crate_sources import CRATES, name_of, text_of, without_comments
+from mte_scripts.gate.crate_texts import CRATES, imports_in, name_of, text_of, without_comments
 
 EXAMPLES = re.compile(r"(Worked|Realloc)?Example\w*\.antt$")
 # files in which the check itself looks for names that it gives
@@ -35,10 +35,9 @@ def without_imports(path, text):
 
 def unused_imports(text, body):
     """Yields the names that a file of definitions or lemmas imports, and then does not use."""
-    for names in re.findall(r"(?m)^use [\w.-]+\.\{(.*)\}$", text):
-        for name in (it.split(" as ")[-1].strip() for it in re.sub(r"[\w.-]+\.\{|\}", "", names).split(",")):
-            if name not in BY_NOTATION and not all(it in body for it in name.split("◌")):
-                yield name
+    for name in imports_in(re.sub(r"(?m)^pub use .*$", "", text)):
+        if name not in BY_NOTATION and not all(it in body for it in name.split("◌")):
+            yield name
 
 
 def uncited_names(body, said):

@@ -9,10 +9,10 @@ import re
 import checks
 import hand_answers
 from checks import expect
-from crate_sources import name_of, spec_files, text_of
 from mte_scripts import formats
 from mte_scripts.gate import definition_changes
 from mte_scripts.places import ROOT
+from mte_scripts.gate.crate_texts import definitions_in, name_of, spec_files, text_of
 
 FEWEST = 100
 ROW = re.compile(r"(?m)^\| `(\w+)` of `(\w+)` \| [^|]+ \| ([^|]+) \| ([^|]+) \| ([^|]+) \|$")
@@ -29,11 +29,7 @@ def document(name: str) -> str:
 
 def defined_names() -> "set[tuple[str, str]]":
     """The definitions of the crates, each as its crate and its name."""
-    found = set()
-    for file in spec_files():
-        names = re.findall(r"(?m)^(?:abbrev |unfoldable )?pub (?:record |data )?([\w◌]+)", text_of(file))
-        found |= {(name_of(file).split("/")[0], name) for name in names}
-    return found
+    return {(name_of(file).split("/")[0], it.name) for file in spec_files() for it in definitions_in(text_of(file))}
 
 
 def proved_names() -> "set[str]":

@@ -13,47 +13,20 @@ Exit status: 0 all agrees, or is written; 1 something does not, or is not, and i
 """
 import os
 import re
+import shutil
 import subprocess
 import sys
 
 import checks
 import parts_alone
+import pytest
 from checks import expect, skip
-from formats_parts import PARTS, PARTS_OF_RUNS, hyphenate_name, read
 from mte_scripts import formats
 from mte_scripts import helps
-from mte_scripts.gate import statements
-
-ROOT = os.path.dirname(os.path.dirname(os.path.dirname(os.path.realpath(__file__))))
-
-
-def crate_files(below, ending):
-    """The names of the files of all crates in a folder, `src` or `specs`."""
-    for crate in sorted(os.listdir(os.path.join(ROOT, "crates"))):
-        for folder, _, names in os.walk(os.path.join(ROOT, "crates", crate, below)):
-            for name in sorted(names):
-                if name.endswith(ending) and "tests" not in os.path.relpath(folder, ROOT).split(os.sep):
-                    yield os.path.relpath(os.path.join(folder, name), ROOT)
-
-
-# ---- what the table writes
-
-def text_to_write(name):
-    """A file with the parts that the table writes."""
-    text = read(name) if os.path.exists(os.path.join(ROOT, name)) else ""
-    for pattern, part in PARTS[name]:
-        made = part() if callable(part) else part
-        text, count = re.subn(pattern, lambda _: made, text, count=1)
-        expect(f"{name}: there is no part that begins as {pattern[:40]!r}", count == 1)
-    return text
-
-
-def write_parts():
-    for name in PARTS:
-        with open(os.path.join(ROOT, name), "a+", encoding="utf-8") as file:
-            text = text_to_write(name)
-            file.truncate(0)
-            file.write(text)
+from mte_scripts.gate import statements, written_parts
+from mte_scripts.gate.crate_texts import CRATES, name_of
+from mte_scripts.gate.written_parts import hyphenate_name, read
+from mte_scripts.places import BUILT, ROOT
 
 
 # ---- what the crates prove
@@ -71,7 +44,7 @@ PROVED_NAMES = {
 }
 
 
-def compare_numbers():
+def test_numbers():
     """Each number of the table is the one of a law, or of a definition that contracts cite; and each number there is in the table."""
     proved = {}
     for name in LAWS:
@@ -86,19 +59,19 @@ def compare_numbers():
         expect(f"the number {name} and the one that is proved", wanted.get(name) == proved.get(name), (wanted.get(name), proved.get(name)))
 
 
-def compare_codes():
+def test_codes():
     """The codes and names are those in the texts of errors, in the definitions that contracts cite or, where there is none, in the code."""
     found = {}
     for below, ending, pattern in (("specs", ".antt", r'codes "(\d+) (\w+)"'), ("src", ".rt", r'"(\d+) ([A-Z]\w+)(?: line \{\w+\})?"')):
-        for name in crate_files(below, ending):
-            for code, said in re.findall(pattern, read(name)):
-                expect(f"{name}: code {code}", found.setdefault(int(code), said) == said, said)
+        for path in sorted(path for path in CRATES.glob(f"*/{below}/**/*{ending}") if "tests" not in path.parts[len(CRATES.parts) :]):
+            for code, said in re.findall(pattern, path.read_text(encoding="utf-8")):
+                expect(f"{name_of(path)}: code {code}", found.setdefault(int(code), said) == said, said)
     table = {code: it.name for code, it in formats.CODES.items()}
     for code in sorted({*table, *found}):
         expect(f"code {code} and its name in the crates", table.get(code) == found.get(code), (table.get(code), found.get(code)))
 
 
-def compare_statuses():
+def test_statuses():
     """Of `status_of`: done 0, no 1, refused 2, failed 3."""
     statuses = dict(re.findall(r"(?m)^status_of \(?(?:Ended \((?:Ok|Err) )?\(?(\w+).*\) = (\d)$", read("crates/mte_tool/specs/Exit.antt")))
     by_name = {it.name: it.status for it in formats.CODES.values()}
@@ -138,11 +111,14 @@ def at_limits():
     yield from beyond("score", lambda n: "x" * n, f.MOST_INPUT, 80)
 
 
-def try_limits(program):
-    def run(words, text):
-        done = subprocess.run([program, *words.split()], input=text.encode(), capture_output=True)
-        return done.returncode, done.stderr.decode().removeprefix("error ").split(" line ")[0].strip()
+def run(words, text):
+    done = subprocess.run([BUILT, *words.split()], input=text.encode(), capture_output=True)
+    return done.returncode, done.stderr.decode().removeprefix("error ").split(" line ")[0].strip()
 
+
+def test_limits():
+    if not os.path.exists(BUILT):
+        pytest.skip("without the built program: its limits")
     for words, allowed, refused, code in at_limits():
         it = formats.CODES[code]
         expect(f"{words} of {refused[:40]!r}", run(words, refused) == (it.status, f"{code} {it.name}"), run(words, refused))
@@ -170,13 +146,13 @@ def try_limits(program):
                 said,
             )
     trace = f"classes {formats.LARGEST_CLASS}\nmalloc 0 {formats.LARGEST_SIZE}\nmalloc 1 {formats.LARGEST_SIZE + 1}\n"
-    report = subprocess.run([program, "replay"], input=trace.encode(), capture_output=True).stdout
+    report = subprocess.run([BUILT, "replay"], input=trace.encode(), capture_output=True).stdout
     expect("the largest request, and one byte more", report.startswith(b"2 null large\nevents 2\n"), report)
 
 
 # ---- what the program and the documents say
 
-def compare_help():
+def test_help():
     """The codes with their words, and the options, in the texts that scripts/tests/test_program.py compares with the program's."""
     said = {code: set() for code in formats.CODES}
     for name, text in helps.sessions(read("scripts/tests/help.txt")).items():
@@ -223,7 +199,7 @@ SENTENCES = {
 }
 
 
-def compare_documents():
+def test_documents():
     for path, sentences in SENTENCES.items():
         if parts_alone.is_gone(path):
             continue
@@ -259,7 +235,7 @@ def compare_documents():
 OTHER_NUMBERS = {153, 320, 384, formats.MOST_EVENTS + 1}
 
 
-def compare_spelled_numbers():
+def test_spelled_numbers():
     """So a row with a wrong number fails, whatever else stands in it. The numbers of examples and up to 10 are left out."""
     bounds = {bound for option in formats.OPTIONS.values() for bound in (option.least, option.most, option.default)}
     known = {*formats.NUMBERS.values(), *formats.CODES, *bounds, *OTHER_NUMBERS}
@@ -271,14 +247,15 @@ def compare_spelled_numbers():
 
 # The files in which the largest size may be spelled, so that the rest goes by its names.
 HOMES = """README.md crates/command_words/src/commands/shared_help.rt crates/engine_tests/src/tests/engines/profile_texts.rt
-    crates/engine_tests/src/tests/tuner/sizes_and_profiles.rt crates/mte_engine/src/laws.rt docs/FORMATS.md docs/PROOFS.md
+    crates/engine_tests/src/tests/tuner/sizes_and_profiles.rt crates/mte_engine/src/laws.rt docs/FORMATS.md
+    crates/definition_examples/proofs/TheoryExamples.antt docs/PROOFS.md
     docs/TUNING.md docs/page.html include/mte_tool.h library/sentences.h python/mte_tool/_arrays.py
     rust/mte-tool-sys/src/lib.rs rust/mte-tool/src/arrays.rs rust/mte-tool/src/codes.rs scripts/mte_scripts/formats.py
     scripts/shims/formats.h scripts/tests/definition_changes.txt scripts/tests/hand_answers.py scripts/tests/help.txt
     scripts/tests/test_tuning.py web/formats.js"""
 
 
-def compare_homes():
+def test_homes():
     spelled = "[,_]?".join(f"{formats.LARGEST_SIZE:,}".split(","))
     found = subprocess.run(["git", "grep", "-lIE", rf"\b{spelled}\b"], cwd=ROOT, capture_output=True, text=True)
     if found.returncode > 1:
@@ -287,45 +264,25 @@ def compare_homes():
         expect(f"{name} spells the largest size, and is none of its homes: name it", False)
 
 
-class Formats(checks.Part):
-    def test_parts(self):
-        for name in PARTS:
-            expect(f"{name} is not what the table writes: scripts/tests/test_formats.py --write", text_to_write(name) == read(name))
-
-    def test_numbers(self):
-        compare_numbers()
-
-    def test_codes(self):
-        compare_codes()
-
-    def test_statuses(self):
-        compare_statuses()
-
-    def test_help(self):
-        compare_help()
-
-    def test_documents(self):
-        compare_documents()
-        compare_spelled_numbers()
-
-    def test_homes(self):
-        compare_homes()
-
-    def test_limits(self):
-        program = os.path.join(ROOT, "crates/mte_tool/out/mte_tool")
-        if os.path.exists(program):
-            try_limits(program)
+def test_parts():
+    if not shutil.which("rustc"):
+        skip("without rustc: the numbers of the totals in crates/mte_tool/stdout, crates/heap_tests and README.md")
+    for name in written_parts.PARTS:
+        try:
+            is_written = written_parts.text_to_write(name) == read(name)
+        except LookupError as lacking:
+            expect(str(lacking), False)
         else:
-            skip("without the built program: its limits")
+            expect(f"{name} is not what the table writes: scripts/tests/test_formats.py --write", is_written)
 
 
 def write_instead(options):
     if not options.write:
         return None
     try:
-        write_parts()
-    except (statements.UnresolvedName, subprocess.CalledProcessError) as error:
-        print(f"formats: the last parts are not written, {', '.join(PARTS_OF_RUNS)}: {error}", file=sys.stderr)
+        written_parts.write()
+    except (statements.UnresolvedName, subprocess.CalledProcessError, LookupError) as error:
+        print(f"formats: the last parts are not written, {', '.join(written_parts.PARTS_OF_RUNS)}: {error}", file=sys.stderr)
         return 1
     return 0
 

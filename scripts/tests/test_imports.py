@@ -15,23 +15,16 @@ import tempfile
 import tracemalloc
 from collections import Counter
 from unittest import mock
+from pathlib import Path
 
 import checks
-from checks import expect, skip_without
+from checks import expect, expect_equal, skip_without
 from mte_scripts import count_texts, program_runs
 from mte_scripts.entry_point import Refusal
 from mte_scripts.formats import LARGEST_SIZE, MOST_COUNT
 from mte_scripts.places import EXAMPLES
 from mte_scripts.recording import timelines
-from mte_scripts.recording.imports import (
-    heap_text,
-    heaptrack,
-    heaptrack_stacks,
-    import_result,
-    importers,
-    json_text,
-    source,
-)
+from mte_scripts.recording.imports import heap_text, heaptrack, heaptrack_stacks, import_result, importers, json_text, source
 
 HERE = os.path.dirname(os.path.realpath(__file__))
 DATA = os.path.join(HERE, "imports_data")
@@ -64,8 +57,7 @@ def data_of(name):
     """The bytes of a file that a tool wrote."""
     path = os.path.join(DATA, name)
     if os.path.exists(path):
-        with open(path, "rb") as file:
-            return file.read()
+        return Path(path).read_bytes()
     with open(f"{path}.base64", "rb") as file:
         return base64.b64decode(file.read())
 
@@ -83,31 +75,37 @@ class Files(checks.Part):
 
     def file(self, name, data):
         path = os.path.join(self.place, name)
-        with open(path, "wb") as made:
-            made.write(data)
+        Path(path).write_bytes(data)
         return path
 
-    def given(self, name):
-        return self.file(name, data_of(name))
+    def given(self, data):
+        """A file with these bytes, or those of a tool's file of this name."""
+        return self.file(data, data_of(data)) if isinstance(data, str) else self.file("given", data)
 
-    def imported(self, name, wanted=import_result.ALL, form=None, snapshots=32):
-        """What a tool's file has, the profile as counts."""
-        got = importers.import_file(self.given(name), form, wanted, snapshots)
+    def imported(self, data, wanted=import_result.ALL, form=None, snapshots=32):
+        """What is imported, and its text."""
+        got = importers.import_file(self.given(data), form, wanted, snapshots)
         return got, b"".join(got.text)
 
-    def counts(self, name, wanted=import_result.ALL):
-        return profile_of(self.imported(name, wanted)[1])
+    def counts(self, data, wanted=import_result.ALL, form=None):
+        return profile_of(self.imported(data, wanted, form)[1])
 
-    def told(self, name, wanted=import_result.ALL):
-        return "\n".join(self.imported(name, wanted)[0].told)
+    def told(self, data, wanted=import_result.ALL):
+        return "\n".join(self.imported(data, wanted)[0].told)
 
-    def refused(self, path, wanted=import_result.ALL, form=None):
+    def refused(self, data, wanted=import_result.ALL, form=None):
         """Why a file is refused."""
         try:
-            got = importers.import_file(path, form, wanted, 32)
-            return f"not refused: {b''.join(got.text)[:200]!r}, {got.told}"
+            got, text = self.imported(data, wanted, form)
+            return f"not refused: {text[:200]!r}, {got.told}"
         except Refusal as refused:
             return refused.text
+
+    def refuses(self, *cases, form=None):
+        """Each of these is refused, with these words."""
+        for data, says in cases:
+            said = self.refused(data, form=form)
+            expect(f"{data[:60]!r} is refused: {says}", says in said, said)
 
 
 class RecordedFiles(Files):
@@ -129,13 +127,10 @@ class RecordedFiles(Files):
     def test_heaptrack(self):
         packed = [] if skip_without("zstd", "heaptrack's files that are packed by it") else ["heaptrack.zst", "heaptrack.raw.zst"]
         for name in ["heaptrack.gz", *packed]:
-            expect(f"{name}: all requests are exact", self.counts(name) == count_aligned(ALL, 200, POOL), self.counts(name))
-            live = self.counts(name, import_result.LIVE)
-            expect(f"{name}: live blocks are exact", live == count_aligned(LIVE, 200, POOL), live)
+            for what, counts in ((import_result.ALL, ALL), (import_result.LIVE, LIVE)):
+                expect_equal(f"{name}: {what} are exact", self.counts(name, what), count_aligned(counts, 200, POOL))
             got, text = self.imported(name, import_result.TIMELINE)
-            expect(
-                f"{name}: the timelines are the same", text == self.imported("heaptrack.gz", import_result.TIMELINE)[1]
-            )
+            expect_equal(f"{name}: the timelines are the same", text, self.imported("heaptrack.gz", import_result.TIMELINE)[1])
             expect(f"{name}: the peak beside the timeline", profile_of(got.peak.encode()) == count_aligned(LIVE, 200, POOL), got.peak)
             expect(f"{name}: nothing is left to say but that sizes are exact", len(got.told) == 1 and "exact" in got.told[0], got.told)
 
@@ -149,12 +144,8 @@ class RecordedFiles(Files):
         wanted = set(zip(*(live.counts.get(size, [0] * live.snapshots) for size in sorted(ALL, key=str))))
         expect("the history has the peak and four moments, or fewer where two are one", 4 <= history.snapshots <= 5, text)
         expect("its moments are evenly spaced", wanted <= columns, wanted - columns)
-        most = timelines.MOST_TEXT
-        try:
-            timelines.MOST_TEXT = 1000
+        with mock.patch.object(timelines, "MOST_TEXT", 1000):
             got, text = self.imported("heaptrack.gz", import_result.TIMELINE)
-        finally:
-            timelines.MOST_TEXT = most
         history = count_texts.parse_history(text)
         classes = {timelines.need_of(size): 0 for size in ALL if size != "large"}
         for place in range(history.snapshots):
@@ -170,32 +161,23 @@ class RecordedFiles(Files):
         exact = {size: count for size, count in ALL.items() if size not in MIXED and size not in GROWN}
         grown = sum(GROWN) / len(GROWN)
         wanted = {**count_aligned(exact, 200), 145: 10, int(grown): 5, int(grown) + 1: 2}
-        expect("DHAT: each stack at its average", self.counts("dhat.json") == wanted, self.counts("dhat.json"))
+        expect_equal("DHAT: each stack at its average", self.counts("dhat.json"), wanted)
         expect("DHAT: as many blocks and bytes as there are", sum_of(wanted) == sum_of(count_aligned(ALL, 200)))
         live = {24: 100, 145: 10, 330: 20, 1024: 1, 200: 1, "large": 3}
-        expect(
-            "DHAT: live blocks",
-            self.counts("dhat.json", import_result.LIVE) == live,
-            self.counts("dhat.json", import_result.LIVE),
-        )
+        expect_equal("DHAT: live blocks", self.counts("dhat.json", import_result.LIVE), live)
         told = self.told("dhat.json")
-        expect("DHAT: how many are not exact is told", "at least 7 blocks, 2.9%, are not" in told, told)
-        expect("DHAT: and how many are", "221 blocks are exact" in told, told)
+        for says in ("at least 7 blocks, 2.9%, are not", "221 blocks are exact"):
+            expect(f"DHAT says: {says}", says in told, told)
 
     def test_gperftools(self):
         # it takes 256 bytes for the aligned block; the last 50 of 40 bytes come after the peak
         wanted = {24: 100, 40: 50, 145: 10, 330: 20, 16: 1, 336: 6, 256: 1, "large": 3}
         for name in ("gperftools.heap", "gperftools.pb.gz"):
-            expect(f"{name}: each stack at its average", self.counts(name) == wanted, self.counts(name))
+            expect_equal(f"{name}: each stack at its average", self.counts(name), wanted)
             live = {24: 100, 145: 10, 330: 20, 1024: 1, 256: 1, "large": 3}
-            expect(
-                f"{name}: live blocks",
-                self.counts(name, import_result.LIVE) == live,
-                self.counts(name, import_result.LIVE),
-            )
-        requests = {**count_aligned(ALL, 256), 40: 50}
-        requests[256] = 2
-        expect("gperftools: as many blocks and bytes as there are", sum_of(wanted) == sum_of(requests), sum_of(wanted), sum_of(requests))
+            expect_equal(f"{name}: live blocks", self.counts(name, import_result.LIVE), live)
+        requests = {**count_aligned(ALL, 256), 40: 50, 256: 2}
+        expect_equal("gperftools: as many blocks and bytes as there are", sum_of(wanted), sum_of(requests))
 
     def test_jemalloc_heap(self):
         classes = classes_of_jemalloc()
@@ -229,13 +211,10 @@ class RecordedFiles(Files):
 
     def test_scudo(self):
         for wanted in (import_result.ALL, import_result.LIVE):
-            expect("Scudo's malloc_info is exact", self.counts("scudo.xml", wanted) == count_aligned(LIVE, 200), self.counts("scudo.xml"))
+            expect_equal("Scudo's malloc_info is exact", self.counts("scudo.xml", wanted), count_aligned(LIVE, 200))
         expect("without an option it is told that only live blocks are there", "! it has no count of all" in self.told("scudo.xml"))
-        expect(
-            "and with --live nothing",
-            "!" not in self.told("scudo.xml", import_result.LIVE),
-            self.told("scudo.xml", import_result.LIVE),
-        )
+        told = self.told("scudo.xml", import_result.LIVE)
+        expect("and with --live nothing", "!" not in told, told)
         classes = [16, 48, 80, 112, 144, 176, 208, 240, 304, 368, 432, 496, 624, 752, 880, 1008, 1264]
         counts = self.counts("scudo.stats")
         expect("Scudo's statistics have its classes alone", set(counts) - {"large"} <= set(classes), counts)
@@ -261,12 +240,8 @@ class RecordedFiles(Files):
         counts = "heap profile: 5: 8288 [ 5: 8288] @ {}\n 3: 96 [ 3: 96] @ 0x1 0x2\n 2: 8192 [ 2: 8192] @ 0x3\n"
         dump = "heap_v2/1024\n  t*: 5: 8288 [0: 0]\n@ 0x1\n  t*: 3: 96 [0: 0]\n  t0: 3: 96 [0: 0]\n@ 0x2\n  t*: 2: 8192 [0: 0]\n"
         for text in (counts.format("heap_v2/1024"), counts.format("heapz_v2/1024"), counts.format("heap/2048"), dump):
-            got = importers.import_file(self.file("sampled", text.encode()), None, import_result.ALL, 32)
-            expect(f"the sample {text[:60]!r}", profile_of(b"".join(got.text)) == wanted, got.text, wanted)
-        got = importers.import_file(
-            self.file("sampled", counts.format("heapprofile").encode()), None, import_result.ALL, 32
-        )
-        expect("and what is no sample", profile_of(b"".join(got.text)) == {32: 3, 4096: 2}, got.text)
+            expect_equal(f"the sample {text[:60]!r}", self.counts(text.encode()), wanted)
+        expect_equal("and what is no sample", self.counts(counts.format("heapprofile").encode()), {32: 3, 4096: 2})
 
 
 def classes_of_jemalloc():
@@ -301,52 +276,37 @@ class DamagedFiles(Files):
     def test_cut(self):
         for name in FILES:
             for data, what in ((data_of(name), "as it is"), (unpack_data(name), "unpacked")):
-                whole = importers.import_file(self.file("whole", data), None, import_result.ALL, 32)
-                counts = profile_of(b"".join(whole.text))
-                silent = []
+                counts, silent = self.counts(data), []
                 for length in sorted({round(len(data) * part / 60) for part in range(1, 60)} | {len(data) - 1}):
-                    self.refused_or_told(self.file("cut", data[:length]), length, counts, silent)
+                    with contextlib.suppress(Refusal):
+                        got, text = self.imported(data[:length])
+                        if profile_of(text) != counts and not any(line.startswith("!") for line in got.told):
+                            silent.append((length, got.told))
                 expect(f"{name}, {what}: where it is cut off, it is refused, or that is told, or nothing is missing", not silent, silent)
-
-    def refused_or_told(self, path, length, counts, silent):
-        with contextlib.suppress(Refusal):
-            got = importers.import_file(path, None, import_result.ALL, 32)
-            if profile_of(b"".join(got.text)) != counts and not any(line.startswith("!") for line in got.told):
-                silent.append((length, got.told))
 
     def test_bytes_without_blocks(self):
         """What is left out of the counts is told, and how much."""
         data = b"heap profile: 2: 540 [ 2: 540] @ heapprofile\n 2: 40 [ 2: 40] @ 0x1\n 0: 500 [ 0: 500] @ 0x2\n"
-        got = importers.import_file(self.file("empty", data), None, import_result.ALL, 32)
-        expect("the blocks of the other stack", profile_of(b"".join(got.text)) == {20: 2}, got.text)
-        expect("what is left out", any(line.startswith("! 500 bytes are at stacks without") for line in got.told), got.told)
+        expect_equal("the blocks of the other stack", self.counts(data), {20: 2})
+        expect("what is left out", "! 500 bytes are at stacks without" in self.told(data), self.told(data))
 
     def test_spoiled(self):
         """Whatever is in a file, it is imported or refused."""
         chance = random.Random(1)
-        tried = 0
         for name in FILES:
             data = unpack_data(name)
-            form = importers.import_file(self.file("whole", data), None, import_result.ALL, 32) and form_of(data)
+            form = self.counts(data) and form_of(data)
             for _ in range(60):
                 made = bytearray(data)
                 for _ in range(chance.choice([1, 1, 3, 20])):
                     at = chance.randrange(len(made))
                     made[at : at + chance.randrange(3)] = bytes(chance.randrange(256) for _ in range(chance.randrange(3)))
                 with contextlib.suppress(Refusal):
-                    got = importers.import_file(
-                        self.file("spoiled", bytes(made)),
-                        form,
-                        chance.choice([import_result.ALL, import_result.LIVE]),
-                        32,
-                    )
-                    profile_of(b"".join(got.text))
-                tried += 1
-        expect("all were tried", tried == 60 * len(FILES))
+                    self.counts(bytes(made), chance.choice([import_result.ALL, import_result.LIVE]), form)
 
     def test_refusals(self):
         point = b'{"dhatFileVersion":2,"mode":"heap","pps":[%s]}'
-        for data, says in (
+        self.refuses(
             (data_of("glibc.xml"), "free chunk"),
             (b'<malloc version="1">\n<size from="33" to="48" total="96" count="2"/>\n</malloc>\n', "its 2 free chunks are"),
             (data_of("massif.out"), "take `valgrind --tool=dhat`"),
@@ -379,10 +339,8 @@ class DamagedFiles(Files):
             (b'<malloc version="scudo-1">\n<alloc size="8" count="1"/>\n', "it was cut off"),
             (b'<malloc version="scudo-1">\nhello\n</malloc>\n', "none of Scudo's"),
             (b"Stats: SizeClassAllocator64: 1M\n  01 (    32): mapped:  1K popped: 1 pushed: 0 inuse: 1 total: 1\n", "it was cut off"),
-        ):
-            path = self.file("refused", data)
-            expect(f"{data[:60]!r} is refused, and why", says in self.refused(path), self.refused(path))
-        expect("what counts nothing", "it counts nothing" in self.refused(self.file("none", point % b"")))
+            (point % b"", "it counts nothing"),
+        )
 
     def test_messages(self):
         """Messages of Protocol Buffers that are no heap profile."""
@@ -390,20 +348,14 @@ class DamagedFiles(Files):
         names = ["", "alloc_objects", "count", "alloc_space", "bytes"]
         strings = b"".join(b"\x32" + bytes([len(name)]) + name.encode() for name in names)
         sample = message(2, {2: (3, 60)})
-        profile = self.file("profile", types + sample + strings)
-        expect(
-            "a profile made by hand",
-            profile_of(b"".join(importers.import_file(profile, None, import_result.ALL, 32).text)) == {20: 3},
-        )
+        profile = types + sample + strings
+        expect_equal("a profile made by hand", self.counts(profile), {20: 3})
         labels = b"\x32\x07request\x32\x05bytes"
         of_request = message(2, {2: (3, 60), 3: {1: 5, 3: 19}}) + message(2, {2: (1, 33), 3: {1: 6, 3: 32}})
-        got = importers.import_file(
-            self.file("labelled", types + of_request + strings + labels), None, import_result.ALL, 32
-        )
-        counts = profile_of(b"".join(got.text))
-        expect("the label `request` has the size, and `bytes` is but an average", counts == {19: 3, 33: 1}, counts)
+        got, text = self.imported(types + of_request + strings + labels)
+        expect_equal("the label `request` has the size, and `bytes` is but an average", profile_of(text), {19: 3, 33: 1})
         expect("it is told", any("3 blocks have their size as a label `request`" in line for line in got.told), got.told)
-        for data, says in (
+        self.refuses(
             (types + strings + message(2, {2: (3,)}), "a sample has 1 values, and there are 2 types"),
             (types + strings + message(2, {2: (3, 60, 1)}), "more values than there are types"),
             (types + strings + message(2, {2: ((1 << 64) - 1, 60)}), "difference of two profiles"),
@@ -415,32 +367,25 @@ class DamagedFiles(Files):
             (types + strings + b"\x10" + b"\xff" * 11, "no number of Protocol Buffers"),
             (types + strings + b"\x13", "no field of Protocol Buffers"),
             (types + strings + b"\x12\x80\x80\x80\x80\x80\x80\x80\x80\x80\x02", "no number of Protocol Buffers"),
-        ):
-            path = self.file("refused", data)
-            expect(f"a message is refused: {says}", says in self.refused(path, form="pprof"), self.refused(path, form="pprof"))
+            form="pprof",
+        )
         says = self.refused(profile, import_result.LIVE)
         expect("live blocks that are not there", "it has no live blocks" in says, says)
 
     def test_packed(self):
         data = data_of("heaptrack.gz")
-        for spoiled, says in (
+        self.refuses(
             (data[:-9], "gzip data is cut off"),
             (data[:-8] + b"\0" * 8, "gzip data is damaged"),
             (data[:100] + b"\xff" * 20 + data[120:], "gzip data is damaged"),
-        ):
-            expect(f"gzip: {says}", says in self.refused(self.file("packed", spoiled)), self.refused(self.file("packed", spoiled)))
+        )
         parts = [gzip.compress(part) for part in (unpack_data("heaptrack.gz")[:500], unpack_data("heaptrack.gz")[500:])]
-        got = importers.import_file(self.file("parts", b"".join(parts)), None, import_result.ALL, 32)
-        expect("gzip data of two parts is one", profile_of(b"".join(got.text)) == self.counts("heaptrack.gz"))
+        expect_equal("gzip data of two parts is one", self.counts(b"".join(parts)), self.counts("heaptrack.gz"))
         if not skip_without("zstd", "damaged files of zstd"):
             packed = data_of("heaptrack.zst")
-            for spoiled in (packed[:400], packed[:300] + b"\0\0\0\0" + packed[304:]):
-                expect("damaged zstd data", "zstd data is cut off or damaged" in self.refused(self.file("packed", spoiled)))
-        path, os.environ["PATH"] = os.environ["PATH"], self.place
-        try:
-            expect("without zstd", "there is no command zstd" in self.refused(self.given("heaptrack.zst")))
-        finally:
-            os.environ["PATH"] = path
+            self.refuses(*((each, "zstd data is cut off or damaged") for each in (packed[:400], packed[:300] + b"\0\0\0\0" + packed[304:])))
+        with mock.patch.dict(os.environ, PATH=self.place):
+            self.refuses((data_of("heaptrack.zst"), "there is no command zstd"))
 
     def test_harm(self):
         """What takes time or memory without end is refused, and takes little."""
@@ -474,24 +419,19 @@ class DamagedFiles(Files):
         return done, int(memory) << 10
 
     def test_limits(self):
-        events, streamed = heaptrack.MOST_EVENTS, source.MOST_STREAMED
-        try:
-            heaptrack.MOST_EVENTS, text = 100, unpack_data("heaptrack.gz")
-            expect("more events than are read", "more than 100 requests and frees" in self.refused(self.file("long", text)))
-            heaptrack.MOST_EVENTS, source.MOST_STREAMED = events, 1000
-            expect("more bytes than are read", "it has more than 1,000 bytes" in self.refused(self.file("long", text)))
-        finally:
-            heaptrack.MOST_EVENTS, source.MOST_STREAMED = events, streamed
+        text = unpack_data("heaptrack.gz")
         raw = b"v 10400 3\n" + b"".join(b"+ 18 1 %x\n" % (at * 32) for at in range(1, 20))
         heap = b"heap profile: 20: 400 [0: 0] @ heapprofile\n" + b"1: 20 [0: 0] @ 0x1\n" * 20
-        for module, name, text, says in ((heaptrack, "MOST_ALLOCATIONS", unpack_data("heaptrack.gz"), "more than 10 sizes with a stack"),
-                                         (heaptrack, "MOST_LIVE", raw, "more than 10 of its blocks are live at once"),
-                                         (heap_text, "MOST_STACKS", heap, "it has more than 10 stacks")):
-            with mock.patch.object(module, name, 10):
-                expect(f"{name}: what is said", says in self.refused(self.file("long", text)), self.refused(self.file("long", text)))
+        for module, name, most, given, says in (
+            (heaptrack, "MOST_EVENTS", 100, text, "more than 100 requests and frees"), (source, "MOST_STREAMED", 1000, text, "it has more than 1,000 bytes"),
+            (heaptrack, "MOST_ALLOCATIONS", 10, text, "more than 10 sizes with a stack"),
+            (heaptrack, "MOST_LIVE", 10, raw, "more than 10 of its blocks are live at once"), (heap_text, "MOST_STACKS", 10, heap, "it has more than 10 stacks"),
+        ):  # fmt: skip
+            with mock.patch.object(module, name, most):
+                self.refuses((given, says))
         with mock.patch.object(heaptrack, "MOST_KNOWN", 10):
-            got = importers.import_file(self.file("long", unpack_data("heaptrack.gz")), None, import_result.ALL, 32)
-        expect("lines that are not kept", profile_of(b"".join(got.text)) == self.counts("heaptrack.gz"))
+            counts = self.counts(text)
+        expect_equal("lines that are not kept", counts, self.counts("heaptrack.gz"))
 
     def nested(self, number):
         """A record of heaptrack with so many traces, each called from the one before, and an allocation at each."""
@@ -532,18 +472,15 @@ class DamagedFiles(Files):
 
     def test_attached(self):
         """A record of a process that ran already, raw, with frees of what is not in it."""
-        path = self.file("raw", b"v 10400 3\nA\n+ 18 1 7f00\n- 7e00\n- 7f00\n+ 10 1 7f00\n")
-        got = importers.import_file(path, None, import_result.TIMELINE, 32)
-        expect("an attached record", b"".join(got.text) == b"timeline\n24\n-24\n16\n", got.text)
-        told = "\n".join(got.told)
+        raw = b"v 10400 3\nA\n+ 18 1 7f00\n- 7e00\n- 7f00\n+ 10 1 7f00\n"
+        expect_equal("an attached record", self.imported(raw, import_result.TIMELINE)[1], b"timeline\n24\n-24\n16\n")
+        told = self.told(raw, import_result.TIMELINE)
         expect("what is missing is told", "ran already" in told and "1 free of blocks" in told, told)
 
     def test_left_out(self):
         """Stacks that gperftools had no room for."""
-        text = data_of("gperftools.heap")
-        lines = text.split(b"\n")
-        path = self.file("short", b"\n".join(lines[:1] + lines[2:]))
-        told = "\n".join(importers.import_file(path, None, import_result.ALL, 32).told)
+        lines = data_of("gperftools.heap").split(b"\n")
+        told = self.told(b"\n".join(lines[:1] + lines[2:]))
         expect("blocks of stacks that are missing are told", "! 3 of 191 blocks are at stacks that the file has not" in told, told)
 
 
@@ -598,27 +535,21 @@ class Bpftrace(Files):
     """The maps of bpftrace, in the form of its manual."""
 
     def test_maps(self):
-        path = self.file("maps", BPFTRACE)
-        got = importers.import_file(path, None, import_result.ALL, 32)
-        expect("the sums over all maps", profile_of(b"".join(got.text)) == {0: 1, 24: 105, "large": 3}, got)
+        got, text = self.imported(BPFTRACE)
+        expect_equal("the sums over all maps", profile_of(text), {0: 1, 24: 105, "large": 3})
         expect("what is said of them", got.told[0].startswith("bpftrace: 109 requests in 2 maps") and len(got.told) == 1, got.told)
-        got = importers.import_file(self.file("maps", BPFTRACE + b"@[24]: 150\nLost 3 events\n"), None, import_result.ALL, 32)
-        expect("what is printed again counts once", profile_of(b"".join(got.text))[24] == 155, got)
+        got, text = self.imported(BPFTRACE + b"@[24]: 150\nLost 3 events\n")
+        expect_equal("what is printed again counts once", profile_of(text)[24], 155)
         expect("and is said", "came again" in got.told[1] and "were lost" in got.told[2], got.told)
 
     def test_refused(self):
-        for more, says in (
-            (b"@[24]: 1", "was cut off"),
-            (b"@[16, 32)  5 |@@@ |\n", "is not `@[SIZE]: COUNT`"),
-            (b"@h:\n[16, 32)             5 |@@@@@     |\n", "a histogram"),
-            (b"@[1]                      5 |@@@@@     |\n", "is not `@[SIZE]: COUNT`"),
-            (b"@[redis, 24]: 5\n", "is not `@[SIZE]: COUNT`"),
-            (b"@[-1]: 5\n", "is not `@[SIZE]: COUNT`"),
-        ):
-            said = self.refused(self.file("maps", BPFTRACE + more))
-            expect(f"{more} is refused", says in said, said)
-        said = self.refused(self.file("maps", b"nothing\n"), form="bpftrace")
-        expect("a file without a map", "it has no line as `@[24]: 100`" in said, said)
+        bad = "is not `@[SIZE]: COUNT`"
+        more = {b"@[24]: 1": "was cut off", b"@h:\n[16, 32)             5 |@@@@@     |\n": "a histogram"}
+        lines = (b"@[16, 32)  5 |@@@ |\n", b"@[1]                      5 |@@@@@     |\n", b"@[redis, 24]: 5\n", b"@[-1]: 5\n")
+        for line, says in {**more, **{line: bad for line in lines}}.items():
+            said = self.refused(BPFTRACE + line)
+            expect(f"{line} is refused", says in said, said)
+        self.refuses((b"nothing\n", "it has no line as `@[24]: 100`"), form="bpftrace")
 
 
 class Command(Files):
@@ -658,16 +589,9 @@ class Command(Files):
             expect("--said has what is said", err.replace("profile_program: ", "") == file.read(), err)
         with open(self.given("heaptrack.gz"), "rb") as file:
             status, out, err = self.run_script("--timeline", "--peak", peak, "--import", "-", stdin=file)
-        expect(
-            "standard input",
-            status == 0 and out == self.imported("heaptrack.gz", import_result.TIMELINE)[1],
-            status,
-            err,
-        )
+        expect_equal("standard input", (status, out), (0, self.imported("heaptrack.gz", import_result.TIMELINE)[1]), err)
         with open(peak, "rb") as file:
-            expect(
-                "--peak has the live blocks", profile_of(file.read()) == self.counts("heaptrack.gz", import_result.LIVE)
-            )
+            expect_equal("--peak has the live blocks", profile_of(file.read()), self.counts("heaptrack.gz", import_result.LIVE))
         if not skip_without("zstd", "packed standard input"):
             with subprocess.Popen(["cat", self.given("heaptrack.zst")], stdout=subprocess.PIPE) as cat:
                 status, out, err = self.run_script("--import", "-", stdin=cat.stdout)
@@ -683,11 +607,7 @@ class Command(Files):
 
     def test_help(self):
         status, out, _ = self.run_script("--help")
-        expect(
-            "the help lists each format",
-            status == 0 and all(f"\n  {name} " in out.decode() for name in importers.NAMES),
-            out,
-        )
+        expect("the help lists each format", status == 0 and all(f"\n  {name} " in out.decode() for name in importers.NAMES), out)
 
 
 # ---- what a table tuned for an imported profile saves
@@ -695,8 +615,7 @@ class Command(Files):
 
 def jobs(folder):
     """The programs: their words, and their standard input."""
-    with open(os.path.join(EXAMPLES, "sqlite_large.sql")) as file:
-        rows = file.read().replace("200000", "20000").encode()
+    rows = Path(EXAMPLES, "sqlite_large.sql").read_text().replace("200000", "20000").encode()
     chance, path = random.Random(1), os.path.join(folder, "documents.json")
     with open(path, "w") as file:
         for at in range(4000):
@@ -750,8 +669,7 @@ def print_table(options):
     if not options.table:
         return None
     shares = {name: [] for name in RECORDERS}
-    with open(os.path.join(EXAMPLES, "scudo.classes"), "rb") as file:
-        default = file.read().strip()
+    default = Path(EXAMPLES, "scudo.classes").read_bytes().strip()
     with tempfile.TemporaryDirectory() as folder:
         for words, given in jobs(folder).values():
             done = subprocess.run([SCRIPT, *words], input=given, capture_output=True, env={**os.environ, "PERL_HASH_SEED": "0"}, check=True)
@@ -759,9 +677,8 @@ def print_table(options):
             most = score_of(default, counts) - waste_of(counts, counts)
             for name, recorder in RECORDERS.items():
                 with tempfile.TemporaryDirectory() as place:
-                    got = importers.import_file(
-                        os.path.join(place, recorder(words, given, place)[-1]), None, import_result.ALL, 1
-                    )
+                    path = os.path.join(place, recorder(words, given, place)[-1])
+                    got = importers.import_file(path, None, import_result.ALL, 1)
                 saved = score_of(default, counts) - waste_of(counts, profile_of(b"".join(got.text)))
                 shares[name].append(f"{100 * saved / most:.0f}%")
     for name, row in shares.items():

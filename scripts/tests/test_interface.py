@@ -16,22 +16,21 @@ import shutil
 import subprocess
 import sys
 import tempfile
+from pathlib import Path
 
 import checks
 from checks import expect
 from mte_scripts import formats
 from mte_scripts.builds import library
-from mte_scripts.places import ROOT, SCRIPTS
+from mte_scripts.places import ROOT
 
 DUMP = f"{ROOT}/library/abi.xml"
 NODE = f"MTE_TOOL_{formats.INTERFACE}"
 HEADER = f"{ROOT}/include/mte_tool.h"
-OTHERS = ("mte_tool", "refuse_memory", "step", "traced_c++", "traced_cc")  # the program's, none, none, and the compiler's
 
 
 def read(name):
-    with open(os.path.join(ROOT, name), encoding="utf-8") as file:
-        return file.read()
+    return Path(ROOT, name).read_text(encoding="utf-8")
 
 
 def output(words, **how):
@@ -67,8 +66,7 @@ def dump(path, to):
     status, text = output(["abidw", "--no-corpus-path", "--no-comp-dir-path", "--no-show-locs", path])
     if status:
         raise AssertionError(f"abidw: {text}")
-    with open(to, "w", encoding="utf-8") as file:
-        file.write(text)
+    Path(to).write_text(text, encoding="utf-8")
 
 
 # one option more, with the default 7: in the header, and on the way to the proved functions
@@ -111,8 +109,7 @@ def build_changed_library(folder, changes, *more):
             text = read(f"{part}/{name}")
             for pattern, by in changes:
                 text = re.sub(pattern, by, text)
-            with open(f"{folder}/{part}/{name}", "w", encoding="utf-8") as file:
-                file.write(text)
+            Path(f"{folder}/{part}/{name}").write_text(text, encoding="utf-8")
     sources = [f"{folder}/library/{name}.c" for name in library.names_of_layer()]
     path = f"{folder}/{library.SHARED}"
     names = [f"-Wl,--version-script={folder}/library/mte_tool.map", f"-Wl,-soname,{library.SHARED}"]
@@ -218,7 +215,7 @@ class Interface(checks.Part):
             expect("a library with one more option", done[0] == 0, done)
 
     def test_versions(self):
-        """One version everywhere."""
+        """One version everywhere; the scripts' own is tested with `texts`."""
         version, number = formats.VERSION, formats.VERSION.replace(".", r"\.")
         for name, pattern in {
             "include/mte_tool.h": rf'(?m)^#define MTE_TOOL_VERSION "{number}"$',
@@ -231,10 +228,6 @@ class Interface(checks.Part):
         }.items():
             expect(f"{name} has the version {version}", re.search(pattern, read(name)))
         expect("pkg-config", library.VERSION == version and "\nVersion: {version}\n" in library.PKG_CONFIG)
-        for name in sorted(os.listdir(SCRIPTS)):
-            path = f"{SCRIPTS}/{name}"
-            if os.path.isfile(path) and name not in OTHERS:
-                expect(f"{name} --version", output([path, "--version"], stdin=subprocess.DEVNULL) == (0, f"{name} {version}\n"))
 
     def test_abi(self):
         checks.need("abidw abidiff", "the interface and the one of library/abi.xml")

@@ -10,6 +10,7 @@ import shutil
 import signal
 import subprocess
 import time
+from pathlib import Path
 
 import checks
 from checks import expect
@@ -41,8 +42,7 @@ class Launcher(Repository):
 
     def test_first_build(self):
         self.write("refused", "")
-        self.launched(3, "score", "score")
-        self.says("high: not proved")
+        self.launched(3, "score", "score", says="high: not proved")
         os.remove(self.path("refused"))
         for crate in BELOW:
             shutil.rmtree(self.path("repo", "crates", crate, "out"), ignore_errors=True)
@@ -80,8 +80,7 @@ class Launcher(Repository):
         self.edit("crates", "mte_tool", "src", "main.rt")
         self.write("edit", "")
         self.launched(0, "score", "score")
-        self.launched(0, "score", "score")
-        self.says("mte_tool: mte_tool")
+        self.launched(0, "score", "score", says="mte_tool: mte_tool")
 
     def spoils(self):
         """What makes a program another one than that of its manifest, with a word for each."""
@@ -93,8 +92,7 @@ class Launcher(Repository):
                 file.write(text)
 
         def another():
-            with open(self.program, "w") as file:
-                file.write(ANOTHER)
+            Path(self.program).write_text(ANOTHER)
 
         yield "another program", another
         yield "no manifest", lambda: os.remove(f"{self.program}.manifest")
@@ -126,8 +124,7 @@ class Launcher(Repository):
                 self.refuses(f"without a toolchain, {what}", self.tools(tools))
                 expect(f"{what}: the program is as it was", self.contents(self.program) == there)
             self.says("sha256sum is missing")
-            self.launched(0, "score", "score")
-            self.says("the program that is there is not the one of its manifest")
+            self.launched(0, "score", "score", says="the program that is there is not the one of its manifest")
             expect(f"{what}: it is built anew", self.contents(self.program, f"{self.program}.manifest") == [program, self.manifest])
         self.launched(0, "score", "score")
         expect("a program with its manifest is not built again", not self.err, self.err)
@@ -137,8 +134,7 @@ class Launcher(Repository):
         self.launched(0, "score", "score")
         there = self.contents(self.program, f"{self.program}.manifest")
         self.write("bin/sha256sum", "#!/bin/sh\nexit 1\n", 0o755)
-        self.launched(3, "", "score")
-        self.says("sha256sum failed, so nothing shows which program is there")
+        self.launched(3, "", "score", says="sha256sum failed, so nothing shows which program is there")
         expect("it stays", self.contents(self.program, f"{self.program}.manifest") == there)
         expect("nothing is built", self.read("builds") == "built\n", self.read("builds"))
         os.remove(self.path("bin", "sha256sum"))
@@ -147,8 +143,7 @@ class Launcher(Repository):
     def another(self, text: str = ANOTHER) -> None:
         """Another program in the place of the built one, with its times."""
         status = os.stat(self.program)
-        with open(self.program, "w") as file:
-            file.write(text)
+        Path(self.program).write_text(text)
         os.utime(self.program, ns=(status.st_atime_ns, status.st_mtime_ns))
 
     def renamed(self, path: str, text: str) -> None:
@@ -242,16 +237,14 @@ class Launcher(Repository):
             change()
             self.refuses(f"after {what}", quick)
             self.says("the command bash is missing")
-            self.launched(0, "score", "score")
-            self.says("mte_tool: mte_tool")
+            self.launched(0, "score", "score", says="mte_tool: mte_tool")
         os.mkdir(self.path("repo", "crates", "low", "proofs"))
         for crate, part in (("low", "proofs"), ("other", "src")):
             self.settle()
             self.edit("crates", crate, part, "New.antt")
             self.launched(0, "score", "score")
             expect(f"{part} of {crate}: it is run", not self.err, self.err)
-            self.launched(0, "--version", "--version")
-            self.says("mte_tool: mte_tool")
+            self.launched(0, "--version", "--version", says="mte_tool: mte_tool")
 
     def test_future(self):
         """What was changed later than the clock says is hashed at each run, and leaves no stamp."""
@@ -273,12 +266,10 @@ class Launcher(Repository):
         hashed = f'#!/bin/sh\n{shutil.which("sha256sum")} "$@" || exit\n'
         self.write("bin/sha256sum", f'{hashed}[ ! -e "$WORK/swap" ] || mv "$WORK/swap" "{self.program}"\n', 0o755)
         self.write("swap", ANOTHER, 0o755)
-        self.launched(0, "score", "score")
-        self.says("the program that is there is not the one of its manifest")
+        self.launched(0, "score", "score", says="the program that is there is not the one of its manifest")
         expect("it was replaced", not os.path.exists(self.path("swap")))
         self.write("bin/sha256sum", f'{hashed}touch "{self.program}"\n', 0o755)
-        self.launched(3, "", "score")
-        self.says("was changed in each of 3 looks")
+        self.launched(3, "", "score", says="was changed in each of 3 looks")
         expect("it is left", self.contents(self.program) == [b'#!/bin/sh\necho "$@"\n'], self.contents(self.program))
         os.remove(self.path("bin", "sha256sum"))
 
@@ -290,10 +281,8 @@ class Launcher(Repository):
             for name in [*odd, "Z.rt"]:
                 path = self.path("repo", "crates", "low", part, name)
                 os.makedirs(os.path.dirname(path), exist_ok=True)
-                with open(path, "w") as file:
-                    file.write(name.encode("utf-8", "replace").decode())
-        self.launched(0, "score", "score")
-        self.says("mte_tool: mte_tool")
+                Path(path).write_text(name.encode("utf-8", "replace").decode())
+        self.launched(0, "score", "score", says="mte_tool: mte_tool")
         for locale in ("C", "C.UTF-8", "en_US.UTF-8"):
             self.launched(0, "score", "score", LC_ALL=locale)
             expect(f"{locale}: it is not built again", "mte_tool: mte_tool" not in self.err, self.err)
@@ -379,8 +368,7 @@ except program_runs.Refusal as refused:
             got = self.cut_off(number, "mte_tool", "score", to=subprocess.DEVNULL)[0]
             expect(f"cut off by {name}", got == (-number if is_killed else status), got)
             expect(f"cut off by {name}: half a program is there", os.access(self.program, os.X_OK))
-            self.launched(0, "score", "score")
-            self.says("going on with a build that was cut off")
+            self.launched(0, "score", "score", says="going on with a build that was cut off")
 
     def test_cut_off_script(self):
         """A script that is stopped while its launcher builds leaves nothing of the build: Python kills the launcher."""
@@ -455,8 +443,7 @@ except program_runs.Refusal as refused:
     def test_another_program(self):
         self.write("other", '#!/bin/sh\necho "${MTE_TOOL-unset} $*"; exit 7\n', 0o755)
         for path in ("other", "./other", self.path("other")):
-            self.launched(7, "unset score a", "score", "a", MTE_TOOL=path)
-            self.says("nothing is proved")
+            self.launched(7, "unset score a", "score", "a", MTE_TOOL=path, says="nothing is proved")
         self.launched(7, "unset score a", "--unproved", "score", "a", MTE_TOOL="other")
         os.mkdir(self.path("no\udcfftext"))
         os.symlink("/bin/bash", self.path("no\udcfftext", "other"))

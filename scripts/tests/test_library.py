@@ -40,6 +40,41 @@ STRICT = ["-Wall", "-Wextra", "-Wpedantic", "-Werror"]
 SANITIZED = ["-g", "-O1", "-fsanitize=address,undefined", "-fno-sanitize-recover=all"]
 
 
+@pytest.fixture(scope="module")
+def library(place):
+    """The library's folder."""
+    checks.built_program()
+    checks.need("cc", "the library for C")
+    if os.environ.get("MTE_LIBRARY"):
+        return os.environ["MTE_LIBRARY"]
+    if not static_libraries.is_cheap("mte_c") and not engines.are_answering():
+        pytest.skip("since no library is kept to build it on (scripts/library keeps them): the library for C")
+    made = run_command([f"{ROOT}/scripts/library", f"{place}/library"], 3600)
+    if made.returncode:
+        raise AssertionError(f"scripts/library: {made.stderr[-2000:].decode()}")
+    return f"{place}/library"
+
+
+@pytest.fixture(scope="module")
+def small(library):
+    return with_checks(with_answers(SMALL))
+
+
+@pytest.fixture(scope="module")
+def all_calls(small):
+    return small + with_checks(with_answers(large()))
+
+
+@pytest.fixture(scope="module")
+def compiler(library, place):
+    return Compiler(library, place)
+
+
+@pytest.fixture(scope="module")
+def bindings(library):
+    return SharedLibrary(library)
+
+
 # ---- the shared library
 
 class SharedLibrary:
@@ -71,17 +106,17 @@ class SharedLibrary:
         return (end, result.code, result.line, result.bytes), answer
 
 
-def try_shared(shared, calls):
-    for (command, options, data), (end, text) in calls:
-        ending, got = shared.call(command, data, **options)
+def test_shared(bindings, all_calls):
+    for (command, options, data), (end, text) in all_calls:
+        ending, got = bindings.call(command, data, **options)
         what = f"shared library: {command} {options} of {data[:40]!r}"
         expect(f"{what}: the ending", ending == ending_of(end, text), ending)
         expect(f"{what}: the text", got == text)
     for command, data, code in FAULTY:
-        ending, got = shared.call(command, data, limit=2)
+        ending, got = bindings.call(command, data, limit=2)
         expect(f"shared library: {command} of {data[:40]}: the code {code}", ending[1] == code and (code == 0) == (ending[0] == DONE))
     for command, data, want, more in BORDERS:
-        end, code, line, cost = shared.answer(command, data, limit=2)[0]
+        end, code, line, cost = bindings.answer(command, data, limit=2)[0]
         got = (end, cost) if end == DONE else (end, None) if end == NO else (code, line)
         expect(f"shared library: {command} of {data}: the border", got == (want, more), (end, code, line, cost))
     for command, bad in (("tune", {"limit": 0}), ("tune", {"limit": 33}), ("fit", {"step": 3}), ("fit", {"step": 0}),
@@ -89,16 +124,16 @@ def try_shared(shared, calls):
                          ("run", {"quarantine": 4194305}), ("tune", {"limit": 264}), ("fit", {"limit": 2**32 + 8}),
                          ("tune", {"limit": 2**64 + 8}), ("run", {"step": 257}), ("replay", {"seed": 65537})):  # fmt: skip
         data = (b"classes 2", b"") if command == "replay" else SMALL_PROFILE
-        expect(f"shared library: {command} {bad} is refused", shared.call(command, data, **bad) == ((BAD_OPTION, 0, 0), b""))
+        expect(f"shared library: {command} {bad} is refused", bindings.call(command, data, **bad) == ((BAD_OPTION, 0, 0), b""))
     too_many, too_long = b"free 1\n" * 1000001, b"a" * 67108865
     for command, data, code, line in (("profile", too_many, 74, 1000001), ("score", (b"", too_long), 80, 0),
                                       ("score", (too_long, b""), 23, 1), ("run", too_long, 80, 0)):  # fmt: skip
-        expect(f"shared library: {command}: {code}", shared.call(command, data)[0] == (REFUSED, code, line))
+        expect(f"shared library: {command}: {code}", bindings.call(command, data)[0] == (REFUSED, code, line))
 
 
-def try_sentences(shared):
+def test_sentences(bindings):
     """Ends and codes are apart, and each has its own words."""
-    numbers, package = importlib.import_module("mte_tool._numbers"), shared.package
+    numbers, package = importlib.import_module("mte_tool._numbers"), bindings.package
     ends, codes = [it.sentence for it in formats.ENDS.values()], {code: formats.CODES[code].name for code in formats.LIBRARY_CODES}
     for number in (*range(-1, 100), 2**32 - 1):
         wanted = ends[number] if number in range(len(ends)) else "there is no such end"
@@ -120,14 +155,14 @@ def try_sentences(shared):
 
 # ---- the static library
 
-def try_static(compiler, work, small, all_calls):
-    write_calls(f"{work}/small", small)
-    write_calls(f"{work}/all", all_calls)
+def test_static(compiler, place, small, all_calls):
+    write_calls(f"{place}/small", small)
+    write_calls(f"{place}/all", all_calls)
     source = f"{ROOT}/scripts/tests/library_calls.c"
     calls = compiler.build("library_calls", ["cc", "-std=c99", "-Wall", "-Wextra", "-O2", source, *compiler.flags(), *WRAPS])
 
     def run(what, words, folder, number):
-        made = run_command([*words, f"{work}/{folder}", str(number)])
+        made = run_command([*words, f"{place}/{folder}", str(number)])
         expect(f"{what}: {made.stdout[-300:]} {made.stderr[-600:]}", made.returncode == 0)
         return made.stdout
 
@@ -173,15 +208,14 @@ load 7 -1048576 1
 """
 
 
-def try_heap(compiler, work):
+def test_heap(compiler, place):
     """The heap's answers are the lines of `replay`, over the example traces and a small one."""
     source = f"{ROOT}/scripts/tests/library_heap.c"
     flags = ["-std=c99", "-D_POSIX_C_SOURCE=200809L", "-Wall", "-Wextra", source, *compiler.flags(), "-pthread"]
     heap = compiler.build("library_heap", ["cc", "-O2", *flags])
     sanitized = compiler.build("library_heap_asan", ["cc", *SANITIZED, *flags])
-    small = f"{work}/small.trace"
-    with open(small, "wb") as file:
-        file.write(HEAP_TRACE)
+    small = f"{place}/small.trace"
+    Path(small).write_bytes(HEAP_TRACE)
     tables = [read("scudo.classes").split()[1:], [b"2", b"4", b"33"], [b"3"]]
     for trace, runs in ((small, [heap, sanitized]), *((f"{EXAMPLES}/{name}.trace", [heap]) for name in ("sqlite", "jq", "perl"))):
         for classes in tables:
@@ -205,7 +239,7 @@ def try_heap(compiler, work):
 CLASS_TABLES = ["2", "1024", "2 1024", "2 3 5 9 17 33 65", " ".join(map(str, range(2, 34))), " ".join(map(str, range(32, 1025, 32)))]
 
 
-def try_classes(compiler, shared):
+def test_classes(compiler, bindings):
     """The class of each size is the one of the heap's slot, and the one with the waste that `score` gives."""
     flags = ["-std=c99", "-Wall", "-Wextra", "-Werror", f"{ROOT}/scripts/tests/library_classes.c", *compiler.flags()]
     tables = [read("scudo.classes").decode().split(maxsplit=1)[1].strip(), *CLASS_TABLES, ""]
@@ -214,15 +248,15 @@ def try_classes(compiler, shared):
     expect("the class of each size", is_right, made.stdout, made.stderr)
     for table in ([int(word) for word in line.split()] for line in tables):
         for size in range(0, formats.LARGEST_SIZE + 1, 97):
-            number = shared.package.class_of(table, size)
-            cost = shared.package.score_profile(table, {size: 1})
+            number = bindings.package.class_of(table, size)
+            cost = bindings.package.score_profile(table, {size: 1})
             # the granules of a chunk, at least one, and the header's
             need = max(1, -(-size // formats.GRANULE_BYTES)) + 1
             wanted = None if not cost.serves else next(n for n, each in enumerate(table) if each >= need)
             expect(f"the class of {size} bytes in {table}", number == wanted, number, wanted)
 
 
-def try_memory(compiler):
+def test_memory(compiler):
     """All memory is the caller's functions', if these are set before anything is taken."""
     fewest = 1 if is_hosted(compiler.library) else 10  # the memory of the project's engines grows by pages
     words = ["cc", "-std=c99", *STRICT, *SANITIZED, f"-DFEWEST_STOPS={fewest}", f"{ROOT}/scripts/tests/library_memory.c",
@@ -233,7 +267,7 @@ def try_memory(compiler):
         expect(f"the library's memory {mode}: {made.stderr[-300:]}", made.returncode == 0)
 
 
-def try_misuses(compiler):
+def test_misuses(compiler):
     words = ["cc", "-std=c99", *STRICT, *SANITIZED, f"{ROOT}/scripts/tests/library_misuses.c", *compiler.flags()]
     made = run_command([compiler.build("misuses", words)])
     expect(f"misuses: {made.stderr[-300:]}", made.returncode == 0)
@@ -241,17 +275,16 @@ def try_misuses(compiler):
 
 # ---- the callers
 
-def try_c_callers(compiler, work):
+def test_c_callers(compiler, place):
     callers, profile = f"{EXAMPLES}/callers", f"{EXAMPLES}/jq.profile"
     strict = ["cc", "-std=c99", *STRICT]
     _, sheet = program("tune", {"limit": 8}, read("jq.profile"))
-    with open(f"{work}/sheet", "wb") as file:
-        file.write(sheet)
+    Path(f"{place}/sheet").write_bytes(sheet)
     check = compiler.build("check_sheet", [*strict, f"{callers}/check_sheet.c", *compiler.flags()])
     for data, status, said in ((profile, 0, b"optimal\n"), (f"{EXAMPLES}/perl.profile", 1, b"the verdict is no: "),
-                               (f"{work}/sheet", 2, b"the input is refused: a line is not "), (f"{work}/none", 2, b""),
+                               (f"{place}/sheet", 2, b"the input is refused: a line is not "), (f"{place}/none", 2, b""),
                                ("/dev/null", 2, b"")):  # fmt: skip
-        made = run_command([check, f"{work}/sheet", data])
+        made = run_command([check, f"{place}/sheet", data])
         expect(f"check_sheet {data}", made.returncode == status and (made.stdout + made.stderr).startswith(said), made.stdout, made.stderr)
     own = compiler.build("own_counts", [*strict, f"{callers}/own_counts.c", *compiler.flags()])
     for sizes, limit, status, said in ((b"16 32 48 20000", "2", 0, b"32 64 waste 16\n"), (b"", "1", 0, b"waste 0\n"), (b"1", "33", 2, b""),
@@ -275,7 +308,7 @@ BLOCKS = [
 ]
 
 
-def try_document(compiler, work):
+def test_document(compiler, place):
     """What docs/LIBRARY.md shows compiles as it stands, and does what it says."""
     with open(f"{ROOT}/docs/LIBRARY.md", encoding="utf-8") as file:
         sections = dict(re.findall(r"(?m)^## (.*)\n((?:(?!## ).*\n)+)", file.read()))
@@ -284,9 +317,9 @@ def try_document(compiler, work):
         found = [block for block in re.findall(r"(?m)(?:^ {4,}\S.*\n)+", sections[heading]) if block not in taken]
         taken.append(found[0])
         source += f"{{ {before}\n{found[0]} if (!({after})) return {len(taken)}; }}\n"
-    with open(f"{work}/document.c", "w", encoding="utf-8") as file:
+    with open(f"{place}/document.c", "w", encoding="utf-8") as file:
         file.write(source + "return 0; }\n")
-    made = run_command([compiler.build("document", ["cc", "-std=c99", "-Wall", "-Wextra", "-Werror", f"{work}/document.c", *compiler.flags()])])
+    made = run_command([compiler.build("document", ["cc", "-std=c99", "-Wall", "-Wextra", "-Werror", f"{place}/document.c", *compiler.flags()])])
     is_right = made.returncode == 0 and made.stdout.startswith(b"classes 2 3 8\n")
     expect("the examples of docs/LIBRARY.md", is_right, made.returncode, made.stdout)
 
@@ -317,12 +350,12 @@ func main() {
 """
 
 
-def try_go(library, work):
+def test_go(library, place):
     """A call over two texts, and the caller."""
-    environment = {**os.environ, "PKG_CONFIG_PATH": f"{library}/lib/pkgconfig", "LD_LIBRARY_PATH": f"{library}/lib", "GOCACHE": f"{work}/go"}
-    with open(f"{work}/verdict.go", "w", encoding="utf-8") as file:
-        file.write(GO)
-    made = run_command(["go", "run", f"{work}/verdict.go"], env=environment)
+    checks.need("go cc pkg-config", "a caller in Go")
+    environment = {**os.environ, "PKG_CONFIG_PATH": f"{library}/lib/pkgconfig", "LD_LIBRARY_PATH": f"{library}/lib", "GOCACHE": f"{place}/go"}
+    Path(f"{place}/verdict.go").write_text(GO, encoding="utf-8")
+    made = run_command(["go", "run", f"{place}/verdict.go"], env=environment)
     wanted = b"optimal\n true 48 BadSheet line 1 false\n"
     expect("a call over two texts in Go", (made.returncode, made.stderr) == (0, wanted), made.returncode, made.stderr)
     for limit, status, answer in (("8", 0, program("tune", {"limit": 8}, read("jq.profile"))[1]), ("33", 1, b"")):
@@ -330,27 +363,29 @@ def try_go(library, work):
         expect(f"tune.go {limit}", (made.returncode, made.stdout) == (status, answer), made.returncode, made.stderr)
 
 
-def try_cmake(library, work):
+def test_cmake(library, place):
     """find_package in a folder of scripts/library, with both libraries, and of another version."""
+    checks.need("cmake make cc", "find_package")
     sheet = program("tune", {"limit": 8}, read("jq.profile"))[1]
-    Path(work, "jq.sheet").write_bytes(sheet)
+    Path(place, "jq.sheet").write_bytes(sheet)
     for version, status in (("1.0", 0), ("1.1", 1), ("2.0", 1)):
-        folder, text = f"{work}/cmake/{version}", CMAKE.replace("mte_tool 1.0", f"mte_tool {version}").replace("examples/", f"{EXAMPLES}/")
+        folder, text = f"{place}/cmake/{version}", CMAKE.replace("mte_tool 1.0", f"mte_tool {version}").replace("examples/", f"{EXAMPLES}/")
         os.makedirs(folder)
         Path(folder, "CMakeLists.txt").write_text(text, encoding="utf-8")
         made = run_command(["cmake", "-S", folder, "-B", f"{folder}/built", f"-DCMAKE_PREFIX_PATH={library}"])
         expect(f"find_package of the version {version}", made.returncode == status, made.stderr)
-    made = run_command(["cmake", "--build", f"{work}/cmake/1.0/built"])
+    made = run_command(["cmake", "--build", f"{place}/cmake/1.0/built"])
     expect("cmake builds", made.returncode == 0, made.stdout, made.stderr)
     for name in ("check", "check_static"):
-        made = run_command([f"{work}/cmake/1.0/built/{name}", f"{work}/jq.sheet", f"{EXAMPLES}/jq.profile"])
+        made = run_command([f"{place}/cmake/1.0/built/{name}", f"{place}/jq.sheet", f"{EXAMPLES}/jq.profile"])
         expect(f"what cmake built: {name}", (made.returncode, made.stdout) == (0, b"optimal\n"), made.stderr)
 
 
-def try_prefixes(library, work):
+def test_prefixes(library, place):
     """pkg-config in folders whose names a shell, pkg-config or both read otherwise."""
+    checks.need("pkg-config", "pkg-config in folders of all names")
     for name in ("plain", "a space", "quo'te", 'dou"ble', "dol$lar", "back\\slash", "all '\"$(x)` &;\\ of them"):
-        to = f"{work}/prefixes/{name}"
+        to = f"{place}/prefixes/{name}"
         shutil.copytree(library, to, symlinks=True)
         lay_out(f"{library}/lib", to, "")
         found = run_command(["pkg-config", "--cflags", "--libs", "mte_tool"], env={**os.environ, "PKG_CONFIG_PATH": f"{to}/lib/pkgconfig"})
@@ -358,16 +393,16 @@ def try_prefixes(library, work):
         expect(f"pkg-config in {name}", words == [f"-I{to}/include", f"-L{to}/lib", "-lmte_tool"], words, found.stderr)
 
 
-def try_cpp(compiler, work):
+def test_cpp(compiler, place):
     """The header for C++ in both standards: its example, a use of each function, and the caller."""
+    checks.need("c++", "the header for C++")
     sheet = program("tune", {"limit": 8}, read("jq.profile"))[1]
     with open(f"{ROOT}/include/mte_tool.hpp", encoding="utf-8") as file:
         example = re.search(r"\n((?: {7}.*\n|\n)+)\*/", file.read())[1]
-    with open(f"{work}/example.cpp", "w", encoding="utf-8") as file:
-        file.write(example)
+    Path(f"{place}/example.cpp").write_text(example, encoding="utf-8")
     for standard, more in (("17", []), ("20", SANITIZED)):
         words = ["c++", f"-std=c++{standard}", *STRICT, *more]
-        made = run_command([compiler.build("example", [*words, f"{work}/example.cpp", *compiler.flags()])])
+        made = run_command([compiler.build("example", [*words, f"{place}/example.cpp", *compiler.flags()])])
         is_right = made.stdout.startswith(b"classes 2 8\n") and made.stdout.endswith(b"\nchecked\n")
         expect(f"the example of mte_tool.hpp, C++{standard}", is_right, made.stdout)
         uses = run_command([compiler.build("uses", [*words, f"{ROOT}/scripts/tests/library_uses.cpp", *compiler.flags()])])
@@ -377,9 +412,9 @@ def try_cpp(compiler, work):
     classes = [16 * int(word) for word in sheet.split(b"\n")[0].split()[1:]]
     test = f"static_assert(sizeof class_bytes / sizeof *class_bytes == {len(classes)}, \"\");\n"
     test += "".join(f"static_assert(class_bytes[{i}] == {size}, \"\");\n" for i, size in enumerate(classes))
-    with open(f"{work}/table.cpp", "wb") as file:
+    with open(f"{place}/table.cpp", "wb") as file:
         file.write(made.stdout.replace(b"#pragma once\n", b"") + test.encode() + b"int main() {}\n")
-    compiler.build("table", ["c++", "-std=c++17", f"{work}/table.cpp"])
+    compiler.build("table", ["c++", "-std=c++17", f"{place}/table.cpp"])
     made = run_command([make, "8"], input=b"x")
     expect("make_header refuses", (made.returncode, made.stderr) == (2, b"make_header: 30 BadLine line 1\n"), made.stderr)
 
@@ -391,11 +426,11 @@ def error_of_call(call):
         return error
 
 
-def try_python(shared, library):
+def test_python(bindings, library):
     for name in ("mte_tool", "mte_tool._arrays", "mte_tool._claims", "mte_tool._heap"):
         found = doctest.testmod(importlib.import_module(name))
         expect(f"the examples of {name}", found.failed == 0 and found.attempted > 0, found)
-    package = shared.package
+    package = bindings.package
     for command, data, want, more in BORDERS:
         if command != "replay":
             call = getattr(package, command.replace("-", "_"))
@@ -480,135 +515,69 @@ CARGO = {
 }
 
 
-def try_rust(library, work):
+def test_rust(library, place):
     """The crates' own examples, as the static library and as the shared one; and their caller."""
-    shutil.copytree(f"{ROOT}/rust", f"{work}/rust")
+    checks.need("cargo", "the crates for Rust")
+    shutil.copytree(f"{ROOT}/rust", f"{place}/rust")
     sheet = program("tune", {"limit": 8}, read("jq.profile"))[1]
     for name in (f"{library}/lib", f"{library}/lib/libmte_tool.so"):
-        environment = {**os.environ, "MTE_TOOL_LIBRARY": name, "LD_LIBRARY_PATH": f"{library}/lib", "CARGO_TARGET_DIR": f"{work}/target"}
+        environment = {**os.environ, "MTE_TOOL_LIBRARY": name, "LD_LIBRARY_PATH": f"{library}/lib", "CARGO_TARGET_DIR": f"{place}/target"}
         for crate in ("mte-tool-sys", "mte-tool"):
-            made = run_command(["cargo", "test", "--offline", "--quiet", "-j2"], cwd=f"{work}/rust/{crate}", env=environment)
+            made = run_command(["cargo", "test", "--offline", "--quiet", "-j2"], cwd=f"{place}/rust/{crate}", env=environment)
             expect(f"{crate} with {name}", made.returncode == 0, made.stdout, made.stderr)
             for tool, words in CARGO.items():
                 if not skip_without(tool, f"cargo {words.split()[0]} on {crate}"):
-                    made = run_command(["cargo", *words.split()], cwd=f"{work}/rust/{crate}", env={**environment, "RUSTDOCFLAGS": "-Dwarnings"})
+                    made = run_command(["cargo", *words.split()], cwd=f"{place}/rust/{crate}", env={**environment, "RUSTDOCFLAGS": "-Dwarnings"})
                     expect(f"cargo {words.split()[0]} on {crate}", made.returncode == 0, made.stdout, made.stderr)
         cargo = ["cargo", "run", "--offline", "--quiet", "--example", "tune", "8"]
-        made = run_command(cargo, cwd=f"{work}/rust/mte-tool", env=environment, input=read("jq.profile"))
+        made = run_command(cargo, cwd=f"{place}/rust/mte-tool", env=environment, input=read("jq.profile"))
         expect(f"tune.rs with {name}", made.stdout == sheet, made.stderr)
-    made = run_command(cargo, cwd=f"{work}/rust/mte-tool", env=environment, input=b"16 1\nx\n")
+    made = run_command(cargo, cwd=f"{place}/rust/mte-tool", env=environment, input=b"16 1\nx\n")
     expect("tune.rs refuses", made.returncode == 1 and b"30" in made.stderr, made.stderr)
-    Path(work, "rust/Cargo.toml").write_text('[workspace]\nmembers = ["mte-tool-sys", "mte-tool"]\nresolver = "2"\n', encoding="utf-8")
-    made = run_command(["cargo", "package", "--offline", "--workspace", "--allow-dirty", "-j2"], cwd=f"{work}/rust", env=environment)
+    Path(place, "rust/Cargo.toml").write_text('[workspace]\nmembers = ["mte-tool-sys", "mte-tool"]\nresolver = "2"\n', encoding="utf-8")
+    made = run_command(["cargo", "package", "--offline", "--workspace", "--allow-dirty", "-j2"], cwd=f"{place}/rust", env=environment)
     expect("cargo package", made.returncode == 0 and b"warning" not in made.stderr, made.stderr)
-    for name in ("/nowhere", f"{work}/rust", f"{work}/none.a"):
-        made = run_command(["cargo", "build", "--offline"], cwd=f"{work}/rust/mte-tool-sys", env={**environment, "MTE_TOOL_LIBRARY": name})
+    for name in ("/nowhere", f"{place}/rust", f"{place}/none.a"):
+        made = run_command(["cargo", "build", "--offline"], cwd=f"{place}/rust/mte-tool-sys", env={**environment, "MTE_TOOL_LIBRARY": name})
         said = f"MTE_TOOL_LIBRARY={name}: no libmte_tool.a or libmte_tool.so is there".encode()
         expect(f"build.rs says that {name} has no library", made.returncode and said in made.stderr, made.stderr)
-    try_rust_trips(f"{work}/rust", environment)
-    try_rust_claims(f"{work}/rust", environment)
+    try_rust_trips(f"{place}/rust", environment)
+    try_rust_claims(f"{place}/rust", environment)
 
 
-def try_script(work):
+def test_words(work):
     expect("library --help", b"\nUsage: " in run_command([f"{ROOT}/scripts/library", "--help"]).stdout)
     for words in ([], ["--wrong"], [f"{work}/a", f"{work}/b"]):
         expect(f"library {words}", run_command([f"{ROOT}/scripts/library", *words]).returncode == 2)
 
 
-class Script(checks.Part):
-    def test_words(self):
-        try_script(self.folder())
+def test_arrays(bindings):
+    try_arrays(bindings.package)
 
 
-class Library(checks.Part):
-    @classmethod
-    def setup_class(cls):
-        checks.built_program()
-        checks.need("cc", "the library for C")
-        cls.work = cls.folder()
-        cls.library = os.environ.get("MTE_LIBRARY")
-        if not cls.library:
-            if not static_libraries.is_cheap("mte_c") and not engines.are_answering():
-                pytest.skip("since no library is kept to build it on (scripts/library keeps them): the library for C")
-            cls.library = f"{cls.work}/library"
-            made = run_command([f"{ROOT}/scripts/library", cls.library], 3600)
-            if made.returncode:
-                raise AssertionError(f"scripts/library: {made.stderr[-2000:].decode()}")
-        cls.small = with_checks(with_answers(SMALL))
-        cls.all_calls = cls.small + with_checks(with_answers(large()))
-        cls.compiler, cls.shared = Compiler(cls.library, cls.work), SharedLibrary(cls.library)
+def test_array_faults(bindings):
+    try_array_faults(bindings.package)
 
-    def test_shared(self):
-        try_shared(self.shared, self.all_calls)
 
-    def test_sentences(self):
-        try_sentences(self.shared)
+def test_rooms(bindings):
+    try_rooms(bindings)
 
-    def test_arrays(self):
-        try_arrays(self.shared.package)
 
-    def test_array_faults(self):
-        try_array_faults(self.shared.package)
+def test_claims(compiler, bindings):
+    try_claims(compiler, bindings, STRICT, SANITIZED)
 
-    def test_rooms(self):
-        try_rooms(self.shared)
 
-    def test_claims(self):
-        try_claims(self.compiler, self.shared, STRICT, SANITIZED)
+def test_trips(compiler, bindings):
+    try_trips(compiler, bindings, STRICT, SANITIZED)
 
-    def test_trips(self):
-        try_trips(self.compiler, self.shared, STRICT, SANITIZED)
 
-    def test_static(self):
-        try_static(self.compiler, self.work, self.small, self.all_calls)
+def test_sanitizers(compiler, place, small):
+    checks.need("cc ar objcopy objdump", "the library under sanitizers")
+    write_calls(f"{place}/watched", small)
+    try_layer(compiler, place, len(small))
+    try_race(compiler, place)
+    try_helgrind(compiler, place)
 
-    def test_heap(self):
-        try_heap(self.compiler, self.work)
 
-    def test_misuses(self):
-        try_misuses(self.compiler)
-
-    def test_classes(self):
-        try_classes(self.compiler, self.shared)
-
-    def test_memory(self):
-        try_memory(self.compiler)
-
-    def test_sanitizers(self):
-        checks.need("cc ar objcopy objdump", "the library under sanitizers")
-        write_calls(f"{self.work}/watched", self.small)
-        try_layer(self.compiler, self.work, len(self.small))
-        try_race(self.compiler, self.work)
-        try_helgrind(self.compiler, self.work)
-
-    def test_watched_packages(self):
-        try_packages(self.compiler, self.work, program("tune", {"limit": 8}, read("jq.profile"))[1])
-
-    def test_c_callers(self):
-        try_c_callers(self.compiler, self.work)
-
-    def test_document(self):
-        try_document(self.compiler, self.work)
-
-    def test_go(self):
-        checks.need("go cc pkg-config", "a caller in Go")
-        try_go(self.library, self.work)
-
-    def test_cmake(self):
-        checks.need("cmake make cc", "find_package")
-        try_cmake(self.library, self.work)
-
-    def test_prefixes(self):
-        checks.need("pkg-config", "pkg-config in folders of all names")
-        try_prefixes(self.library, self.work)
-
-    def test_cpp(self):
-        checks.need("c++", "the header for C++")
-        try_cpp(self.compiler, self.work)
-
-    def test_python(self):
-        try_python(self.shared, self.library)
-
-    def test_rust(self):
-        checks.need("cargo", "the crates for Rust")
-        try_rust(self.library, self.work)
+def test_watched_packages(compiler, place):
+    try_packages(compiler, place, program("tune", {"limit": 8}, read("jq.profile"))[1])

@@ -173,6 +173,9 @@ class Refusals(checks.Part):
         data[len(data) // 2] ^= 1
         path.write_bytes(pack(bytes(data)))
 
+    def expect_runs(self, what: str, got: tuple, says: str, out: str = "mte_tool 1.0.0\n") -> None:
+        expect(what, got[:2] == (0, out) and says in got[2], *got)
+
     def expect_refused(self, what: str, got: tuple, why: str) -> None:
         expect(f"{what}: it is refused", got[:2] == (3, "") and why in got[2], *got)
 
@@ -180,24 +183,21 @@ class Refusals(checks.Part):
 
     def test_changed_module(self):
         checks.need("node", "a module with a changed byte")
-        status, out, said = self.launch("--version", tools=f"{self.TOOLS} node")
-        expect("Node runs the module", (status, out) == (0, "mte_tool 1.0.0\n") and "Node" in said, status, out, said)
+        node = f"{self.TOOLS} node"
+        self.expect_runs("Node runs the module", self.launch("--version", tools=node), "Node")
         self.spoil("program.wasm", gzip.compress)
-        status, out, said = self.launch("--version", tools=f"{self.TOOLS} node")
-        self.expect_refused("one changed byte in Node", (status, out, said), "not the one of its manifest")
-        expect("one changed byte in Node: it is called nothing else", said.count("\n") == 1, said)
-        status, out, said = self.launch("score", tools=f"{self.TOOLS} node")
-        self.expect_refused("one changed byte in Node, a command", (status, out, said), "not the one of its manifest")
+        got = {word: self.launch(word, tools=node) for word in ("score", "--version")}
+        for word, each in got.items():
+            self.expect_refused(f"one changed byte in Node, {word}", each, "not the one of its manifest")
+        expect("one changed byte in Node: it is called nothing else", got["--version"][2].count("\n") == 1, got)
 
     def test_changed_code(self):
         checks.need("gcc", "the C of a module with a changed byte")
-        tools = f"{self.TOOLS} gcc as ld nproc"
+        how = {"tools": f"{self.TOOLS} gcc as ld nproc", "MTE_TOOL_BUILD": "yes"}
         self.spoil("c.tar", lambda data: lzma.compress(data, preset=0))
-        status, out, said = self.launch("--version", tools=tools, MTE_TOOL_BUILD="yes")
-        self.expect_refused("one changed byte of C", (status, out, said), "not the one of its manifest")
+        self.expect_refused("one changed byte of C", self.launch("--version", **how), "not the one of its manifest")
         Path(f"{self.place}/modules/c.tar.xz").write_bytes(b"no xz")
-        status, out, said = self.launch("--version", tools=tools, MTE_TOOL_BUILD="yes")
-        self.expect_refused("what is no archive", (status, out, said), "can't be read")
+        self.expect_refused("what is no archive", self.launch("--version", **how), "can't be read")
         kept = [name for _, _, names in os.walk(self.cache) for name in names if name == engines.NATIVE]
         expect("nothing is kept", not kept, kept)
 
@@ -220,12 +220,11 @@ class Refusals(checks.Part):
         """A manifest without a line is none: the launcher asks for the kit."""
         path = Path(f"{self.place}/modules/manifest")
         path.write_text(path.read_text().replace("proofs proved\n", ""))
-        status, out, said = self.launch("--version", tools=self.TOOLS)
-        self.expect_refused("a manifest that says nothing of proofs", (status, out, said), "the program is not built")
+        got = self.launch("--version", tools=self.TOOLS)
+        self.expect_refused("a manifest that says nothing of proofs", got, "the program is not built")
 
     def test_nothing_runs(self):
-        status, out, said = self.launch("--version", tools=self.TOOLS)
-        self.expect_refused("without Node and a compiler", (status, out, said), PACKAGES)
+        self.expect_refused("without Node and a compiler", self.launch("--version", tools=self.TOOLS), PACKAGES)
         got = self.launch(f"{self.place}/made", script="library", tools=self.TOOLS)
         self.expect_refused("the library without a compiler", got, PACKAGES)
         expect("it is one line, and there is no library", got[2].count("\n") == 1 and not os.path.exists(f"{self.place}/made"), got)
@@ -244,8 +243,7 @@ class Refusals(checks.Part):
         plain = f"{self.place}/plain"
         Path(plain).write_text("#!/bin/sh\necho plain\n")
         os.chmod(plain, 0o755)
-        status, out, said = self.launch("-V", MTE_TOOL=plain)
-        expect("another program", (status, out) == (0, "plain\n") and "nothing is proved" in said, status, out, said)
+        self.expect_runs("another program", self.launch("-V", MTE_TOOL=plain), "nothing is proved", "plain\n")
         if not checks.skip_without("node", "-V of the project's engines"):
             status, out, said = self.launch("-V", tools=f"{self.TOOLS} node")
             state = engines.State.PLAIN if MODULES_ARE else engines.State.PROVED_BY_PROJECT
@@ -260,8 +258,8 @@ class Refusals(checks.Part):
         checks.need("node", "a cache that others can write to")
         os.mkdir(self.cache)
         os.chmod(self.cache, 0o777)
-        status, out, said = self.launch("--version", tools=f"{self.TOOLS} node gcc", MTE_TOOL_BUILD="yes")
-        expect("an open cache", (status, out) == (0, "mte_tool 1.0.0\n") and "Node" in said, status, out, said)
+        got = self.launch("--version", tools=f"{self.TOOLS} node gcc", MTE_TOOL_BUILD="yes")
+        self.expect_runs("an open cache", got, "Node")
         expect("nothing is put there", os.listdir(self.cache) == [], os.listdir(self.cache))
 
 

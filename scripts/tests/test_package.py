@@ -19,7 +19,9 @@ import subprocess
 import sys
 import tempfile
 import zipfile
+from collections import namedtuple
 from unittest import mock
+from pathlib import Path
 
 import checks
 import clean_debian
@@ -49,11 +51,13 @@ def run_command(words, **given):
 
 
 def read(path):
-    with open(path, "rb") as file:
-        return file.read()
+    return Path(path).read_bytes()
 
 
 # ---- the packages
+
+Inputs = namedtuple("Inputs", "words library page made")
+
 
 def parts(work):
     """The options that hand over the library and the page, where they can be had without a proof."""
@@ -65,8 +69,7 @@ def parts(work):
         expect("the library is known to be proved", not packaging.library_unproved(library), packaging.library_unproved(library))
     if not page and web_page.at_hand():
         page = f"{work}/page.html"
-        with open(page, "w", encoding="utf-8") as file:
-            file.write(web_page.page(web_page.at_hand()))
+        Path(page).write_text(web_page.page(web_page.at_hand()), encoding="utf-8")
     for name, value, how in (("library", library, "scripts/library"), ("page", page, "scripts/page")):
         if not value:
             skip(f"since it is not kept ({how} keeps it): the {name} in the package")
@@ -124,24 +127,55 @@ def try_same_bytes(words, work):
     return first
 
 
-def try_kinds(made, library):
+@pytest.fixture(scope="module")
+def inputs(place):
+    """The words by which the packages are made, the library and the page; and the packages."""
+    if not os.access(PROGRAM, os.X_OK):
+        pytest.skip(f"since the program is not built (scripts/mte_tool --prove builds it): the packages, {PROGRAM}")
+    checks.need("git strip readelf", "the packages")
+    if run_command(["git", "-C", ROOT, "rev-parse", "HEAD"]).returncode:
+        pytest.skip("without a repository of git: the packages")
+    os.environ.pop("MTE_TOOL", None)
+    words, library, page = parts(place)
+    return Inputs(words, library, page, try_same_bytes(words, place))
+
+
+@pytest.fixture(scope="module")
+def packages(inputs):
+    return inputs.made
+
+
+@pytest.fixture(scope="module")
+def user(packages, place):
+    user = User(unpack_packages(packages, place), place)
+    if shutil.which("rt", path=user.path):
+        skip("since the kit's rt is in /usr/bin: that no kit is needed")
+    return user
+
+
+@pytest.fixture(scope="module")
+def commit():
+    return run_command(["git", "-C", ROOT, "rev-parse", "HEAD"]).stdout.decode().strip()
+
+
+def test_kinds(packages, inputs):
     """All packages are there that can be made."""
     debs = {"mte-tool"} if shutil.which("dpkg-deb") else set()
-    if library:
-        debs |= {"libmte-tool-dev", made.library()} if debs else set()
-        expect("a wheel and two crates", made.wheel and len(made.crates) == 2, made.all)
-    expect("the Debian packages", set(made.debs) == debs, made.debs, debs)
+    if inputs.library:
+        debs |= {"libmte-tool-dev", packages.library()} if debs else set()
+        expect("a wheel and two crates", packages.wheel and len(packages.crates) == 2, packages.all)
+    expect("the Debian packages", set(packages.debs) == debs, packages.debs, debs)
     if not skip_without("dpkg-deb", "the fields of the Debian packages"):
-        fields = {name: run_command(["dpkg-deb", "-f", path]).stdout.decode() for name, path in made.debs.items()}
+        fields = {name: run_command(["dpkg-deb", "-f", path]).stdout.decode() for name, path in packages.debs.items()}
         for name, text in fields.items():
             expect(f"{name} may be there for two architectures", ("Multi-Arch: same\n" in text) == (name != "mte-tool"), text)
             expect(f"{name} names its sources", ("Source: mte-tool\n" in text) == (name != "mte-tool"), text)
-        if library:
+        if inputs.library:
             version = re.search(r"(?m)^Version: (.*)$", fields["libmte-tool-dev"])[1]
-            expect("the headers want their library", f"Depends: {made.library()} (= {version})\n" in fields["libmte-tool-dev"])
+            expect("the headers want their library", f"Depends: {packages.library()} (= {version})\n" in fields["libmte-tool-dev"])
 
 
-def try_words(work):
+def test_words(inputs, work):
     run = lambda *words, **more: run_command([f"{ROOT}/scripts/package", *words], **more)
     expect("package --help", run("--help").stdout.startswith(b"Make the packages"))
     for words in ([], ["--wrong"], ["a", "b"], ["--program"], ["--page", "x", "--no-page", "a"], ["--program", "/bin/true", f"{work}/no"],
@@ -155,28 +189,28 @@ def try_words(work):
     expect(f"package packs no program of MTE_TOOL: {made}", made.returncode == 2 and b"MTE_TOOL" in made.stderr)
 
 
-def try_lintian(made):
+def test_lintian(packages):
     if skip_without("lintian", "the rules of Debian"):
         return
-    said = run_command(["lintian", "--allow-root", "--fail-on", "error,warning", *made.debs.values()])
+    said = run_command(["lintian", "--allow-root", "--fail-on", "error,warning", *packages.debs.values()])
     found = re.findall(r"(?m)^[EW]: .*", said.stdout.decode())
-    for name in made.debs:
+    for name in packages.debs:
         own = [line for line in found if line[3:].startswith(f"{name}: ")]
         expect(f"lintian of {name}", not own, *own)
     expect("lintian reads them", said.returncode == 0 or found, said.stderr.decode())
 
 
-def unpack_packages(made, work):
+def unpack_packages(packages, work):
     """The tree of the Debian packages, or of the tar where there is no dpkg; the two have the same files."""
-    run_command(["tar", "-xf", made.tar, "-C", work], check=True)
-    tar = f"{work}/{os.path.basename(made.tar).removesuffix('-x86_64-linux.tar.gz')}"
+    run_command(["tar", "-xf", packages.tar, "-C", work], check=True)
+    tar = f"{work}/{os.path.basename(packages.tar).removesuffix('-x86_64-linux.tar.gz')}"
     root = f"{work}/root"
     expect("the tar has the licence", read(f"{tar}/LICENSE") == read(f"{ROOT}/LICENSE"))
-    if not made.debs or skip_without("dpkg", "the Debian packages, unpacked"):
+    if not packages.debs or skip_without("dpkg", "the Debian packages, unpacked"):
         os.mkdir(root)
         shutil.copytree(tar, f"{root}/usr", symlinks=True)
         return root
-    install(made, root)
+    install(packages, root)
     own = re.compile(r"LICENSE|(share|lib)|share/lintian(/.*)?|share/doc(/mte-tool/(copyright|changelog.gz|manifest.txt)|/libmte-tool.*)?")
     trees = [{name for name in Tree(folder).entries() if not own.fullmatch(name)} for folder in (tar, f"{root}/usr")]
     expect("the tar and the Debian packages have the same files", trees[0] == trees[1], trees[0] ^ trees[1])
@@ -195,10 +229,10 @@ def dpkg(root, *words):
     return run_command(["dpkg", f"--root={root}", "--log=/dev/null", "--force-depends", *words])
 
 
-def install(made, root):
+def install(packages, root):
     """The packages in a folder: as root by dpkg, which can remove them again."""
     if os.geteuid():
-        for path in made.debs.values():
+        for path in packages.debs.values():
             run_command(["dpkg", "-x", path, root], check=True)
         return
     for folder in ("info", "updates", "triggers"):
@@ -206,34 +240,24 @@ def install(made, root):
     for name in ("status", "available"):
         with open(f"{root}/var/lib/dpkg/{name}", "w", encoding="ascii"):
             pass
-    done = dpkg(root, "-i", *made.debs.values())
+    done = dpkg(root, "-i", *packages.debs.values())
     expect("dpkg installs the packages", done.returncode == 0, done.stdout, done.stderr)
-    for name in made.debs:
+    for name in packages.debs:
         done = dpkg(root, "-V", name)
         expect(f"dpkg finds {name} as it was packed", done.returncode == 0 and not done.stdout, done.stdout, done.stderr)
 
 
-def try_removal(made, root):
-    """Nothing is left, also of what ran in between."""
-    if os.geteuid() or not made.debs:
-        skip("since it is not root: the removal by dpkg")
-        return
-    done = dpkg(root, "-P", *made.debs)
-    left = [name for name in Tree(root).entries() if not re.fullmatch(r"(home|var)(/.*)?", name)]
-    expect("nothing is left after the removal", done.returncode == 0 and not left, done.stderr, left)
-
-
-def try_shared(made, user):
+def test_shared(packages, user):
     """What Debian is told of the shared library is what the library says, and it and the recorders are hardened."""
     folder = f"{user.root}/usr/lib"
     objects = [f"{folder}/mte-tool/recorders/{file}" for file in packaging.RECORDERS.values()] if shutil.which("cc") else []
-    if made.library():
-        control = {name: run_command(["dpkg-deb", "-I", made.debs[made.library()], name]).stdout.decode() for name in ("shlibs", "symbols")}
+    if packages.library():
+        control = {name: run_command(["dpkg-deb", "-I", packages.debs[packages.library()], name]).stdout.decode() for name in ("shlibs", "symbols")}
         names = [name for name in os.listdir(f"{folder}/{machines.HERE.triple}") if name.startswith("libmte_tool.so.")]
         words = control["shlibs"].split()
-        expect(f"shlibs says {words}, and there are {names}", names == [".so.".join(words[:2])] and words[2] == made.library())
+        expect(f"shlibs says {words}, and there are {names}", names == [".so.".join(words[:2])] and words[2] == packages.library())
         first, second, *listed = control["symbols"].splitlines()
-        wanted = [f"{names[0]} {made.library()} #MINVER#", "* Build-Depends-Package: libmte-tool-dev"]
+        wanted = [f"{names[0]} {packages.library()} #MINVER#", "* Build-Depends-Package: libmte-tool-dev"]
         expect("the head of the symbols", [first, second] == wanted, first, second)
         objects.append(f"{folder}/{machines.HERE.triple}/{names[0]}")
         exported = run_command(["nm", "-D", "--defined-only", "--format=posix", objects[-1]]).stdout.decode()
@@ -251,22 +275,22 @@ def manifest_lines(text):
     return [line.split(" ", 1) for line in text.decode().splitlines()]
 
 
-def try_provenance(made, root, commit, work):
+def test_provenance(packages, commit, work):
     """Each package says what it was made of, and has the hash of each of its files."""
     places = {}
-    for name in made.debs:
-        listed = run_command(["dpkg-deb", "--fsys-tarfile", made.debs[name]]).stdout
+    for name in packages.debs:
+        listed = run_command(["dpkg-deb", "--fsys-tarfile", packages.debs[name]]).stdout
         os.mkdir(f"{work}/{name}")
         run_command(["tar", "-xf", "-", "-C", f"{work}/{name}"], input=listed, check=True)
         own = provenance.NAME if name == "mte-tool" else provenance.NAME.replace(".txt", ".amd64.txt")
         places[name] = f"{work}/{name}", f"usr/share/doc/{name}/{own}"
-    for path in [made.tar, *made.crates]:
+    for path in [packages.tar, *packages.crates]:
         run_command(["tar", "-xf", path, "-C", work], check=True)
         top = os.path.basename(path).removesuffix(".crate").removesuffix("-x86_64-linux.tar.gz")
         own = provenance.NAME if path.endswith(".crate") else f"share/doc/mte-tool/{provenance.NAME}"
         places[os.path.basename(path)] = f"{work}/{top}", own
-    if made.wheel:
-        with zipfile.ZipFile(made.wheel) as archive:
+    if packages.wheel:
+        with zipfile.ZipFile(packages.wheel) as archive:
             archive.extractall(f"{work}/wheel")
             told = next(name for name in archive.namelist() if name.endswith(provenance.NAME))
         places["wheel"] = f"{work}/wheel", told
@@ -284,7 +308,7 @@ def try_provenance(made, root, commit, work):
         expect(f"{package}: the hash of each file", files and not wrong, wrong)
 
 
-def try_release(words, work):
+def test_release(inputs, work):
     """It is refused for a tree with changes and for a program that is not known to be proved; else all is in one folder."""
     clone = another_folder(f"{work}/clone")
     git = ["git", "-C", clone, "-c", "user.name=Somebody", "-c", "user.email=somebody@example.org"]
@@ -300,8 +324,7 @@ def try_release(words, work):
     for wrong in ([], ["--no-page", "a"], ["a", "b"], ["--gate", f"{ROOT}/LICENSE", f"{work}/no"]):
         made = run(*wrong)
         expect(f"release {wrong} is refused", made.returncode == 2 and made.stderr and not made.stdout, made)
-    with open(f"{clone}/file of nobody", "w", encoding="ascii") as file:
-        file.write("x")
+    Path(f"{clone}/file of nobody").write_text("x", encoding="ascii")
     made = run("--program", PROGRAM, f"{work}/no")
     expect("a tree that is not clean is refused", made.returncode == 1 and b"file of nobody" in made.stderr, made)
     os.remove(f"{clone}/file of nobody")
@@ -309,19 +332,17 @@ def try_release(words, work):
     shutil.copy(PROGRAM, other)
     made = run("--program", other, f"{work}/no")
     expect("a program without a manifest is refused", made.returncode == 1 and b"not known to be proved" in made.stderr, made)
-    with open(f"{work}/gate", "w", encoding="ascii") as file:
-        file.write("all: 5 passed, 1 failed, 0 skipped\n")
+    Path(f"{work}/gate").write_text("all: 5 passed, 1 failed, 0 skipped\n", encoding="ascii")
     made = run("--gate", f"{work}/gate", "--program", other, f"{work}/no")
     expect("a gate that failed is refused", made.returncode == 1 and b"the gate failed" in made.stderr, made)
     # what a manifest says is believed here, so that a release can be made of any program
     sources, verdict = manifest.sources_of(clone), "logic=proved functions=1"
     said = manifest.Manifest(manifest.hash_of(other), sources, "kit-of-the-test logic 1", "proved", verdict)
-    with open(manifest.path_of(other), "w", encoding="ascii") as file:
-        file.write(manifest.text_of(said))
-    if "--no-library" in words or "--no-page" in words or not shutil.which("dpkg-deb"):
+    Path(manifest.path_of(other)).write_text(manifest.text_of(said), encoding="ascii")
+    if not inputs.library or not inputs.page or not shutil.which("dpkg-deb"):
         skip("without the library or the page: a whole release")
         return
-    given = dict(zip(words[::2], words[1::2]))
+    given = dict(zip(inputs.words[::2], inputs.words[1::2]))
     releases_all(given, work, other, run, said, git)
 
 
@@ -383,7 +404,7 @@ def lacks(command):
     return command != "mte_tool" and skip_without(f"scripts/{command.removeprefix('mte_')}", f"{command} of the package")
 
 
-def try_names(user, commit):
+def test_names(user, commit):
     """Each command says its own name, and has a page, completions and what they are made of."""
     share = f"{user.root}/usr/share"
     expect(f"the commands: {user.names()}", user.names() == sorted(["mte_tool", *(f"mte_{name}" for name in packaging.COMMANDS)]))
@@ -413,7 +434,7 @@ def try_names(user, commit):
     expect(f"no link leads nowhere: {dangling}", not dangling)
 
 
-def try_pages(user):
+def test_pages(user):
     if skip_without("groff", "the manual pages"):
         return
     folder = f"{user.root}/usr/share/man/man1"
@@ -430,7 +451,7 @@ def try_pages(user):
         expect(f"{name} has all words of the help, but: {missing[:5]}", not missing)
 
 
-def try_library_page(user):
+def test_library_page(user):
     """The page of the library has each name of the header, and each sentence of its comments."""
     path = f"{user.root}/usr/share/man/man3/mte_tool.3.gz"
     if not os.path.isfile(path):
@@ -445,7 +466,7 @@ def try_library_page(user):
         expect(f"mte_tool.3 has all words of the header, but: {missing[:5]}", not missing and len(shown) > 10000)
 
 
-def try_completions(user):
+def test_completions(user):
     share = f"{user.root}/usr/share"
     # what the shell does at a tab
     script = 'source "$1"; f=$(complete -p "$2" | sed "s/.*-F \\([^ ]*\\) .*/\\1/"); shift; COMP_WORDS=("$@"); COMP_CWORD=$(($# - 1))'
@@ -487,7 +508,7 @@ def sessions():
         yield command, re.sub(r"(?m)^    ", "", output)
 
 
-def try_readme(user):
+def test_readme(user):
     found = list(sessions())
     expect("README has the session of the example", any("sqlite.trace" in command for command, _ in found))
     for command, output in found:
@@ -500,7 +521,7 @@ def try_readme(user):
         expect(f"README: {command}: {made.stdout[:300]} {made.stderr[:300]}", made.stdout.decode() == output)
 
 
-def try_tuning(user, engines):
+def test_tuning(user, inputs):
     """A program is taken to its table, without a compiler."""
     folder = f"{user.home}/sorted"
     made = user.run("mte_tune_program", "--output", folder, "sort", "examples/sqlite.trace", more={"CC": "no_compiler", "MTE_TOOL": ""})
@@ -510,9 +531,9 @@ def try_tuning(user, engines):
     expect(f"the fit is a best one: {made}", made.returncode == 0 and made.stdout.splitlines()[-1].startswith(b"optimal"))
     report = read(f"{folder}/report.html").decode()
     expect("report.html says how to check", re.search(r'<pre id="check">mte_check_sheet \S+/fitted.fit \S+/program.timeline</pre>', report))
-    expect("the page is beside the report", os.path.isfile(f"{folder}/page.html") == ('href="page.html"' in report) == bool(engines))
+    expect("the page is beside the report", os.path.isfile(f"{folder}/page.html") == ('href="page.html"' in report) == bool(inputs.page))
     made = user.run("mte_page", "--trace", "examples/jq.trace")
-    expect(f"mte_page: {made.stderr}", (made.returncode, b'"jq.trace"' in made.stdout) == ((0, True) if engines else (3, False)))
+    expect(f"mte_page: {made.stderr}", (made.returncode, b'"jq.trace"' in made.stdout) == ((0, True) if inputs.page else (3, False)))
     profile, sheet = f"{folder}/program.profile", f"{folder}/tuned.sheet"
     for words, wanted in ((["mte_profile_program", "ls", "examples"], rb"(?m)^\d+ \d+$"), (["mte_trace_program", "ls"], rb"(?m)^malloc 0 "),
                           (["mte_draw_waste", "examples/jq.profile"], b"^<svg"),
@@ -529,15 +550,14 @@ def try_tuning(user, engines):
     expect("nothing is compiled where the package has it", not os.path.exists(f"{user.home}/.cache/mte_tool/sizes"))
 
 
-def try_manifest(user):
+def test_manifest(user):
     """It is that of the packed program. Of another program in its place nothing is proved, and each script says so."""
     made = user.run("mte_manifest")
     expect(f"mte_manifest: {made}", made.returncode == (not IS_PROVED) and (b"this is the program" in made.stdout) == IS_PROVED)
     packed = f"{user.root}/usr/lib/mte-tool/mte_tool"
     expect("the manifest has the hash of the packed program", manifest.read(packed).program == manifest.hash_of(packed))
     os.rename(f"{user.root}/usr/bin/mte_tool", f"{user.root}/kept")
-    with open(f"{user.root}/usr/bin/mte_tool", "w", encoding="utf-8") as file:
-        file.write(f'#!/bin/sh\nexec {user.root}/kept "$@"\n')
+    Path(f"{user.root}/usr/bin/mte_tool").write_text(f'#!/bin/sh\nexec {user.root}/kept "$@"\n', encoding="utf-8")
     os.chmod(f"{user.root}/usr/bin/mte_tool", 0o755)
     made = user.run("mte_tune_program", "--output", "swapped", "--read", "examples/jq.profile")
     said = made.stdout + made.stderr
@@ -546,7 +566,7 @@ def try_manifest(user):
     os.replace(f"{user.root}/kept", f"{user.root}/usr/bin/mte_tool")
 
 
-def try_builds(user, tar):
+def test_builds(user, packages):
     """The builds of examples/build as they are written: those that the package has, and for the workflow that of the repository too."""
     build = f"{user.home}/examples/build"
     for tool, name, words in (("make", "Makefile", "make"), ("cmake", "CMakeLists.txt", "cmake -B built . && cmake --build built")):
@@ -565,18 +585,18 @@ def try_builds(user, tar):
         folder, temporary = f"{user.home}/checked out {place}", f"{user.home}/runner of {place}"
         os.mkdir(folder)
         os.mkdir(temporary)
-        shutil.copy(tar, folder)
+        shutil.copy(packages.tar, folder)
         shutil.copy(f"{user.home}/examples/sqlite.profile", f"{folder}/app.profile")
-        with open(f"{folder}/app.sheet", "wb") as file:
-            file.write(sheet)
+        Path(f"{folder}/app.sheet").write_bytes(sheet)
         environment = {"PATH": "/usr/bin:/bin", "HOME": user.home, "LANG": "C.UTF-8"}
         done = workflow.run_all(read(f"{path}/workflow.yml").decode(), folder, temporary, environment)
         good = done.returncode == 0 and "optimal" in done.stdout and os.path.isfile(f"{folder}/tuned_map.inc")
         expect(f"the workflow of the {place}, as written: {done.stdout[-600:]}", good)
 
 
-def try_fleet(user):
+def test_fleet(user):
     """The load of examples/fleet as it is written, twice."""
+    checks.need("scripts/fleet_profiles", "the load of examples/fleet by the package")
     if not postgresql.programs():
         skip("without PostgreSQL: the fleet's profiles in it")
         return
@@ -589,7 +609,7 @@ def try_fleet(user):
             expect(f"{command}, the {turn} time: {made.stdout[:200]} {made.stderr[:300]}", wanted and made.stdout == wanted)
 
 
-def try_paths(user):
+def test_paths(user):
     """No file has a path of this machine."""
     # not ROOT alone, which may be as short as a word of a document
     paths = [os.fsencode(path) for path in (f"{ROOT}/scripts", f"{ROOT}/crates", f"{ROOT}/library", os.path.dirname(user.root))]
@@ -655,10 +675,10 @@ class Source(checks.Part):
         if why := engines.why_unproved():
             pytest.skip(f"since the project's engines are of other sources, {why}: Debian's source package")
         folder = self.folder()
-        made = [run_command([f"{ROOT}/scripts/package", "--source", f"{folder}/{name}"]) for name in "ab"]
+        packages = [run_command([f"{ROOT}/scripts/package", "--source", f"{folder}/{name}"]) for name in "ab"]
         names = sorted(os.listdir(f"{folder}/a"))
-        expect("a description and an archive", [each.partition("_")[0] for each in names] == ["mte-tool"] * 2, names, made)
-        expect("the names are printed", made[0].stdout.decode().split() == [f"{folder}/a/{name}" for name in names], made[0])
+        expect("a description and an archive", [each.partition("_")[0] for each in names] == ["mte-tool"] * 2, names, packages)
+        expect("the names are printed", packages[0].stdout.decode().split() == [f"{folder}/a/{name}" for name in names], packages[0])
         for name in names:
             expect(f"twice the same bytes: {name}", filecmp.cmp(f"{folder}/a/{name}", f"{folder}/b/{name}", shallow=False))
         done = run_command(["dpkg-source", "-x", f"{folder}/a/{names[0]}", f"{folder}/source"])
@@ -673,85 +693,26 @@ class Source(checks.Part):
             expect("lintian of the source package", done.returncode == 0, done.stdout, done.stderr)
 
 
-class Packages(checks.Part):
-    @classmethod
-    def setup_class(cls):
-        if not os.access(PROGRAM, os.X_OK):
-            pytest.skip(f"since the program is not built (scripts/mte_tool --prove builds it): the packages, {PROGRAM}")
-        checks.need("git strip readelf", "the packages")
-        if run_command(["git", "-C", ROOT, "rev-parse", "HEAD"]).returncode:
-            pytest.skip("without a repository of git: the packages")
-        os.environ.pop("MTE_TOOL", None)
-        cls.work = cls.folder()
-        cls.words, cls.library, cls.page = parts(cls.work)
-        cls.made = try_same_bytes(cls.words, cls.work)
-        cls.user = User(unpack_packages(cls.made, cls.work), cls.work)
-        if shutil.which("rt", path=cls.user.path):
-            skip("since the kit's rt is in /usr/bin: that no kit is needed")
+def test_callers(user, packages):
+    package_callers.try_callers(user, packages)
 
-    def commit(self):
-        return run_command(["git", "-C", ROOT, "rev-parse", "HEAD"]).stdout.decode().strip()
 
-    def test_kinds(self):
-        try_kinds(self.made, self.library)
+def test_wheel(packages, work):
+    package_callers.try_wheel(packages.wheel, work, IS_PROVED)
 
-    def test_words(self):
-        try_words(self.folder())
 
-    def test_lintian(self):
-        try_lintian(self.made)
+def test_crates(packages, work):
+    package_callers.try_crates(packages.crates, work)
 
-    def test_names(self):
-        try_names(self.user, self.commit())
 
-    def test_pages(self):
-        try_pages(self.user)
-
-    def test_library_page(self):
-        try_library_page(self.user)
-
-    def test_completions(self):
-        try_completions(self.user)
-
-    def test_readme(self):
-        try_readme(self.user)
-
-    def test_tuning(self):
-        try_tuning(self.user, self.page)
-
-    def test_manifest(self):
-        try_manifest(self.user)
-
-    def test_builds(self):
-        try_builds(self.user, self.made.tar)
-
-    def test_fleet(self):
-        checks.need("scripts/fleet_profiles", "the load of examples/fleet by the package")
-        try_fleet(self.user)
-
-    def test_shared(self):
-        try_shared(self.made, self.user)
-
-    def test_provenance(self):
-        try_provenance(self.made, self.user.root, self.commit(), self.folder())
-
-    def test_callers(self):
-        package_callers.try_callers(self.user, self.made)
-
-    def test_wheel(self):
-        package_callers.try_wheel(self.made.wheel, self.folder(), IS_PROVED)
-
-    def test_crates(self):
-        package_callers.try_crates(self.made.crates, self.folder())
-
-    def test_release(self):
-        try_release(self.words, self.folder())
-
-    def test_paths(self):
-        try_paths(self.user)
-
-    def test_removal(self):
-        try_removal(self.made, self.user.root)
+def test_removal(packages, user):
+    """Nothing is left, also of what ran in between."""
+    if os.geteuid() or not packages.debs:
+        skip("since it is not root: the removal by dpkg")
+        return
+    done = dpkg(user.root, "-P", *packages.debs)
+    left = [name for name in Tree(user.root).entries() if not re.fullmatch(r"(home|var)(/.*)?", name)]
+    expect("nothing is left after the removal", done.returncode == 0 and not left, done.stderr, left)
 
 
 def in_debian_instead(options):

@@ -19,6 +19,7 @@ import tempfile
 import threading
 import zlib
 from unittest import mock
+from pathlib import Path
 
 import browser
 import checks
@@ -233,6 +234,25 @@ def frames_are_right(page):
 # ---- the page in a browser
 
 
+@contextlib.contextmanager
+def open_page(page, seconds, ready="document.body && document.body.dataset.ready"):
+    """A page in the browser, once it is ready: its text, or its address."""
+    with tempfile.TemporaryDirectory() as folder:
+        if not page.startswith("file:"):
+            Path(folder, "page.html").write_text(page, encoding="utf-8")
+            page = f"file://{folder}/page.html"
+        with browser.Page(page, seconds=seconds) as it:
+            it.until(ready)
+            yield it
+
+
+def says(it, name, element, *words):
+    """An element of the page has these words."""
+    told = it.value(f"$('{element}').textContent")
+    for each in words:
+        expect(f"{name}: {each}", each in told, told)
+
+
 def wait_for_status(it, words):
     it.until(f"document.getElementById('status').textContent.includes({json.dumps(words)})")
 
@@ -276,15 +296,15 @@ def own_table(it, given):
     wanted = int(answer("score", {}, f"classes 4 64 1024\n{given}")[1].split()[1])
     expect("a table of one's own", f"{wanted:,}" in it.value("$('tables').textContent"))
     it.value("$('own').value = 'classes 4'; compare()")
-    expect("a table that does not serve", "does not serve" in it.value("$('tables').textContent"))
+    says(it, "a table that does not serve", "tables", "does not serve")
     it.value("$('own').value = 'classes 4 4'; compare()")
-    expect("a faulty table", "22 NotAscending" in it.value("$('own-told').textContent"), it.value("$('own-told').textContent"))
+    says(it, "a faulty table", "own-told", "22 NotAscending")
     it.value("$('own').value = ''; compare()")
 
 
 def sheets(it):
     it.value("checkSheet()")
-    expect("the best sheet is optimal", "check says optimal, so" in it.value("$('verdict').textContent"))
+    says(it, "the best sheet is optimal", "verdict", "check says optimal, so")
     edits = [
         ("/^waste (.*)/m, 'waste 1$1'", "42 WasteWrong"),
         ("/^classes \\d+ /, 'classes '", "nothing is shown of this table for"),
@@ -293,8 +313,7 @@ def sheets(it):
     ]
     for edit, wanted in edits:
         it.value(f"$('sheet').value = tuner.sheet.replace({edit}); checkSheet()")
-        told = it.value("$('verdict').textContent")
-        expect(f"the sheet edited by {edit}", wanted in told, told)
+        says(it, f"the sheet edited by {edit}", "verdict", wanted)
     it.click("#restore")
     expect("the best sheet is back", it.value("$('sheet').value === tuner.sheet"))
 
@@ -440,11 +459,11 @@ def largest_works(it):
         wanted = answer("fit" if name.endswith(".history") else "tune", {"limit": 4, "step": 1, "largest_class": 1}, given)[1]
         expect(f"class 1024 forced in {name}", it.value("$('sheet').value") == wanted, it.value("$('sheet').value")[:200])
         it.value("checkSheet()")
-        expect(f"its sheet of {name} is right", "and have class 1024" in it.value("$('verdict').textContent"), it.value("$('verdict').textContent"))
+        says(it, f"its sheet of {name} is right", "verdict", "and have class 1024")
         text, told = saved_map(it, wanted)
         expect(f"its map of {name}", text == scudo_classes(wanted)[0] and OWN not in told, told)
         it.value("$('sheet').value = tuner.sheet; $('largest').checked = false; checkSheet()")
-        expect(f"it is right without the mark too: {name}", "and have class 1024" in it.value("$('verdict').textContent"))
+        says(it, f"it is right without the mark too: {name}", "verdict", "and have class 1024")
     it.value("$('limit').value = 8; $('largest').checked = false")
 
 
@@ -485,7 +504,7 @@ def histories_work(it):
                 column[place] += count
     layers_are_drawn(it, "a history", classes, columns)
     it.value("checkSheet()")
-    expect("the fit is optimal", "check-fit says optimal, so" in it.value("$('verdict').textContent"))
+    says(it, "the fit is optimal", "verdict", "check-fit says optimal, so")
 
 
 def timelines_work(it):
@@ -500,13 +519,12 @@ def timelines_work(it):
         classes = it.value("tuner.classes")
         layers_are_drawn(it, f"{given!r}", classes, timelines.heights(given.encode(), classes, 120) if given.count("\n") > 1 else [])
         it.value("checkSheet()")
-        expect(f"the fit of {given!r} is optimal", "check-fit says optimal, so" in it.value("$('verdict').textContent"))
+        says(it, f"the fit of {given!r} is optimal", "verdict", "check-fit says optimal, so")
         for edit, wanted in (("/^footprint (.*)/m, 'footprint 1$1'", "49 FootprintWrong: nothing is shown"), ("/^moments.*/m, 'moments 999999'", "53 NotMoments")):
             it.value(f"$('sheet').value = tuner.sheet.replace({edit}); checkSheet()")
-            told = it.value("$('verdict').textContent")
-            expect(f"the fit edited by {edit}", wanted in told, told)
+            says(it, f"the fit edited by {edit}", "verdict", wanted)
     it.value("takeText('timeline\\n40\\n-40\\n-40\\n', 'it')")
-    expect("a faulty timeline", "Line 4: a free of a size of which no block is live" in it.value("$('status').textContent"))
+    says(it, "a faulty timeline", "status", "Line 4: a free of a size of which no block is live")
     # the engine answers so where its rounds are over
     it.value("""window.askOld = ask; ask = async (what, words, ...more) => {
         const answer = await askOld(what, words, ...more), text = 'classes 4 8\\nfootprint 192\\nnot shown least: no table takes less than 128\\n'
@@ -601,8 +619,7 @@ def value_of(link):
 def links_work(path):
     """A link that one browser made opens in another, which checks what came. A link that was changed, or is none, is told and does nothing."""
     links = {}
-    with browser.Page(f"file://{path}", seconds=120) as it:
-        it.until("document.body && document.body.dataset.ready")
+    with open_page(f"file://{path}", 120) as it:
         it.value("$('limit').value = 5; $('step').value = 2; $('largest').checked = true; tune()")
         links["profile"] = made_link(it)
         it.value(f"$('limit').value = 4; $('step').value = 1; $('largest').checked = false; takeText({json.dumps(timeline(random.Random(45)))}, 'runs <b>')")
@@ -629,8 +646,7 @@ def links_work(path):
     sheet = answer("tune", {"limit": 5, "step": 2, "largest_class": 1}, web_page.example("sqlite.profile"))[1]
     expect("a link carries the sheet and the counts", value_of(links["profile"][0])["tune"]["slots"] == [
         {"name": "the requests of sqlite3", "text": web_page.example("sqlite.profile"), "sheet": sheet}], value_of(links["profile"][0]))  # fmt: skip
-    with browser.Page(links["profile"][0], seconds=180) as it:
-        it.until("document.body && document.body.dataset.ready")
+    with open_page(links["profile"][0], 180) as it:
         told = it.value("[$('from-link').textContent, $('from-link').className, $('sheet').value, $('limit').value, $('step').value]")
         expect("the profile of a link is checked anew", "checked it again: check says optimal, so" in told[0] and "and have class 1024" in told[0], told)
         expect("its sheet and its options are there", told[1:] == ["good", sheet, "5", "2"], told)
@@ -690,7 +706,7 @@ def spoiled_links(it, links):
         expect(f"a link with {what} is refused", told.startswith("The link is refused: ") and wanted in told, told)
     expect("links that are refused change nothing", it.value("[tuner.name, tuner.total]") == before)
     it.value(f"openLink('#mte_tool={letters_of(with_slot(text='timeline' + chr(10) + '-3' + chr(10)))}')")
-    expect("counts that the engine refuses are told", "is refused. Line 2" in it.value("$('status').textContent"), it.value("$('status').textContent"))
+    says(it, "counts that the engine refuses are told", "status", "is refused. Line 2")
 
 
 def begins_at_the_default(it):
@@ -706,8 +722,7 @@ def begins_at_the_default(it):
 
 def files_are_taken(it, folder):
     def file(name, data):
-        with open(os.path.join(folder, name), "wb") as out:
-            out.write(data)
+        Path(folder, name).write_bytes(data)
         return os.path.join(folder, name)
 
     data = "scripts/tests/imports_data"
@@ -803,7 +818,7 @@ def own_trace_is_named(it):
     it.value("$('trace').value = 'malloc\\n'")
     it.click("#run")
     it.until("$('status').textContent.startsWith('your own trace is not replayed')")
-    expect("the editor says why", "Line 1" in it.value("$('trace-told').textContent"))
+    says(it, "the editor says why", "trace-told", "Line 1")
     it.value("takeText('malloc 0 1\\nfree\\n', 'a file')")
     told = it.value("$('status').textContent")
     expect("a refused file is named", told.startswith("a file is not replayed") and told.endswith("still of your own trace."), told)
@@ -816,12 +831,11 @@ def editor_works(it):
     expect("an error of the editor stands at its line", told[0].startswith("Line 3: ") and told[1] == "free zero", told)
     for field in ("granules", "seed", "quarantine"):
         it.value(f"$('{field}').value = 99999999; replayTrace()")
-        told = it.value("$('trace-told').textContent")
-        expect(f"{field} out of its range", "whole number from" in told, told)
+        says(it, f"{field} out of its range", "trace-told", "whole number from")
         it.value(f"$('{field}').value = $('{field}').min")
     it.value("$('seed').value = 1; $('tuned').checked = false; $('line').value = 'classes 2 2'")
     it.value("$('trace').value = 'malloc 0 1\\n'; replayTrace()")
-    expect("a faulty table", "22 NotAscending" in it.value("$('trace-told').textContent"))
+    says(it, "a faulty table", "trace-told", "22 NotAscending")
     it.value("$('tuned').checked = true")
 
 
@@ -897,8 +911,7 @@ def slowest(it, controls, what):
 
 def print_figures(path):
     """Prints the rows of the table of docs/PERFORMANCE.md: what the page takes, in seconds."""
-    with browser.Page(f"file://{path}", seconds=240) as it:
-        it.until("document.body && document.body.dataset.ready")
+    with open_page(f"file://{path}", 240) as it:
         found = [("from the page's opening to its first table", it.value("performance.getEntriesByName('ready')[0].startTime") / 1000)]
         it.value(MEASURED)
         for name, what in (
@@ -960,8 +973,7 @@ def long_work_is_shown(it):
 
 
 def page_works(path, keep):
-    with tempfile.TemporaryDirectory() as folder, browser.Page(f"file://{path}", seconds=240) as it:
-        it.until("document.body && document.body.dataset.ready")
+    with tempfile.TemporaryDirectory() as folder, open_page(f"file://{path}", 240) as it:
         expect("the page begins", it.value("document.body.dataset.ready") == "yes", it.value("document.body.innerText"))
         begins_at_the_default(it)
         tuning_works(it)
@@ -1055,44 +1067,34 @@ def another_module_is_not_taken(folder):
     expect("another module with that manifest is old", web_page.is_old(kept, newest))
 
 
-def options_are_kept(modules, folder):
+def options_are_kept(modules):
     """The page of tune_program begins with its table: with its limit and its step, and with class 1024 kept."""
-    path, given = os.path.join(folder, "options.html"), web_page.example("sqlite.profile")
-    with open(path, "w", encoding="utf-8") as out:
-        out.write(web_page.page(modules, profile=("it", given), options={"limit": 5, "step": 2, "largest": True}))
+    given = web_page.example("sqlite.profile")
     wanted = answer("tune", {"limit": 5, "step": 2, "largest_class": 1}, given)[1]
-    with browser.Page(f"file://{path}", seconds=30) as it:
-        it.until("document.body && document.body.dataset.ready")
+    with open_page(web_page.page(modules, profile=("it", given), options={"limit": 5, "step": 2, "largest": True}), 30) as it:
         expect("the page begins with the options that it was made with", it.value("$('sheet').value") == wanted, it.value("$('sheet').value"))
 
 
 HOSTILE = "<!--<script>\x01</script>\udcff&\u2028"
 
 
-def changed_engines_are_refused(modules, folder):
+def changed_engines_are_refused(modules):
     """A page whose engine has one other byte says so, and answers nothing."""
-    path, whole = os.path.join(folder, "changed.html"), web_page.page(modules)
+    whole = web_page.page(modules)
     for name in web_page.MODULES:
         engine = base64.b64encode(modules[name]).decode()
         changed = base64.b64encode(modules[name][:-1] + bytes([modules[name][-1] ^ 1])).decode()
         expect(f"the page has its engine {name} once", whole.count(engine) == 1)
-        with open(path, "w", encoding="utf-8") as out:
-            out.write(whole.replace(engine, changed))
-        with browser.Page(f"file://{path}", seconds=60) as it:
-            it.until("document.body && document.body.dataset.ready")
+        with open_page(whole.replace(engine, changed), 60) as it:
             told = it.value("[document.body.dataset.ready, $('status').textContent, $('lead').textContent]")
             wanted = ["failed", "The page could not start: an engine has other bytes than the page was made with.", ""]
             expect(f"a changed engine {name} is refused", told == wanted, told)
 
 
-def hostile_texts_are_shown(modules, folder):
+def hostile_texts_are_shown(modules):
     """A text that begins a comment or a script in the page's data, or a name that does, does not stop the page."""
-    path = os.path.join(folder, "hostile.html")
     for what, given in (("profile", {"profile": (HOSTILE, "<!--<script>\n16 3\n")}), ("trace", {"trace": (HOSTILE, "malloc 0 1\n<!--<script>\n")})):
-        with open(path, "w", encoding="utf-8") as out:
-            out.write(web_page.page(modules, **given))
-        with browser.Page(f"file://{path}", seconds=30) as it:
-            it.until("document.body && document.body.dataset.ready")
+        with open_page(web_page.page(modules, **given), 30) as it:
             expect(f"the page with a hostile {what} begins", it.value("document.body.dataset.ready") == "yes")
             told = it.value("document.body.innerText")
             shown = html_safe.escape_unprintable(HOSTILE) in told or "Line 2" in it.value("$('trace-told').textContent")
@@ -1101,32 +1103,23 @@ def hostile_texts_are_shown(modules, folder):
     for value in ("<!--", "<script>", "</script>", HOSTILE):
         expect("no data has a tag", "<" not in html_safe.data(value) and json.loads(html_safe.data(value)) == value, value)
     for source in ("a = '<!--'", "b = `<script>`", "c = '<SCRIPT'"):
-        try:
-            expect("a script that would not end is refused", not html_safe.code(source), source)
-        except ValueError:
-            pass
+        with pytest.raises(ValueError):
+            html_safe.code(source)
 
 
 def report_keeps_to_itself(folder):
     """report.html shows a hostile name, has no byte that is no text, and has the same policy."""
     counts, sheet, path = (os.path.join(folder, name) for name in ("it's \x01\udcff\\\n.profile", "jq.sheet", "report.html"))
     shutil.copy(os.path.join(EXAMPLES, "jq.profile"), counts)
-    with open(sheet, "w", encoding="utf-8") as out:
-        out.write(answer("tune", {"limit": 8, "step": 1}, web_page.example("jq.profile"))[1])
+    Path(sheet).write_text(answer("tune", {"limit": 8, "step": 1}, web_page.example("jq.profile"))[1], encoding="utf-8")
     with open(path, "wb") as out:
         done = subprocess.run([f"{ROOT}/scripts/report", "--title", os.fsencode(HOSTILE), counts, sheet], stdout=out)
-    with open(path, "rb") as file:
-        page = file.read()
+    page = Path(path).read_bytes()
     expect("report.html is made", done.returncode == 0, done)
     expect("report.html is all text", page.decode(errors="replace").encode() == page and not re.search(rb"[^\n\x20-\x7e\x80-\xff]", page), page[:400])
-    with browser.Page(f"file://{path}", seconds=30) as it:
-        it.until("document.readyState === 'complete'")
+    with open_page(f"file://{path}", 30, "document.readyState === 'complete'") as it:
         title = it.value("document.querySelector('h1').textContent")
-        expect(
-            "report.html shows a hostile name",
-            title == f"Size classes for {html_safe.escape_unprintable(HOSTILE)}",
-            title,
-        )
+        expect("report.html shows a hostile name", title == f"Size classes for {html_safe.escape_unprintable(HOSTILE)}", title)
         check = it.value("document.getElementById('check').textContent")
         done = subprocess.run(["bash", "-c", check], cwd=ROOT, capture_output=True)
         told = done.stdout.decode(errors="replace").splitlines()
@@ -1147,8 +1140,7 @@ def faults_are_shown():
         subprocess.run([f"{ROOT}/scripts/traced_cc", "-O0", source, "-o", program], check=True, stdout=subprocess.DEVNULL)
         done = subprocess.run([f"{ROOT}/scripts/find_faults", "--page", path, program], stdout=subprocess.PIPE, cwd=ROOT)
         expect("find_faults --page", done.returncode == 1 and os.path.exists(path), done)
-        with browser.Page(f"file://{path}", seconds=60) as it:
-            it.until("document.body && document.body.dataset.ready")
+        with open_page(f"file://{path}", 60) as it:
             stops = it.value("watched.stops.map(k => [k, watched.notes.get(k)])")
             wanted = ["Not caught: it is inside the last granule", "Caught: tag fault"]
             expect("both errors have notes", len(stops) == 2 and all(of in note for (_, note), of in zip(stops, wanted)), stops)
@@ -1199,8 +1191,7 @@ class Words(checks.Part):
 
 def begin_of(path):
     """The first bytes of a file, each as a character."""
-    with open(path, "rb") as file:
-        data = file.read()
+    data = Path(path).read_bytes()
     return (base64.b64decode(data) if path.endswith(".base64") else data)[:4096].decode("latin-1")
 
 
@@ -1223,8 +1214,7 @@ class Page(checks.Part):
             pytest.skip(f"without {missing}: the page")
         cls.place = cls.folder()
         cls.path = os.path.join(cls.place, "page.html")
-        with open(cls.path, "w", encoding="utf-8") as out:
-            out.write(web_page.page(cls.modules))
+        Path(cls.path).write_text(web_page.page(cls.modules), encoding="utf-8")
 
     def test_another_module(self):
         another_module_is_not_taken(self.folder())
@@ -1243,9 +1233,9 @@ class Page(checks.Part):
             page_works(self.path, checks.options.keep)
             links_work(self.path)
             print_figures(self.path)
-            options_are_kept(self.modules, self.place)
-            changed_engines_are_refused(self.modules, self.place)
-            hostile_texts_are_shown(self.modules, self.place)
+            options_are_kept(self.modules)
+            changed_engines_are_refused(self.modules)
+            hostile_texts_are_shown(self.modules)
             report_keeps_to_itself(self.place)
             faults_are_shown()
         except browser.BrowserError as failed:

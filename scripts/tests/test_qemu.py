@@ -21,6 +21,7 @@ import subprocess
 import sys
 import zlib
 from collections import Counter, namedtuple
+from pathlib import Path
 
 import checks
 import pytest
@@ -116,8 +117,7 @@ class Qemu:
 
     def run(self, operations):
         assert self.at == len(self.data), "results were left"
-        with open(os.path.join(self.folder, "operations.bin"), "wb") as file:
-            file.write(b"".join(operations))
+        Path(self.folder, "operations.bin").write_bytes(b"".join(operations))
         done = subprocess.run([QEMU, *STARTED, self.machine], cwd=self.folder, stdin=subprocess.DEVNULL, stdout=subprocess.PIPE,
                               stderr=subprocess.STDOUT, timeout=600)
         if done.returncode:
@@ -545,8 +545,7 @@ def plant_faults(rng, lines):
 
 def example_traces(rng):
     for name in ("jq", "perl", "sqlite"):
-        with open(f"{EXAMPLES}/{name}.trace") as file:
-            lines = file.read().splitlines()
+        lines = Path(f"{EXAMPLES}/{name}.trace").read_text().splitlines()
         with open(f"{EXAMPLES}/scudo.classes") as file:
             scudo = [int(word) for word in file.read().split()[1:]]
         for table, *setting in ((scudo, 262144, 1, 65536), ([2, 3, 4, 5, 6, 8, 12, 20], 4096, 40000, 1000), ([8], 256, 12345, 64)):

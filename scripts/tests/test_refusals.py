@@ -16,7 +16,7 @@ import re
 
 import checks
 from checks import expect
-from crate_sources import CRATES, equations_in, functions_in, name_of, rust_files, spec_files, text_of
+from mte_scripts.gate.crate_texts import CRATES, equations_in, functions_in, name_of, rust_files, spec_files, text_of
 
 # crates whose functions promise nothing: tests, trials, and examples to be copied
 WITHOUT_PROMISE = re.compile(r".*_tests$|machine_trials$|callers$")
@@ -54,7 +54,7 @@ def names_handed_out(root):
 def public_functions(text, modules, names):
     """The public functions of a file: of the items that the root hands out, and all if it hands out the file's module."""
     for each in functions_in(text):
-        if each.is_public and (not modules or each.is_exported or (each.owner or each.name) in names or names & set(modules)):
+        if each.is_public and (not modules or each.is_exported or (each.owner or each.trait or each.name) in names or names & set(modules)):
             yield each
 
 

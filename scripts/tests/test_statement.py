@@ -4,10 +4,10 @@ The counts are counted again from what is printed, and are those of README.md; s
 long definition, with laws that lead to it and cases that there are. The page is well formed, its links lead somewhere, and it runs nothing."""
 
 import functools
-import glob
 import html.parser
 import itertools
 import os
+import pathlib
 import re
 import shutil
 import subprocess
@@ -15,10 +15,9 @@ from collections.abc import Callable, Iterator
 
 import pytest
 from checks import expect
-from crate_sources import name_of, rust_files, spec_files, text_of
 from mte_scripts.gate import statement_page, statements
-
-ROOT = os.path.dirname(os.path.dirname(os.path.dirname(os.path.realpath(__file__))))
+from mte_scripts.gate.crate_texts import CRATES, name_of, rust_files, spec_files, text_of
+from mte_scripts.places import ROOT
 
 # what each command's list has to have: what its answer is, and the words of its input or output
 HEADLINES = {
@@ -51,60 +50,54 @@ def run(*words: str, root: str = ROOT) -> "tuple[int, str, str]":
 def each_name() -> "Iterator[Callable[[], statements.Definition]]":
     """What reads each definition of the crates, and the contract of each public function."""
     for file in spec_files():
-        crate, _, path = name_of(file).partition("/specs/")
-        name = f"Rattle.{crate}.specs.{path.removesuffix('.antt').replace('/', '.')}"
-        for each in statements.module(name).blocks:
-            yield functools.partial(statements.definition, statements.Key(name, each))
+        name = f"Rattle.{'.'.join(file.relative_to(CRATES).with_suffix('').parts)}"
+        yield from (functools.partial(statements.definition, statements.Key(name, each)) for each in statements.module(name).blocks)
     for file in rust_files():
-        for each in re.findall(r"(?m)^pub fn (\w+)", text_of(file)):
-            yield functools.partial(statements.function, name_of(file).split("/")[0], each)
+        names = re.findall(r"(?m)^pub fn (\w+)", text_of(file))
+        yield from (functools.partial(statements.function, name_of(file).split("/")[0], each) for each in names)
 
 
 def test_definitions() -> None:
     """Each definition of the crates, and the contract of each public function, cites names that are defined."""
-    read, wrong = 0, []
-    for definition in each_name():
+    every, wrong = [*each_name()], []
+    for definition in every:
         try:
             definition()
-            read += 1
         except statements.UnresolvedName as error:
             wrong.append(str(error))
     expect("what definitions and contracts cite", not wrong, *wrong)
-    expect("there are many definitions and public functions", read > 1200, read)
+    expect("there are many definitions and public functions", len(every) > 1200, len(every))
+
+
+# a file of the crates, what is changed in it, and the name that is then told
+PLANTED = (
+    ("mte_engine/specs/Run.antt", "legal : IsLegalTable step", "legal : IsLawfulTable step", "IsLawfulTable"),
+    ("mte_engine/specs/Run.antt", "use Rattle.class_tuner.specs.Tuned.{IsTuned}\n", "", "IsTuned"),
+    ("class_tuner/specs/Tuned.antt", "pub record IsTunedOver ", "pub record IsTunedOverNow ", "IsTunedOver"),
+    ("class_table/src/table.rt", "const MOST_CLASSES", "const MOST_OF_ALL", "MOST_CLASSES"),
+    ("trace_event/src/event.rt", "pub enum Event", "pub enum Happening", "Event"),
+    ("mte_engine/src/running.rt", "requires { AreValid Run options }", "requires { AreSetUp Run options }", "AreSetUp"),
+    ("mte_engine/src/running.rt", "pub fn run<", "pub fn walk<", "run"),
+    ("replay_theory/specs/Replay.antt", "replay_after replay event =", "replay_after replay it =", "event"),
+)
 
 
 def test_planted(work: str) -> None:
     """A copy of what the script reads, with one fault: a status 1, and a line that names it."""
-    for name in ("scripts/statement", "scripts/mte_scripts", "README.md"):
-        to = os.path.join(work, name)
-        os.makedirs(os.path.dirname(to), exist_ok=True)
-        (shutil.copytree if os.path.isdir(os.path.join(ROOT, name)) else shutil.copy)(os.path.join(ROOT, name), to)
-    for crate in os.listdir(statements.CRATES):
-        for part in ("src", "specs", "proofs"):
-            if os.path.isdir(os.path.join(statements.CRATES, crate, part)):
-                shutil.copytree(os.path.join(statements.CRATES, crate, part), os.path.join(work, "crates", crate, part))
+    for name in ("scripts/mte_scripts", *(f"crates/{crate}/{part}" for crate in os.listdir(CRATES) for part in ("src", "specs", "proofs"))):
+        if os.path.isdir(os.path.join(ROOT, name)):
+            shutil.copytree(os.path.join(ROOT, name), os.path.join(work, name))
+    shutil.copy(os.path.join(ROOT, "scripts/statement"), os.path.join(work, "scripts"))
     expect("a copy prints something else", run("run", root=work) == run("run"))
-    for path, old, new, named in (
-        ("mte_engine/specs/Run.antt", "legal : IsLegalTable step", "legal : IsLawfulTable step", "IsLawfulTable"),
-        ("mte_engine/specs/Run.antt", "use Rattle.class_tuner.specs.Tuned.{IsTuned}\n", "", "IsTuned"),
-        ("class_tuner/specs/Tuned.antt", "pub record IsTunedOver ", "pub record IsTunedOverNow ", "IsTunedOver"),
-        ("class_table/src/table.rt", "const MOST_CLASSES", "const MOST_OF_ALL", "MOST_CLASSES"),
-        ("trace_event/src/event.rt", "pub enum Event", "pub enum Happening", "Event"),
-        ("mte_engine/src/running.rt", "requires { AreValid Run options }", "requires { AreSetUp Run options }", "AreSetUp"),
-        ("mte_engine/src/running.rt", "pub fn run<", "pub fn walk<", "run"),
-        ("replay_theory/specs/Replay.antt", "replay_after replay event =", "replay_after replay it =", "event"),
-    ):
-        file = os.path.join(work, "crates", path)
-        with open(file, encoding="utf-8") as opened:
-            before = opened.read()
-        expect(f"{path} has no `{old}`", before.count(old) >= 1)
-        with open(file, "w", encoding="utf-8") as opened:
-            opened.write(before.replace(old, new))
+    for path, old, new, named in PLANTED:
+        file = pathlib.Path(work, "crates", path)
+        before = file.read_text(encoding="utf-8")
+        expect(f"{path} has no `{old}`", old in before)
+        file.write_text(before.replace(old, new), encoding="utf-8")
         status, out, error = run("run", root=work)
         is_told = error.count("\n") == 1 and error.startswith("statement: ") and re.search(rf"\b{named}\b", error)
         expect(f"`{new.strip() or 'nothing'}` in {path}: status {status}, {error.strip()[-200:]}", (status, out) == (1, "") and is_told)
-        with open(file, "w", encoding="utf-8") as opened:
-            opened.write(before)
+        file.write_text(before, encoding="utf-8")
 
 
 # ---- what is printed
@@ -123,57 +116,55 @@ def recount(text: str) -> "tuple[int, int, int]":
     return definitions, lines, len(modules)
 
 
-def counts_of_texts() -> dict:
-    counts = {}
+def counts_of_texts() -> "dict[str, tuple[int, ...]]":
+    """The counts by topic, after each was counted again from its text, which is read from the top down and has its headline."""
     status, table, error = run("--count")
-    expect(f"--count: {status} {error}", (status, error) == (0, ""))
-    for line in table.split("\n")[1:-1]:
-        name, *numbers = line.split()
-        counts[name] = tuple(map(int, numbers))
-    expect(f"--count has {list(counts)}", list(counts) == list(statements.TOPICS))
+    counts = {name: tuple(map(int, numbers)) for name, *numbers in map(str.split, table.split("\n")[1:-1])}
+    expect(f"--count has {list(counts)}", (status, error, list(counts)) == (0, "", list(statements.TOPICS)), status, error)
+    wrong = []
     for name in statements.TOPICS:
         found = statements.statement(name)
         text = statements.as_text(found)
-        is_read_downwards(name, found, text)
-        expect(f"{name}: --count says {counts[name]}, the text has {recount(text)}", recount(text) == counts[name][:3])
+        wrong += [f"{name}: {each}" for each in faults_downwards(found, text)]
+        wrong += [f"{name}: --count says {counts[name]}, the text has {recount(text)}"] * (recount(text) != counts[name][:3])
         heads = {*re.findall(r"(?m)^(?:(?:abbrev|unfoldable|pub|record|data|enum|struct|const|trait) )+([^\s({:]+)", text)}
-        missing = {*HEADLINES.get(name, "").split()} - heads
-        expect(f"{name}: what its list has not", not missing, missing)
-    text = statements.as_text(statements.statement("run"))
-    expect("run: the script prints something else", run("run") == (0, text, ""))
-    expect("run: IsTunedRun has no comment above it", "\n-- What is written for the events of a trace, for at most" in text)
-    order = [text.index(each) for each in ("pub fn run<", "record IsTunedRun ", "record HasGiven ", "record IsTunedOver ", "\ntrace_from ", "\nlines ")]
-    expect(f"run: its order is {order}", order == sorted(order))
-    expect("run: trace_of has no laws", "\n-- laws: law_pieces, law_trace_text\nabbrev pub trace_of :" in text)
-    expect("run: the contract is not first", text.index("requires { AreValid Run options }") < text.index("==== crates/mte_engine/specs"))
-    heads = re.findall(r"(?m)^(?:abbrev pub|unfoldable pub|pub record|pub data) [^\s({:]+[^=]*?$", text)
-    expect("run: a definition stands there twice", len(set(heads)) == len(heads))
+        wrong += [f"{name}: its list has not {word}" for word in {*HEADLINES.get(name, "").split()} - heads]
+    expect("counts, headlines and order of the topics", not wrong, *wrong)
     return counts
 
 
-def is_read_downwards(name: str, found: statements.Statement, text: str) -> None:
-    """Something before each definition cites it. A module stands together, and all of other modules that cite it stand before."""
+def test_run() -> None:
+    text = statements.as_text(statements.statement("run"))
+    expect("run: the script prints something else", run("run") == (0, text, ""))
+    order = [text.index(each) for each in ("requires { AreValid Run options }", "==== crates/mte_engine/specs", "record IsTunedRun ", "record HasGiven ",
+                                           "record IsTunedOver ", "\ntrace_from ", "\nlines ")]
+    expect(f"run: its order is {order}", order == sorted(order) and text.index("pub fn run<") < order[2])
+    heads = re.findall(r"(?m)^(?:abbrev pub|unfoldable pub|pub record|pub data) [^\s({:]+[^=]*?$", text)
+    expect("run: a definition stands there twice", len(set(heads)) == len(heads))
+    for part in ("\n-- What is written for the events of a trace, for at most", "\n-- laws: law_pieces, law_trace_text\nabbrev pub trace_of :"):
+        expect(f"run: a comment, and laws above a definition: {part}", part in text)
+
+
+def faults_downwards(found: statements.Statement, text: str) -> "Iterator[str]":
+    """What is not so: something before each definition cites it, and a module stands together, after all of other modules that cite it."""
     cited = {key for it in found.contracts for key in statements.own_links(it)}
-    done: set = set()
-    wrong = []
+    done: "set[str]" = set()
     for place, its in itertools.groupby(found.definitions, lambda it: it.key.place):
-        wrong += [f"{place} stands in two places"] * (place in done)
+        yield from [f"{place} stands in two places"] * (place in done)
         done.add(place)
         for it in its:
-            wrong += [f"nothing before {it.key.name} cites it"] * (it.key not in cited)
-            before = [key.name for key in statements.own_links(it) if key.place in done - {place}]
-            wrong += [f"{before} stand before {it.key.name}, which cites them"] * bool(before)
-            cited.update(statements.own_links(it))
-    expect(f"{name}: the order", not wrong, *wrong)
+            links = statements.own_links(it)
+            yield from [f"nothing before {it.key.name} cites it"] * (it.key not in cited)
+            yield from (f"{key.name} stands before {it.key.name}, which cites it" for key in links if key.place in done - {place})
+            cited.update(links)
     places = [text.find(f"\n{it.text}\n") for it in found.definitions]
-    expect(f"{name}: the text has another order", -1 not in places and places == sorted(places))
+    yield from ["the text has another order"] * (-1 in places or places != sorted(places))
 
 
 def test_readme() -> None:
     """README.md's commands, promises and numbers are the script's."""
     counts = counts_of_texts()
-    with open(os.path.join(ROOT, "README.md"), encoding="utf-8") as file:
-        readme = file.read()
+    readme = text_of("README.md")
     promises = re.findall(r"(?m)^\d\. \*\*([^*]+?)\.?\*\*", readme[readme.index("## What is proved") :])
     expect(f"README's promises are {promises}", promises == [title for title, _ in statements.PROMISES.values()])
     commands = re.findall(r"(?m)^\| `([\w-]+)` \|", readme[readme.index("The commands are:") : readme.index("## Two commands")])
@@ -187,19 +178,18 @@ def test_readme() -> None:
 # ---- what refuses a wrong definition
 
 
+@functools.lru_cache(maxsize=None)
 def law(name: str) -> statements.Definition:
-    for crate in sorted(os.listdir(statements.CRATES)):
-        if any(f"pub fn {name}(" in statements.source(file).text for file in statements.sources_of(crate)):
-            return statements.function(crate, name)
-    raise statements.UnresolvedName(f"no crate has a law {name}")
+    crates = [name_of(file).split("/")[0] for file in rust_files() if f"pub fn {name}(" in text_of(file)]
+    expect(f"a crate has {name}", crates)
+    return statements.function(crates[0], name)
 
 
 def is_case(name: str) -> bool:
     """Whether a test of a crate is called so, a lemma, or a test of scripts/tests."""
-    files = glob.glob(os.path.join(statements.CRATES, "*/src/tests/**/*.rt"), recursive=True)
-    files += glob.glob(os.path.join(statements.CRATES, "*/proofs/*.antt"))
+    files = (path for places in ("*/src/tests/**/*.rt", "*/proofs/*.antt") for path in CRATES.glob(places))
     said = re.compile(rf"(?m)^(?:fn {name}\(|(?:pub )?{name} :)")
-    return os.path.isfile(os.path.join(ROOT, f"scripts/tests/test_{name}.py")) or any(said.search(statements.read(file)) for file in files)
+    return os.path.isfile(os.path.join(ROOT, f"scripts/tests/test_{name}.py")) or any(said.search(text_of(file)) for file in files)
 
 
 def leads_to(found: statements.Definition, word: str, definition: statements.Key) -> bool:
@@ -210,25 +200,22 @@ def leads_to(found: statements.Definition, word: str, definition: statements.Key
 
 def test_laws() -> None:
     """PROOFS.md has each definition of at least ten lines once. A law that it names leads there, and each case exists."""
-    with open(os.path.join(ROOT, "docs/PROOFS.md"), encoding="utf-8") as file:
-        section = file.read().split("## What a definition has to be believed for\n")[1].split("\n## ")[0]
+    section = text_of("docs/PROOFS.md").split("## What a definition has to be believed for\n")[1].split("\n## ")[0]
     long = {it.key.name: it.key for it in statements.statement("program").own if it.lines >= 10}
     rows = [line.strip("| ").split(" | ") for line in re.findall(r"(?m)^\| `.*", section)]
     listed = [name for row in rows for name in re.findall("`([^`]+)`", row[0])]
     expect(f"PROOFS.md has {sorted(listed)}, and long are {sorted(long)}", sorted(listed) == sorted(long))
+    wrong = []
     for names, laws, cases in rows:
         for found, words in re.findall(r"`(law_\w+)`(?: \(([^)]*)\))?", laws):
-            for word in re.findall("`([^`]+)`", words) or [""]:
-                for name in re.findall("`([^`]+)`", names):
-                    expect(f"{found} does not lead to {name} by {word or 'its own name'}", leads_to(law(found), word, long[name]))
-        for case in re.findall("`([^`]+)`", cases):
-            expect(f"{names}: no case is called {case}", is_case(case))
-        expect(f"{names}: nothing refuses it", "`" in laws + cases)
-    own = statements.statement("run").own
-    told = {it.key: re.findall(r"law_\w+", statements.laws_on(it)) for it in own}
+            pairs = itertools.product(re.findall("`([^`]+)`", words) or [""], re.findall("`([^`]+)`", names))
+            wrong += [f"{found} does not lead to {name} by {word or 'its own name'}" for word, name in pairs if not leads_to(law(found), word, long[name])]
+        wrong += [f"{names}: no case is called {case}" for case in re.findall("`([^`]+)`", cases) if not is_case(case)]
+        wrong += [f"{names}: nothing refuses it"] * ("`" not in laws + cases)
+    told = {it.key: re.findall(r"law_\w+", statements.laws_on(it)) for it in statements.statement("run").own}
+    wrong += [f"{name} does not name {key.name}" for key, found in told.items() for name in found if key not in statements.own_links(law(name))]
+    expect("what PROOFS.md says of long definitions, and which laws name a definition", not wrong, *wrong)
     expect("laws name definitions of `run`", sum(map(bool, told.values())) > 50, told)
-    wrong = [(name, key.name) for key, found in told.items() for name in found if key not in statements.own_links(law(name))]
-    expect("laws that do not name what they are told of", not wrong, wrong)
 
 
 # ---- the page
@@ -265,26 +252,25 @@ class Page(html.parser.HTMLParser):
 
 @pytest.mark.parametrize("name", statements.TOPICS)
 def test_page(name: str) -> None:
-    text = statement_page.page(statements.statement(name))
-    if name == "run":
-        expect(f"--html {name}: the script prints something else", run("--html", name) == (0, text, ""))
-    page = Page(text)
-    expect(f"--html {name}: {page.wrong[:3]}", not page.wrong)
-    expect(f"--html {name}: an id stands there twice", len(set(page.ids)) == len(page.ids))
-    expect(f"--html {name}: a link leads out of the page", all(link.startswith("#") for link in page.links))
-    lost = sorted({link for link in page.links if link[1:] not in page.ids})
-    expect(f"--html {name}: links lead nowhere: {lost[:5]}", not lost)
-    expect(f"--html {name}: nothing leads to a definition", all(f"#{each}" in page.links for each in page.ids))
     own = statements.statement(name)
-    expect(f"--html {name}: {len(page.ids)} places for {len(own.definitions)} definitions", len(page.ids) == len(own.definitions))
-    expect(f"--html {name}: it runs or loads something",
-           not any(tag in ("script", "img", "link", "iframe", "form") or any(it.startswith("on") for it in names) for tag, names in page.tags))
+    text = statement_page.page(own)
+    page, shown = Page(text), own.contracts + own.definitions
     policies = [names["content"] for tag, names in page.tags if names.get("http-equiv") == "Content-Security-Policy"]
-    expect(f"--html {name}: its policy is {policies}", len(policies) == 1 and "default-src 'none'" in policies[0] and "script-src 'none'" in policies[0])
-    expect(f"--html {name}: it is not dark for those who want that", "prefers-color-scheme: dark" in text)
-    shown = "".join(page.texts)
-    unseen = [each.key.name for each in own.contracts + own.definitions if each.text not in shown]
-    expect(f"--html {name}: what it does not show as it is written", not unseen, unseen)
+    seen = "".join(page.texts)
+    for what, wrong in {
+        "its form": page.wrong,
+        "an id stands there twice": len({*page.ids}) != len(page.ids),
+        "links lead out of the page, or nowhere": sorted({link for link in page.links if link[:1] != "#" or link[1:] not in page.ids}),
+        "nothing leads to a definition": [each for each in page.ids if f"#{each}" not in page.links],
+        f"{len(page.ids)} places for {len(own.definitions)} definitions": len(page.ids) != len(own.definitions),
+        "it runs or loads something": [tag for tag, names in page.tags if tag in ("script", "img", "link", "iframe", "form")
+                                       or any(it.startswith("on") for it in names)],
+        f"its policy is {policies}": not (len(policies) == 1 and "default-src 'none'" in policies[0] and "script-src 'none'" in policies[0]),
+        "it is not dark for those who want that": "prefers-color-scheme: dark" not in text,
+        "what it does not show as it is written": [each.key.name for each in shown if each.text not in seen],
+        "the script prints something else": name == "run" and run("--html", name) != (0, text, ""),
+    }.items():
+        expect(f"--html {name}: {what}", not wrong, wrong)
 
 
 def test_examples() -> None:
@@ -295,9 +281,8 @@ def test_examples() -> None:
     text = "".join(Page(statement_page.page(statements.statement("run"))).texts)
     for each in own:
         example = found[each.key]
-        with open(example.file, encoding="utf-8") as file:
-            last = example.text.split("\n\n")[-1]
-            expect(f"the example of {each.key.name} is not one of its file", last in file.read() and each.key.name in last)
+        last = example.text.split("\n\n")[-1]
+        expect(f"the example of {each.key.name} is not one of its file", last in text_of(example.file) and each.key.name in last)
         expect(f"no example follows {each.key.name}", text.find(example.text, text.index(each.text)) > 0)
 
 

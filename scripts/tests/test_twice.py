@@ -7,7 +7,7 @@ import re
 
 import checks
 from checks import expect
-from crate_sources import equations_in, functions_in, in_a_line, name_of, rust_files, spec_files, text_of, without_comments
+from mte_scripts.gate.crate_texts import equations_in, functions_in, in_a_line, name_of, rust_files, spec_files, text_of, without_comments
 
 LEAST = 60
 # programs and tests, which say things again to compare them
@@ -47,7 +47,7 @@ def repeats():
         if path.suffix == ".rt":
             for name, value in number_constants(text):
                 constants[name, value].add((crate, name, path))
-        named = ((it.name, in_a_line(it.body)) for it in functions_in(text)) if path.suffix == ".rt" else definitions_in(text)
+        named = ((it.name, in_a_line(it.code)) for it in functions_in(text)) if path.suffix == ".rt" else definitions_in(text)
         for name, body in named:
             if len(body) >= LEAST:
                 bodies[body].add((crate, name, path))

@@ -7,7 +7,6 @@ is tried on the answers that were worked out by hand (scripts/tests/hand_answers
 (scripts/tests/drawn_inputs.py) and on timelines of many rounds (scripts/tests/long_fits.py). The answers to these are
 those of the program without a change, which another test compares with the proved one."""
 
-import functools
 import importlib
 import os
 import random
@@ -17,9 +16,11 @@ import sys
 from collections import namedtuple
 from collections.abc import Iterator
 from concurrent.futures import ThreadPoolExecutor
+from pathlib import Path
 
 from mte_scripts import entry_point, private_folder
 from mte_scripts.gate import plant_files
+from mte_scripts.gate.plant_files import Unread
 from mte_scripts.places import ROOT
 
 TESTS = os.path.join(ROOT, "scripts", "tests")
@@ -50,10 +51,6 @@ Place = namedtuple("Place", "file function before old after new")
 Case = namedtuple("Case", "words given answer")
 
 
-class Unread(Exception):
-    """A change that can't be made."""
-
-
 def place_of(where: str, old: str, new: str) -> Place:
     """Of the old text what stands in « » is replaced, or all."""
     file, _, function = where.partition(" ")
@@ -63,12 +60,8 @@ def place_of(where: str, old: str, new: str) -> Place:
 
 
 def change_of(group: str, block: str) -> Change:
-    said: dict[str, str] = {}
-    places = []
-    for line in block.split("\n"):
-        key, colon, text = line.partition(": ")
-        if not colon or key not in KEYS or (key in said and key not in ("in", "old", "new")):
-            raise Unread(f"its line `{line}` is none, or there twice")
+    said, places = {}, []
+    for key, text in plant_files.lines_in(block, KEYS, ("in", "old", "new")):
         said[key] = text
         if key == "new":
             places.append(place_of(said["in"], said["old"], text))
@@ -82,16 +75,8 @@ def read_changes(path: str = LIST) -> "list[Change]":
     """The changes by their order in the file, where a line `## GROUP` begins each group."""
     with open(path, encoding="utf-8") as file:
         _, *groups = re.split(r"(?m)^## ", file.read())
-    its = []
-    for part in groups:
-        group, *blocks = re.split(r"\n\n+", part.strip("\n"))
-        its += [change_of(group, block) for block in blocks]
-    return its
-
-
-@functools.lru_cache(maxsize=None)
-def function_of(text: str, name: str) -> plant_files.Function:
-    return plant_files.function_of(text, name)
+    parts = [re.split(r"\n\n+", part.strip("\n")) for part in groups]
+    return [change_of(group, block) for group, *blocks in parts for block in blocks]
 
 
 def span_of(text: str, place: Place) -> "tuple[int, int]":
@@ -99,7 +84,7 @@ def span_of(text: str, place: Place) -> "tuple[int, int]":
     whole = place.before + place.old + place.after
     start, end = 0, len(text)
     if place.function:
-        function = function_of(text, place.function)
+        function = plant_files.function_of(text, place.function)
         start, end = function.start, function.end
     if text.count(whole, start, end) != 1:
         raise Unread(f"`{whole}` stands {text.count(whole, start, end)} times in {place.file} {place.function}")
@@ -118,7 +103,7 @@ def changed_texts(changes: "list[Change]") -> "dict[str, str]":
         for place in change.places:
             try:
                 span = span_of(texts[place.file], place)
-            except (KeyError, plant_files.Unread, Unread) as fault:
+            except (KeyError, Unread) as fault:
                 raise Unread(f"{change.name}: {fault}") from None
             spans[place.file].setdefault(span, []).append((number, place.new))
     for name, text in texts.items():
@@ -146,8 +131,7 @@ def with_choices(name: str, text: str, spans: "dict[tuple[int, int], list[tuple[
 def compile_changes(changes: "list[Change]", folder: str) -> str:
     """The program with all changes."""
     for name, text in changed_texts(changes).items():
-        with open(os.path.join(folder, name), "w", encoding="utf-8") as file:
-            file.write(text)
+        Path(folder, name).write_text(text, encoding="utf-8")
     program = os.path.join(folder, "changed")
     words = ["rustc", "-C", "opt-level=1", "-A", "warnings", "--edition", "2021", os.path.join(folder, "main.rs"), "-o", program]
     try:
@@ -255,8 +239,7 @@ def write_table(text: str) -> None:
     with open(DOCUMENT, encoding="utf-8") as file:
         before, _, rest = file.read().partition(HEAD)
     after = re.sub(r"\A(?:\|.*\n)*", "", rest)
-    with open(DOCUMENT, "w", encoding="utf-8") as file:
-        file.write(before + text + after)
+    Path(DOCUMENT).write_text(before + text + after, encoding="utf-8")
 
 
 def run(jobs: int, is_written: bool) -> int:

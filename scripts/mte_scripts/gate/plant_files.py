@@ -19,64 +19,27 @@ import os
 import re
 from collections import namedtuple
 from collections.abc import Iterator
+from pathlib import Path
 
+from mte_scripts.gate.crate_texts import Function, functions_in
 from mte_scripts.places import ROOT
 
 KINDS = ("equivalent", "speed", "memory", "open")
 KEYS = ("name", "of", "what", "old", "new", "passes", "breaks")
-FN = re.compile(r'(?m)^(?P<indent> *)(?:pub(?:\([^)]*\))? )?(?:(?:const|unsafe|extern "C") )*fn (?P<name>\w+)')
 NONE = re.compile(r"of: (?P<of>[\w:]+)\nnone: (?P<why>\S.*)")
-BLOCK = re.compile(r"(?m)^ *(?:pub )?(?:unsafe )?(?P<kind>impl|trait)\b(?P<head>[^{;]*)\{")
 
 # A wrong body: its crate, file, name, function, what it does, pairs of old and new text, the kind and reason of one that passes, and what it
 # breaks, of one that each run of the gate tries.
 Plant = namedtuple("Plant", "crate path name of what pairs kind why breaks", defaults=("",))
-# A function in the text of a file: where it starts, where its body does, and its end; the type and the trait that it is of.
-Function = namedtuple("Function", "name owner trait start body end")
 
 
 class Unread(Exception):
     """A wrong body that could not be tried."""
 
 
-def path_of(name: str) -> str:
-    """The path of a type without references, lifetimes and arguments."""
-    return re.sub(r"[<>].*", "", re.sub(r"'\w+,? ?|&|\bmut ", "", name)).strip()
-
-
-def trait_name(trait: str) -> str:
-    """A trait as it stands in the name of an `impl`: of `From<io::Error>` it is `FromIoError`."""
-    name, _, argument = trait.partition("<")
-    return path_of(name).rpartition("::")[2] + "".join(it[:1].upper() + it[1:] for it in path_of(argument).split("::"))
-
-
-def owner_of(text: str, start: int) -> "tuple[str, str]":
-    """The type and the trait of the block of the file that a function stands in, or empty texts."""
-    for block in reversed([it for it in BLOCK.finditer(text, 0, start)]):
-        indent = re.match(r" *", block[0])[0]
-        end = text.find(f"\n{indent}}}", block.end())
-        if end > start:
-            head = re.sub(r"^\s*<[^{]*?>(?= )", "", block["head"]).split(" where ")[0].strip()
-            trait, _, of = head.rpartition(" for ")
-            name = path_of(of).rpartition("::")[2]
-            return (name, trait_name(trait)) if block["kind"] == "impl" else ("", name)
-    return "", ""
-
-
 def functions(text: str) -> "Iterator[Function]":
-    """The functions of a file that have a body, as `rt fmt` lays them out. A head without one is of a trait."""
-    heads = list(FN.finditer(text))
-    for found, after in zip(heads, [*(it.start() for it in heads[1:]), len(text)]):
-        indent = found["indent"]
-        opens = re.compile(rf"(?m)^{indent}\{{$|^{indent}\S(?:.*\S)? \{{$|^{indent}\S.*\{{.*\}}$").search(text, found.start(), after)
-        if opens is None:
-            continue
-        if opens[0].endswith("}"):
-            body, end = opens.start(), opens.end()
-        else:
-            close = text.find(f"\n{indent}}}", opens.end())
-            body, end = opens.end(), close + len(indent) + 2 if close >= 0 else len(text)
-        yield Function(found["name"], *owner_of(text, found.start()), found.start(), body, end)
+    """The functions of a file that have a body."""
+    return (it for it in functions_in(text) if it.code)
 
 
 def is_named(of: str, it: Function) -> bool:
@@ -103,25 +66,28 @@ def plant_body(text: str, plant: Plant) -> str:
     return text
 
 
-def plant_of(crate: str, path: str, block: str) -> Plant:
-    """A wrong body of the lines of a block."""
-    said, pairs, old = {}, [], None
+def lines_in(block: str, keys: "tuple[str, ...]", often: "tuple[str, ...]" = ("old", "new")) -> "list[tuple[str, str]]":
+    """The lines of a block, `KEY: TEXT`. Each key is of one line, but those that may be there OFTEN."""
+    found: "list[tuple[str, str]]" = []
     for line in block.split("\n"):
         key, colon, text = line.partition(":")
-        text = text.removeprefix(" ")
-        if not colon or key not in KEYS or (key in said and key not in ("old", "new")):
+        if not colon or key not in keys or key not in often and key in dict(found):
             raise Unread(f"its line `{line}` is none, or there twice")
-        said[key] = text
-        if key == "new":
-            pairs.append((old or "", text))
-        old = text if key == "old" else None
-    lacking = [key for key in ("name", "of", "what", "old", "new") if not (said.get(key) or key == "new" and pairs)]
-    if lacking:
+        found.append((key, text.removeprefix(" ")))
+    return found
+
+
+def plant_of(crate: str, path: str, block: str) -> Plant:
+    """A wrong body of the lines of a block."""
+    lines = lines_in(block, KEYS)
+    said = dict(lines)
+    pairs = tuple((dict([before]).get("old", ""), text) for before, (key, text) in zip([("", ""), *lines], lines) if key == "new")
+    if lacking := [key for key in ("name", "of", "what", "old", "new") if not (said.get(key) or key == "new" and pairs)]:
         raise Unread(f"it has no line `{lacking[0]}:` ({said.get('name', block[:40])})")
     kind, _, why = said.get("passes", "").partition(": ")
     if "passes" in said and (kind not in KINDS or not why.strip()):
         raise Unread(f"{said['name']}: `passes:` has a kind ({', '.join(KINDS)}), a colon and a reason")
-    return Plant(crate, path, said["name"], said["of"], said["what"], tuple(pairs), kind, why, said.get("breaks", ""))
+    return Plant(crate, path, said["name"], said["of"], said["what"], pairs, kind, why, said.get("breaks", ""))
 
 
 def blocks_of(crate: str, root: str = ROOT) -> "Iterator[tuple[str, str]]":
@@ -149,8 +115,7 @@ def reasons_of(crate: str, root: str = ROOT) -> "dict[tuple[str, str], str]":
 
 def source(plant: Plant, root: str = ROOT) -> str:
     try:
-        with open(os.path.join(root, "crates", plant.crate, plant.path), encoding="utf-8") as file:
-            return file.read()
+        return Path(root, "crates", plant.crate, plant.path).read_text(encoding="utf-8")
     except OSError as error:
         raise Unread(f"{plant.path} can't be read: {error.strerror}") from None
 

@@ -46,11 +46,10 @@ def answer_text(options: argparse.Namespace) -> str:
         return table()
     if len(options.names) != 1:
         raise Refusal(2, "it wants one name, of a command or a promise; --help lists them")
-    if options.names[0] not in statements.TOPICS:
-        raise Refusal(
-            2, f"there is no command or promise {options.names[0]}; the names are {', '.join(statements.TOPICS)}"
-        )
-    found = statements.statement(options.names[0])
+    (name,) = options.names
+    if name not in statements.TOPICS:
+        raise Refusal(2, f"there is no command or promise {name}; the names are {', '.join(statements.TOPICS)}")
+    found = statements.statement(name)
     return statement_page.page(found) if options.html else statements.as_text(found)
 
 

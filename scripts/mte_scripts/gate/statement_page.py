@@ -35,12 +35,9 @@ def link_names(each: Definition, places: "dict[Key, str]") -> str:
     """A definition's text, in which a name leads to its definition; a word of the kit's says so."""
     parts, last = [], 0
     for start, end, key in sorted(each.links, key=lambda link: link[:2]):
-        parts.append(plain(each.text[last:start]))
-        word = escape(each.text[start:end])
-        if isinstance(key, Foreign):
-            parts.append(f'<span title="{escape(key.name)}, of {escape(key.crate)}">{word}</span>')
-        else:
-            parts.append(f'<a href="#{places[key]}">{word}</a>')
+        is_kit = isinstance(key, Foreign)
+        begin = f'<span title="{escape(key.name)}, of {escape(key.crate)}">' if is_kit else f'<a href="#{places[key]}">'
+        parts += [plain(each.text[last:start]), begin, escape(each.text[start:end]), "</span>" if is_kit else "</a>"]
         last = end
     return "".join(parts) + plain(each.text[last:])
 
@@ -52,56 +49,40 @@ def plain(code: str) -> str:
 
 def comment_paragraphs(comment: str) -> str:
     """A comment's words, in paragraphs."""
-    lines = [line.lstrip("-/").strip() for line in comment.split("\n")]
-    paragraphs = "\n".join(lines).split("\n\n") if comment else []
-    shown = (re.sub("`([^`]+)`", r"<code>\1</code>", escape(" ".join(each.split()))) for each in paragraphs)
+    words = "\n".join(line.lstrip("-/").strip() for line in comment.split("\n"))
+    shown = (re.sub("`([^`]+)`", r"<code>\1</code>", escape(" ".join(each.split()))) for each in words.split("\n\n") if comment)
     return "".join(f"<p>{each}</p>\n" for each in shown)
-
-
-def example_details(example: "Example | None") -> str:
-    if not example:
-        return ""
-    return f'<details><summary class="soft">worked out</summary>\n<pre>{escape(example.text)}</pre>\n</details>\n'
 
 
 def fold_definition(each: Definition, places: "dict[Key, str]", example: "Example | None" = None) -> str:
     place = f' id="{places[each.key]}"' if each.key in places else ""
     where, laws = escape(statements.short(each.key)), escape(statements.laws_on(each).removeprefix("-- "))
     told = f'<p class="soft">{laws}</p>\n' if laws else ""
+    if example:
+        told += f'<details><summary class="soft">worked out</summary>\n<pre>{escape(example.text)}</pre>\n</details>\n'
     return (
         f'<details open{place}><summary><code>{escape(each.key.name)}</code> <span class="soft">{where}</span></summary>\n'
-        f"{comment_paragraphs(each.comment)}<pre>{link_names(each, places)}</pre>\n"
-        f"{told}{example_details(example)}</details>\n"
+        f"{comment_paragraphs(each.comment)}<pre>{link_names(each, places)}</pre>\n{told}</details>\n"
     )
 
 
 def names(found: Statement, places: "dict[Key, str]") -> str:
-    order = sorted(found.definitions, key=lambda it: (it.key.name.lower(), it.key.place))
+    order = sorted(found.definitions, key=lambda it: (it.key.name.lower(), not it.key.is_source, it.key.place))
     items = "".join(f'<li><a href="#{places[it.key]}">{escape(it.key.name)}</a></li>\n' for it in order)
-    return f'<details><summary>All names</summary>\n<ul class="names">\n{items}</ul>\n</details>\n'
+    return f'<details><summary>All names</summary>\n<ul class="names">\n{items}</ul>\n</details>\n' if order else ""
 
 
 def page(found: Statement) -> str:
     """The statement in HTML, with its policy."""
-    places, examples = ids(found), statements.examples()
-    title = found.title.replace("`", "")
-    lead = (
-        f"{statements.counts_text(found)}. A module stands after all that cite it."
-        if found.contracts
-        else statements.NO_CONTRACT
-    )
-    sections = [
-        (
-            "The contract" if len(found.contracts) == 1 else "The contracts",
-            "".join(fold_definition(it, places) for it in found.contracts),
-        )
-    ]
-    sections.append(
-        ("The definitions", "".join(fold_definition(it, places, examples.get(it.key)) for it in found.definitions))
-    )
+    places, examples, title = ids(found), statements.examples(), escape(found.title.replace("`", ""))
+    lead = f"{statements.counts_text(found)}. A module stands after all that cite it." if found.contracts else statements.NO_CONTRACT
     of_kit = (f"<p>{escape(crate)}: <code>{escape(words)}</code></p>\n" for crate, words in found.kit_words.items())
-    sections.append(("Words that the kit defines", "".join(of_kit)))
-    body = "".join(f"<h2>{heading}</h2>\n{text}" for heading, text in sections if text)
-    return html_safe.document(f"{escape(title)}: the statement", STYLE, f"""<h1>{escape(title)}: what its contract says</h1>
+    sections = {
+        "The contract" if len(found.contracts) == 1 else "The contracts": "".join(fold_definition(it, places) for it in found.contracts),
+        "The definitions": "".join(fold_definition(it, places, examples.get(it.key)) for it in found.definitions),
+        "Words that the kit defines": "".join(of_kit),
+    }
+    body = "".join(f"<h2>{heading}</h2>\n{text}" for heading, text in sections.items() if text)
+    return html_safe.document(f"{title}: the statement", STYLE, f"""<h1>{title}: what its contract says</h1>
 <p>{escape(lead)}</p>
-{names(found, places) if found.definitions else ""}{body}""")
+{names(found, places)}{body}""")

@@ -4,23 +4,19 @@ The definitions are those of crates/*/specs. A name that a module `declared` giv
 is printed. Names of std and of clap are the kit's: they are listed, and not printed. A name that is none of these is an error."""
 
 import functools
-import glob
 import itertools
 import os
 import re
-from collections.abc import Iterable
+from collections.abc import Iterable, Iterator
 from dataclasses import dataclass, field
+from typing import NamedTuple, Union
 
-from mte_scripts.entry_point import Refusal
-from mte_scripts.places import ROOT
+from mte_scripts.gate import crate_texts
+from mte_scripts.gate.crate_texts import CRATES, comment_above, imports_in, item_end, items_in, name_of, rust_files, text_of, uses_in
 
-CRATES = os.path.join(ROOT, "crates")
-
+ENGINES = ("score", "tune", "check", "footprint", "fit", "check-fit", "peaks", "profile", "replay", "run")
 # the public functions whose contracts are a promise: crates and names
-COMMANDS = {
-    name: (f"`{name}`", [("mte_engine", name.replace("-", "_"))])
-    for name in ("score", "tune", "check", "footprint", "fit", "check-fit", "peaks", "profile", "replay", "run")
-}
+COMMANDS = {name: (f"`{name}`", [("mte_engine", name.replace("-", "_"))]) for name in ENGINES}
 PROMISES = {
     "safe": ("Safe and total", []),
     "least-waste": ("The least waste, checked by anybody", [("mte_engine", name) for name in ("tune", "check", "fit", "check_fit")]),
@@ -36,17 +32,12 @@ PROGRAM = {"program": ("The whole program, on its own streams", [("mte_tool", "p
 TOPICS: dict = {**COMMANDS, **PROMISES, **PROGRAM}
 # of the promise that no definition carries
 NO_CONTRACT = "The prover demands it of every function, with or without a contract; it cites no definition. docs/PROOFS.md says more."
-
 FEW_LAWS = 4
 
-TOKEN = re.compile(r'(?P<comment>--[^\n]*|//[^\n]*)|(?P<string>"(?:\\.|[^"\\])*")|(?P<mark>[(){}\[\],;:.])|(?P<word>[^\s(){}\[\],;:."]+)')
-RUST_WORD = re.compile(r"(?P<comment>//[^\n]*|#\[[^\n]*\])|(?P<word>[A-Za-z_]\w*)|(?P<mark>[^\sA-Za-z_])")
+MARKS = "(){}[],;:."
+TOKEN = re.compile(r'--[^\n]*|//[^\n]*|"(?:\\.|[^"\\])*"|(?P<word>[(){}\[\],;:.]|[^\s(){}\[\],;:."]+)')
+TYPE_WORD = re.compile(r"//[^\n]*|#\[[^\n]*\]|(?P<word>(?<![A-Za-z_])[A-Z]\w*)|[A-Za-z_]\w*")
 NUMBER = re.compile(r"0x[0-9A-Fa-f]+$|[0-9]+$")
-HEAD = re.compile(r"(?:abbrev |unfoldable |opaque |pub |(?P<kind>record |data ))*(?P<name>[^\s(){}:]+)")
-BEGINS = re.compile(r"(?:abbrev|unfoldable|opaque|pub|record|data) ")
-IMPORT = re.compile(r"(?m)^(?:ghost |    ghost )?(?:pub )?use ((?:Rattle|base|denote|contract)[\w.-]*)(?:\.\{((?:[^{}]|\{[^}]*\})*)\}| as (\w+))?;?$")
-LISTED = re.compile(r"([\w.-]+)\.\{([^}]*)\}|([^\s,{}][^,{}]*)")
-RUST_USE = re.compile(r"(?ms)^(?:pub )?use ([a-z_][\w:]*?)(?:::\{([^}]*)\}|::(\w+))?(?: as (\w+))?;")
 GHOST = re.compile(r"(?m)^[ \t]*(?:ghost|requires|ensures)\b[^{\n;]*\{")
 # the language's own words
 OWN = set("Type × → λ let in record data where elim as do = | ↦ ← Unit tt absurd ⊥ _ pub abbrev unfoldable opaque".split())
@@ -60,8 +51,7 @@ RUST_OWN = set(
 KIT_OWN = set("Env Print Eprint AllocGlobal HostRuntime".split())
 
 
-@dataclass(frozen=True)
-class Key:
+class Key(NamedTuple):
     """A definition of specs/ (place is its module), or an item of the source (place is its file)."""
 
     place: str
@@ -69,12 +59,14 @@ class Key:
     is_source: bool = False
 
 
-@dataclass(frozen=True)
-class Foreign:
+class Foreign(NamedTuple):
     """A word of the kit's."""
 
     crate: str
     name: str
+
+
+Meaning = Union[Key, Foreign]
 
 
 @dataclass
@@ -83,31 +75,18 @@ class Definition:
     file: str
     comment: str
     text: str
-    links: list = field(default_factory=list)  # (start, end, Key or Foreign) in the text, in the order in which they are followed
+    links: list = field(default_factory=list)  # (start, end, Meaning) in the text, in the order in which they are followed
 
     @property
     def lines(self) -> int:
         return sum(1 for line in self.text.split("\n") if line.strip() and not re.match(r"\s*(--|//)", line))
 
 
-@dataclass
-class Module:
-    name: str
+class Module(NamedTuple):
     file: str
-    blocks: dict  # name -> (comment, text)
-    constructors: dict  # name -> its data
-    imports: dict  # name -> (module, name)
-
-
-@dataclass
-class Source:
-    """A file of Rust."""
-
-    crate: str
-    file: str
-    text: str
-    imports: dict  # of ghost uses
-    uses: dict  # name -> its path, of Rust's
+    blocks: "dict[str, crate_texts.Definition]"
+    constructors: "dict[str, str]"  # name -> its data
+    imports: "dict[str, tuple[str, str]]"  # name -> (module, name)
 
 
 class UnresolvedName(Exception):
@@ -115,358 +94,247 @@ class UnresolvedName(Exception):
 
 
 def is_own_crate(name: str) -> bool:
-    return os.path.isdir(os.path.join(CRATES, name))
+    return (CRATES / name).is_dir()
 
 
-def read(path: str) -> str:
+def crate_of(file: str) -> str:
+    """The crate of a file, `crates/CRATE/..`."""
+    return file.split(os.sep)[1]
+
+
+def read(file: str) -> str:
+    """The text of a file of the repository that a name leads to."""
     try:
-        with open(path, encoding="utf-8") as file:
-            return file.read()
+        return text_of(file)
     except FileNotFoundError:
-        raise UnresolvedName(f"there is no file {os.path.relpath(path, ROOT)}") from None
-    except (OSError, ValueError) as error:
-        raise Refusal(3, f"{path} can't be read: {error}") from error
-
-
-def imports_in(text: str) -> dict:
-    """What each name that a text imports is: its module and its name there."""
-    found = {}
-    for path, listed, whole in IMPORT.findall(text):
-        if whole:
-            found[whole] = (path, whole)
-        for below, names, name in LISTED.findall(listed):
-            for each in filter(None, (it.strip() for it in (names or name).split(","))):
-                name, _, alias = each.partition(" as ")
-                found[(alias or name).strip()] = (f"{path}.{below}" if below else path, name.strip())
-    return found
-
-
-def uses_in(text: str) -> dict:
-    """What each name that a source imports by Rust's `use` is: its path."""
-    found = {}
-    for path, names, last, alias in RUST_USE.findall(text):
-        for each in names.split(",") if names else [f"{last} as {alias}" if alias else last]:
-            name, _, new = each.strip().partition(" as ")
-            if name and "::" not in name:
-                found[(new or name).strip()] = path.split("::") + [name.strip()]
-    return found
+        raise UnresolvedName(f"there is no file {file}") from None
 
 
 @functools.lru_cache(maxsize=None)
 def module(name: str) -> Module:
     """A module of specs/, `Rattle.crate.specs.Name`."""
     crate, _, path = name.removeprefix("Rattle.").partition(".specs.")
-    file = os.path.join(CRATES, crate, "specs", *path.split(".")) + ".antt"
+    file = f"crates/{crate}/specs/{path.replace('.', '/')}.antt"
     text = read(file)
-    found = Module(name, file, {}, {}, imports_in(text))
-    comment: list = []
-    block: list = []
-    block_comment: list = []
-    fixity: list = []
-    for line in [*text.split("\n"), ""]:
-        begins = BEGINS.match(line) and not re.match(r"pub (use|mod) ", line)
-        outside = line.startswith(("--", "use ", "pub use ", "pub mod ")) or not line.strip()
-        if (begins or outside) and block:
-            head = HEAD.match(next(it for it in block if BEGINS.match(it)))
-            found.blocks[head["name"]] = ("\n".join(block_comment), "\n".join(block))
-            if head["kind"] == "data ":
-                found.constructors.update({it: head["name"] for it in re.findall(r"(?m)^  (\S+) :", "\n".join(block))})
-            block = []
-        if begins:
-            block, block_comment, comment, fixity = [*fixity, line], comment, [], []
-        elif block:
-            block.append(line)
-        elif line.startswith("--") and not line.startswith("-- ----"):
-            comment.append(line)
-        elif line.startswith("infix"):
-            fixity = [line]
-        elif outside:
-            comment = []
-        else:
-            raise UnresolvedName(f"{os.path.relpath(file, ROOT)}: this line belongs to no definition: {line}")
-    return found
+    try:
+        blocks = {it.name: it for it in crate_texts.definitions_in(text)}
+    except ValueError as error:
+        raise UnresolvedName(f"{file}: {error}") from None
+    return Module(file, blocks, {name: it.name for it in blocks.values() for name in it.constructors}, imports_in(text))
 
 
 @functools.lru_cache(maxsize=None)
-def source(file: str) -> Source:
-    text = read(file)
-    crate = os.path.relpath(file, CRATES).split(os.sep)[0]
-    return Source(crate, file, text, imports_in(text), uses_in(text))
-
-
-@functools.lru_cache(maxsize=None)
-def sources_of(crate: str) -> list:
-    return sorted(glob.glob(os.path.join(CRATES, crate, "src", "**", "*.rt"), recursive=True))
+def sources_of(crate: str) -> "list[str]":
+    return [f"crates/{name_of(path)}" for path in rust_files(crate)]
 
 
 # ---- items of the source
 
 
-def item_at(text: str, name: str) -> "re.Match | None":
-    return re.search(rf"(?m)^( *)(?:pub(?:\([a-z]*\))? )?(?:unsafe )?(?:enum|struct|trait|type|const) {re.escape(name)}\b", text)
-
-
-def item_end(text: str, start: int) -> int:
-    """Where an item ends, or what begins with a brace: after its braces, or its semicolon."""
-    depth = 0
-    for match in TOKEN.finditer(text, start):
-        mark = match["mark"] or " "
-        depth += (mark in "([{") - (mark in ")]}")
-        if depth == 0 and mark in "};":
-            return match.end()
-    return len(text)
-
-
-def signature_end(text: str, start: int, indent: str) -> int:
-    """Where the contract of a function ends, and its body begins."""
-    body = re.compile(rf"(?m)(?:^{indent}|(?<=\S) )\{{(?:\}})?$").search(text, start)
-    return body.start() if body else len(text)
-
-
-def comment_above(text: str, start: int) -> str:
-    """The comment above an item; attributes are left out."""
-    lines = [line.strip() for line in text[:start].split("\n")[:-1]]
-    above = itertools.takewhile(lambda line: line.startswith(("//", "#[")) and not line.startswith("//!"), reversed(lines))
-    return "\n".join([line for line in above if line.startswith("//")][::-1])
-
-
-def remove_indent(text: str, indent: str) -> str:
-    return "\n".join(line.removeprefix(indent) for line in text.split("\n"))
-
-
 @functools.lru_cache(maxsize=None)
-def item(crate: str, name: str, within: str = "") -> "tuple | None":
+def item(crate: str, name: str, within: str = "") -> "tuple[str, str, str] | None":
     """An item of a crate: its file, comment and text. Of a type with a Model, what a clause sees of its values: its fields are the code's
     own."""
-    files = sorted(sources_of(crate), key=lambda file: within not in file)
-    for file in files:
-        text = source(file).text
-        if not (found := item_at(text, name)):
-            continue
-        if item_at(text[found.end() :], name):
-            raise UnresolvedName(f"{os.path.relpath(file, ROOT)} has two items {name}")
-        shown = remove_indent(text[found.start() : item_end(text, found.start())].rstrip(), found[1])
-        model = re.search(rf"(?m)^impl(?:<[^\n]*>)? Model for {re.escape(name)}\b[^\n]*", text)
-        block = text[model.start() : item_end(text, model.start())] if model else ""
-        if "    ghost Value" in block:
-            start = block.index("    ghost Value")
-            value = block[start : item_end(block, start)]
-            shown = f"{shown.split('{')[0].rstrip()} {{ .. }}\n\n{model[0]}\n{value};\n    ..\n}}"
-        return file, comment_above(text, found.start()), shown
+    for file in sorted(sources_of(crate), key=lambda file: within not in file):
+        text = text_of(file)
+        found = items_in(text, name)
+        if len(found) > 1:
+            raise UnresolvedName(f"{file} has two items {name}")
+        if found:
+            start = found[0].start()
+            shown = text[start : item_end(text, start)].replace(f"\n{found[0]['indent']}", "\n").removeprefix(found[0]["indent"])
+            return file, comment_above(text, start), with_model(text, name, shown)
     return None
 
 
-def source_key(crate: str, name: str, within: str = "", seen: tuple = ()) -> "Key | Foreign | None":
+def with_model(text: str, name: str, shown: str) -> str:
+    """What is shown of a type: where it has a Model, that in place of its fields."""
+    if model := re.search(rf"(?m)^impl(?:<[^\n]*>)? Model for {re.escape(name)}\b[^\n]*", text):
+        start = text.find("    ghost Value", model.start(), item_end(text, model.start()))
+        if start >= 0:
+            return f"{shown.split('{')[0].rstrip()} {{ .. }}\n\n{model[0]}\n{text[start : item_end(text, start)]};\n    ..\n}}"
+    return shown
+
+
+def source_key(crate: str, name: str, within: str = "", seen: tuple = ()) -> "Meaning | None":
     """The item with this name of a crate, which may hand on that of another."""
     if not is_own_crate(crate):
         return Foreign(crate, name)
     if found := item(crate, name, within):
         return Key(found[0], name, True)
     for file in sources_of(crate):
-        path = source(file).uses.get(name)
-        if path and path[0] not in ("crate", "super", "self", crate) and path[0] not in seen:
+        path = uses_in(text_of(file)).get(name)
+        if path and path[0] not in ("crate", "super", "self", crate, *seen):
             return source_key(path[0], path[-1], "", (*seen, crate))
     return None
 
 
-def declared_item(crate: str, name: str, folders: list) -> "Key | None":
-    """The item of a crate that one of its modules, in these folders, declares."""
-    path = os.path.join(CRATES, crate, "src", *(folders or ["lib"]))
-    for file in (f"{path}.rt", os.path.join(path, "mod.rt")):
-        if file in sources_of(crate) and item_at(source(file).text, name):
-            return Key(file, name, True)
-    return None
+def rust_meaning(file: str, word: str, before: str) -> "Meaning | None":
+    """What a type, a trait or a constant of Rust is, in a file, after this text."""
+    of_module = re.search(r"([a-z_]\w*)::$", before)
+    path = uses_in(text_of(file)).get(of_module[1] if of_module else word) or ([of_module[1]] if of_module else [])
+    if path:
+        crate = crate_of(file) if path[0] in ("crate", "self", "super") else path[0]
+        return source_key(crate, word if of_module else path[-1])
+    return Foreign("std", word) if word in KIT_OWN else source_key(crate_of(file), word, file)
 
 
 # ---- what a name is
 
 
-def target(place: str, name: str) -> "Key | Foreign":
+def declared_key(place: str, name: str) -> Key:
+    """The item of the source that a module `declared` or `contracts` gives."""
+    crate, _, path = place.removeprefix("Rattle.").partition(".")
+    parts = path.split(".")[2:]
+    if name in ("the_row", "Ghosts"):  # how the values of a type are stored, and a trait's ghost parts
+        parts.append("The")
+    at = next((at for at, part in enumerate(parts) if part.startswith("The")), None)
+    wanted = name if at is None or parts[at] == "TheConstants" else parts[at - 1]
+    folders = [part for part in parts if part[0].islower()] or ["lib"]
+    for end in (".rt", "/mod.rt"):
+        file = f"crates/{crate}/src/{'/'.join(folders)}{end}"
+        if file in sources_of(crate) and items_in(text_of(file), wanted):
+            return Key(file, wanted, True)
+    raise UnresolvedName(f"{place}.{name} is declared in no source")
+
+
+def target(place: str, name: str) -> Meaning:
     """What an import of NAME from a module is."""
     crate, _, path = place.removeprefix("Rattle.").partition(".")
     if not is_own_crate(crate):
         return Foreign(crate, name)
-    generated = re.match(r"specs\.(declared|contracts)\.(.*)", path)
-    if generated:
-        parts = generated[2].split(".")
-        if name in ("the_row", "Ghosts"):  # how the values of a type are stored, and a trait's ghost parts
-            parts.append("The")
-        at = next((at for at, part in enumerate(parts) if part.startswith("The")), None)
-        wanted = name if at is None or parts[at] == "TheConstants" else parts[at - 1]
-        folders = [part for part in parts if part[0].islower()]
-        if found := declared_item(crate, wanted, folders):
-            return found
-        raise UnresolvedName(f"{place}.{name} is declared in no source")
+    if re.match(r"specs\.(declared|contracts)\.", path):
+        return declared_key(place, name)
     try:
         there = module(place)
     except UnresolvedName:
         place, _, data = place.rpartition(".")
-        there = module(place)
-        if there.constructors.get(name) != data:
+        if module(place).constructors.get(name) != data:
             raise
         return Key(place, data)
-    if name in there.blocks:
-        return Key(place, name)
-    if name in there.constructors:
-        return Key(place, there.constructors[name])
+    if name in there.blocks or name in there.constructors:
+        return Key(place, name if name in there.blocks else there.constructors[name])
     if name in there.imports:  # handed on by `pub use`
         return target(*there.imports[name])
     raise UnresolvedName(f"{place} does not define {name}")
 
 
-def operators(names: "Iterable[str]") -> dict:
-    """The parts of names with holes: `≡` of `◌≡◌`."""
-    return {part: name for name in names if "◌" in name and name != "◌" for part in name.split("◌") if part}
-
-
-def word_meanings(imports: dict, blocks: "Iterable[str]", constructors: dict, place: str) -> dict:
+def word_meanings(imports: dict, blocks: "Iterable[str]" = (), constructors: "dict[str, str] | None" = None, place: str = "") -> dict:
     """What each word means in a module or a source: a Key, a Foreign, or where it is imported from."""
-    known = dict(imports)
-    known.update({name: Key(place, name) for name in blocks})
-    known.update({name: Key(place, data) for name, data in constructors.items()})
-    known.update({part: known[name] for part, name in operators(known).items()})
-    if ">>=" in known:
-        known["do"] = known[">>="]
-    return known
-
-
-def meaning(known: dict, word: str) -> "Key | Foreign | None":
-    found = known.get(word)
-    return target(*found) if isinstance(found, tuple) else found
+    known = {**imports, **{name: Key(place, name) for name in blocks}}
+    known.update({name: Key(place, data) for name, data in (constructors or {}).items()})
+    # the parts of names with holes: `≡` of `◌≡◌`
+    known.update({part: known[name] for name in list(known) if name != "◌" for part in name.split("◌") if part and part != name})
+    return {**known, "do": known[">>="]} if ">>=" in known else known
 
 
 # ---- what a text cites
 
 
-def is_variable(word: str) -> bool:
-    return (word[0].islower() or word[0] == "_") and word not in PATTERN_WORDS
-
-
-def bound_in(tokens: list, is_clause: bool, known: dict) -> set:
+def bound_in(words: "list[str]", is_clause: bool, known: dict) -> "set[str]":
     """The variables that a text binds: in parentheses before a colon, after λ and let, and in patterns."""
-    words = [token[0] for token in tokens]
-    text = f" {' '.join(words)} "
-    names = [*re.findall(r" [({] ([^][(){},;:.]*)(?=: )", text), *re.findall(r" λ ([^(.]*)", text), *re.findall(r" let (\S+)", text)]
-    names += re.findall(r" (\([^(]*\)|\S+) ← ", text)
-    bound = {each for some in names for each in some.split()}
+    bound: "set[str]" = set()
+    for pattern in (r" [({] ([^][(){},;:.]*)(?=: )", r" λ ([^(.]*)", r" let (\S+)", r" (\([^(]*\)|\S+) ← "):
+        bound.update(word for names in re.findall(pattern, f" {' '.join(words)} ") for word in names.split())
     depth = 0
     for word in words if is_clause else ():
         depth += (word in "([{") - (word in ")]}")
         if word == "=" and depth == 0:
             break
-        if word not in "(){}[],;:.=" and (is_variable(word) or word not in known and word.isalpha()):
+        is_variable = (word[0].islower() or word[0] == "_") and word not in PATTERN_WORDS
+        if word not in f"{MARKS}=" and (is_variable or word not in known and word.isalpha()):
             bound.add(word)
-    return bound - set("(){}[],;:.")
+    return bound - set(MARKS)
 
 
-def tokens_of(text: str, start: int = 0) -> list:
+def tokens_of(text: str, start: int = 0) -> "list[tuple[str, int, int]]":
     """The words and marks of a text with their places; comments and strings are left out."""
-    return [(it[0], start + it.start(), start + it.end()) for it in TOKEN.finditer(text) if it["mark"] or it["word"]]
+    return [(it["word"], start + it.start(), start + it.end()) for it in TOKEN.finditer(text) if it["word"]]
 
 
-def spec_links(text: str, start: int, known: dict, bound: set, is_clause: bool, where: str) -> list:
+def words_in(text: str) -> "list[str]":
+    return [word for word, _, _ in tokens_of(text)]
+
+
+def spec_links(text: str, start: int, known: dict, bound: "set[str]", where: str, is_clause: bool = False) -> list:
     """The links of a text of antt; the text begins at START of its definition. What is BOUND has none."""
     tokens, links = tokens_of(text, start), []
-    bound = bound | bound_in(tokens, is_clause, known)
+    bound = bound | bound_in([word for word, _, _ in tokens], is_clause, known)
     for at, (word, begin, end) in enumerate(tokens):
-        before = tokens[at - 1] if at else ("", -1, -1)
-        after = tokens[at + 1][0] if at + 1 < len(tokens) else ""
+        before, after = tokens[at - 1] if at else ("", -1, -1), tokens[at + 1][0] if at + 1 < len(tokens) else ""
         is_field = before[0] == "." and before[2] == begin and at > 1 and tokens[at - 2][2] == before[1]
         is_label = after == "=" and before[0] in ("{", ";") or after == ":" and before[0] == "pub"
-        if word in "(){}[],;:." or (word in OWN and word not in known) or is_field or is_label or NUMBER.match(word) or word in bound:
+        if word in MARKS or (word in OWN and word not in known) or is_field or is_label or NUMBER.match(word) or word in bound:
             continue
-        if not (found := meaning(known, word)):
+        found = known.get(word)
+        if not found:
             raise UnresolvedName(f"{where}: nothing says what {word} is")
-        links.append((begin, end, found))
+        links.append((begin, end, found if isinstance(found, (Key, Foreign)) else target(*found)))
     return links
-
-
-def chunks(text: str) -> "list[tuple[int, str, bool]]":
-    """A definition's signature, and its clauses or fields: each with its place, and whether it is a clause."""
-    starts = [0] + [match.end() for match in re.finditer(r"\n(?=[^\s}]|  pub )", text)]
-    ends = [start - 1 for start in starts[1:]] + [len(text)]
-    return [(start, text[start:end], start > 0 and not text.startswith("  pub ", start)) for start, end in zip(starts, ends)]
 
 
 def spec_definition(key: Key) -> Definition:
     there = module(key.place)
-    comment, text = there.blocks[key.name]
+    _, comment, text, _ = there.blocks[key.name]
     known = word_meanings(there.imports, there.blocks, there.constructors, key.place)
     found = Definition(key, there.file, comment, text)
     inner = own_words(key.name) | {name for name, data in there.constructors.items() if data == key.name}
-    for start, part, is_clause in chunks(text):
+    # its signature, and its clauses or fields
+    starts = [0] + [match.end() for match in re.finditer(r"\n(?=[^\s}]|  pub )", text)]
+    for start, end in zip(starts, [*(start - 1 for start in starts[1:]), len(text)]):
+        part = text[start:end]
         if part.startswith(("unfolding ", "infix")):
             continue
-        found.links += spec_links(part, start, known, inner, is_clause, short(key))
+        found.links += spec_links(part, start, known, inner, short(key), start > 0 and not part.startswith("  pub "))
         if text.startswith("pub record "):  # a record's parameters, and the fields before, are known in a field
-            inner = inner | bound_in(tokens_of(part), False, known) | set(re.findall(r"^  pub (\S+) :", part))
+            inner = inner | bound_in(words_in(part), False, known) | set(re.findall(r"^  pub (\S+) :", part))
     return found
 
 
-def own_words(name: str) -> set:
+def own_words(name: str) -> "set[str]":
     """The name of a definition, and the signs of one with holes."""
     return {name, *filter(None, name.split("◌"))}
 
 
 def source_links(file: str, text: str, own: str) -> list:
     """The links of an item of the source: those of its clauses, and then those of its types."""
-    there = source(file)
-    known = word_meanings(there.imports, (), {}, "")
+    known, where = word_meanings(imports_in(text_of(file))), f"{file}, {own}"
     # where its clauses stand, and what else is ghost
     ghosts = [(match.end() - 1, item_end(text, match.end() - 1)) for match in GHOST.finditer(text)]
-    plain = list(text)
+    rust = text
     for start, end in ghosts:
-        plain[start:end] = " " * (end - start)
-    rust = "".join(plain)
+        rust = rust[:start] + " " * (end - start) + rust[end:]
     names = {"self", "result", *re.findall(r"\b[a-z_]\w*(?=\s*[:=])", rust), *re.findall(r"(?m)^\s*ghost (\w+)", rust)}
     generics = set(re.findall(r"[<,]\s*([A-Z]\w*)\s*(?=[:,>])", rust.split("(")[0])) | set(re.findall(r"(?m)^\s*type (\w+)", rust))
     variants = set(re.findall(r"(?m)^    ([A-Z]\w*)(?=[,({ ])", rust)) if re.search(r"\benum\b", rust) else set()
     types, links = [], []
-    for match in RUST_WORD.finditer(rust):
-        word = match["word"]
-        before = rust[: match.start()]
-        is_here = word in RUST_OWN | generics | variants | {own} and not re.search(r"\b[a-z_]\w*::$", before)
-        if not word or not word[0].isupper() or is_here:
+    for match in filter(lambda it: it["word"], TYPE_WORD.finditer(rust)):
+        word, before = match["word"], rust[: match.start()]
+        if word in RUST_OWN | generics | variants | {own} and not re.search(r"\b[a-z_]\w*::$", before):
             continue
-        if not (found := rust_meaning(there, word, before)):
-            raise UnresolvedName(f"{os.path.relpath(file, ROOT)}, {own}: nothing says what {word} is")
+        if not (found := rust_meaning(file, word, before)):
+            raise UnresolvedName(f"{where}: nothing says what {word} is")
         types.append((match.start(), match.end(), found))
     for start, end in ghosts:
         part = text[start:end]
-        scope = dict(known)
-        for word in set(re.findall(r"\b[A-Z]\w*", part)) - set(scope) - generics:
-            if found := rust_meaning(there, word, ""):
-                scope[word] = found
-        bound = names | generics | (RUST_OWN - set(scope)) | own_words(own)
-        links += spec_links(part, start, scope, bound, False, f"{os.path.relpath(file, ROOT)}, {own}")
+        new = {word: rust_meaning(file, word, "") for word in set(re.findall(r"\b[A-Z]\w*", part)) - set(known) - generics}
+        scope = {**known, **{word: found for word, found in new.items() if found}}
+        links += spec_links(part, start, scope, names | generics | (RUST_OWN - set(scope)) | own_words(own), where)
     return links + types
-
-
-def rust_meaning(there: Source, word: str, before: str) -> "Key | Foreign | None":
-    """What a type, a trait or a constant of Rust is."""
-    module = re.search(r"([a-z_]\w*)::$", before)
-    path = there.uses.get(module[1] if module else word) or ([module[1]] if module else [])
-    if path:
-        crate = there.crate if path[0] in ("crate", "self", "super") else path[0]
-        return source_key(crate, word if module else path[-1])
-    if word in KIT_OWN:
-        return Foreign("std", word)
-    return source_key(there.crate, word, there.file)
 
 
 @functools.lru_cache(maxsize=None)
 def definition(key: Key) -> Definition:
     if not key.is_source:
         return spec_definition(key)
-    file, comment, text = item(source(key.place).crate, key.name, key.place)
+    file, comment, text = item(crate_of(key.place), key.name, key.place)
     return Definition(key, file, comment, text, source_links(file, text, key.name))
 
 
 # ---- worked examples
 
 
-@dataclass
-class Example:
+class Example(NamedTuple):
     """A lemma that works a definition out: its comment and statement, with what its own file defines for it."""
 
     file: str
@@ -474,47 +342,47 @@ class Example:
 
 
 @functools.lru_cache(maxsize=None)
-def examples() -> dict:
+def examples() -> "dict[Key, Example]":
     """An example of each definition that has one: the shortest statement that cites it."""
-    found: dict = {}
-    for file in sorted(glob.glob(os.path.join(CRATES, "*", "proofs", "*Examples.antt"))):
-        for key, example in examples_in(file):
+    found: "dict[Key, Example]" = {}
+    for path in sorted(CRATES.glob("*/proofs/*Examples.antt")):
+        for key, example in examples_in(f"crates/{name_of(path)}"):
             if key not in found or len(example.text) < len(found[key].text):
                 found[key] = example
     return found
 
 
-def examples_in(file: str) -> "list[tuple[Key, Example]]":
-    text = read(file)
-    imports = {name: it for name, it in imports_in(text).items() if is_own_crate(it[0].split(".")[1]) and ".specs." in it[0]}
+def statements_in(text: str) -> "tuple[dict[str, str], list[str]]":
+    """What a file of examples defines for itself, by its names, and its lemmas that are equations: comments and statements."""
     local, lemmas = {}, []
     for part in re.split(r"\n\n+", text):
         lines = part.rstrip().split("\n")
-        first = next((at for at, line in enumerate(lines) if not line.startswith(("--", "use ", "pub use "))), None)
-        if first is None:
-            continue
-        name = HEAD.match(lines[first])["name"]
+        first = next((at for at, line in enumerate(lines) if not line.startswith(("--", "use ", "pub use "))), len(lines))
         after = next((at for at in range(first + 1, len(lines)) if not lines[at][0].isspace()), len(lines))
-        if not BEGINS.match(lines[first]) and "≡" in "\n".join(lines[first:after]):
+        begin = re.match(rf"((?:{crate_texts.WORDS})*)([^\s(){{}}:]+)", "\n".join(lines[first:]))
+        if begin and not begin[1] and "≡" in "\n".join(lines[first:after]):
             lemmas.append("\n".join(lines[:after]))
-        else:
-            local[name] = "\n".join(line for line in lines if not line.startswith("unfolding "))
-    pairs = []
+        elif begin:
+            local[begin[2]] = "\n".join(line for line in lines if not line.startswith("unfolding "))
+    return local, lemmas
+
+
+def examples_in(file: str) -> "Iterator[tuple[Key, Example]]":
+    imports = {name: it for name, it in imports_in(text_of(file)).items() if is_own_crate(it[0].split(".")[1]) and ".specs." in it[0]}
+    local, lemmas = statements_in(text_of(file))
     for statement in lemmas:
-        own: list = []
-        words = [it[0] for it in tokens_of(statement)]
+        own: "list[str]" = []
+        words = words_in(statement)
         left = [word for word in words if word in local]
         while left:
-            text_of_it = local[left.pop(0)]
-            if text_of_it not in own:
-                own.insert(0, text_of_it)
-                left += [it[0] for it in tokens_of(text_of_it) if it[0] in local]
-        example = Example(file, "\n\n".join([*own, statement]))
-        for word in sorted(set(words) & set(imports)):
+            text = local[left.pop(0)]
+            if text not in own:
+                own.insert(0, text)
+                left += [word for word in words_in(text) if word in local]
+        for word in sorted({*words} & {*imports}):
             key = target(*imports[word])
             if isinstance(key, Key) and not key.is_source and key.name == word:
-                pairs.append((key, example))
-    return pairs
+                yield key, Example(file, "\n\n".join([*own, statement]))
 
 
 # ---- contracts
@@ -523,36 +391,40 @@ def examples_in(file: str) -> "list[tuple[Key, Example]]":
 def function(crate: str, name: str) -> Definition:
     """The contract of a public function; NAME may have its file in front, `program.run`."""
     within, _, name = name.rpartition(".")
-    indent = "(?:    )?" if name.startswith("law_") else ""  # a law may be a method
     for file in sources_of(crate):
-        text = source(file).text
-        found = re.search(rf"(?m)^({indent})pub fn {name}\b", text)
-        if not found or within and not file.endswith(f"{os.sep}{within}.rt"):
+        text = text_of(file)
+        # a law may be a method
+        found = [it for it in crate_texts.functions_in(text) if it.name == name and it.head == "pub" and len(it.indent) <= 4 * name.startswith("law_")]
+        if not found or within and not file.endswith(f"/{within}.rt"):
             continue
-        shown = remove_indent(text[found.start() : signature_end(text, found.end(), found[1])].rstrip(), found[1])
+        it = found[0]
+        shown = text[it.start : it.body - 1].rstrip().removeprefix(it.indent).replace(f"\n{it.indent}", "\n")
         links = source_links(file, shown, name)
-        if found[1]:
-            owner = re.findall(r"(?m)^impl (\w+) ", text[: found.start()])[-1]
+        if it.indent:
             at = shown.index("self")
-            links.append((at, at + len("self"), rust_meaning(source(file), owner, "")))
-        return Definition(Key(file, name, True), file, comment_above(text, found.start()), shown, links)
+            links.append((at, at + len("self"), rust_meaning(file, it.owner, "")))
+        return Definition(Key(file, name, True), file, comment_above(text, it.start), shown, links)
     raise UnresolvedName(f"crate {crate} has no public function {name}")
 
 
-def laws(crate: str) -> list:
+def law_names(text: str) -> "list[str]":
+    return re.findall(r"\bpub fn (law_\w+)", text)
+
+
+def laws(crate: str) -> "list[Definition]":
     """The laws of a file `laws.rt`, and those that it hands on from other crates."""
-    text = source(os.path.join(CRATES, crate, "src/laws.rt")).text
-    found = [function(path.split("::")[0], name.strip()) for path, names in re.findall(r"(?ms)^pub use ([\w:]+)::\{([^}]*)\};", text)
-             for name in names.split(",") if name.strip()]
-    return found + [function(crate, name) for name in re.findall(r"pub fn (law_\w+)", text)]
+    text = read(f"crates/{crate}/src/laws.rt")
+    lent = re.findall(r"(?ms)^pub use (\w+)[\w:]*::\{([^}]*)\};", text)
+    found = [(of, name.strip()) for of, names in lent for name in names.split(",") if name.strip()]
+    return [function(*each) for each in (*found, *((crate, name) for name in law_names(text)))]
 
 
 @functools.lru_cache(maxsize=None)
-def laws_by_definition() -> dict:
+def laws_by_definition() -> "dict[Key, list[str]]":
     """The laws of all crates whose statement names a definition, by the definition."""
-    found: dict = {}
+    found: "dict[Key, list[str]]" = {}
     for crate in sorted(os.listdir(CRATES)):
-        for name in sorted({name for file in sources_of(crate) for name in re.findall(r"\bpub fn (law_\w+)", source(file).text)}):
+        for name in sorted({name for file in sources_of(crate) for name in law_names(text_of(file))}):
             for key in dict.fromkeys(own_links(function(crate, name))):
                 found.setdefault(key, []).append(name)
     return found
@@ -561,28 +433,24 @@ def laws_by_definition() -> dict:
 @dataclass
 class Statement:
     title: str
-    contracts: list
-    definitions: list  # of specs/ and of the source, in the order of `downwards`
-    foreign: list
+    contracts: "list[Definition]"
+    definitions: "list[Definition]"  # of specs/ and of the source, in the order of `downwards`
+    foreign: "list[Foreign]"
 
     @property
-    def own(self) -> list:
+    def own(self) -> "list[Definition]":
         return [it for it in self.definitions if not it.key.is_source]
 
     @property
-    def items(self) -> list:
-        return [it for it in self.definitions if it.key.is_source]
-
-    @property
-    def kit_words(self) -> dict:
+    def kit_words(self) -> "dict[str, str]":
         """The words of the kit's crates, by crate."""
         return {crate: " ".join(it.name for it in its) for crate, its in itertools.groupby(self.foreign, lambda it: it.crate)}
 
     @property
-    def counts(self) -> tuple:
+    def counts(self) -> "tuple[int, int, int, int]":
         """Definitions, lines and modules of specs/, and items of the source."""
         own = self.own
-        return len(own), sum(it.lines for it in own), len({it.key.place for it in own}), len(self.items)
+        return len(own), sum(it.lines for it in own), len({it.key.place for it in own}), len(self.definitions) - len(own)
 
 
 def own_links(found: Definition) -> "list[Key]":
@@ -590,30 +458,30 @@ def own_links(found: Definition) -> "list[Key]":
     return [key for _, _, key in found.links if isinstance(key, Key)]
 
 
-def places_downwards(contracts: list, reached: dict) -> list:
+def places_downwards(contracts: "list[Definition]", reached: "dict[Key, Definition]") -> "list[str]":
     """The modules and files of what contracts reach, each after all that cite it."""
     cites = {"": [key.place for it in contracts for key in own_links(it)]}
     for it in reached.values():
         cites.setdefault(it.key.place, []).extend(key.place for key in own_links(it))
-    upwards: list = []
-    seen: set = set()
+    upwards: "dict[str, None]" = {}
+    seen: "set[str]" = set()
 
     def visit(place: str) -> None:
         seen.add(place)
         for other in reversed(cites[place]):
             if other not in seen:
                 visit(other)
-        upwards.append(place)
+        upwards[place] = None
 
     visit("")
-    return upwards[-2::-1]
+    return [*upwards][-2::-1]
 
 
-def downwards(contracts: list, reached: dict) -> list:
+def downwards(contracts: "list[Definition]", reached: "dict[Key, Definition]") -> "list[Definition]":
     """What contracts reach, in the order in which it is read: module by module, each after all that cite it, and in a module each definition
     where it is cited first."""
-    waiting: dict = {place: [] for place in places_downwards(contracts, reached)}
-    order: dict = {}
+    waiting: "dict[str, list[Key]]" = {place: [] for place in places_downwards(contracts, reached)}
+    order: "dict[Key, Definition]" = {}
 
     def follow(found: Definition, place: str) -> None:
         for key in own_links(found):
@@ -632,13 +500,13 @@ def downwards(contracts: list, reached: dict) -> list:
     for keys in waiting.values():
         for key in keys:
             put(key)
-    return list(order.values())
+    return [*order.values()]
 
 
-def reach(contracts: list) -> "tuple[dict, set]":
+def reach(contracts: "list[Definition]") -> "tuple[dict[Key, Definition], set[Foreign]]":
     """All definitions that contracts cite, directly or by others; and the kit's words among them."""
-    reached: dict = {}
-    foreign: set = set()
+    reached: "dict[Key, Definition]" = {}
+    foreign: "set[Foreign]" = set()
     left = list(contracts)
     while left:
         found = left.pop()
@@ -655,21 +523,17 @@ def statement(topic: str) -> Statement:
     title, functions = TOPICS[topic]
     contracts = [it for crate, name in functions for it in (laws(crate) if name == "laws" else [function(crate, name)])]
     reached, foreign = reach(contracts)
-    return Statement(title, contracts, downwards(contracts, reached), sorted(foreign, key=lambda it: (it.crate, it.name)))
+    return Statement(title, contracts, downwards(contracts, reached), sorted(foreign))
 
 
 def short(key: Key) -> str:
     """How a definition's place is called: `mte_engine::Run`; of an item of the source its file."""
-    if key.is_source:
-        return os.path.relpath(key.place, ROOT)
-    crate, _, path = key.place.removeprefix("Rattle.").partition(".specs.")
-    return f"{crate}::{path}"
+    return key.place if key.is_source else key.place.removeprefix("Rattle.").replace(".specs.", "::", 1)
 
 
 def counts_text(found: Statement) -> str:
     """The counts, in words."""
-    definitions, lines, modules, items = found.counts
-    return f"{definitions} definitions, {lines} lines in {modules} modules, and {items} types and constants of the source"
+    return "{} definitions, {} lines in {} modules, and {} types and constants of the source".format(*found.counts)
 
 
 def laws_on(found: Definition) -> str:
@@ -683,6 +547,6 @@ def as_text(found: Statement) -> str:
     parts = [f"{found.title}: {counts_text(found) if found.contracts else NO_CONTRACT}"]
     for file, its in itertools.groupby(found.contracts + found.definitions, lambda it: it.file):
         shown = ("\n".join(filter(None, (it.comment, laws_on(it), it.text))) for it in its)
-        parts.append(f"==== {os.path.relpath(file, ROOT)}\n" + "\n\n".join(shown))
+        parts.append(f"==== {file}\n" + "\n\n".join(shown))
     parts += [f"==== words of {crate}, which the kit defines: {words}" for crate, words in found.kit_words.items()]
     return "\n\n".join(parts) + "\n"

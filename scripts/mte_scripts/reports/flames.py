@@ -4,7 +4,7 @@
 import json
 from collections.abc import Iterable
 
-from mte_scripts.reports.pictures import coordinate, escape
+from mte_scripts.reports.pictures import box, coordinate, escape
 
 ROW, NARROWEST, LETTER = 17, 0.5, 7.2
 MOST_ROWS = 40  # the frames that are outermost
@@ -63,16 +63,9 @@ def svg(title: str, pairs: Weighed, kind: str = "flames", width: int = 1200, fil
     for row, left, wide, name, size in drawn:
         top, hue = height - ROW * (row + 1), 18 + sum(map(ord, name)) % 36
         said = escape(f"{name}: {size:,} bytes, {100 * size / whole:.1f}%")
-        box = (
-            f'x="{coordinate(left)}" y="{top}" width="{coordinate(max(wide - 0.5, NARROWEST))}" height="{ROW - 1}" '
-            f'fill="hsl({hue},75%,68%)"'
-        )
+        drawn_box = f'<rect {box(left, top, max(wide - 0.5, NARROWEST), ROW - 1)} fill="hsl({hue},75%,68%)"/>'
         fits = int((wide - 6) / LETTER)
-        text = name if len(name) <= fits else f"{name[: fits - 1]}…"
-        inside = (
-            f'<text x="{coordinate(left + 3)}" y="{top + 12}" style="fill:#111;font-size:11px">{escape(text)}</text>'
-            if fits > 3
-            else ""
-        )
-        lines.append(f"<g><title>{said}</title><rect {box}/>{inside}</g>")
+        text = escape(name if len(name) <= fits else f"{name[: fits - 1]}…")
+        inside = f'<text x="{coordinate(left + 3)}" y="{top + 12}" style="fill:#111;font-size:11px">{text}</text>' if fits > 3 else ""
+        lines.append(f"<g><title>{said}</title>{drawn_box}{inside}</g>")
     return "\n".join([*lines, "</svg>", ""])

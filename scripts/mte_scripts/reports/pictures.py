@@ -17,6 +17,11 @@ def coordinate(value: float) -> str:
     return f"{value:.1f}".removesuffix(".0")
 
 
+def box(x: float, y: float, width: float, height: float) -> str:
+    """A rectangle's place and size."""
+    return f'x="{coordinate(x)}" y="{coordinate(y)}" width="{coordinate(width)}" height="{coordinate(height)}"'
+
+
 def round_step(top: float, most: int) -> float:
     """The least of 1, 2 and 5, and of these times a power of 10, of which so many make TOP."""
     power = 10.0 ** math.floor(math.log10(top / most))
@@ -37,9 +42,7 @@ class Picture:
         self.text(0, 12, title)
 
     def text(self, x: float, y: float, words: object, anchor: str = "start") -> None:
-        self.parts.append(
-            f'<text x="{coordinate(x)}" y="{coordinate(y)}" text-anchor="{anchor}">{escape(words)}</text>'
-        )
+        self.parts.append(f'<text x="{coordinate(x)}" y="{coordinate(y)}" text-anchor="{anchor}">{escape(words)}</text>')
 
     def x(self, share: float) -> float:
         """The place after this share of the width."""
@@ -58,14 +61,19 @@ class Picture:
             self.parts.append(f'<path class="grid" d="M{self.left} {coordinate(y)}H{self.right}"/>')
             self.text(self.left - 6, y + 4, words(step * at), "end")
 
+    def clip(self, name: str, above: float, below: float) -> None:
+        """What is drawn with this clip path is cut off outside the axes, and some more above and below."""
+        area = box(self.left, self.top - above, self.right - self.left, self.bottom - self.top + below)
+        self.parts.append(f'<clipPath id="{name}"><rect {area}/></clipPath>')
+
     def tick(self, x: float, words: object) -> None:
         self.parts.append(f'<path class="axis" d="M{coordinate(x)} {self.bottom}v4"/>')
         self.text(x, self.bottom + 17, words, "middle")
 
     def svg(self, name: str) -> str:
         axis = f'<path class="axis" d="M{self.left} {self.bottom}H{self.right}"/>'
-        box = f'viewBox="0 0 {self.width} {self.height}"'
-        return f'<svg class="{self.kind}" {box} role="img" aria-label="{escape(name)}">{"".join(self.parts)}{axis}</svg>'
+        view = f'viewBox="0 0 {self.width} {self.height}"'
+        return f'<svg class="{self.kind}" {view} role="img" aria-label="{escape(name)}">{"".join(self.parts)}{axis}</svg>'
 
 
 XMLNS = '<svg xmlns="http://www.w3.org/2000/svg" '
@@ -84,31 +92,23 @@ class Drawing(Picture):
 
     def __init__(self, width: int, height: int, below: int, title: str) -> None:
         super().__init__("drawing", width, height, below, title)
-        area = f'x="{self.left}" y="{self.top}" width="{self.right - self.left}" height="{self.bottom - self.top + 6}"'
-        self.parts.append(f'<clipPath id="plot"><rect {area}/></clipPath>')
+        self.clip("plot", 0, 6)
 
     def curve(self, at: int, points: "list[tuple[float, float, str]]") -> None:
         """Curve number AT, over (x, y, title); what is above the picture is cut off."""
         line = " ".join(f"{coordinate(x)},{coordinate(max(y, -10 * self.height))}" for x, y, _ in points)
-        marks = "".join(
-            f'<circle class="mark" cx="{coordinate(x)}" cy="{coordinate(y)}" '
-            f'r="2.6"><title>{escape(title)}</title></circle>'
-            for x, y, title in points
-            if y >= self.top
-        )
+        places = ((f'cx="{coordinate(x)}" cy="{coordinate(y)}" r="2.6"', title) for x, y, title in points if y >= self.top)
+        marks = "".join(f'<circle class="mark" {place}><title>{escape(title)}</title></circle>' for place, title in places)
         self.parts.append(f'<g class="c{at % len(LIGHT)}" clip-path="url(#plot)"><polyline class="curve" points="{line}"/>{marks}</g>')
 
     def square(self, at: int, x: float, y: float, title: str) -> None:
         """A point beside curve number AT."""
-        box = f'x="{coordinate(x - 4)}" y="{coordinate(y - 4)}" width="8" height="8"'
-        self.parts.append(f'<g class="c{at % len(LIGHT)}"><rect class="mark" {box}><title>{escape(title)}</title></rect></g>')
+        self.parts.append(f'<g class="c{at % len(LIGHT)}"><rect class="mark" {box(x - 4, y - 4, 8, 8)}><title>{escape(title)}</title></rect></g>')
 
     def key(self, at: int, x: float, y: float, words: str, anchor: str = "start") -> None:
         """The name of curve number AT, after a piece of it or before it."""
         begin = x if anchor == "start" else x - 44
-        self.parts.append(
-            f'<g class="c{at % len(LIGHT)}"><path class="curve" d="M{coordinate(begin)} {coordinate(y - 4)}h44"/></g>'
-        )
+        self.parts.append(f'<g class="c{at % len(LIGHT)}"><path class="curve" d="M{coordinate(begin)} {coordinate(y - 4)}h44"/></g>')
         self.text(x + 52 if anchor == "start" else x - 52, y, words, anchor)
 
     def svg(self, name: str) -> str:

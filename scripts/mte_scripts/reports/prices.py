@@ -1,6 +1,6 @@
 """Draws what hardening costs some programs: for each a bar of its peak as it is, in Scudo, and in Scudo with sizes of its own."""
 
-from mte_scripts.reports.pictures import Drawing, coordinate, escape
+from mte_scripts.reports.pictures import Drawing, box, escape
 
 WIDTH, HEIGHT, BELOW, WIDE = 760, 300, 62, 30
 # each with the number of its color
@@ -17,17 +17,11 @@ def picture(rows: "list[Row]") -> str:
         drawing.text(middle, drawing.bottom + 18, name, "middle")
         for place, (peak, (words, color)) in enumerate(zip(peaks, BARS)):
             x, y = middle + (place - 1.5) * WIDE, drawing.y(peak / 1024, top)
-            box = (
-                f'x="{coordinate(x + 1)}" y="{coordinate(y)}" width="{WIDE - 2}" '
-                f'height="{coordinate(drawing.bottom - y)}"'
-            )
-            title = f"<title>{escape(f'{name}, {words}: {peak:,} KiB')}</title>"
-            drawing.parts.append(f'<g class="c{color}"><rect class="mark" {box}>{title}</rect></g>')
+            area, title = box(x + 1, y, WIDE - 2, drawing.bottom - y), escape(f"{name}, {words}: {peak:,} KiB")
+            drawing.parts.append(f'<g class="c{color}"><rect class="mark" {area}><title>{title}</title></rect></g>')
             drawing.text(x + WIDE / 2, y - 4, f"{peak / 1024:.0f}", "middle")
     for at, (words, color) in enumerate(BARS):
         x = drawing.left + 10 + at * 190
-        drawing.parts.append(
-            f'<g class="c{color}"><rect class="mark" x="{coordinate(x)}" y="{HEIGHT - 22}" width="12" height="12"/></g>'
-        )
+        drawing.parts.append(f'<g class="c{color}"><rect class="mark" {box(x, HEIGHT - 22, 12, 12)}/></g>')
         drawing.text(x + 18, HEIGHT - 11, words)
     return drawing.svg("Peak memory of some programs: " + "; ".join(f"{name} {', '.join(f'{peak:,}' for peak in peaks)} KiB" for name, peaks in rows))

@@ -6,7 +6,7 @@ from collections.abc import Iterable
 from mte_scripts import claims, html_safe
 from mte_scripts.claim_words import count_text
 from mte_scripts.formats import LARGEST_CLASS, LARGEST_SIZE
-from mte_scripts.reports.pictures import Picture, coordinate, escape
+from mte_scripts.reports.pictures import Picture, box, coordinate, escape
 from mte_scripts.tables.figures import GRANULE, Figures, Table, byte_text, class_text, kibibytes, number, percent
 
 STYLE = """\
@@ -172,18 +172,12 @@ def lead(figures: Figures) -> str:
     first, default = figures.first, figures.others[0]
     begin = f"A table of {len(first.classes)} size classes"
     if figures.objective == "waste":
-        words = (
-            f"{begin} loses {count_text(first.waste, 'byte')} by rounding, {share(figures, first)} of what was "
-            "requested."
-        )
+        words = f"{begin} loses {count_text(first.waste, 'byte')} by rounding, {share(figures, first)} of what was requested."
         if default.waste is not None:
             words += f" {default.name} loses {count_text(default.waste, 'byte')}, {share(figures, default)}."
         return words
-    seen = (
-        "every moment of the run"
-        if figures.timed.kind == "timeline"
-        else count_text(figures.timed.history.snapshots, "moment")
-    )
+    is_whole = figures.timed.kind == "timeline"
+    seen = "every moment of the run" if is_whole else count_text(figures.timed.history.snapshots, "moment")
     if interval := figures.timed.interval:
         seen = count_text(interval.events, "event") if interval.events else "the whole run"
     words = f"{begin} takes {first.is_known} {count_text(first.footprint, 'byte')} over {seen}.".replace("  ", " ")
@@ -308,14 +302,8 @@ def serving_tables(figures: Figures) -> list[tuple[int, Table]]:
 
 
 def curve_key(figures: Figures) -> str:
-    return key(
-        (style, f"{table.name}: {len(table.classes)} classes, {cost_text(figures, table)}")
-        for style, table in serving_tables(figures)
-    )
-
-
-def cost_text(figures: Figures, table: Table) -> str:
-    return share(figures, table) if figures.objective == "waste" else kibibytes(table.seen)
+    costs = [(style, table, share(figures, table) if figures.objective == "waste" else kibibytes(table.seen)) for style, table in serving_tables(figures)]
+    return key((style, f"{table.name}: {len(table.classes)} classes, {cost}") for style, table, cost in costs)
 
 
 def byte_levels(picture: Picture, top: float, most: int, low: float = 0) -> None:
@@ -347,10 +335,9 @@ def curve(figures: Figures, kind: str, width: int, height: int) -> str:
     for classes in (1, *range(4, most + 1, 4)):
         picture.tick(at(classes, 0)[0], classes)
     picture.text(picture.middle, height - 6, "classes in the table", "middle")
-    area = f'x="{picture.left}" y="{picture.top - 6}" width="{picture.right - picture.left}" height="{picture.bottom - picture.top + 8}"'
     points = [at(classes, cost) for classes, cost in enumerate(figures.least, 1)]
     drawn = " ".join(f"{coordinate(x)},{coordinate(max(y, -10 * height))}" for x, y in points)
-    picture.parts.append(f'<clipPath id="area-{kind}"><rect {area}/></clipPath>')
+    picture.clip(f"area-{kind}", 6, 8)
     picture.parts.append(f'<polyline class="curve" clip-path="url(#area-{kind})" points="{drawn}"/>')
     for style, table in reversed(serving_tables(figures)):
         title = f"{table.name}: {len(table.classes)} classes, {number(figures.seen(table))} bytes"
@@ -381,14 +368,12 @@ def layers_of(classes: list[int], rows: list[list[int]]) -> list[tuple[str, str,
     """What is drawn one upon the other, from below: words, form, the bytes at each time and their most. Classes that take least are one."""
     columns = [[GRANULE * each * count for count in column] for each, column in zip(classes, zip(*rows))]
     most = sorted(range(len(classes)), key=lambda at: -max(columns[at]))
-    shown_, rest = [at for at in most[: COLORS - 1] if max(columns[at])], [columns[at] for at in most[COLORS - 1 :] if max(columns[at])]
-    found = [
-        (f"blocks of {number(GRANULE * classes[at])} bytes", f'fill="var(--c{style})"', columns[at], max(columns[at]))
-        for style, at in enumerate(shown_)
-    ]
+    shown, rest = ([at for at in some if max(columns[at])] for some in (most[: COLORS - 1], most[COLORS - 1 :]))
+    found = [(f"blocks of {number(GRANULE * classes[at])} bytes", f'fill="var(--c{style})"', columns[at], max(columns[at]))
+             for style, at in enumerate(shown)]  # fmt: skip
     if rest:
         words = f"{len(rest)} other class{'es' * (len(rest) > 1)}"
-        found.append((words, 'class="bars"', list(map(sum, zip(*rest))), sum(map(max, rest))))
+        found.append((words, 'class="bars"', [sum(each) for each in zip(*(columns[at] for at in rest))], sum(max(columns[at]) for at in rest)))
     return found
 
 
@@ -450,14 +435,8 @@ def histogram(figures: Figures, kind: str, width: int, height: int, per_octave: 
     wide = (picture.right - picture.left) / (OCTAVES * per_octave)
     for place, (least, most, requests, total) in sorted(groups.items()):
         y = picture.y(total, top)
-        form = (
-            f'x="{coordinate(picture.left + place * wide)}" y="{coordinate(y)}" width="{coordinate(wide - 0.5)}" '
-            f'height="{coordinate(picture.bottom - y)}"'
-        )
-        title = (
-            f"{number(least)} to {number(most)} bytes: {count_text(requests, 'request')}, {count_text(total, 'byte')} "
-            "in all"
-        )
+        form = box(picture.left + place * wide, y, wide - 0.5, picture.bottom - y)
+        title = f"{number(least)} to {number(most)} bytes: {count_text(requests, 'request')}, {count_text(total, 'byte')} in all"
         picture.parts.append(f'<rect class="bars" {form}><title>{title}</title></rect>')
     for size, words in SIZE_TICKS:
         picture.tick(x(size), words)
