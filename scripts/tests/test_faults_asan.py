@@ -14,7 +14,7 @@ import workflow
 from checks import expect
 from mte_scripts.faults import fault_log, fault_report
 from mte_scripts.places import EXAMPLES
-from test_faults import COMPILERS, ERRORS, FIND, Example, run
+from test_faults import COMPILERS, ERRORS, FIND, PROGRAMS, Example, run
 
 BUILT = checks.PROGRAM
 RECOVER = ("-fsanitize=address", "-fsanitize-recover=address")
@@ -73,6 +73,47 @@ class FaultsAsan(checks.Part):
         told = {name: run([FIND, "--asan", os.path.join(self.work, f"{name}.gcc")])[1] for name in names}
         guesses = [name for name, text in told.items() if fault_report.GUESS in text]
         expect("what is a guess", guesses == [NAMES[1], NAMES[3], "cwe787_far.c"], told)
+
+    def test_variables(self):
+        """Wrong accesses of variables are told with their names, by a run and by its reports, and what the model says of each."""
+        with open(os.path.join(PROGRAMS, "variables.c")) as file:
+            lines = list(enumerate(file, 1))
+        wrong = [(number, *found.groups()) for number, line in lines if (found := re.search(r"// (.* variable (\w+) .*) \[(.*)\]", line))]
+        declared = {name: number for number, line in lines if (found := re.search(r"// ([\w ]+)$", line)) for name in found[1].split()}
+        for compiler, both in COMPILERS.items():
+            if checks.skip_without(" ".join(both), f"variables with {compiler}"):
+                continue
+            program = build(os.path.join(PROGRAMS, "variables.c"), f"{self.work}/variables.{compiler}", compiler, *RECOVER)
+            for at, (number, says, name, results) in enumerate(wrong):
+                log = f"{self.work}/variables.{compiler}.{at}"
+                with open(log, "w") as file:
+                    environment = dict(os.environ, ASAN_OPTIONS="detect_stack_use_after_return=1")
+                    subprocess.run([program, str(at)], stderr=file, env=environment)
+                for words in (["--asan", program, str(at)], ["--read", log]):
+                    status, told, said = run([FIND, *words], cwd=PROGRAMS)
+                    model = re.findall(r"(?m)^ {4,8}(?:LLVM's .*model|i[fn] .*): ((?:not )?caught\b.*?):", told)
+                    is_told = re.match(rf"(?:\S+/)?variables\.c:{number} in main: {re.escape(says)}\n    not replayed: ", told)
+                    is_there = f"\n    declared at variables.c:{declared[name]}" in told
+                    good = status == 1 and is_told and is_there and ", ".join(model) == results and "\nerrors 1\n" in told
+                    expect(f"{compiler}, {words}: {says}", good and ("Scudo's heap" in told) == (not results), model, told, said)
+
+    def test_halt(self):
+        """With --halt a program that could go on ends at its first error."""
+        program = build(f"{ERRORS}/cwe122_loop_bound.c", f"{self.work}/halts", "gcc", *RECOVER)
+        status, told, said = run([FIND, "--asan", "--halt", program])
+        good = status == 1 and told.endswith(f"\nincomplete: {fault_log.HALT}\n") and " then " not in told
+        expect("--asan --halt", good and "\nthe program ended with status 1\n" in told, status, told, said)
+
+    def test_mismatches(self):
+        """What ends a block by a function that does not fit, as the comments of the program say."""
+        program = build(os.path.join(PROGRAMS, "mismatches.cpp"), f"{self.work}/mismatches", "gcc", *RECOVER)
+        with open(os.path.join(PROGRAMS, "mismatches.cpp")) as file:
+            wanted = [(str(number), found[1]) for number, line in enumerate(file, 1) if (found := re.search("// (.* of a block .*)", line))]
+        status, told, said = run([FIND, "--asan", program], cwd=PROGRAMS)
+        # AddressSanitizer takes a realloc for a free
+        wanted = [(number, says.replace("realloc of", "free of")) for number, says in wanted]
+        seen = re.findall(r"(?m)^mismatches\.cpp:(\d+) in main: (.*)\n    not caught: the heap has one free", told)
+        expect("mismatches under --asan", status == 1 and len(wanted) == 7 and seen == wanted, seen, told, said)
 
     def test_job(self):
         """The job of examples/build/sanitizer.yml, as written, but for the package that it unpacks."""

@@ -31,7 +31,10 @@ from mte_scripts.faults.fault_places import Frame, Places
 OVERFLOW, UNDERFLOW, USE_AFTER_FREE, USE_AFTER_REALLOC = "overflow", "underflow", "use after free", "use after realloc"
 DOUBLE_FREE, INVALID_FREE, WILD = "double free", "invalid free", "access of no block"
 TOO_LARGE, POISON, OVERLAP = "impossible size", "use of poisoned memory", "overlapping copy"
-KINDS = (OVERFLOW, UNDERFLOW, USE_AFTER_FREE, USE_AFTER_REALLOC, DOUBLE_FREE, INVALID_FREE, WILD, TOO_LARGE, POISON, OVERLAP)
+MISMATCH, DEAD_VARIABLE = "mismatched free", "use of a dead variable"
+VARIABLE_OVERFLOW, VARIABLE_UNDERFLOW = "overflow of a variable", "underflow of a variable"
+KINDS = (OVERFLOW, UNDERFLOW, USE_AFTER_FREE, USE_AFTER_REALLOC, DOUBLE_FREE, INVALID_FREE, WILD, TOO_LARGE, POISON, OVERLAP,
+         MISMATCH, VARIABLE_OVERFLOW, VARIABLE_UNDERFLOW, DEAD_VARIABLE)
 CRASH, UNFREED = "crash", "memory leak"
 CAUGHT, NOT_CAUGHT, NOT_REPLAYED = "caught", "not caught", "not replayed"
 RESULTS = (CAUGHT, NOT_CAUGHT, NOT_REPLAYED)
@@ -43,6 +46,10 @@ Left = namedtuple("Left", "blocks bytes")  # of an UNFREED: how much was lost
 
 
 def kind_of(error: Error) -> str:
+    if error.letter == "y":
+        return MISMATCH
+    if error.variable:
+        return DEAD_VARIABLE if error.variable.dead else VARIABLE_UNDERFLOW if error.variable.offset < 0 else VARIABLE_OVERFLOW
     if error.is_free():
         return DOUBLE_FREE if error.letter == "o" or error.block and error.state != "live" and not error.offset else INVALID_FREE
     if error.is_too_large():
@@ -64,7 +71,7 @@ def block_of(error: Error) -> int:
 def stacks_of(log: Log, errors: list[Error]) -> set[int]:
     """The numbers of the stacks that tell of some errors."""
     numbers = {number for error in errors for number in (error.stack, log.made[error.block], max(log.ended[error.block], 0))}
-    numbers |= {mark.stack for error in errors for mark in (error.poisoned, error.unpoisoned) if mark}
+    numbers |= {mark.stack for error in errors for mark in (error.poisoned, error.unpoisoned, error.variable) if mark}
     return numbers | ({log.crash.stack} if log.crash else set())
 
 
@@ -159,7 +166,7 @@ class Causes:
             return kind, self.line(error.stack)
         if kind == POISON and error.poisoned:  # all uses of what one call poisoned
             return self.of_region.setdefault((block, error.poisoned.number), (kind, self.line(error.stack), self.callers(error.poisoned.stack)))
-        made = self.callers_within(error, self.log.made[block]) if block else ""
+        made = self.callers_within(error, self.log.made[block]) if block else str(error.variable and error.variable[:2])
         return kind, self.line(error.stack), made, self.callers(self.log.ended[block]) if error.state != "live" else ""
 
     def of_use(self, kind: str, error: Error) -> tuple:

@@ -14,6 +14,7 @@ from collections.abc import Iterator, Sequence
 from typing import BinaryIO, Optional
 
 from mte_scripts import checksum
+from mte_scripts.faults.variables import find_variable
 from mte_scripts.formats import LARGEST_SIZE
 
 WINDOW = 64  # the bytes of the longest access of a trace
@@ -21,7 +22,7 @@ WINDOW = 64  # the bytes of the longest access of a trace
 HEAD, FORM = 128, b"ACCESS1\0"
 MARK = struct.Struct("<5Q")  # length, sum, not_logged, state, check
 ORIGIN = struct.Struct("<QQ16s")  # dropped; the length and the name of what a fork's log goes on from
-RUNNING, ENDED, CUT, NO_ROOM, STOPPED = 1, 2, 3, 4, 5  # the last by AddressSanitizer
+RUNNING, ENDED, CUT, NO_ROOM, STOPPED, HALTED = 1, 2, 3, 4, 5, 6  # the last two by the first error
 MOST_BYTES = (1 << 30) + (8 << 20)  # the runtime takes a gibibyte, and a piece of eight mebibytes
 LONGEST_LINE = 4096
 MOST_SIZE = 1 << 47  # of an address space
@@ -33,6 +34,10 @@ MOST_TIMES = 1 << 63
 STACK = re.compile(rb"([0-9]{1,10})(?::([0-9a-f]{1,16}(?:,[0-9a-f]{1,16}){0,15}))?")
 ADDRESS = re.compile(rb"[0-9a-f]{1,16}")
 STOP = "AddressSanitizer ended the program at its first error; built with -fsanitize-recover=address, it goes on"
+HALT = "--halt ended the program at its first error"
+# what makes a block, and what ends it, by their numbers in a record
+MAKERS = dict(enumerate(("malloc", "new", "new[]")))
+ENDERS = dict(enumerate(("free", "delete", "delete[]", "realloc")))
 KERNEL = 128  # of a signal's codes: from 1 to below it, the address is that of the access
 SIGNALS = {4: "SIGILL", 6: "SIGABRT", 7: "SIGBUS", 8: "SIGFPE", 11: "SIGSEGV"}
 
@@ -45,13 +50,17 @@ class NoLog(Exception):
     """The file is no log."""
 
 
-class Error(namedtuple("Error", "letter block offset size stack state times poisoned unpoisoned is_guess", defaults=(1, None, None, False))):
-    """A wrong access or free. The letter is the log's: L, S, P, Q, V, x, o or n. The state is of the block then: live, freed or resized. Times is
-    how often it came. Of an access of poisoned memory, the Marks by which the program poisoned it, and unpoisoned it before. `is_guess`: where it
-    begins, or of which block it is, is a guess."""
+FIELDS = "letter block offset size stack state times poisoned unpoisoned is_guess functions variable"
+
+
+class Error(namedtuple("Error", FIELDS, defaults=(1, None, None, False, None, None))):
+    """A wrong access or free. The letter is the log's: L, S, P, Q, V, x, y, o or n. The state is of the block then: live, freed or resized. Times
+    is how often it came. Of an access of poisoned memory, the Marks by which the program poisoned it, and unpoisoned it before. `is_guess`: where
+    it begins, or of which block it is, is a guess. `functions`: by which of MAKERS a block was made that a wrong one of ENDERS ends, if they are
+    known. `variable`: of an access near one (variables.Variable)."""
 
     def is_free(self) -> bool:
-        return self.letter in "xon"
+        return self.letter in "xyon"
 
     def is_load(self) -> bool:
         return self.letter in "LP"
@@ -168,8 +177,8 @@ class Text:
         if self.state == CUT:
             what = "of what the program did later it has wrong accesses and frees alone"
             self.missing.append(f"the log could not grow at {self.length} bytes: {what}")
-        elif self.state == STOPPED:
-            self.missing.append(STOP)
+        elif self.state in (STOPPED, HALTED):
+            self.missing.append(STOP if self.state == STOPPED else HALT)
         elif self.state == NO_ROOM:
             how = "raise `ulimit -v`, and don't set vm.overcommit_memory to 2"
             self.missing.append(f"the runtime had no room for its tables, and ended the program: {how}")
@@ -208,6 +217,7 @@ class Log:
         self._times: dict[int, int] = {}
         self._numbers = {0: 0}
         self.lost: set[int] = set()  # blocks to which no pointer is left at the end; with 0 where all such are told
+        self.maybe_lost: set[int] = set()  # to which the stack alone has a pointer, which may be an old one
         self.ignored: set[int] = set()  # blocks whose leak the program wants passed over
         self.unrecorded: set[int] = set()  # blocks that a handler of a signal requested have no record
         self._taken_back: set[int] = set()
@@ -319,17 +329,28 @@ class Log:
         self._know(block)
         self.ignored.add(block)
 
-    def _lose(self, _: bytes, words: "list[bytes]") -> None:
+    def _lose(self, letter: bytes, words: "list[bytes]") -> None:
         (block,) = map(int, words)
         if block:
             self._know(block)
-        self.lost.add(block)
+        (self.lost if letter == b"k" else self.maybe_lost).add(block)
 
     def _guess(self, _: bytes, words: "list[bytes]") -> None:
         (number,) = map(int, words)
         if not 0 < number <= len(self.errors):
             raise NoLog
         self.errors[number - 1] = self.errors[number - 1]._replace(is_guess=True)
+
+    def _name_variable(self, _: bytes, words: "list[bytes]") -> None:
+        number, *text = words
+        if not 0 < int(number) <= len(self.errors):
+            raise NoLog
+        lines = b" ".join(text).decode(errors="replace").split("\t")
+        if (found := find_variable(lines)) and found.frame:
+            pc = int(found.frame.split(" ")[0], 16)
+            self.stacks.append(f"{pc + 1:x}")  # the function itself, and no place that a call returns to
+            found = found._replace(stack=len(self.stacks) - 1)
+        self.errors[int(number) - 1] = self.errors[int(number) - 1]._replace(variable=found)
 
     def _leave_out(self, letter: bytes, words: "list[bytes]") -> None:
         (number,) = map(int, words)
@@ -353,10 +374,11 @@ class Log:
     READERS = {
         **dict.fromkeys((b"l", b"s"), _right),
         **dict.fromkeys((b"m", b"c"), _request),
-        **dict.fromkeys((b"L", b"S", b"P", b"Q", b"V", b"x", b"o", b"n"), _wrong),
+        **dict.fromkeys((b"L", b"S", b"P", b"Q", b"V", b"x", b"y", b"o", b"n"), _wrong),
         **dict.fromkeys((b"p", b"u"), _mark),
         b"a": _align, b"f": _free, b"r": _resize, b"M": _module, b"-": _take_back, b"+": _again, b"C": _crash, b"e": _status, b"i": _ignore, b"k": _lose,
         b"d": _leave_out, b"t": _learn_stack, b"z": _pass_over, b"h": _pass_over, b"g": _guess,
+        b"q": _lose, b"v": _name_variable,
     }  # of a record, by its letter; one of another letter has no key
 
     def _parts(self, words: "list[bytes]") -> "tuple[list[int], int]":
@@ -402,10 +424,14 @@ class Log:
             raise NoLog
         if block:
             self._know(block)
-        elif letter in "LS" and not 0 <= offset <= 2:  # what it stands for in place of a block
+        elif letter == "y" or letter in "LS" and not 0 <= offset <= 2:  # what it stands for in place of a block
             raise NoLog
-        state = "live" if self.ended[block] == -1 else "resized" if self.next[block] else "freed"
+        functions = (MAKERS[offset], ENDERS[size]) if letter == "y" else None
         self._add(b"E", len(self.errors))
+        if functions:  # the block may be freed by then
+            self.errors.append(Error(letter, block, 0, 0, stack, "live", functions=functions))
+            return
+        state = "live" if self.ended[block] == -1 else "resized" if self.next[block] else "freed"
         marks = self._marks_of(block, offset, size) if letter in "PQ" else (None, None)
         self.errors.append(Error(letter, block, offset, size, stack, state, 1, *marks))
 

@@ -36,6 +36,7 @@ Usage: find_faults [OPTIONS] PROGRAM ARGS..
   --preload       the same, for a program of which only libraries that it loads are traced, as Python's extensions are
   --asan          the program was built with -fsanitize=address, by gcc or clang: tell what AddressSanitizer sees, in the first
                   process that has it
+  --halt          end each process at its first error, with exit status 1, or what exitcode=N of ASAN_OPTIONS says
   --json FILE     write the errors for other programs too; with - to standard output, in place of the text
   --sarif FILE    the same as SARIF 2.1.0, which code hosts and editors read
   --annotations   print a line ::error for each error too, which a runner of GitHub's shows beside its source line
@@ -81,8 +82,8 @@ def read_words(words: list[str]) -> argparse.Namespace:
         parser.error("--table is for reports: the table of a run is tuned for it")
     if bool(options.words) == bool(options.read):
         parser.error("there is no program" if not options.words else "--read takes no program")
-    if options.read and options.keep:
-        parser.error("--read and --keep can't be given both")
+    if options.read and (also := next((name for name in ("keep", "halt") if getattr(options, name)), None)):
+        parser.error(f"--read and --{also} can't be given both")
     if options.asan and (also := [name for name in ("read", "children", "preload", "only", "unfreed") if getattr(options, name)]):
         parser.error(f"--asan and --{also[0]} can't be given both")
     options.children = options.children or options.preload

@@ -15,10 +15,11 @@ from mte_scripts import text_files
 from mte_scripts.entry_point import Refusal
 from mte_scripts.faults import fault_entries
 from mte_scripts.faults.fault_entries import Entry
-from mte_scripts.faults.fault_log import Log
+from mte_scripts.faults.fault_log import Error, Log
 from mte_scripts.faults.fault_places import Frame, Places
 from mte_scripts.faults.fault_report import count, crash_sentence, left_sentence, sentence
 from mte_scripts.faults.odds import Odds
+from mte_scripts.faults.variables import STACK, value_of
 
 FORM = 1  # of the JSON
 FRAMES_OF_ID = 3
@@ -27,8 +28,10 @@ CWES = {
     fault_entries.USE_AFTER_REALLOC: (825, 825), fault_entries.DOUBLE_FREE: (415, 415), fault_entries.INVALID_FREE: (761, 761),
     fault_entries.WILD: (119, 119), fault_entries.TOO_LARGE: (805, 805), fault_entries.POISON: (672, 672),
     fault_entries.OVERLAP: (475, 475), fault_entries.CRASH: (None, None), fault_entries.UNFREED: (401, 401),
+    fault_entries.MISMATCH: (762, 762), fault_entries.DEAD_VARIABLE: (825, 825),
+    fault_entries.VARIABLE_OVERFLOW: (787, 126), fault_entries.VARIABLE_UNDERFLOW: (124, 127),
 }  # of a kind: of a store or a free, and of a load
-NOT_ON_HEAP = 590  # of a free
+MORE_CWES = {fault_entries.INVALID_FREE: 590, fault_entries.VARIABLE_OVERFLOW: 121}  # of a free of no block, a store on the stack
 LARGEST_FILE = 64 << 20
 
 # A line of a file of suppressions: the kind and the place are patterns as of file names.
@@ -71,9 +74,16 @@ def finding(entry: Entry, log: Log, places: Places, odds: Odds) -> dict:
     value["odds"] = odds.values(entry.numbers)
     if first.error.block:
         value["block"] = {"bytes": log.size[first.error.block], "offset": first.error.offset, "state": first.error.state}
-    cwe = NOT_ON_HEAP if first.error.letter == "n" else CWES[entry.kind][first.error.is_load()]
+    if first.error.variable:
+        value["variable"] = value_of(places.resolve(first.error.variable), first.error.size)
+    cwe = cwe_of(entry.kind, first.error)
     deciding = next(use for use in entry.uses if use.result == entry.result)
     return value | {"cwe": cwe, "what": sentence(first.error, log), "why": deciding.why, "times": sum(use.times for use in entry.uses)}
+
+
+def cwe_of(kind: str, error: Error) -> "int | None":
+    is_of_stack = error.variable and error.variable.kind == STACK and not error.is_load()
+    return MORE_CWES[kind] if kind in MORE_CWES and (error.letter == "n" or is_of_stack) else CWES[kind][error.is_load()]
 
 
 def id_words(kind: str, frames: list[Frame], made: list[Frame], ended: list[Frame]) -> list[str]:

@@ -31,6 +31,7 @@ LARGER_BEFORE = UNKNOWN.since("a larger block may have had the place, and the sa
 GIVEN_BACK = UNKNOWN.since("the place may have been given back to the system")
 TAKEN = UNKNOWN.since("the place may have another user")
 CHECKSUM = at_least((1 << 16) - 1, 1 << 16).since("a header has a checksum of 16 bits")
+COMPARED = UNKNOWN.since("whether it compares the two is a setting")
 NO_RULE = UNKNOWN.since("what it would take for a header is not known")
 
 OTHER_OF_GLIBC = at_least(ALL - 1, ALL).since("each request draws one of 15 tags")
@@ -52,6 +53,8 @@ def meets(begin: int, end: int, granule: int) -> bool:
 
 def on_scudo(error: Error, size: int, past: BlockPast) -> Share:
     """`size`: of the block that the error names."""
+    if error.letter == "y":
+        return COMPARED
     if not error.block:
         return CHECKSUM if error.letter == "n" else NO_BLOCK
     if error.is_free():
@@ -136,6 +139,8 @@ def on_reused_slot(slot: Slot, begin: int, end: int) -> Share:
 
 def on_glibc(error: Error, size: int, past: BlockPast) -> Share:
     """`size`: of the block that the error names."""
+    if error.letter == "y":
+        return NEVER
     if not error.block or size > GLIBC_HEAP:
         return NOT_ON_HEAP if error.block else NO_BLOCK
     if error.state == "resized" and (not past.later or max(past.later) > GLIBC_HEAP):

@@ -139,7 +139,7 @@ def question(log: Log, number: int) -> list[str]:
     error = log.errors[number]
     if error.letter == "n":
         return ["n"]
-    if not error.block or error.block in log.unrecorded:
+    if not error.block or error.block in log.unrecorded or error.letter == "y":
         return []
     if error.is_free():
         return [f"x {error.block} {error.offset}"]

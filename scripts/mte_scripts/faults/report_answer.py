@@ -13,23 +13,13 @@ from mte_scripts.faults import fault_entries, findings, report_verdicts, sarif, 
 from mte_scripts.faults.fault_places import Frame
 from mte_scripts.faults.fault_report import MOST_USES, count, often, sentence
 from mte_scripts.faults.report_verdicts import DEPENDS, HEAPS, RESULTS, Case, Judged, Layout
-from mte_scripts.faults.sanitizer_reports import CRASH, LARGEST_LOG, MISMATCH, NO_BLOCK, Report, read_reports
+from mte_scripts.faults.sanitizer_reports import CRASH, LARGEST_LOG, NO_BLOCK, Report, read_reports
+from mte_scripts.faults.variables import tell_variable, value_of
 from mte_scripts.places import EXAMPLES
 
 TABLE = "scudo_android.classes"  # the classes of Android's Scudo
-UNUSED = (
-    "keep",
-    "page",
-    "only",
-    "unfreed",
-    "children",
-    "preload",
-    "seeds",
-    "measure",
-    "tombstones",
-    "tombstone",
-)  # options of a run
-MISMATCHED_CWE = 762
+# options of a run
+UNUSED = "keep page only unfreed children preload seeds measure tombstones tombstone asan halt".split()
 
 
 def is_asked(options: argparse.Namespace) -> bool:
@@ -109,19 +99,14 @@ def sentence_of(report: Report, judged: Judged) -> str:
         return f"{done} of {count(report.length, 'byte')}, of which the report names no block ({report.word})"
     blocks: Any = SimpleNamespace(size=[0, judged.size])
     said = sentence(judged.error, blocks)
-    if report.act == MISMATCH:
-        return f"{said}, by another function than fits how it was allocated"
-    return said if judged.error.block else f"{said} ({report.word})"
+    return said if judged.error.block or judged.error.variable else f"{said} ({report.word})"
 
 
 def new_finding(report: Report, judged: Judged) -> dict:
     error = judged.error
-    cwe = findings.CWES[judged.kind][error.is_load()]
-    if error.letter == "n" or report.act == MISMATCH:
-        cwe = MISMATCHED_CWE if report.act == MISMATCH else findings.NOT_ON_HEAP
-    return {
+    value = {
         "kind": judged.kind,
-        "cwe": cwe,
+        "cwe": findings.cwe_of(judged.kind, error),
         "what": sentence_of(report, judged),
         "result": judged.result,
         "why": judged.why,
@@ -137,6 +122,7 @@ def new_finding(report: Report, judged: Judged) -> dict:
         "cases": [],
         "tool": report.tool,
     }
+    return value | ({"variable": value_of(error.variable, error.size)} if error.variable else {})
 
 
 def case_value(case: Case) -> dict:
@@ -170,6 +156,7 @@ def tell_finding(value: dict) -> "list[str]":
     first, *others = value["uses"] or [None]
     lines += [f"    {line}" for line in tell_cases(first)] if first else []
     lines += [f"    then {use['what']}{often(use['times'])}: {use['result']}: {use['why']}" for use in others]
+    lines += [f"    {line}" for line in tell_variable(value["variable"])] if "variable" in value else []
     for words, frames in (("allocated", value["allocated"]), ("freed", value["ended"])):
         lines += [f"    {words} at {', from '.join(map(findings.place, frames))}"] * bool(frames)
     return lines

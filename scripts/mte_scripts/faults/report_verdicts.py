@@ -17,6 +17,7 @@ from mte_scripts.faults.histories import GRANULE, BlockPast, Histories, round_to
 from mte_scripts.faults.sanitizer_reports import CRASH, FOREIGN, FREE, HEAP, HWASAN, LOAD, MISMATCH, OVERLAP
 from mte_scripts.faults.sanitizer_reports import POISON_LOAD, POISON_STORE, Report
 from mte_scripts.faults.shares import ALWAYS, NEVER, UNKNOWN, Share
+from mte_scripts.faults.variables import GLOBAL, NOT_TAGGED
 from mte_scripts.formats import LARGEST_SIZE
 
 DEPENDS, BY_CHANCE = "depends", "by chance"
@@ -24,7 +25,7 @@ RESULTS = (CAUGHT, DEPENDS, BY_CHANCE, NOT_CAUGHT, NOT_REPLAYED)
 HEAPS = ("this heap", "Scudo", "glibc")
 FARTHEST = 3  # slots of its class around a block within which each place is looked at
 # of an act; others are stores
-LETTERS = {LOAD: "L", FREE: "x", MISMATCH: "x", OVERLAP: "V", POISON_LOAD: "P", POISON_STORE: "Q"}
+LETTERS = {LOAD: "L", FREE: "x", MISMATCH: "y", OVERLAP: "V", POISON_LOAD: "P", POISON_STORE: "Q"}
 
 LAWS = {
     "law_bookkeeping": "it meets a header, a tail or slack, whose tag is 0 (law_bookkeeping)",
@@ -33,7 +34,6 @@ LAWS = {
     "law_own_pointer": "free takes the own pointer of a live chunk alone (law_own_pointer)",
     "law_accesses": "it is outside the region (law_accesses)",
 }
-ONE_FREE = "the heap has one free for all that it gives out"
 NO_CLASS = "no class of the table serves its block"
 NO_PLACE = "the report names no block"
 
@@ -175,21 +175,22 @@ def judge_report(report: Report, layout: Layout) -> Judged:
 def error_of(report: Report) -> Error:
     letter, state = LETTERS.get(report.act, "S"), report.state
     if report.where != HEAP:
-        letter = "n" if letter == "x" else {"P": "L", "Q": "S"}.get(letter, letter)
-        return Error(letter, 0, 2 if report.where == FOREIGN else 1, report.length, 0, "live")
+        letter = "n" if letter in "xy" else {"P": "L", "Q": "S"}.get(letter, letter)
+        return Error(letter, 0, 2 if report.where == FOREIGN else 1, report.length, 0, "live", variable=report.variable)
     is_inside = 0 <= report.offset and report.offset + report.length <= report.size and state == "live"
     if letter in "PQV" and not is_inside:
         letter = "L" if letter == "P" else "S"
     if report.is_resized:
         state = "resized"
-    return Error(letter, 1, report.offset, 0 if letter == "x" else report.length, 0, state)
+    functions = tuple(report.detail.split(" ")) if letter == "y" and report.detail else None
+    return Error(letter, 1, report.offset, 0 if letter in "xy" else report.length, 0, state, functions=functions)
 
 
 def cases_of(report: Report, error: Error, layout: Layout) -> "Iterator[Case]":
     if report.where != HEAP:
         yield from cases_without_block(report, error)
     elif report.act == MISMATCH:
-        yield Case("", NOT_CAUGHT, ONE_FREE, (NEVER, UNKNOWN.since("whether it compares the two is a setting"), NEVER))
+        yield Case("", NOT_CAUGHT, heap_answers.ONE_FREE, (NEVER, other_heaps.COMPARED, NEVER))
     elif report.size <= LARGEST_SIZE and layout.class_of(report.size) is None:
         yield Case("", NOT_REPLAYED, NO_CLASS, None)
     else:
@@ -218,7 +219,8 @@ def cases_without_block(report: Report, error: Error) -> "Iterator[Case]":
         yield Case(OTHER_PLACE, CAUGHT, LAWS["law_bookkeeping"], None)
         yield Case(NO_OTHER, NOT_REPLAYED, heap_answers.NOT_OF_HEAP, None)
     elif error.letter != "n":
-        yield Case("", NOT_REPLAYED, heap_answers.NOT_OF_HEAP if report.where == FOREIGN else NO_PLACE, None)
+        why = heap_answers.NOT_OF_HEAP if report.where == FOREIGN else NO_PLACE
+        yield Case("", NOT_REPLAYED, NOT_TAGGED if error.variable and error.variable.kind == GLOBAL else why, None)
     else:
         is_known = report.where == FOREIGN
         odds = ALWAYS, other_heaps.CHECKSUM, other_heaps.NO_BLOCK

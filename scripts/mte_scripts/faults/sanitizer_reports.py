@@ -10,6 +10,7 @@ from collections import namedtuple
 
 from mte_scripts.entry_point import Refusal
 from mte_scripts.faults.fault_places import Frame, is_own
+from mte_scripts.faults.variables import Variable, find_variable
 from mte_scripts.recording.calls import without_parameters
 
 LARGEST_LOG = 256 << 20
@@ -39,11 +40,12 @@ HEAP, NO_BLOCK, FOREIGN = (
 # above; with HEAP the offset of the access from its block on, the size of the block, and its state, `live` or `freed`.
 # `is_begin_open`: the offset is that of the first wrong byte of a call, which may begin before it. `is_end_open`: the
 # call may touch bytes after those that are told. `is_resized`: whether a realloc ended the block, or None where nobody
-# knows. `detail` is what a crash says.
+# knows. `detail` is what a crash says, and of a mismatch what made the block and what freed it, where that is known.
+# `variable`: what is near, where no block is.
 Report = namedtuple(
     "Report",
-    "tool word act frames detail length where offset size state is_begin_open is_end_open is_resized made ended",
-    defaults=("", 1, NO_BLOCK, 0, 0, "live", False, False, False, (), ()),
+    "tool word act frames detail length where offset size state is_begin_open is_end_open is_resized made ended variable",
+    defaults=("", 1, NO_BLOCK, 0, 0, "live", False, False, False, (), (), None),
 )
 
 ASAN, HWASAN, MEMCHECK = "AddressSanitizer", "HWAddressSanitizer", "memcheck"
@@ -166,14 +168,30 @@ def report_of_sanitizer(tool: str, lines: "list[str]", where: str) -> Report:
     offset, size, place = place_of(lines, at, word)
     is_range, is_tail = word.endswith("-param-overlap"), word == "allocation-tail-overwritten"
     is_whole = tool == HWASAN or is_direct(frames) or length < 2 or is_range or word.endswith("size-param")
+    variable = variable_of(word, lines, is_whole) if place == FOREIGN else None
     act = act_of(word, access, bool(frames) and not SETTERS.search(frames[0].function))
     return Report(
-        tool, word, act, [] if is_tail else programs_frames(frames), where=place, offset=offset, size=size,
+        tool, word, act, [] if is_tail else programs_frames(frames), functions_in(what) if act == MISMATCH else "",
+        where=place, offset=offset, size=size, variable=variable,
         length=length_of_range(what) if is_range else 1 if is_tail else min(length, WORD_SPACE - 1),
         state="freed" if ended else "live", is_begin_open=not is_whole and not ended and offset == size,
         is_end_open=is_tail, is_resized=is_resized(ended), made=programs_frames(stacks["made"]),
         ended=programs_frames(ended),
     )  # fmt: skip
+
+
+def variable_of(word: str, lines: "list[str]", is_whole: bool) -> "Variable | None":
+    found = find_variable([word if is_whole else f"{word} call", *lines[1:]])
+    if not found or not found.frame:
+        return found
+    frame = frame_of(found.frame.partition(" ")[2].strip().removeprefix("in "))
+    return found._replace(source=frame.source or "", function=frame.function)
+
+
+def functions_in(text: str) -> str:
+    """What made a block and what freed it, of `(operator new [] vs free)` or `operator new[] free`; empty where they are not both known."""
+    found = re.findall(r"\b(?:malloc|free|new|delete)\b(?: ?\[\])?", text.partition(" on ")[0].partition(" thread ")[0])
+    return " ".join(each.replace(" ", "") for each in found) if len(found) == 2 else ""
 
 
 def address_of(what: str, access: "re.Match | None") -> "int | None":
@@ -305,8 +323,9 @@ def memcheck_report(head: str, stacks: dict, place: str, offset: int, size: int,
     is_open = act in (LOAD, STORE) and (not is_direct(frames) or head.startswith("Syscall"))
     number_of = int(length[1]) if length else int(copied[1]) if copied else 1
     word = re.split(r" of size|\(\)| in | points ", head, maxsplit=1)[0]
+    functions = [each[0].function.partition("(")[0] if each else "" for each in (stacks["made"], frames)]
     return Report(
-        MEMCHECK, word, act, programs_frames(frames), length=max(number_of, 1), where=place, offset=offset, size=size,
+        MEMCHECK, word, act, programs_frames(frames), functions_in(" ".join(functions)) if act == MISMATCH else "", length=max(number_of, 1), where=place, offset=offset, size=size,
         state="freed" if is_freed else "live", is_end_open=is_open and not is_freed,
         is_resized=is_resized(stacks["ended"]), made=programs_frames(stacks["made"]),
         ended=programs_frames(stacks["ended"]),

@@ -4,6 +4,7 @@ import os
 from collections.abc import Iterator
 
 from mte_scripts.faults import fault_entries, findings
+from mte_scripts.faults.variables import TITLE
 
 SCHEMA = "https://docs.oasis-open.org/sarif/sarif/v2.1.0/errata01/os/schemas/sarif-schema-2.1.0.json"
 ROOT = "SRCROOT"
@@ -19,6 +20,10 @@ RULES = {
     fault_entries.TOO_LARGE: "An access of more bytes than an object can have",
     fault_entries.POISON: "An access of memory that the program poisoned",
     fault_entries.OVERLAP: "A copy between two places that overlap",
+    fault_entries.MISMATCH: "A free that does not fit how its block was allocated",
+    fault_entries.VARIABLE_OVERFLOW: "An access after the end of a variable",
+    fault_entries.VARIABLE_UNDERFLOW: "An access before the start of a variable",
+    fault_entries.DEAD_VARIABLE: "An access of a variable after its scope or its function",
     fault_entries.UNFREED: "A heap block to which no pointer is left",
     fault_entries.CRASH: "The program was ended by a signal",
 }
@@ -27,7 +32,7 @@ MOST_RUNS_OF_FILE = 20  # that GitHub takes
 
 
 def rule(kind: str) -> dict:
-    cwes = sorted({cwe for cwe in findings.CWES[kind] if cwe} | ({findings.NOT_ON_HEAP} if kind == fault_entries.INVALID_FREE else set()))
+    cwes = sorted({cwe for cwe in (*findings.CWES[kind], findings.MORE_CWES.get(kind)) if cwe})
     tags = ["security", *(f"external/cwe/cwe-{cwe}" for cwe in cwes)]
     return {"id": findings.kind_id(kind), "shortDescription": {"text": RULES[kind]}, "fullDescription": {"text": RULES[kind] + "."},
             "defaultConfiguration": {"level": "error"}, "properties": {"tags": tags, "security-severity": SEVERITY}}
@@ -71,6 +76,8 @@ def finding_text(value: dict) -> str:
     parts = [value["what"][:1].upper() + value["what"][1:] + "."]
     if value["result"]:
         parts.append(f"On the tagged heap: {value['result']}, {value['why']}.")
+    for case in (value.get("variable") or {}).get("stack_tagging_model") or ():
+        parts.append(f"{TITLE}: {': '.join(filter(None, case.values()))}.")
     if value["odds"]:
         parts.append("Odds of being caught: " + ", ".join(f"{name} {share['text']}" for name, share in value["odds"].items()) + ".")
     return " ".join(parts)
@@ -97,7 +104,7 @@ def result(value: dict, kinds: list[str], has_baseline: bool) -> dict:
         made["suppressions"] = [{"kind": "external", "justification": value["suppressed_by"]}]
     if has_baseline:
         made["baselineState"] = STATES.get(value.get("state"), "unchanged")
-    properties = {key: value[key] for key in ("cwe", "result", "odds", "block") if value[key] is not None}
+    properties = {key: value[key] for key in ("cwe", "result", "odds", "block", "variable") if value.get(key) is not None}
     return made | ({"properties": properties} if properties else {})
 
 

@@ -19,15 +19,11 @@ GRACE = 10  # seconds that the program has to end by a signal that is handed on 
 def record_program(options: argparse.Namespace, folder: str) -> None:
     """Runs the program; its log is in the folder then."""
     log = os.path.join(folder, "%p" if options.children else "log")
-    environment = dict(os.environ, ACCESSES=log)
-    environment.pop("ACCESSES_ONLY", None)
-    if options.unfreed:
-        environment["ACCESSES_UNFREED"] = "1"
-    if options.only:
-        environment["ACCESSES_ONLY"] = options.only
+    asked = {"ACCESSES": log, "ACCESSES_UNFREED": options.unfreed and "1", "ACCESSES_HALT": options.halt and "1", "ACCESSES_ONLY": options.only}
+    environment = {name: value for name, value in {**os.environ, **asked}.items() if value or name not in asked}
     raw = os.path.join(folder, "sanitized")
     if options.asan:
-        environment |= sanitized_runs.environment_of(raw)
+        environment |= sanitized_runs.environment_of(raw, options.halt)
     if options.preload or options.asan:
         environment["LD_PRELOAD"] = ":".join(filter(None, (preload_value(options.asan), environment.get("LD_PRELOAD"))))
     try:
@@ -35,7 +31,7 @@ def record_program(options: argparse.Namespace, folder: str) -> None:
     except OSError as error:
         raise Refusal(3, f"{options.words[0]} can't be run: {error.strerror}") from None
     if options.asan:
-        sanitized_runs.make_log(raw, log)
+        sanitized_runs.make_log(raw, log, options.halt)
     if not any(os.path.exists(os.path.join(folder, name)) for name in fault_answer.logs(folder, options.children) or [log]):
         if options.asan:
             raise Refusal(3, f"{options.words[0]}: no process that was built with -fsanitize=address made a log in {folder}")

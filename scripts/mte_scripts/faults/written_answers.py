@@ -8,7 +8,7 @@ from mte_scripts.builds import web_page
 from mte_scripts.entry_point import printable, say
 from mte_scripts.faults import fault_answer, fault_report, sarif, tombstone, unfreed_blocks
 from mte_scripts.faults.fault_answer import Judged
-from mte_scripts.faults.fault_log import STOP
+from mte_scripts.faults.fault_log import HALT, STOP
 from mte_scripts.faults.fault_options import NAME
 from mte_scripts.faults.judged_logs import Lists, spread_seeds
 
@@ -34,7 +34,7 @@ def exit_status(processes: "list[Judged]", differing: list, ended: int) -> int:
     """DIFFERING are events whose answer is not what the laws promise."""
     names = [judged.name for judged in processes]
     is_new = any(fault_answer.new(judged) for judged in processes)
-    is_partial = any(each != STOP for judged in processes for each in fault_answer.incomplete(judged, names))
+    is_partial = any(each not in (HALT, STOP) for judged in processes for each in fault_answer.incomplete(judged, names))
     return 3 if differing or is_partial else 1 if is_new else 4 if ended else 0
 
 
@@ -47,7 +47,7 @@ def write_texts(options: argparse.Namespace, processes: "list[Judged]", lists: L
         else fault_answer.answer_of_one(processes[0], options)
     )
     for judged in processes if options.unfreed else ():
-        lines += unfreed_blocks.reachable(judged.log, judged.places)
+        lines += unfreed_blocks.tell_left(judged.log, judged.places)
     lines += fault_answer.counts(processes, lists.known) + fault_report.ending(ended)
     for judged in processes:
         of_whom = f" of process {judged.name}, {judged.program}" if options.children else ""
