@@ -1073,7 +1073,8 @@ def try_table(rows):
 def gate(compilers, pool, work):
     for compiler in compilers:
         build(os.path.join(PROGRAMS, "random.c"), os.path.join(work, f"random.{compiler}"), compiler, "-O1")
-    jobs = [pool.submit(try_program, name, compilers[0], "-O2", work, lines) for name, lines in SPECIAL.items() if name not in LARGE]
+    special = [(name, compiler) for name in SPECIAL if name not in LARGE for compiler in compilers]
+    jobs = [pool.submit(try_program, name, compiler, "-O2", work, SPECIAL[name]) for name, compiler in special]
     jobs += [pool.submit(try_program, name, compiler, "-O1", work, "errors 0") for name in QUIET for compiler in compilers]
     jobs += [pool.submit(try_beside, name, compiler, flag, work) for name in BESIDE for compiler in compilers for flag in ("-O0", "-O2")]
     singles = try_log, try_long, try_written_anew, try_ends, try_halts, try_overwritten, try_page
@@ -1083,6 +1084,7 @@ def gate(compilers, pool, work):
     for compiler in compilers:
         jobs += [pool.submit(try_kinds, source, compiler, flag, work) for source in ("plain.c", "plain.cpp") for flag in ("-O0", "-O2")]
         jobs += [pool.submit(try_kinds, source, compiler, "-O1", work) for source in ("calls.c", "misuses.c", "poison.c", "overlaps.c")]
+        jobs += [pool.submit(try_kinds, "vectors.c", compiler, "-O3", work), pool.submit(try_right_calls, "vectors.c", compiler, "-O3", work)]
         jobs += [pool.submit(try_right_calls, source, compiler, "-O2", work) for source in ("calls.c", "poison.c", "overlaps.c")]
         jobs += [pool.submit(try_unfreed, compiler, flag, work) for flag in ("-O0", "-O2")]
     jobs += [pool.submit(try_crashes, compiler, flag, work) for compiler in compilers for flag in ("-O0", "-O2")]

@@ -17,6 +17,8 @@ from mte_scripts.places import EXAMPLES
 from test_faults import COMPILERS, ERRORS, FIND, PROGRAMS, Example, run
 
 BUILT = checks.PROGRAM
+VARIABLES = os.path.join(PROGRAMS, "variables.c")
+AFTER_RETURN, RUNS = "detect_stack_use_after_return=1", 60
 RECOVER = ("-fsanitize=address", "-fsanitize-recover=address")
 NAMES = """cwe122_loop_bound.c cwe122_strcpy.c cwe124_byte_before.c cwe193_text_in_last_granule.c
     cwe415_double_delete.cpp cwe415_realloc_of_freed.c cwe416_store_at_once.c cwe126_memcpy.c cwe825_realloc_moved.c""".split()
@@ -28,6 +30,14 @@ def build(path, to, compiler, *flags):
     words = [COMPILERS[compiler][path.endswith(".cpp")], "-w", "-g", "-O0", *flags, path, "-o", to]
     done = subprocess.run(words, capture_output=True, text=True)
     return to if expect(f"{path} with {compiler} {' '.join(flags)}", done.returncode == 0, done.stderr) else None
+
+
+def cases_of_variables():
+    """What variables.c says of its accesses: line, what is told, variable, and what the model says; and the lines of the variables."""
+    with open(VARIABLES) as file:
+        lines = list(enumerate(file, 1))
+    wrong = [(number, *found.groups()) for number, line in lines if (found := re.search(r"// (.* variable (\w+) .*) \[(.*)\]", line))]
+    return wrong, {name: number for number, line in lines if (found := re.search(r"// ([\w ]+)$", line)) for name in found[1].split()}
 
 
 def try_example(example, compiler, work):
@@ -76,19 +86,15 @@ class FaultsAsan(checks.Part):
 
     def test_variables(self):
         """Wrong accesses of variables are told with their names, by a run and by its reports, and what the model says of each."""
-        with open(os.path.join(PROGRAMS, "variables.c")) as file:
-            lines = list(enumerate(file, 1))
-        wrong = [(number, *found.groups()) for number, line in lines if (found := re.search(r"// (.* variable (\w+) .*) \[(.*)\]", line))]
-        declared = {name: number for number, line in lines if (found := re.search(r"// ([\w ]+)$", line)) for name in found[1].split()}
+        wrong, declared = cases_of_variables()
         for compiler, both in COMPILERS.items():
             if checks.skip_without(" ".join(both), f"variables with {compiler}"):
                 continue
-            program = build(os.path.join(PROGRAMS, "variables.c"), f"{self.work}/variables.{compiler}", compiler, *RECOVER)
+            program = build(VARIABLES, f"{self.work}/variables.{compiler}", compiler, *RECOVER)
             for at, (number, says, name, results) in enumerate(wrong):
                 log = f"{self.work}/variables.{compiler}.{at}"
                 with open(log, "w") as file:
-                    environment = dict(os.environ, ASAN_OPTIONS="detect_stack_use_after_return=1")
-                    subprocess.run([program, str(at)], stderr=file, env=environment)
+                    subprocess.run([program, str(at)], stderr=file, env=dict(os.environ, ASAN_OPTIONS=AFTER_RETURN))
                 for words in (["--asan", program, str(at)], ["--read", log]):
                     status, told, said = run([FIND, *words], cwd=PROGRAMS)
                     model = re.findall(r"(?m)^ {4,8}(?:LLVM's .*model|i[fn] .*): ((?:not )?caught\b.*?):", told)
@@ -96,6 +102,25 @@ class FaultsAsan(checks.Part):
                     is_there = f"\n    declared at variables.c:{declared[name]}" in told
                     good = status == 1 and is_told and is_there and ", ".join(model) == results and "\nerrors 1\n" in told
                     expect(f"{compiler}, {words}: {says}", good and ("Scudo's heap" in told) == (not results), model, told, said)
+
+    def test_model(self):
+        """What the model says of LLVM's stack tagging is what comes of the same program, built by it, on QEMU's processor with tags."""
+        qemu = next(filter(shutil.which, ("qemu-aarch64", "qemu-aarch64-static")), "qemu-aarch64")
+        checks.need(f"clang aarch64-linux-gnu-gcc {qemu}", "the model of stack tagging")
+        words = ["clang", "--target=aarch64-linux-gnu", "-march=armv8.5-a+memtag", "-fsanitize=memtag", "-w", "-Dmain=tagged_main", "-c"]
+        seen = set()
+        for level in ("-O0", "-O1"):
+            made, program = f"{self.work}/tagged{level}.o", f"{self.work}/tagged{level}"
+            done = run([*words, level, VARIABLES, "-o", made])
+            linked = run(["aarch64-linux-gnu-gcc", "-static", "-march=armv8.5-a+memtag", f"{PROGRAMS}/tagged_stack.c", made, "-o", program])
+            expect(f"a program with a tagged stack, {level}", done[0] == linked[0] == 0, done, linked)
+            for at, (_, says, _, results) in enumerate(cases_of_variables()[0]):
+                caught = int(run([qemu, "-cpu", "max", program, str(at), str(RUNS)])[1]) if results else None
+                result = {0: "not caught", RUNS: "caught"}.get(caught, "caught by 14/15")
+                good = result in results.split(", ") and (result != "caught by 14/15" or caught > RUNS * 3 // 4)
+                expect(f"{level}: {says}: caught {caught} of {RUNS}", not results or good, results)
+                seen.add((at, result))
+        expect("the end of a scope", {(4, "not caught"), (4, "caught")} <= seen, seen)
 
     def test_halt(self):
         """With --halt a program that could go on ends at its first error."""

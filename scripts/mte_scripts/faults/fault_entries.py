@@ -118,9 +118,8 @@ def cause_of(entry: "Entry", log: Log, places: Places) -> tuple:
 
     def lines(stack: int) -> "list[str]":
         frames = places.frames(stack)
-        return [
-            frame.show() for frame in frames[: count_own_frames(places.frames(entry.stack), frames) or SAME_CALLERS]
-        ]
+        own = count_own_frames(places.frames(entry.stack), frames)
+        return [frame.show() for frame in frames[: own or SAME_CALLERS]]
 
     return entry.kind, line, tuple(lines(entry.made)), tuple(lines(entry.ended)) if entry.uses[0].error.state != "live" else ()
 

@@ -90,12 +90,8 @@ def free_sentence(error: Error, block: str) -> str:
         return "free of an address that the heap never gave out"
     if not error.block:
         return "free of a block that was freed long ago"
-    if error.offset:
-        return (
-            f"free of a pointer {count(abs(error.offset), 'byte')} {'into' if error.offset > 0 else 'before'} "
-            f"{block}{state_clause(error)}"
-        )
-    return f"free of {block}{state_clause(error)}"
+    where = f"a pointer {count(abs(error.offset), 'byte')} {'into' if error.offset > 0 else 'before'} "
+    return f"free of {where * bool(error.offset)}{block}{state_clause(error)}"
 
 
 def place_sentence(error: Error, size: int, block: str) -> str:

@@ -10,6 +10,7 @@ import hashlib
 import json
 import os
 from collections import Counter, namedtuple
+from typing import Any
 
 from mte_scripts import text_files
 from mte_scripts.entry_point import Refusal
@@ -54,14 +55,17 @@ def number_ids(values: "list[dict]") -> None:
             each["id"] = hash_words(each["id"], str(seen[each["id"]]))
 
 
+def begin_finding(kind: str, frames: "list[Frame]", made: "list[Frame]", ended: "list[Frame]", **known: Any) -> dict:
+    """A finding by the stacks of the wrong access, of its block's request and of its end, and what else is known of it."""
+    value = {"kind": kind, "cwe": None, "result": None, "times": 1, "odds": None, "block": None, "frames": as_values(frames), "ways": [],
+             "allocated": as_values(made), "ended": as_values(ended), "uses": [], "id": hash_words(*id_words(kind, frames, made, ended))}
+    return value | known
+
+
 def finding(entry: Entry, log: Log, places: Places, odds: Odds) -> dict:
-    frames, made = places.frames(entry.stack), places.frames(entry.made)
-    ended = places.frames(entry.ended)
-    value = {
-        "kind": entry.kind, "cwe": None, "result": entry.result, "times": 1, "odds": None, "block": None,
-        "frames": as_values(frames), "ways": [as_values(places.frames(stack)) for stack in entry.ways], "allocated": as_values(made), "ended": as_values(ended), "uses": [],
-        "id": hash_words(*id_words(entry.kind, frames, made, ended)),
-    }
+    stacks = map(places.frames, (entry.stack, entry.made, entry.ended))
+    ways = [as_values(places.frames(stack)) for stack in entry.ways]
+    value = begin_finding(entry.kind, *stacks, result=entry.result, ways=ways)
     if entry.kind == fault_entries.CRASH:
         return value | {"what": crash_sentence(entry.crash), "why": entry.crash.signal}
     if entry.kind == fault_entries.UNFREED:
@@ -88,17 +92,11 @@ def cwe_of(kind: str, error: Error) -> "int | None":
 
 def id_words(kind: str, frames: list[Frame], made: list[Frame], ended: list[Frame]) -> list[str]:
     """The words that an id is made of. Callers are none of them where one function did all of it."""
-    if kind in (fault_entries.OVERFLOW, fault_entries.UNDERFLOW) and fault_entries.count_own_frames(frames, made):
-        frames, made = frames[:1], made[: fault_entries.count_own_frames(frames, made)]
-    if kind in (fault_entries.USE_AFTER_FREE, fault_entries.USE_AFTER_REALLOC) and fault_entries.count_own_frames(
-        frames, ended
-    ):
-        return [
-            kind,
-            *map(name_of, frames[:1]),
-            "ended",
-            *map(name_of, ended[: fault_entries.count_own_frames(frames, ended)]),
-        ]
+    own = {name: fault_entries.count_own_frames(frames, stack) for name, stack in (("made", made), ("ended", ended))}
+    if kind in (fault_entries.OVERFLOW, fault_entries.UNDERFLOW) and own["made"]:
+        frames, made = frames[:1], made[: own["made"]]
+    if kind in (fault_entries.USE_AFTER_FREE, fault_entries.USE_AFTER_REALLOC) and own["ended"]:
+        return [kind, *map(name_of, frames[:1]), "ended", *map(name_of, ended[: own["ended"]])]
     return [kind, *map(name_of, frames[:FRAMES_OF_ID]), "allocated", *map(name_of, made[:FRAMES_OF_ID])]
 
 
@@ -175,9 +173,7 @@ def suppressions(path: str) -> list[Suppression]:
             continue
         kind, _, place = (word.strip() for word in line.partition(":"))
         if not kind or not place or not any(fnmatch.fnmatchcase(kind_id(each), kind) for each in CWES):
-            raise Refusal(
-                2, f"{path}, line {number}: it is no KIND:PLACE, with a kind of {', '.join(map(kind_id, CWES))}"
-            )
+            raise Refusal(2, f"{path}, line {number}: it is no KIND:PLACE, with a kind of {', '.join(map(kind_id, CWES))}")
         found.append(Suppression(kind, place, line, number))
     return found
 

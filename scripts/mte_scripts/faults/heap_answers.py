@@ -132,9 +132,7 @@ def run(words: list) -> "list[str]":
     if done.returncode == 4:
         raise NoLog(done.stderr.strip())
     if done.returncode:
-        raise Refusal(
-            3, f"the log can't be told: {done.stderr.strip() or f'its reader ended with status {done.returncode}'}"
-        )
+        raise Refusal(3, f"the log can't be told: {done.stderr.strip() or f'its reader ended with status {done.returncode}'}")
     return done.stdout.split("\n")[:-1]
 
 

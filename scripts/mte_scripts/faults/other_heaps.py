@@ -64,14 +64,10 @@ def on_scudo(error: Error, size: int, past: BlockPast) -> Share:
     begin, end = span(error, size)
     if past.slot.is_large:
         return on_large(past.slot, past, begin, end)
-    share = around_slot(past.slot, past, begin, end)
-    if share is not None:
+    if share := around_slot(past.slot, past, begin, end):
         return share
-    return (
-        on_sure(error, past, begin, end)
-        if past.slot.is_live or past.since == 0
-        else on_reused_slot(past.slot, begin, end)
-    )
+    is_sure = past.slot.is_live or past.since == 0
+    return on_sure(error, past, begin, end) if is_sure else on_reused_slot(past.slot, begin, end)
 
 
 def free_on_scudo(error: Error, past: BlockPast) -> Share:
@@ -156,13 +152,10 @@ def on_glibc(error: Error, size: int, past: BlockPast) -> Share:
         return HEADER
     if not -GLIBC_BEFORE <= begin <= FAR:
         return FAR_AWAY
-    if error.state == "freed" and past.since == 0 and 0 <= begin < max(GRANULE, round_to_granule(size)) + GRANULE:
+    chunk = max(GRANULE, round_to_granule(size))
+    if error.state == "freed" and past.since == 0 and 0 <= begin < chunk + GRANULE:
         return FREE
-    return (
-        live_on_glibc(past, begin, end, max(GRANULE, round_to_granule(size)))
-        if error.state == "live"
-        else OTHER_OF_GLIBC
-    )
+    return live_on_glibc(past, begin, end, chunk) if error.state == "live" else OTHER_OF_GLIBC
 
 
 def live_on_glibc(past: BlockPast, begin: int, end: int, chunk: int) -> Share:

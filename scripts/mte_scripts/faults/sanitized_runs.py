@@ -27,8 +27,8 @@ def library() -> str:
     """The path of what is loaded before the program, built once for each version of its source."""
 
     def build(to: str) -> None:
-        compiler = compiler_driver.find_compiler("TRACED_CC", "gcc", "clang")
-        compile_alone([compiler, *FLAGS, SOURCE, "-o", to, "-ldl", "-pthread"], f"{NAME} could not be compiled")
+        words = [compiler_driver.find_c_compiler(), *FLAGS, SOURCE, "-o", to, "-ldl", "-pthread"]
+        compile_alone(words, f"{NAME} could not be compiled")
 
     return compiler_driver.keep_in_cache(f"sanitized-{sum_of(FLAGS, [SOURCE])}", NAME, build)
 

@@ -20,21 +20,8 @@ MOST_FRAMES = 16  # of a stack; the log of a traced program has as many
 LONGEST_NAME = 4096
 MOST_SIZE = 1 << 47  # of an address space
 WORD_SPACE = 1 << 64
-LOAD, STORE, FREE, MISMATCH, OVERLAP, POISON_LOAD, POISON_STORE, CRASH = (
-    "load",
-    "store",
-    "free",
-    "mismatch",
-    "overlap",
-    "P",
-    "Q",
-    "crash",
-)
-HEAP, NO_BLOCK, FOREIGN = (
-    "heap",
-    "no block",
-    "foreign",
-)  # where: in or near a block, nobody knows, in what is not the heap's
+LOAD, STORE, FREE, MISMATCH, OVERLAP, POISON_LOAD, POISON_STORE, CRASH = tuple("load store free mismatch overlap P Q crash".split())
+HEAP, NO_BLOCK, FOREIGN = "heap", "no block", "foreign"  # where: in or near a block, nobody knows, in what is not the heap's
 
 # A report. `word`: what its tool calls the error. `act`: what the program did, one of the above. `where`: one of the
 # above; with HEAP the offset of the access from its block on, the size of the block, and its state, `live` or `freed`.
@@ -102,6 +89,7 @@ LIBC_SOURCE = re.compile(
     r"|[\w-]+\.S"
 )
 KERNEL_STORES = re.compile(r"Syscall param (?:p?read|recv|getdents|ioctl|stat|fstat|time|getcwd|readlink|uname)")
+MEMCHECK_ACTS = {"Invalid free": FREE, "Mismatched": MISMATCH, "Source": OVERLAP, "Invalid write": STORE}  # by their first words
 REALLOCS, OTHER_ENDS = re.compile(r"realloc"), re.compile(r"free|operator delete|cfree")
 SETTERS = re.compile(r"mem_?set|bzero")  # a copy is told by its source
 OF_POISON = ("use-after-poison", "container-overflow")
@@ -129,11 +117,8 @@ def read_reports(data: bytes, name: str) -> "tuple[list[Report], list[str]]":
         if head["tool"] == b"LeakSanitizer":
             others.append("detected memory leaks")
             continue
-        report = (
-            report_of_memcheck(head["prefix"].decode(), lines, where)
-            if head["prefix"]
-            else report_of_sanitizer(head["tool"].decode(), lines, where)
-        )
+        read = report_of_memcheck if head["prefix"] else report_of_sanitizer
+        report = read((head["prefix"] or head["tool"]).decode(), lines, where)
         if report.word in NO_ACCESS:
             others.append(report.word)
         else:
@@ -293,9 +278,8 @@ def report_of_memcheck(prefix: str, lines: "list[str]", where: str) -> Report:
                 stacks[into].append(frame_of_memcheck(frame[1][:LONGEST_NAME]))
         elif found := VALGRIND_PLACE.match(line):
             place, size, is_freed = HEAP, number_in(found[3]), found[4] == "free'd"
-            offset = {"inside": 1, "after": 1, "before": -1}[found[2]] * number_in(found[1]) + size * (
-                found[2] == "after"
-            )
+            apart = number_in(found[1])
+            offset = {"inside": apart, "after": size + apart, "before": -apart}[found[2]]
             into = "ended" if is_freed else "made"
         elif VALGRIND_FOREIGN.match(line):
             place = FOREIGN
@@ -309,23 +293,13 @@ def report_of_memcheck(prefix: str, lines: "list[str]", where: str) -> Report:
 def memcheck_report(head: str, stacks: dict, place: str, offset: int, size: int, is_freed: bool) -> Report:
     frames, length = stacks["wrong"], re.search(r"of size (\d{1,12})", head)
     copied = re.search(r" overlap in .*[,(] ?(\d{1,19})\)", head)
-    act = (
-        FREE
-        if head.startswith("Invalid free")
-        else MISMATCH
-        if head.startswith("Mismatched")
-        else OVERLAP
-        if head.startswith("Source")
-        else STORE
-        if head.startswith("Invalid write") or KERNEL_STORES.match(head)
-        else LOAD
-    )
+    act = next((act for words, act in MEMCHECK_ACTS.items() if head.startswith(words)), STORE if KERNEL_STORES.match(head) else LOAD)
     is_open = act in (LOAD, STORE) and (not is_direct(frames) or head.startswith("Syscall"))
     number_of = int(length[1]) if length else int(copied[1]) if copied else 1
     word = re.split(r" of size|\(\)| in | points ", head, maxsplit=1)[0]
-    functions = [each[0].function.partition("(")[0] if each else "" for each in (stacks["made"], frames)]
+    functions = functions_in(" ".join(each[0].function.partition("(")[0] for each in (stacks["made"], frames) if each))
     return Report(
-        MEMCHECK, word, act, programs_frames(frames), functions_in(" ".join(functions)) if act == MISMATCH else "", length=max(number_of, 1), where=place, offset=offset, size=size,
+        MEMCHECK, word, act, programs_frames(frames), functions * (act == MISMATCH), max(number_of, 1), place, offset, size,
         state="freed" if is_freed else "live", is_end_open=is_open and not is_freed,
         is_resized=is_resized(stacks["ended"]), made=programs_frames(stacks["made"]),
         ended=programs_frames(stacks["ended"]),
@@ -351,11 +325,8 @@ def frame_of_memcheck(text: str) -> Frame:
 
 def is_runtime(frame: Frame) -> bool:
     """Whether a frame is of the tool, which stands in for a function of libc."""
-    return bool(
-        RUNTIME_FUNCTION.match(frame.function)
-        or RUNTIME_FILE.search(frame.source or "")
-        or RUNTIME_MODULE.match(os.path.basename(frame.module or ""))
-    )
+    is_of_file = RUNTIME_FILE.search(frame.source or "") or RUNTIME_MODULE.match(os.path.basename(frame.module or ""))
+    return bool(is_of_file or RUNTIME_FUNCTION.match(frame.function))
 
 
 def is_system(frame: Frame) -> bool:
@@ -370,12 +341,7 @@ def is_system(frame: Frame) -> bool:
 
 def is_direct(frames: "list[Frame]") -> bool:
     """Whether the program's own code made the access: its innermost frame has a source line, and is not the tool's."""
-    return (
-        bool(frames)
-        and bool(frames[0].source)
-        and not is_runtime(frames[0])
-        and not SYSTEM_FILE.match(frames[0].source)
-    )
+    return bool(frames and frames[0].source) and not is_runtime(frames[0]) and not SYSTEM_FILE.match(frames[0].source)
 
 
 def is_resized(ended: "list[Frame]") -> "bool | None":

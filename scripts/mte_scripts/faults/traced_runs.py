@@ -36,21 +36,14 @@ def record_program(options: argparse.Namespace, folder: str) -> None:
         if options.asan:
             raise Refusal(3, f"{options.words[0]}: no process that was built with -fsanitize=address made a log in {folder}")
         whom = f"no process that has the name {options.only} and that" if options.only else f"{options.words[0]}: no process that"
-        raise Refusal(
-            3,
-            f"{whom} traced_cc built made a log in {folder}: build the program with scripts/traced_cc, or a library "
-            "that it loads, for --preload",
-        )
+        remedy = "build the program with scripts/traced_cc, or a library that it loads, for --preload"
+        raise Refusal(3, f"{whom} traced_cc built made a log in {folder}: {remedy}")
     text_files.write_file(os.path.join(folder, ENDED), b"%d\n" % (status if status >= 0 else 128 - status))
 
 
 def preload_value(is_sanitized: bool) -> str:
     """The runtime of traced_cc, or what stands before AddressSanitizer's, as LD_PRELOAD has it."""
-    library = (
-        sanitized_runs.library()
-        if is_sanitized
-        else compiler_driver.runtime(compiler_driver.find_compiler("TRACED_CC", "gcc", "clang"))
-    )
+    library = sanitized_runs.library() if is_sanitized else compiler_driver.runtime(compiler_driver.find_c_compiler())
     if " " in library:
         raise Refusal(3, f"LD_PRELOAD takes no path with a space, as in {library}: {compiler_driver.PLACE}")
     return library

@@ -6,9 +6,11 @@ static int numbers[10];  // numbers
 static char text[30];    // text
 static volatile int sum, *left;
 
+static __attribute__((noinline)) void keep(volatile int *pointer) { left = pointer; }
+
 static __attribute__((noinline)) void leave(void) {
   volatile int gone[4] = {1};  // gone
-  left = gone;
+  keep(gone);
 }
 
 int main(int n, char **words) {
@@ -21,7 +23,7 @@ int main(int n, char **words) {
     case 2: sum = p[1 - n]; break;        // load of 1 byte, 1 byte before the variable near of 10 bytes [caught, caught by 14/15]
     case 3: leave(), sum = left[n]; break;  // load of 4 bytes, 8 bytes into the variable gone of 16 bytes after its function's return [caught, caught by 14/15]
     case 4: {
-      { volatile int inner = n; left = &inner; }  // inner
+      { volatile int inner = n; keep(&inner); }  // inner
       sum = *left; break;  // load of 4 bytes, 0 bytes into the variable inner of 4 bytes after the end of its scope [caught, not caught]
     }
     case 5: strcpy(near, "0123456789ab"); break;  // store of 13 bytes, 0 bytes after the variable near of 10 bytes [not caught, caught, caught by 14/15]
