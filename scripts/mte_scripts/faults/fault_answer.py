@@ -5,6 +5,7 @@ import os
 import re
 from collections import Counter, namedtuple
 from collections.abc import Sequence
+from typing import Any
 
 from mte_scripts import text_files
 from mte_scripts.entry_point import printable
@@ -88,8 +89,8 @@ def incomplete(judged: Judged, names: list[str]) -> list:
     return [each for each in judged.log.missing if not each.startswith(fault_report.NO_END)]
 
 
-def counts(processes: list[Judged], known: dict[str, str]) -> list[str]:
-    """Lines on the findings that are not told, and on what the baseline has and the run has not."""
+def counts(processes: "Sequence[Any]", known: dict[str, str]) -> list[str]:
+    """Lines on the findings of processes that are not told, and on what the baseline has and the run has not."""
     states = Counter(each["state"] for judged in processes for each in judged.values)
     lines = [f"{state} {states[state]}" for state in ("suppressed", "known") if states[state]]
     here = {each["id"] for judged in processes for each in judged.values}

@@ -82,8 +82,8 @@ def read_words(words: list[str]) -> argparse.Namespace:
         parser.error("--table is for reports: the table of a run is tuned for it")
     if bool(options.words) == bool(options.read):
         parser.error("there is no program" if not options.words else "--read takes no program")
-    if options.read and (also := next((name for name in ("keep", "halt") if getattr(options, name)), None)):
-        parser.error(f"--read and --{also} can't be given both")
+    if options.read and (also := [name for name in ("keep", "halt") if getattr(options, name)]):
+        parser.error(f"--read and --{also[0]} can't be given both")
     if options.asan and (also := [name for name in ("read", "children", "preload", "only", "unfreed") if getattr(options, name)]):
         parser.error(f"--asan and --{also[0]} can't be given both")
     options.children = options.children or options.preload

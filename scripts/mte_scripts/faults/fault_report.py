@@ -156,7 +156,8 @@ def tell_entry(entry: Entry, log: Log, places: Places, odds: Odds) -> "list[str]
         lines.append(f"    then {at}: {sentence(use.error, log)}{often(use.times)}: {use.result}: {use.why}")
     if len(others) >= MOST_USES:
         lines.append(f"    and so at {count(len(others) - MOST_USES + 1, 'other place')}")
-    return lines + [f"    {line}" for line in (*odds.lines(entry.numbers), *history(entry, log, places))]
+    of_heap = [] if first.error.variable else odds.lines(entry.numbers)
+    return lines + [f"    {line}" for line in (*of_heap, *history(entry, log, places))]
 
 
 def other_ways(entry: Entry, places: Places) -> "list[str]":

@@ -22,8 +22,9 @@ NOT_TAGGED = "a global variable is not tagged by Scudo's heap; HWAddressSanitize
 # the report has the first wrong byte alone. `dead`: scope or return, whose end came before the access, or empty. `among`:
 # the variables of its frame. `source`, `line` and `function`: where it is declared. `frame`: of one on the stack, what the
 # report says of its function, the address first; `stack` is its number in the log, or 0.
-FIELDS = "kind name size offset is_call dead among line source function frame stack"
-Variable = namedtuple("Variable", FIELDS, defaults=("", "", "", 0))
+Variable = namedtuple(
+    "Variable", "kind name size offset is_call dead among line source function frame stack", defaults=("", "", "", 0)
+)
 
 FRAME = re.compile(r"#0 (0x[0-9a-f]{1,16}.{0,4096})")
 AMONG = re.compile(r"This frame has (\d{1,9}) object")
