@@ -66,6 +66,13 @@ def build(source, to, compiler, *flags):
     return expect(f"{os.path.basename(source)} with {compiler} {' '.join(flags)}: it does not build", status == 0, said)
 
 
+def build_sanitized(path, to, compiler, *flags):
+    """The path of a program with AddressSanitizer; None where it does not build."""
+    words = [COMPILERS[compiler][path.endswith(".cpp")], "-w", "-g", "-fsanitize=address", *flags, path, "-o", to]
+    status, _, said = run(words)
+    return to if expect(f"{path} with AddressSanitizer, {compiler} {' '.join(flags)}", status == 0, said) else None
+
+
 class Example:
     """A program of examples/errors, with what its comments say: its title, what the heap does, the error, and the wrong line."""
 
@@ -117,10 +124,7 @@ class Example:
 
     def sanitizer(self, work):
         """What GCC's AddressSanitizer says."""
-        program = os.path.join(work, self.name + ".sanitized")
-        compiler = COMPILERS["gcc"][self.name.endswith(".cpp")]
-        status, _, said = run([compiler, "-w", "-g", "-O0", "-fsanitize=address", self.path, "-o", program])
-        expect(f"{self.name} with AddressSanitizer", status == 0, said)
+        program = build_sanitized(self.path, os.path.join(work, self.name + ".sanitized"), "gcc", "-O0")
         said = run([program], env=dict(os.environ, ASAN_OPTIONS="detect_leaks=0"))[2]
         found = re.search(r"SUMMARY: AddressSanitizer: ([A-Za-z-]+)", said)
         return found[1] if found else "nothing"
@@ -147,9 +151,7 @@ def try_kinds(source, compiler, flag, work, sanitizer=False):
         return 0, 0, 0
     kinds, told, said = run([program])[1].split(), [], []
     if sanitizer:
-        plain = COMPILERS[compiler][source.endswith(".cpp")]
-        built = run([plain, "-w", "-g", flag, "-fsanitize=address", path, "-o", program + ".sanitized"])
-        expect(f"{source} with AddressSanitizer, {compiler} {flag}", built[0] == 0, built)
+        build_sanitized(path, program + ".sanitized", compiler, flag)
     for kind in kinds:
         log = f"{program}.{kind}.log"
         if "\ntraced_cc: " in "\n" + run([program, kind], env=dict(os.environ, ACCESSES=log), cwd=work)[2]:  # its path is too long for a block
@@ -893,7 +895,8 @@ def try_hostile(pool, work):
         begin + b"p 1 0 0 1\n", begin + b"p 1 -1 4 1\n", begin + b"u 1 0 4\n", begin + b"P 1 0 0 1\n", begin + b"V 1 0 1\n", begin + b"i\n", begin + b"k -1\n",
         begin + b"i 5000000\n", begin + b"L 0 3 1 1\n", begin + b"S 0 -1 1 1\n", begin + b"d -1\n", begin + b"d 1 1\n", begin + b"z 16370 1\n",
         begin + b"z 24 0\n", begin + b"h 1\n", begin + b"t\n", begin + b"t 7\n", begin + b"g 1\n", begin + b"d 5\nm 1 16 1\n",
-        begin + b"- 1\n", begin + b"L 1 16 1 1\n- 2\n", begin + b"M 0 10000000000000000 0 /x\n", begin + b"M 0 1 0 /x\0y\n", begin + b"M 0 1\n",
+        begin + b"y 0 0 1 1\n", begin + b"y 1 0 4 1\n", begin + b"y 1 3 0 1\n", begin + b"y 1 -1 0 1\n", begin + b"y 1 0 1\n", begin + b"q 0\n",
+        begin + b"v 1 x\n", begin + b"L 1 16 1 1\nv\n", begin + b"- 1\n", begin + b"L 1 16 1 1\n- 2\n", begin + b"M 0 10000000000000000 0 /x\n", begin + b"M 0 1 0 /x\0y\n", begin + b"M 0 1\n",
     )
     list(pool.map(lambda text: try_no_log(work, text), no_logs))
     for text in (b"m 1 16 1:400", b"m" * 9000):
@@ -931,6 +934,9 @@ def try_strange(work, begin):
         (b"Q 1 90 1 1\n", "store of 1 byte to poisoned memory, 74 bytes after a block of 16 bytes"),
         (b"V 0 99999 5 1\n", "overlapping copy of 5 bytes, at the address 0x1869f"),
         (b"S 1 16 1 1\nL 1 0 17 1\n- 1\n", "load of 17 bytes, from 0 bytes into a block of 16 bytes to 1 byte after it"),
+        (b"f 1 1\ny 1 0 1 1\n", "delete of a block of 16 bytes that malloc made"),
+        (b"L 0 2 4 1\nv 1 stack-x\t[9, 19) 'b\x1b[31m' <== Memory access at offset 20\n", "load of 4 bytes, 1 byte after the variable b\\x1b[31m of 10"),
+        (b"L 0 2 4 1\nv 1 global-x\t'a\n", "load of 4 bytes of memory that is not the heap's"),
         (b"M 400 500 0 /a\x1b[31mb\xffc\nL 1 16 1 1\n", "a\\x1b[31mb\\udcffc+0x1: load of 1 byte"),
         (f"M 400 500 0 {pipe}\nL 1 16 1 1\n".encode(), "pipe+0x1: load of 1 byte"),
     ):

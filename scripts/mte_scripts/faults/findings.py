@@ -15,7 +15,7 @@ from typing import Any
 from mte_scripts import text_files
 from mte_scripts.entry_point import Refusal
 from mte_scripts.faults import fault_entries
-from mte_scripts.faults.fault_entries import Entry
+from mte_scripts.faults.fault_entries import KINDS, Entry
 from mte_scripts.faults.fault_log import Error, Log
 from mte_scripts.faults.fault_places import Frame, Places
 from mte_scripts.faults.fault_report import count, crash_sentence, left_sentence, sentence
@@ -24,15 +24,6 @@ from mte_scripts.faults.variables import STACK, value_of
 
 FORM = 1  # of the JSON
 FRAMES_OF_ID = 3
-CWES = {
-    fault_entries.OVERFLOW: (787, 126), fault_entries.UNDERFLOW: (124, 127), fault_entries.USE_AFTER_FREE: (416, 416),
-    fault_entries.USE_AFTER_REALLOC: (825, 825), fault_entries.DOUBLE_FREE: (415, 415), fault_entries.INVALID_FREE: (761, 761),
-    fault_entries.WILD: (119, 119), fault_entries.TOO_LARGE: (805, 805), fault_entries.POISON: (672, 672),
-    fault_entries.OVERLAP: (475, 475), fault_entries.CRASH: (None, None), fault_entries.UNFREED: (401, 401),
-    fault_entries.MISMATCH: (762, 762), fault_entries.DEAD_VARIABLE: (825, 825),
-    fault_entries.VARIABLE_OVERFLOW: (787, 126), fault_entries.VARIABLE_UNDERFLOW: (124, 127),
-}  # of a kind: of a store or a free, and of a load
-MORE_CWES = {fault_entries.INVALID_FREE: 590, fault_entries.VARIABLE_OVERFLOW: 121}  # of a free of no block, a store on the stack
 LARGEST_FILE = 64 << 20
 
 # A line of a file of suppressions: the kind and the place are patterns as of file names.
@@ -69,7 +60,7 @@ def finding(entry: Entry, log: Log, places: Places, odds: Odds) -> dict:
     if entry.kind == fault_entries.CRASH:
         return value | {"what": crash_sentence(entry.crash), "why": entry.crash.signal}
     if entry.kind == fault_entries.UNFREED:
-        return value | {"what": left_sentence(entry.left), "why": "no pointer is left", "cwe": CWES[entry.kind][0]}
+        return value | {"what": left_sentence(entry.left), "why": "no pointer is left", "cwe": KINDS[entry.kind].store}
     first = entry.uses[0]
     for use in entry.uses:
         innermost = as_values(places.frames(use.error.stack)[:1])
@@ -87,7 +78,8 @@ def finding(entry: Entry, log: Log, places: Places, odds: Odds) -> dict:
 
 def cwe_of(kind: str, error: Error) -> "int | None":
     is_of_stack = error.variable and error.variable.kind == STACK and not error.is_load()
-    return MORE_CWES[kind] if kind in MORE_CWES and (error.letter == "n" or is_of_stack) else CWES[kind][error.is_load()]
+    known = KINDS[kind]
+    return known.special if known.special and (error.letter == "n" or is_of_stack) else known.load if error.is_load() else known.store
 
 
 def id_words(kind: str, frames: list[Frame], made: list[Frame], ended: list[Frame]) -> list[str]:
@@ -172,8 +164,8 @@ def suppressions(path: str) -> list[Suppression]:
         if not line or line.startswith("#"):
             continue
         kind, _, place = (word.strip() for word in line.partition(":"))
-        if not kind or not place or not any(fnmatch.fnmatchcase(kind_id(each), kind) for each in CWES):
-            raise Refusal(2, f"{path}, line {number}: it is no KIND:PLACE, with a kind of {', '.join(map(kind_id, CWES))}")
+        if not kind or not place or not any(fnmatch.fnmatchcase(kind_id(each), kind) for each in KINDS):
+            raise Refusal(2, f"{path}, line {number}: it is no KIND:PLACE, with a kind of {', '.join(map(kind_id, KINDS))}")
         found.append(Suppression(kind, place, line, number))
     return found
 
@@ -196,15 +188,11 @@ def baseline(path: str) -> dict[str, str]:
 
 def matches(suppression: Suppression, value: dict) -> bool:
     """Whether a finding has this kind, and a frame of the wrong access this place: a function, a file, or FILE in FUNCTION."""
-    if not fnmatch.fnmatchcase(kind_id(value["kind"]), suppression.kind):
-        return False
-    for frame in value["frames"]:
-        names = [frame["function"]]
-        if frame["file"]:
-            names += [frame["file"], f"{frame['file']} in {frame['function']}"]
-        if any(fnmatch.fnmatchcase(name, suppression.place) for name in names):
-            return True
-    return False
+    frames = value["frames"] if fnmatch.fnmatchcase(kind_id(value["kind"]), suppression.kind) else []
+    names = [frame["function"] for frame in frames]
+    for frame in frames:
+        names += [frame["file"], f"{frame['file']} in {frame['function']}"] if frame["file"] else []
+    return any(fnmatch.fnmatchcase(name, suppression.place) for name in names)
 
 
 def mark(values: list[dict], suppressed: list[Suppression], known: dict[str, str]) -> set[Suppression]:

@@ -12,7 +12,6 @@ from mte_scripts.faults.fault_log import Log
 from mte_scripts.faults.fault_options import ENDED
 from mte_scripts.recording import children
 
-
 GRACE = 10  # seconds that the program has to end by a signal that is handed on to it
 
 
