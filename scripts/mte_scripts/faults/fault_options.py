@@ -31,7 +31,8 @@ Usage: find_faults [OPTIONS] PROGRAM ARGS..
   --table FILE    the class table of the heap for reports: a file whose first line is a class line (Scudo's on Android)
   --page FILE     make a page for the browser too: each error, and the heap at that moment if scripts/page has built its engines
   --only NAME     record the first process whose program has this name, as NAME of /usr/bin/NAME
-  --unfreed       tell what is left unfreed at the end too: lost blocks are errors, those that are still reachable are not
+  --unfreed       tell what is left unfreed at the end too: lost blocks are errors; those that are still reachable, or to which the
+                  stack alone has a pointer, are not
   --children      record each process, and tell the errors of all: find_faults --children make check
   --preload       the same, for a program of which only libraries that it loads are traced, as Python's extensions are
   --asan          the program was built with -fsanitize=address, by gcc or clang: tell what AddressSanitizer sees, in the first
