@@ -1009,8 +1009,8 @@ def try_loaded(compiler, work):
         if not os.path.exists(interpreter):
             skip(f"without {interpreter}: a library that it loads")
             continue
-        lines = "^loaded.c:7 in run: store of 1 byte, 0 bytes after a block of 16 bytes$", r"^processes 1\nerrors 1$"
-        find(f"a library that {interpreter} loads, with {compiler}", ["--preload", interpreter, *words, library], 1, *lines, env=environment)
+        lines = r"^loaded\.c:7 in run: store of 1 byte, 0 bytes after a block of 16 bytes$", r"^processes 1\nerrors 1$"
+        find(f"a library that {interpreter} loads, with {compiler}", ["--preload", interpreter, *words, library], 1, *lines, env=environment, cwd=work)
 
 
 def try_table(rows):
