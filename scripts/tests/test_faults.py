@@ -39,6 +39,7 @@ COMPILERS = {"gcc": ("gcc", "g++"), "clang": ("clang", "clang++")}
 BY_LAWS = "is an error of mte_tool"
 HEAPS = ("this heap", "without parity", "Scudo", "glibc")
 FEW = (("DELAY", 20), ("AGAIN", 28))  # bits of bytes after which a runtime of the test gives memory and addresses out again
+DONE = r"(?:load|store|free|delete|delete\[\]|realloc)"  # what a line says that a program did
 MOST_APART = 0.15  # the odds and the share of 64 seeds
 
 
@@ -330,9 +331,6 @@ def try_large(compilers, pool, work):
     try_mutations(work)
     for name in LARGE:
         try_program(name, compilers[0], "-O2", work, SPECIAL[name])
-
-
-DONE = r"(?:load|store|free|delete|delete\[\]|realloc)"
 
 
 def try_beside(name, compiler, flag, work):
@@ -786,7 +784,8 @@ def try_halts(compiler, work):
     if not build(os.path.join(PROGRAMS, "long_copy.c"), program, compiler, "-O2"):
         return
     for options, code in (("", 1), ("verbosity=0:exitcode=23:a=b", 23)):
-        lines = r"\Along_copy\.c:11 ", "^errors 1$", f"^the program ended with status {code}$", "^incomplete: --halt ended the program at its first error$"
+        end = f"^the program ended with status {code}$", "^incomplete: --halt ended the program at its first error$"
+        lines = r"\Along_copy\.c:11 ", "^errors 1$", *end
         find(f"--halt, and ASAN_OPTIONS={options}", ["--halt", program], 1, *lines, env=dict(os.environ, ASAN_OPTIONS=options), cwd=PROGRAMS)
     both = f"{program}; echo $? >&2; {program}; :"
     status, told, said = run([FIND, "--halt", "--children", "--keep", kept, "sh", "-c", both])
@@ -896,7 +895,8 @@ def try_hostile(pool, work):
         begin + b"i 5000000\n", begin + b"L 0 3 1 1\n", begin + b"S 0 -1 1 1\n", begin + b"d -1\n", begin + b"d 1 1\n", begin + b"z 16370 1\n",
         begin + b"z 24 0\n", begin + b"h 1\n", begin + b"t\n", begin + b"t 7\n", begin + b"g 1\n", begin + b"d 5\nm 1 16 1\n",
         begin + b"y 0 0 1 1\n", begin + b"y 1 0 4 1\n", begin + b"y 1 3 0 1\n", begin + b"y 1 -1 0 1\n", begin + b"y 1 0 1\n", begin + b"q 0\n",
-        begin + b"v 1 x\n", begin + b"L 1 16 1 1\nv\n", begin + b"- 1\n", begin + b"L 1 16 1 1\n- 2\n", begin + b"M 0 10000000000000000 0 /x\n", begin + b"M 0 1 0 /x\0y\n", begin + b"M 0 1\n",
+        begin + b"v 1 x\n", begin + b"L 1 16 1 1\nv\n",
+        begin + b"- 1\n", begin + b"L 1 16 1 1\n- 2\n", begin + b"M 0 10000000000000000 0 /x\n", begin + b"M 0 1 0 /x\0y\n", begin + b"M 0 1\n",
     )
     list(pool.map(lambda text: try_no_log(work, text), no_logs))
     for text in (b"m 1 16 1:400", b"m" * 9000):
@@ -1000,8 +1000,8 @@ def try_loaded(compiler, work):
     be without errors where it does not. There is little room for what each thread has of its own by then."""
     library = os.path.join(work, f"loaded.{compiler}.node")
     environment = dict(os.environ, TRACED_CC=COMPILERS[compiler][0])
-    source = os.path.join(PROGRAMS, "loaded.c")
-    status, _, said = run([os.path.join(SCRIPTS, "traced_cc"), "-O1", "-shared", "-fPIC", source, "-o", library], env=environment)
+    words = [os.path.join(SCRIPTS, "traced_cc"), "-O1", "-shared", "-fPIC", os.path.join(PROGRAMS, "loaded.c"), "-o", library]
+    status, _, said = run(words, env=environment)
     expect(f"a library to be loaded, with {compiler}", status == 0, said)
     status, told, said = run([FIND, sys.executable, *PYTHON, library], env=environment)
     expect(f"a library that is loaded, with {compiler}", status == 3 and not told and "find_faults --preload" in said, status, told, said)

@@ -36,8 +36,7 @@ ADDRESS = re.compile(rb"[0-9a-f]{1,16}")
 STOP = "AddressSanitizer ended the program at its first error; built with -fsanitize-recover=address, it goes on"
 HALT = "--halt ended the program at its first error"
 # what makes a block, and what ends it, by their numbers in a record
-MAKERS = dict(enumerate(("malloc", "new", "new[]")))
-ENDERS = dict(enumerate(("free", "delete", "delete[]", "realloc")))
+MAKERS, ENDERS = (dict(enumerate(names.split())) for names in ("malloc new new[]", "free delete delete[] realloc"))
 KERNEL = 128  # of a signal's codes: from 1 to below it, the address is that of the access
 SIGNALS = {4: "SIGILL", 6: "SIGABRT", 7: "SIGBUS", 8: "SIGFPE", 11: "SIGSEGV"}
 

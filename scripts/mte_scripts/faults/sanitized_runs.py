@@ -51,8 +51,7 @@ def make_log(raw: str, to: str, halts: bool) -> None:
     os.remove(raw)
     is_stopped = text.endswith(b"\nD\n")
     text = put_stacks(text[: text.rfind(b"\n") + 1].removesuffix(b"D\n"))
-    stopped = HALTED if halts else STOPPED
-    state = stopped if is_stopped else ENDED if re.search(rb"^[eC] ", text[-4096:], re.M) else RUNNING
+    state = (HALTED if halts else STOPPED) if is_stopped else ENDED if re.search(rb"^[eC] ", text[-4096:], re.M) else RUNNING
     mark = [len(text), checksum.crc(text), 0, state]
     with open(to, "wb") as file:
         head = struct.pack("<8sQ", FORM, 0) + MARK.pack(*mark, checksum.checksum_of(mark))

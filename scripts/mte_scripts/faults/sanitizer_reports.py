@@ -167,10 +167,8 @@ def report_of_sanitizer(tool: str, lines: "list[str]", where: str) -> Report:
 
 def variable_of(word: str, lines: "list[str]", is_whole: bool) -> "Variable | None":
     found = find_variable([word if is_whole else f"{word} call", *lines[1:]])
-    if not found or not found.frame:
-        return found
-    frame = frame_of(found.frame.partition(" ")[2].strip().removeprefix("in "))
-    return found._replace(source=frame.source or "", function=frame.function)
+    frame = frame_of(found.frame.partition(" ")[2].strip().removeprefix("in ")) if found and found.frame else None
+    return found._replace(source=frame.source or "", function=frame.function) if frame else found
 
 
 def functions_in(text: str) -> str:

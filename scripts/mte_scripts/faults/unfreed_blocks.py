@@ -56,7 +56,8 @@ def tell_left(log: Log, places: Places) -> "Iterator[str]":
     says = "still reachable at the end" if 0 in log.lost else "unfreed at the end"
     found = log.lost | log.maybe_lost
     of_libc: "list[int]" = []
-    for title, more, is_wanted in (("possibly lost at the end", BY_STACK, log.maybe_lost.__contains__), (says, "", lambda block: block not in found)):
+    kinds = ("possibly lost at the end", BY_STACK, log.maybe_lost.__contains__), (says, "", lambda block: block not in found)
+    for title, more, is_wanted in kinds:
         for stacks in by_line(log, places, is_wanted).values():
             of_libc += [block for stack, each in stacks.items() if is_libcs(log, stack) for block in each]
             own = {stack: each for stack, each in stacks.items() if not is_libcs(log, stack)}

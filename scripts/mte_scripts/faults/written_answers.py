@@ -41,8 +41,7 @@ def exit_status(processes: "list[Judged]", differing: list, ended: int) -> int:
 def write_texts(options: argparse.Namespace, processes: "list[Judged]", lists: Lists, ended: int, status: int) -> None:
     """Writes the answer, and the files that were asked for."""
     name = os.path.basename(options.words[0] if options.words else os.path.abspath(options.read))
-    told, *_ = processes
-    lines = fault_answer.answer_of_many(processes, options) if options.children else fault_answer.answer_of_one(told, options)
+    lines = fault_answer.answer_of_many(processes, options) if options.children else fault_answer.answer_of_one(processes[0], options)
     for judged in processes if options.unfreed else ():
         lines += unfreed_blocks.tell_left(judged.log, judged.places)
     lines += fault_answer.counts(processes, lists.known) + fault_report.ending(ended)

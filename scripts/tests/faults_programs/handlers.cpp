@@ -20,7 +20,8 @@ static int ask(std::new_handler handler, size_t size) {
 }
 
 int main() {
-  int is_right = ask(end_at_third, TOO_MUCH) == -3 && ask(give_up, TOO_MUCH) == -1 && ask(nullptr, TOO_MUCH) == 0 && ask(give_up, 10) == 0;
+  int is_right = ask(end_at_third, TOO_MUCH) == -3 && ask(give_up, TOO_MUCH) == -1;
+  is_right &= ask(nullptr, TOO_MUCH) == 0 && ask(give_up, 10) == 0;
   calls = 0, std::set_new_handler(end_at_third);
   is_right &= is_none(new (std::nothrow) char[TOO_MUCH]) && calls == 3 && is_none(new (std::nothrow) char[TOO_MUCH]);
   calls = 0, std::set_new_handler(give_up);

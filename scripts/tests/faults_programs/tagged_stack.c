@@ -16,7 +16,8 @@ int main(int n, char **words) {
   FILE *maps = fopen("/proc/self/maps", "r");
   while (fgets(line, sizeof line, maps))
     if (strstr(line, "[stack]")) sscanf(line, "%lx-%lx", &low, &high);
-  if (mprotect((void *)low, high - low, PROT_READ | PROT_WRITE | TAGGED) || prctl(SET_TAGGED, SYNCHRONOUS | NOT_ZERO, 0, 0, 0)) return 1;
+  if (mprotect((void *)low, high - low, PROT_READ | PROT_WRITE | TAGGED)) return 1;
+  if (prctl(SET_TAGGED, SYNCHRONOUS | NOT_ZERO, 0, 0, 0)) return 1;
   int caught = 0, status;
   for (int left = atoi(words[2]); left; left--) {
     void *drawn;
