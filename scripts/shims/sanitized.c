@@ -21,6 +21,7 @@
 
 typedef uintptr_t word;
 enum { FRAMES = 16, WALKED = 64, ROOM = 1 << 16, MARGIN = 1 << 13, MOST_TIMES = 16, KEPT_REGISTERS = 6, GRANULE = 16 };
+enum { MOST_LINES = 4, LINE = 700 };  // of a report on a variable
 static const size_t MOST_LENGTH = (size_t)1 << 30;
 
 // of the runtime, in the program or a library of it
@@ -290,30 +291,59 @@ static word address_in(const char *what, int is_free, int is_overlap, word at, s
   return at;
 }
 
-// the record's letter by the words of the report; x stands for each wrong free
+// The lines of a report that tell of a variable, of which the first has the word of the error, and whether a call of libc made the access.
+static void put_variable(const char *what, const char *report, int is_call) {
+  static const char *const TELLING[] = {" is located ", "#0 0x", "This frame has ", "<== Memory access", NULL};
+  const char *at = strstr(report, " is located "), *end;
+  if (!at || !(strstr(at, "stack of thread") || strstr(at, "global variable"))) return;
+  put('v', 1, errors), put_text(" %.*s%s", (int)strcspn(what, " "), what, is_call ? " call" : "");
+  for (int left = MOST_LINES; left && (end = strchr(at, '\n')); at = end + 1) {
+    int i = 0;
+    while (TELLING[i] && !memmem(at, end - at, TELLING[i], strlen(TELLING[i]))) i++;
+    if (TELLING[i]) put_text("\t%.*s", (int)(end - at < LINE ? end - at : LINE), at), left--;
+  }
+  put_end();
+}
+
+// the numbers of the functions that a report names: of malloc and free, of new and delete, or with brackets
+static void put_mismatch(const char *what, long block) {
+  const char *used_by = strstr(what, " vs ");
+  long kinds[2] = {0};
+  for (int i = 0; i < 2 && used_by; i++) {
+    const char *name = i ? used_by + 4 : strchr(what, '(') + 1, *brackets = name + strcspn(name, "[)");
+    if (begins(name, "operator ")) kinds[i] = *brackets == '[' && (i || brackets < used_by) ? 2 : 1;
+  }
+  put('y', 3, block, kinds[0], kinds[1]);
+}
+
+// the record's letter by the words of the report; x stands for each wrong free but those that do not fit
 static char letter_of(const char *what) {
   int is_store = __asan_get_report_access_type();
+  if (begins(what, "alloc-dealloc-mismatch")) return 'y';
   if (strstr(what, "double-free") || begins(what, "attempting") || begins(what, "bad-free")) return 'x';
   if (strstr(what, "param-overlap")) return 'V';
   return strstr(what, "use-after-poison") || strstr(what, "container-overflow") ? "PQ"[is_store] : "LS"[is_store];
 }
 
-static void put_access(char letter, word at, size_t bytes, int is_call, int frame) {
+static void put_access(const char *what, char letter, word at, size_t bytes, int is_call, int frame) {
   word region = 0, begin = at;
   size_t size = 0;
   char where[8];
   const char *kind = __asan_locate_address((void *)at, where, sizeof where, (void **)&region, &size);
   struct entry *entry = begins(kind, "heap") ? slot_of(region) : NULL;
   long block = entry && entry->at ? entry->block : 0;
-  int is_open = block && is_call && letter != 'x' && entry->is_live && at > region;
+  int is_free = letter == 'x' || letter == 'y';
+  int is_open = block && is_call && !is_free && entry->is_live && at > region;
   if (block) put_block(entry, region, size);
   if (is_open) begin = guess_begin(region, at, bytes, frame);
-  if (letter == 'x') put(block ? 'x' : 'n', block ? 2 : 0, block, (long)(at - region));
+  if (letter == 'y' && !block) return;
+  if (letter == 'y') put_mismatch(what, block);
+  else if (letter == 'x') put(block ? 'x' : 'n', block ? 2 : 0, block, (long)(at - region));
   else put(letter, 3, block, block ? (long)(begin - region) : letter == 'L' || letter == 'S' ? 2 : (long)at, (long)bytes);
   put_stack(walk.pcs + frame, walk.count - frame, 0), put_end(), errors++;
   int is_far = block && (at > region + size || at + bytes < region);  // the runtime names the nearest block
   if (is_far || (is_open && at < region + (size + GRANULE - 1) / GRANULE * GRANULE)) put('g', 1, errors), put_end();
-  if (letter != 'x' && bytes < ROOM && is_often(walk.pcs[frame], block)) __asan_unpoison_memory_region((void *)at, bytes);
+  if (!is_free && bytes < ROOM && is_often(walk.pcs[frame], block)) __asan_unpoison_memory_region((void *)at, bytes);
 }
 
 static void put_error(const char *what, const char *report) {
@@ -324,12 +354,16 @@ static void put_error(const char *what, const char *report) {
   const char *first = strstr(report, "#0 0x"), *negative = begins(what, "negative-size") ? strstr(what, "(size=") : NULL;
   if (first) pc = strtoul(first + 3, NULL, 16) + 1;  // the interface does not say it in each kind of error
   int is_call = find_frame(pc, &frame);
-  if (letter != 'x') put_resized();
+  int is_free = letter == 'x' || letter == 'y';
+  if (!is_free) put_resized();
   put_modules();
   if (put_crash(what, frame)) return;
   if (negative) bytes = strtol(negative + 6, NULL, 10);
-  word at = address_in(what, letter == 'x', letter == 'V', (word)__asan_get_report_address(), &bytes);
-  if (bytes || letter == 'x') put_access(letter, at, bytes, is_call, frame);  // else it tells of no access
+  word at = address_in(what, is_free, letter == 'V', (word)__asan_get_report_address(), &bytes);
+  if (!bytes && !is_free) return;  // it tells of no access
+  long before = errors;
+  put_access(what, letter, at, bytes, is_call, frame);
+  if (errors > before && !is_free) put_variable(what, report, is_call);
 }
 
 static void on_error(const char *report) {

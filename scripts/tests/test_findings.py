@@ -23,7 +23,6 @@ ROOT = os.path.dirname(os.path.dirname(HERE))
 SCRIPTS = os.path.join(ROOT, "scripts")
 
 FIND = os.path.join(SCRIPTS, "find_faults")
-KINDS = ("overflow", "underflow", "use-after-free", "use-after-realloc", "double-free", "invalid-free", "access-of-no-block", "impossible-size", "use-of-poisoned-memory", "overlapping-copy", "crash", "memory-leak")
 PROGRAM = """\
 #include <stdlib.h>
 #include <string.h>

@@ -27,9 +27,9 @@ DATA, FIND = HERE / "sanitizer_reports_data", HERE.parent / "find_faults"
 LOGS = {name: DATA / f"{name}.log" for name in ("gcc", "clang", "hwasan", "valgrind")}
 LAYOUT = report_verdicts.Layout(certificate_texts.class_line(os.path.join(EXAMPLES, "scudo_android.classes")), 262144)
 # what a tool does not see, or tells otherwise than errors.c: clang 14 a free by its tail, valgrind a copy by its words
-CALL = ("overflow", "40", "caught, not caught")
+CALL, NAMELESS = ("overflow", "40", "caught, not caught"), ("access of no block", "2", "not replayed")
 OTHERWISE = {
-    "hwasan": {0: CALL, 20: None, **dict.fromkeys((15, 16, 21, 22, 23, 24))},
+    "hwasan": {0: CALL, 20: None, 22: NAMELESS, **dict.fromkeys((15, 16, 21, 22, 23, 24))},
     "valgrind": {15: CALL, 24: CALL, 22: None, 23: None},
 }
 # a runner's prefix, a terminal's colours, the words of later versions, and line ends of Windows

@@ -64,6 +64,10 @@ def find_compiler(variable: str, *names: str) -> str:
     return path
 
 
+def find_c_compiler() -> str:
+    return find_compiler("TRACED_CC", "gcc", "clang")
+
+
 def command_of(variable: str) -> "list[str]":
     """The words of a variable that names a compiler: a path, which may have spaces, or a launcher as ccache before the compiler."""
     wanted = os.environ.get(variable, "")
@@ -102,9 +106,8 @@ def keep_in_cache(folder: str, name: str, build_new: "Callable[[str], None]") ->
     with place:
         # it goes into the program as its rpath, by a list that has commas
         if any(c in place.path for c in ":,$"):
-            raise Refusal(
-                3, f"the loader takes no path with a colon, a comma or a dollar sign, as in {place.path}: {PLACE}"
-            )
+            why = f"the loader takes no path with a colon, a comma or a dollar sign, as in {place.path}"
+            raise Refusal(3, f"{why}: {PLACE}")
         return place.kept(name, build_new, f": {PLACE}")
 
 
@@ -160,21 +163,16 @@ def expand_words(words: "list[str]", depth: int = 0) -> "Iterator[str]":
 def leave_recipe(plain: str, compiler: str, launcher: list, library: str, link: list, flags: list) -> None:
     """Leaves what the next call does as commands of a shell, which the driver reads before it runs Python. They return where anything is not
     as it is now: the driver, the environment, the compilers, or a file that this program reads. Without a place there is no recipe."""
-    names = [os.environ.get(name, "") for name in ("TRACED_CC", "TRACED_CXX")]
-    name = ".".join(os.path.basename(each) for each in (sys.argv[0], *names))
+    chosen = {name: os.environ.get(name, "") for name in ("TRACED_CC", "TRACED_CXX")}
+    name = ".".join(os.path.basename(each) for each in (sys.argv[0], *chosen.values()))
     own = [os.path.abspath(sys.argv[0]), __file__, os.path.join(os.path.dirname(__file__), "recipe.sh"), os.path.join(SHIMS, "accesses")]
     files = [*own, *SOURCES, *HEADERS, *map(find_program, (plain, compiler, *launcher)), library]
     listed = " ".join(map(quote_word, files))
-    lines = [
-        f'[ "${{{name}-}}" = {quote_word(os.environ.get(name, ""))} ] || return 0'
-        for name in ("TRACED_CC", "TRACED_CXX")
-    ]
+    lines = [f'[ "${{{variable}-}}" = {quote_word(value)} ] || return 0' for variable, value in chosen.items()]
     lines += [f'[ "$0" = {quote_word(files[0])} ] || return 0', f"is_private {quote_word(library)} || return 0"]
     for each in {plain, compiler}:  # the first of its name on the path
-        lines.append(
-            f'[ "$(command -v {quote_word(each if each in names else os.path.basename(each))})" = '
-            f'{quote_word(find_program(each))} ] || return 0'
-        )
+        word = each if each in chosen.values() else os.path.basename(each)
+        lines.append(f'[ "$(command -v {quote_word(word)})" = {quote_word(find_program(each))} ] || return 0')
     try:
         now = "\n".join(map(state, files))
         lines.append(f'[ "$(stat -L -c %i.%s.%.9Z -- {listed} 2>&1)" = {quote_word(now)} ] || return 0')
@@ -224,7 +222,7 @@ def drive(words: list, is_for_cxx: bool) -> None:
 
 def compile_traced(words: list, is_for_cxx: bool) -> None:
     """Becomes the compiler."""
-    plain = find_compiler("TRACED_CC", "gcc", "clang")
+    plain = find_c_compiler()
     compiler = find_compiler("TRACED_CXX", "g++", "clang++") if is_for_cxx else plain
     library = runtime(plain)
     # the runtime comes before libc, so that its malloc is the program's

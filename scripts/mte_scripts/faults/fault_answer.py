@@ -4,8 +4,11 @@ import argparse
 import os
 import re
 from collections import Counter, namedtuple
-from collections.abc import Iterator
+from collections.abc import Sequence
+from typing import Any
 
+from mte_scripts import text_files
+from mte_scripts.entry_point import printable
 from mte_scripts.faults import fault_report, findings, sarif, tombstone
 from mte_scripts.faults.fault_entries import RESULTS, Entry, cause_of
 from mte_scripts.faults.fault_log import Log
@@ -86,8 +89,8 @@ def incomplete(judged: Judged, names: list[str]) -> list:
     return [each for each in judged.log.missing if not each.startswith(fault_report.NO_END)]
 
 
-def counts(processes: list[Judged], known: dict[str, str]) -> list[str]:
-    """Lines on the findings that are not told, and on what the baseline has and the run has not."""
+def counts(processes: "Sequence[Any]", known: dict[str, str]) -> list[str]:
+    """Lines on the findings of processes that are not told, and on what the baseline has and the run has not."""
     states = Counter(each["state"] for judged in processes for each in judged.values)
     lines = [f"{state} {states[state]}" for state in ("suppressed", "known") if states[state]]
     here = {each["id"] for judged in processes for each in judged.values}
@@ -100,12 +103,16 @@ def document(processes: list[Judged], program: str, status: int, ended: int) -> 
     return findings.document(program, status, ended, listed)
 
 
-def files(options: argparse.Namespace, processes: list[Judged], program: str, status: int, ended: int) -> "Iterator[tuple[str, str]]":
-    """The files that were asked for: (name, text)."""
-    answer = document(processes, program, status, ended)
-    if options.json:
-        yield options.json, findings.text(answer)
-    if options.sarif:
-        yield options.sarif, findings.text(sarif.document(answer, bool(options.baseline)))
-    if options.tombstones:
-        yield options.tombstones, "".join(text for judged in processes for text in tombstone.texts_of(judged))
+def write(options: argparse.Namespace, lines: "list[str]", answer: dict, processes: "Sequence[Judged]" = ()) -> None:
+    """Prints the text of an answer, and writes the files that were asked for; one of - is printed in place of the text."""
+    lines = lines + (list(sarif.annotations(answer)) if options.annotations else [])
+    makes = {
+        "json": lambda: findings.text(answer),
+        "sarif": lambda: findings.text(sarif.document(answer, bool(options.baseline))),
+        "tombstones": lambda: "".join(text for judged in processes for text in tombstone.texts_of(judged)),
+    }
+    written = [(path, make()) for name, make in makes.items() if (path := getattr(options, name))]
+    if "-" not in (path for path, _ in written):
+        text_files.write("".join(printable(line) + "\n" for line in lines))
+    for path, text in written:
+        text_files.write(text) if path == "-" else text_files.write_file(path, text)

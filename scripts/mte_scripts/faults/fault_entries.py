@@ -1,7 +1,7 @@
 """What find_faults tells: an entry for each cause. This is what its summary and other forms of its answer are made of.
 
     found = entries(log, verdicts, reports, places)
-    found[0].kind                 one of KINDS, or CRASH
+    found[0].kind                 one of KINDS
     found[0].uses[0]              the first wrong access or free of this cause; the others follow, each place and outcome once
     found[0].uses[0].error        fault_log.Error, with .verdict, what the heap has to answer to it (heap_answers.Verdict)
     found[0].uses[0].result       CAUGHT, NOT_CAUGHT or NOT_REPLAYED, and .why
@@ -31,8 +31,30 @@ from mte_scripts.faults.fault_places import Frame, Places
 OVERFLOW, UNDERFLOW, USE_AFTER_FREE, USE_AFTER_REALLOC = "overflow", "underflow", "use after free", "use after realloc"
 DOUBLE_FREE, INVALID_FREE, WILD = "double free", "invalid free", "access of no block"
 TOO_LARGE, POISON, OVERLAP = "impossible size", "use of poisoned memory", "overlapping copy"
-KINDS = (OVERFLOW, UNDERFLOW, USE_AFTER_FREE, USE_AFTER_REALLOC, DOUBLE_FREE, INVALID_FREE, WILD, TOO_LARGE, POISON, OVERLAP)
+MISMATCH, DEAD_VARIABLE = "mismatched free", "use of a dead variable"
+VARIABLE_OVERFLOW, VARIABLE_UNDERFLOW = "overflow of a variable", "underflow of a variable"
 CRASH, UNFREED = "crash", "memory leak"
+# Of a kind: what it is, in words; and its class of CWE where it is a store or a free, where it is a load, and where it is a free of no block
+# or a store on the stack.
+Kind = namedtuple("Kind", "text store load special", defaults=(None,))
+KINDS = {
+    OVERFLOW: Kind("An access after the end of a heap block", 787, 126),
+    UNDERFLOW: Kind("An access before the start of a heap block", 124, 127),
+    USE_AFTER_FREE: Kind("An access of a heap block that was freed", 416, 416),
+    USE_AFTER_REALLOC: Kind("An access by a pointer from before a realloc", 825, 825),
+    DOUBLE_FREE: Kind("A free of a heap block that was freed", 415, 415),
+    INVALID_FREE: Kind("A free of what is no start of a heap block", 761, 761, 590),
+    WILD: Kind("An access far from every heap block", 119, 119),
+    TOO_LARGE: Kind("An access of more bytes than an object can have", 805, 805),
+    POISON: Kind("An access of memory that the program poisoned", 672, 672),
+    OVERLAP: Kind("A copy between two places that overlap", 475, 475),
+    MISMATCH: Kind("A free that does not fit how its block was allocated", 762, 762),
+    VARIABLE_OVERFLOW: Kind("An access after the end of a variable", 787, 126, 121),
+    VARIABLE_UNDERFLOW: Kind("An access before the start of a variable", 124, 127),
+    DEAD_VARIABLE: Kind("An access of a variable after its scope or its function", 825, 825),
+    UNFREED: Kind("A heap block to which no pointer is left", 401, 401),
+    CRASH: Kind("The program was ended by a signal", None, None),
+}
 CAUGHT, NOT_CAUGHT, NOT_REPLAYED = "caught", "not caught", "not replayed"
 RESULTS = (CAUGHT, NOT_CAUGHT, NOT_REPLAYED)
 SAME_CALLERS = 3  # innermost frames that two stacks share which have the same callers
@@ -43,6 +65,10 @@ Left = namedtuple("Left", "blocks bytes")  # of an UNFREED: how much was lost
 
 
 def kind_of(error: Error) -> str:
+    if error.letter == "y":
+        return MISMATCH
+    if error.variable:
+        return DEAD_VARIABLE if error.variable.dead else VARIABLE_UNDERFLOW if error.variable.offset < 0 else VARIABLE_OVERFLOW
     if error.is_free():
         return DOUBLE_FREE if error.letter == "o" or error.block and error.state != "live" and not error.offset else INVALID_FREE
     if error.is_too_large():
@@ -64,7 +90,7 @@ def block_of(error: Error) -> int:
 def stacks_of(log: Log, errors: list[Error]) -> set[int]:
     """The numbers of the stacks that tell of some errors."""
     numbers = {number for error in errors for number in (error.stack, log.made[error.block], max(log.ended[error.block], 0))}
-    numbers |= {mark.stack for error in errors for mark in (error.poisoned, error.unpoisoned) if mark}
+    numbers |= {mark.stack for error in errors for mark in (error.poisoned, error.unpoisoned, error.variable) if mark}
     return numbers | ({log.crash.stack} if log.crash else set())
 
 
@@ -111,9 +137,8 @@ def cause_of(entry: "Entry", log: Log, places: Places) -> tuple:
 
     def lines(stack: int) -> "list[str]":
         frames = places.frames(stack)
-        return [
-            frame.show() for frame in frames[: count_own_frames(places.frames(entry.stack), frames) or SAME_CALLERS]
-        ]
+        own = count_own_frames(places.frames(entry.stack), frames)
+        return [frame.show() for frame in frames[: own or SAME_CALLERS]]
 
     return entry.kind, line, tuple(lines(entry.made)), tuple(lines(entry.ended)) if entry.uses[0].error.state != "live" else ()
 
@@ -159,7 +184,7 @@ class Causes:
             return kind, self.line(error.stack)
         if kind == POISON and error.poisoned:  # all uses of what one call poisoned
             return self.of_region.setdefault((block, error.poisoned.number), (kind, self.line(error.stack), self.callers(error.poisoned.stack)))
-        made = self.callers_within(error, self.log.made[block]) if block else ""
+        made = self.callers_within(error, self.log.made[block]) if block else str(error.variable and error.variable[:2])
         return kind, self.line(error.stack), made, self.callers(self.log.ended[block]) if error.state != "live" else ""
 
     def of_use(self, kind: str, error: Error) -> tuple:

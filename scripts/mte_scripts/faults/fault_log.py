@@ -11,9 +11,10 @@ import struct
 from array import array
 from collections import namedtuple
 from collections.abc import Iterator, Sequence
-from typing import BinaryIO, Optional
+from typing import Any, BinaryIO, Optional
 
 from mte_scripts import checksum
+from mte_scripts.faults.variables import find_variable
 from mte_scripts.formats import LARGEST_SIZE
 
 WINDOW = 64  # the bytes of the longest access of a trace
@@ -21,7 +22,7 @@ WINDOW = 64  # the bytes of the longest access of a trace
 HEAD, FORM = 128, b"ACCESS1\0"
 MARK = struct.Struct("<5Q")  # length, sum, not_logged, state, check
 ORIGIN = struct.Struct("<QQ16s")  # dropped; the length and the name of what a fork's log goes on from
-RUNNING, ENDED, CUT, NO_ROOM, STOPPED = 1, 2, 3, 4, 5  # the last by AddressSanitizer
+RUNNING, ENDED, CUT, NO_ROOM, STOPPED, HALTED = 1, 2, 3, 4, 5, 6  # the last two by the first error
 MOST_BYTES = (1 << 30) + (8 << 20)  # the runtime takes a gibibyte, and a piece of eight mebibytes
 LONGEST_LINE = 4096
 MOST_SIZE = 1 << 47  # of an address space
@@ -33,6 +34,9 @@ MOST_TIMES = 1 << 63
 STACK = re.compile(rb"([0-9]{1,10})(?::([0-9a-f]{1,16}(?:,[0-9a-f]{1,16}){0,15}))?")
 ADDRESS = re.compile(rb"[0-9a-f]{1,16}")
 STOP = "AddressSanitizer ended the program at its first error; built with -fsanitize-recover=address, it goes on"
+HALT = "--halt ended the program at its first error"
+# what makes a block, and what ends it, by their numbers in a record
+MAKERS, ENDERS = (dict(enumerate(names.split())) for names in ("malloc new new[]", "free delete delete[] realloc"))
 KERNEL = 128  # of a signal's codes: from 1 to below it, the address is that of the access
 SIGNALS = {4: "SIGILL", 6: "SIGABRT", 7: "SIGBUS", 8: "SIGFPE", 11: "SIGSEGV"}
 
@@ -45,13 +49,23 @@ class NoLog(Exception):
     """The file is no log."""
 
 
-class Error(namedtuple("Error", "letter block offset size stack state times poisoned unpoisoned is_guess", defaults=(1, None, None, False))):
-    """A wrong access or free. The letter is the log's: L, S, P, Q, V, x, o or n. The state is of the block then: live, freed or resized. Times is
-    how often it came. Of an access of poisoned memory, the Marks by which the program poisoned it, and unpoisoned it before. `is_guess`: where it
-    begins, or of which block it is, is a guess."""
+def require(is_right: object) -> None:
+    """Ends the reading at a record that no program makes."""
+    if not is_right:
+        raise NoLog
+
+
+class Error(namedtuple(
+    "Error", "letter block offset size stack state times poisoned unpoisoned is_guess functions variable",
+    defaults=(1, None, None, False, None, None),
+)):
+    """A wrong access or free. The letter is the log's: L, S, P, Q, V, x, y, o or n. The state is of the block then: live, freed or resized. Times
+    is how often it came. Of an access of poisoned memory, the Marks by which the program poisoned it, and unpoisoned it before. `is_guess`: where
+    it begins, or of which block it is, is a guess. `functions`: by which of MAKERS a block was made that a wrong one of ENDERS ends, if they are
+    known. `variable`: of an access near one (variables.Variable)."""
 
     def is_free(self) -> bool:
-        return self.letter in "xon"
+        return self.letter in "xyon"
 
     def is_load(self) -> bool:
         return self.letter in "LP"
@@ -168,8 +182,8 @@ class Text:
         if self.state == CUT:
             what = "of what the program did later it has wrong accesses and frees alone"
             self.missing.append(f"the log could not grow at {self.length} bytes: {what}")
-        elif self.state == STOPPED:
-            self.missing.append(STOP)
+        elif self.state in (STOPPED, HALTED):
+            self.missing.append(STOP if self.state == STOPPED else HALT)
         elif self.state == NO_ROOM:
             how = "raise `ulimit -v`, and don't set vm.overcommit_memory to 2"
             self.missing.append(f"the runtime had no room for its tables, and ended the program: {how}")
@@ -208,6 +222,7 @@ class Log:
         self._times: dict[int, int] = {}
         self._numbers = {0: 0}
         self.lost: set[int] = set()  # blocks to which no pointer is left at the end; with 0 where all such are told
+        self.maybe_lost: set[int] = set()  # to which the stack alone has a pointer, which may be an old one
         self.ignored: set[int] = set()  # blocks whose leak the program wants passed over
         self.unrecorded: set[int] = set()  # blocks that a handler of a signal requested have no record
         self._taken_back: set[int] = set()
@@ -219,7 +234,7 @@ class Log:
             text.say_end()
         self.missing, self.is_empty, self.is_damaged = text.missing, text.is_empty, text.is_damaged
         for at, times in self._times.items():
-            self.errors[at] = self.errors[at]._replace(times=times)
+            self._tell(at, times=times)
         self._drop_taken_back()
 
     def _read_all(self, text: Text) -> None:
@@ -255,8 +270,7 @@ class Log:
 
     def _align(self, _: bytes, words: "list[bytes]") -> None:
         block, alignment = map(int, words)
-        if not 0 < block < len(self.size) or not 0 < alignment < MOST_SIZE:
-            raise NoLog
+        require(0 < block < len(self.size) and 0 < alignment < MOST_SIZE)
         self.alignment[block] = alignment
 
     def _free(self, letter: bytes, words: "list[bytes]") -> None:
@@ -274,34 +288,28 @@ class Log:
     def _module(self, _: bytes, words: "list[bytes]") -> None:
         *places, path = b" ".join(words).decode(errors="surrogateescape").split(" ", 3)
         low, high, place = (int(each, 16) for each in places if len(each) <= 16)
-        if "\0" in path:
-            raise NoLog
+        require("\0" not in path)
         self.modules.append(Module(low, high, place, path))
 
     def _take_back(self, _: bytes, words: "list[bytes]") -> None:
-        (number,) = map(int, words)
-        if not 0 < number <= len(self.errors):
-            raise NoLog
-        self._taken_back.add(number - 1)
+        (number,) = words
+        self._taken_back.add(self._index(number))
 
     def _again(self, _: bytes, words: "list[bytes]") -> None:
-        number, times = map(int, words)
-        if not 0 < number <= len(self.errors) or not 0 < times < MOST_TIMES:
-            raise NoLog
-        self._times[number - 1] = times
+        number, times = words
+        require(0 < int(times) < MOST_TIMES)
+        self._times[self._index(number)] = int(times)
 
     def _crash(self, _: bytes, words: "list[bytes]") -> None:
         signal, code, at, frames = words
-        if not ADDRESS.fullmatch(at):
-            raise NoLog
+        require(ADDRESS.fullmatch(at))
         name = SIGNALS[int(signal)]
         is_known = name in ("SIGSEGV", "SIGBUS") and 0 < int(code) < KERNEL
         self.crash = self.crash or Crash(name, int(at, 16) if is_known else None, self._stack(frames))
 
     def _status(self, _: bytes, words: "list[bytes]") -> None:
         (self.status,) = map(int, words)
-        if not 0 <= self.status < 256:
-            raise NoLog
+        require(0 <= self.status < 256)
 
     def _wrong(self, letter: bytes, words: "list[bytes]") -> None:
         self._error(letter.decode(), *self._parts(words))
@@ -310,31 +318,39 @@ class Log:
         (block, offset, size), stack = self._parts(words)
         if block:
             self._know(block)
-        if not 0 <= offset < MOST_SIZE or not 0 < size <= MOST_SIZE:
-            raise NoLog
+        require(0 <= offset < MOST_SIZE and 0 < size <= MOST_SIZE)
         self._marks.setdefault(block, array("q")).extend((offset, size, stack, letter == b"p"))
 
-    def _ignore(self, _: bytes, words: "list[bytes]") -> None:
+    def _left(self, letter: bytes, words: "list[bytes]") -> None:
         (block,) = map(int, words)
-        self._know(block)
-        self.ignored.add(block)
-
-    def _lose(self, _: bytes, words: "list[bytes]") -> None:
-        (block,) = map(int, words)
-        if block:
+        if block or letter != b"k":
             self._know(block)
-        self.lost.add(block)
+        {b"i": self.ignored, b"k": self.lost, b"q": self.maybe_lost}[letter].add(block)
+
+    def _index(self, number: bytes) -> int:
+        """The place of an error, by its number from 1 on."""
+        require(0 < int(number) <= len(self.errors))
+        return int(number) - 1
+
+    def _tell(self, at: int, **more: Any) -> None:
+        self.errors[at] = self.errors[at]._replace(**more)
 
     def _guess(self, _: bytes, words: "list[bytes]") -> None:
-        (number,) = map(int, words)
-        if not 0 < number <= len(self.errors):
-            raise NoLog
-        self.errors[number - 1] = self.errors[number - 1]._replace(is_guess=True)
+        (number,) = words
+        self._tell(self._index(number), is_guess=True)
+
+    def _name_variable(self, _: bytes, words: "list[bytes]") -> None:
+        number, *text = words
+        lines = b" ".join(text).decode(errors="replace").split("\t")
+        if (found := find_variable(lines)) and found.frame:
+            pc = int(found.frame.split(" ")[0], 16)
+            self.stacks.append(f"{pc + 1:x}")  # the function itself, and no place that a call returns to
+            found = found._replace(stack=len(self.stacks) - 1)
+        self._tell(self._index(number), variable=found)
 
     def _leave_out(self, letter: bytes, words: "list[bytes]") -> None:
         (number,) = map(int, words)
-        if not 0 <= number < MOST_SIZE:
-            raise NoLog
+        require(0 <= number < MOST_SIZE)
         self.left_out += number
         self._add(letter, number)
 
@@ -345,19 +361,14 @@ class Log:
     def _pass_over(self, letter: bytes, words: "list[bytes]") -> None:
         """What the profile counts (z), and that handlers of signals requested blocks (h), is for the reader alone."""
         numbers = list(map(int, words))
-        if len(numbers) != {b"z": 2, b"h": 0}[letter]:
-            raise NoLog
-        if numbers and not (0 <= numbers[0] <= LARGEST_SIZE + 1 and 0 < numbers[1] < MOST_SIZE):
-            raise NoLog
+        require(len(numbers) == {b"z": 2, b"h": 0}[letter])
+        require(not numbers or 0 <= numbers[0] <= LARGEST_SIZE + 1 and 0 < numbers[1] < MOST_SIZE)
 
-    READERS = {
-        **dict.fromkeys((b"l", b"s"), _right),
-        **dict.fromkeys((b"m", b"c"), _request),
-        **dict.fromkeys((b"L", b"S", b"P", b"Q", b"V", b"x", b"o", b"n"), _wrong),
-        **dict.fromkeys((b"p", b"u"), _mark),
-        b"a": _align, b"f": _free, b"r": _resize, b"M": _module, b"-": _take_back, b"+": _again, b"C": _crash, b"e": _status, b"i": _ignore, b"k": _lose,
-        b"d": _leave_out, b"t": _learn_stack, b"z": _pass_over, b"h": _pass_over, b"g": _guess,
-    }  # of a record, by its letter; one of another letter has no key
+    READERS = {bytes([letter]): read for letters, read in (
+        (b"ls", _right), (b"mc", _request), (b"LSPQVxyon", _wrong), (b"pu", _mark), (b"ikq", _left), (b"zh", _pass_over), (b"a", _align),
+        (b"f", _free), (b"r", _resize), (b"M", _module), (b"-", _take_back), (b"+", _again), (b"C", _crash), (b"e", _status),
+        (b"d", _leave_out), (b"t", _learn_stack), (b"g", _guess), (b"v", _name_variable),
+    ) for letter in letters}  # of a record, by its letter; one of another letter has no key
 
     def _parts(self, words: "list[bytes]") -> "tuple[list[int], int]":
         """The numbers of a record, and its stack."""
@@ -393,19 +404,21 @@ class Log:
         self.ended[block] = stack
 
     def _error(self, letter: str, numbers: list[int], stack: int) -> None:
-        if len(numbers) != {"x": 2, "o": 0, "n": 0}.get(letter, 3):
-            raise NoLog
+        require(len(numbers) == {"x": 2, "o": 0, "n": 0}.get(letter, 3))
         block, offset, size = (numbers + [0, 0, 0])[:3]
         if letter in "LSPQV":
             size %= 1 << 64  # a size of size_t that is above all is printed as a negative number
-        if not -MOST_SIZE < offset < MOST_SIZE or (letter in "LSPQV" and not size):
-            raise NoLog
+        require(-MOST_SIZE < offset < MOST_SIZE and (letter not in "LSPQV" or size))
         if block:
             self._know(block)
-        elif letter in "LS" and not 0 <= offset <= 2:  # what it stands for in place of a block
-            raise NoLog
-        state = "live" if self.ended[block] == -1 else "resized" if self.next[block] else "freed"
+        else:  # of an access the offset says what it stands for in place of a block
+            require(letter not in "LSy" or letter != "y" and 0 <= offset <= 2)
+        functions = (MAKERS[offset], ENDERS[size]) if letter == "y" else None
         self._add(b"E", len(self.errors))
+        if functions:  # the block may be freed by then
+            self.errors.append(Error(letter, block, 0, 0, stack, "live", functions=functions))
+            return
+        state = "live" if self.ended[block] == -1 else "resized" if self.next[block] else "freed"
         marks = self._marks_of(block, offset, size) if letter in "PQ" else (None, None)
         self.errors.append(Error(letter, block, offset, size, stack, state, 1, *marks))
 

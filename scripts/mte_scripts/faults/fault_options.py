@@ -31,11 +31,13 @@ Usage: find_faults [OPTIONS] PROGRAM ARGS..
   --table FILE    the class table of the heap for reports: a file whose first line is a class line (Scudo's on Android)
   --page FILE     make a page for the browser too: each error, and the heap at that moment if scripts/page has built its engines
   --only NAME     record the first process whose program has this name, as NAME of /usr/bin/NAME
-  --unfreed       tell what is left unfreed at the end too: lost blocks are errors, those that are still reachable are not
+  --unfreed       tell what is left unfreed at the end too: lost blocks are errors; those that are still reachable, or to which the
+                  stack alone has a pointer, are not
   --children      record each process, and tell the errors of all: find_faults --children make check
   --preload       the same, for a program of which only libraries that it loads are traced, as Python's extensions are
   --asan          the program was built with -fsanitize=address, by gcc or clang: tell what AddressSanitizer sees, in the first
                   process that has it
+  --halt          end each process at its first error, with exit status 1, or what exitcode=N of ASAN_OPTIONS says
   --json FILE     write the errors for other programs too; with - to standard output, in place of the text
   --sarif FILE    the same as SARIF 2.1.0, which code hosts and editors read
   --annotations   print a line ::error for each error too, which a runner of GitHub's shows beside its source line
@@ -81,8 +83,8 @@ def read_words(words: list[str]) -> argparse.Namespace:
         parser.error("--table is for reports: the table of a run is tuned for it")
     if bool(options.words) == bool(options.read):
         parser.error("there is no program" if not options.words else "--read takes no program")
-    if options.read and options.keep:
-        parser.error("--read and --keep can't be given both")
+    if options.read and (also := [name for name in ("keep", "halt") if getattr(options, name)]):
+        parser.error(f"--read and --{also[0]} can't be given both")
     if options.asan and (also := [name for name in ("read", "children", "preload", "only", "unfreed") if getattr(options, name)]):
         parser.error(f"--asan and --{also[0]} can't be given both")
     options.children = options.children or options.preload

@@ -10,6 +10,7 @@ from collections import defaultdict, namedtuple
 from collections.abc import Iterable
 
 from mte_scripts.faults.fault_log import Log
+from mte_scripts.faults.variables import Variable
 from mte_scripts.recording.calls import function_names, lines_at, without_parameters
 
 RUNTIME = "libmte_accesses.so"
@@ -86,6 +87,11 @@ class Places:
         if not own:
             return whole
         return [frame for frame in inside[own[0] : own[-1] + 1] if not frame.is_folded() and is_own(frame.module)]
+
+    def resolve(self, variable: Variable) -> Variable:
+        """A variable of the log with the function and the source where it is declared, as far as they are known."""
+        frames = self.frames(variable.stack)[:1]
+        return variable._replace(source=frames[0].source or "", function=frames[0].function) if frames else variable
 
     def show(self, stack: int, callers: bool = True) -> str:
         """The innermost place of a stack in the program's own sources, and its callers."""

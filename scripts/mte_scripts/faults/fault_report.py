@@ -11,6 +11,7 @@ from mte_scripts.faults.fault_log import Crash, Error, Log, Mark
 from mte_scripts.faults.fault_places import Places
 from mte_scripts.faults.heap_answers import Answers, Verdict
 from mte_scripts.faults.odds import Odds
+from mte_scripts.faults.variables import tell_variable, value_of
 
 MOST_USES = 8  # of a cause that are shown
 PLACES = ("a block that was freed long ago", "an address that the heap never gave out", "memory that is not the heap's")  # by the offset
@@ -61,6 +62,10 @@ def sentence(error: Error, log: Log) -> str:
         place = f"{count(error.offset, 'byte')} into {block}" if error.block else f"at the address 0x{error.offset:x}"
         return f"overlapping copy of {count(error.size, 'byte')}, {place}"
     access = f"{'load' if error.is_load() else 'store'} of {count(error.size, 'byte')}"
+    if error.variable:
+        its = error.variable
+        near, name = error._replace(offset=its.offset, state=its.dead or "live"), f"{its.kind} {its.name} of {count(its.size, 'byte')}"
+        return f"{access}, {place_sentence(near, its.size, name)}"
     if error.is_of_poison():
         access += f" {'of' if error.is_load() else 'to'} poisoned memory"
     if error.is_of_poison() and not error.block:
@@ -73,20 +78,20 @@ def sentence(error: Error, log: Log) -> str:
 
 
 def state_clause(error: Error) -> str:
-    return "" if error.state == "live" else f" that was {error.state}"
+    clauses = {"live": "", "scope": " after the end of its scope", "return": " after its function's return"}
+    return clauses.get(error.state, f" that was {error.state}")
 
 
 def free_sentence(error: Error, block: str) -> str:
+    if error.letter == "y":
+        made, used = error.functions or ("", "")
+        return f"{used} of {block} that {made} made" if used else f"free of {block}, by another function than fits how it was allocated"
     if error.letter == "n":
         return "free of an address that the heap never gave out"
     if not error.block:
         return "free of a block that was freed long ago"
-    if error.offset:
-        return (
-            f"free of a pointer {count(abs(error.offset), 'byte')} {'into' if error.offset > 0 else 'before'} "
-            f"{block}{state_clause(error)}"
-        )
-    return f"free of {block}{state_clause(error)}"
+    where = f"a pointer {count(abs(error.offset), 'byte')} {'into' if error.offset > 0 else 'before'} "
+    return f"free of {where * bool(error.offset)}{block}{state_clause(error)}"
 
 
 def place_sentence(error: Error, size: int, block: str) -> str:
@@ -112,6 +117,7 @@ def history(entry: Entry, log: Log, places: Places) -> list[str]:
     """Where the block of an entry was allocated, and freed or resized: a line each."""
     error = entry.uses[0].error
     lines = [f"{did} at {places.show(mark.stack)}: {mark_clause(mark, error)}" for did, mark in marks_of(error) if mark]
+    lines += tell_variable(value_of(places.resolve(error.variable), error.size)) if error.variable else []
     lines += [f"allocated at {places.show(entry.made)}"] if error.block else []
     lines += [f"{error.state} at {places.show(entry.ended)}"] if error.block and error.state != "live" else []
     for other in {use.error.block: use.error for use in entry.uses if block_of(use.error)}.values() if block_of(error) else ():
@@ -150,7 +156,8 @@ def tell_entry(entry: Entry, log: Log, places: Places, odds: Odds) -> "list[str]
         lines.append(f"    then {at}: {sentence(use.error, log)}{often(use.times)}: {use.result}: {use.why}")
     if len(others) >= MOST_USES:
         lines.append(f"    and so at {count(len(others) - MOST_USES + 1, 'other place')}")
-    return lines + [f"    {line}" for line in (*odds.lines(entry.numbers), *history(entry, log, places))]
+    of_heap = [] if first.error.variable else odds.lines(entry.numbers)
+    return lines + [f"    {line}" for line in (*of_heap, *history(entry, log, places))]
 
 
 def other_ways(entry: Entry, places: Places) -> "list[str]":

@@ -10,25 +10,20 @@ import hashlib
 import json
 import os
 from collections import Counter, namedtuple
+from typing import Any
 
 from mte_scripts import text_files
 from mte_scripts.entry_point import Refusal
 from mte_scripts.faults import fault_entries
-from mte_scripts.faults.fault_entries import Entry
-from mte_scripts.faults.fault_log import Log
+from mte_scripts.faults.fault_entries import KINDS, Entry
+from mte_scripts.faults.fault_log import Error, Log
 from mte_scripts.faults.fault_places import Frame, Places
 from mte_scripts.faults.fault_report import count, crash_sentence, left_sentence, sentence
 from mte_scripts.faults.odds import Odds
+from mte_scripts.faults.variables import STACK, value_of
 
 FORM = 1  # of the JSON
 FRAMES_OF_ID = 3
-CWES = {
-    fault_entries.OVERFLOW: (787, 126), fault_entries.UNDERFLOW: (124, 127), fault_entries.USE_AFTER_FREE: (416, 416),
-    fault_entries.USE_AFTER_REALLOC: (825, 825), fault_entries.DOUBLE_FREE: (415, 415), fault_entries.INVALID_FREE: (761, 761),
-    fault_entries.WILD: (119, 119), fault_entries.TOO_LARGE: (805, 805), fault_entries.POISON: (672, 672),
-    fault_entries.OVERLAP: (475, 475), fault_entries.CRASH: (None, None), fault_entries.UNFREED: (401, 401),
-}  # of a kind: of a store or a free, and of a load
-NOT_ON_HEAP = 590  # of a free
 LARGEST_FILE = 64 << 20
 
 # A line of a file of suppressions: the kind and the place are patterns as of file names.
@@ -51,18 +46,21 @@ def number_ids(values: "list[dict]") -> None:
             each["id"] = hash_words(each["id"], str(seen[each["id"]]))
 
 
+def begin_finding(kind: str, frames: "list[Frame]", made: "list[Frame]", ended: "list[Frame]", **known: Any) -> dict:
+    """A finding by the stacks of the wrong access, of its block's request and of its end, and what else is known of it."""
+    value = {"kind": kind, "cwe": None, "result": None, "times": 1, "odds": None, "block": None, "frames": as_values(frames), "ways": [],
+             "allocated": as_values(made), "ended": as_values(ended), "uses": [], "id": hash_words(*id_words(kind, frames, made, ended))}
+    return value | known
+
+
 def finding(entry: Entry, log: Log, places: Places, odds: Odds) -> dict:
-    frames, made = places.frames(entry.stack), places.frames(entry.made)
-    ended = places.frames(entry.ended)
-    value = {
-        "kind": entry.kind, "cwe": None, "result": entry.result, "times": 1, "odds": None, "block": None,
-        "frames": as_values(frames), "ways": [as_values(places.frames(stack)) for stack in entry.ways], "allocated": as_values(made), "ended": as_values(ended), "uses": [],
-        "id": hash_words(*id_words(entry.kind, frames, made, ended)),
-    }
+    stacks = map(places.frames, (entry.stack, entry.made, entry.ended))
+    ways = [as_values(places.frames(stack)) for stack in entry.ways]
+    value = begin_finding(entry.kind, *stacks, result=entry.result, ways=ways)
     if entry.kind == fault_entries.CRASH:
         return value | {"what": crash_sentence(entry.crash), "why": entry.crash.signal}
     if entry.kind == fault_entries.UNFREED:
-        return value | {"what": left_sentence(entry.left), "why": "no pointer is left", "cwe": CWES[entry.kind][0]}
+        return value | {"what": left_sentence(entry.left), "why": "no pointer is left", "cwe": KINDS[entry.kind].store}
     first = entry.uses[0]
     for use in entry.uses:
         innermost = as_values(places.frames(use.error.stack)[:1])
@@ -71,24 +69,26 @@ def finding(entry: Entry, log: Log, places: Places, odds: Odds) -> dict:
     value["odds"] = odds.values(entry.numbers)
     if first.error.block:
         value["block"] = {"bytes": log.size[first.error.block], "offset": first.error.offset, "state": first.error.state}
-    cwe = NOT_ON_HEAP if first.error.letter == "n" else CWES[entry.kind][first.error.is_load()]
+    if first.error.variable:
+        value["variable"] = value_of(places.resolve(first.error.variable), first.error.size)
+    cwe = cwe_of(entry.kind, first.error)
     deciding = next(use for use in entry.uses if use.result == entry.result)
     return value | {"cwe": cwe, "what": sentence(first.error, log), "why": deciding.why, "times": sum(use.times for use in entry.uses)}
 
 
+def cwe_of(kind: str, error: Error) -> "int | None":
+    is_of_stack = error.variable and error.variable.kind == STACK and not error.is_load()
+    known = KINDS[kind]
+    return known.special if known.special and (error.letter == "n" or is_of_stack) else known.load if error.is_load() else known.store
+
+
 def id_words(kind: str, frames: list[Frame], made: list[Frame], ended: list[Frame]) -> list[str]:
     """The words that an id is made of. Callers are none of them where one function did all of it."""
-    if kind in (fault_entries.OVERFLOW, fault_entries.UNDERFLOW) and fault_entries.count_own_frames(frames, made):
-        frames, made = frames[:1], made[: fault_entries.count_own_frames(frames, made)]
-    if kind in (fault_entries.USE_AFTER_FREE, fault_entries.USE_AFTER_REALLOC) and fault_entries.count_own_frames(
-        frames, ended
-    ):
-        return [
-            kind,
-            *map(name_of, frames[:1]),
-            "ended",
-            *map(name_of, ended[: fault_entries.count_own_frames(frames, ended)]),
-        ]
+    own = {name: fault_entries.count_own_frames(frames, stack) for name, stack in (("made", made), ("ended", ended))}
+    if kind in (fault_entries.OVERFLOW, fault_entries.UNDERFLOW) and own["made"]:
+        frames, made = frames[:1], made[: own["made"]]
+    if kind in (fault_entries.USE_AFTER_FREE, fault_entries.USE_AFTER_REALLOC) and own["ended"]:
+        return [kind, *map(name_of, frames[:1]), "ended", *map(name_of, ended[: own["ended"]])]
     return [kind, *map(name_of, frames[:FRAMES_OF_ID]), "allocated", *map(name_of, made[:FRAMES_OF_ID])]
 
 
@@ -164,10 +164,8 @@ def suppressions(path: str) -> list[Suppression]:
         if not line or line.startswith("#"):
             continue
         kind, _, place = (word.strip() for word in line.partition(":"))
-        if not kind or not place or not any(fnmatch.fnmatchcase(kind_id(each), kind) for each in CWES):
-            raise Refusal(
-                2, f"{path}, line {number}: it is no KIND:PLACE, with a kind of {', '.join(map(kind_id, CWES))}"
-            )
+        if not kind or not place or not any(fnmatch.fnmatchcase(kind_id(each), kind) for each in KINDS):
+            raise Refusal(2, f"{path}, line {number}: it is no KIND:PLACE, with a kind of {', '.join(map(kind_id, KINDS))}")
         found.append(Suppression(kind, place, line, number))
     return found
 
@@ -190,15 +188,11 @@ def baseline(path: str) -> dict[str, str]:
 
 def matches(suppression: Suppression, value: dict) -> bool:
     """Whether a finding has this kind, and a frame of the wrong access this place: a function, a file, or FILE in FUNCTION."""
-    if not fnmatch.fnmatchcase(kind_id(value["kind"]), suppression.kind):
-        return False
-    for frame in value["frames"]:
-        names = [frame["function"]]
-        if frame["file"]:
-            names += [frame["file"], f"{frame['file']} in {frame['function']}"]
-        if any(fnmatch.fnmatchcase(name, suppression.place) for name in names):
-            return True
-    return False
+    frames = value["frames"] if fnmatch.fnmatchcase(kind_id(value["kind"]), suppression.kind) else []
+    names = [frame["function"] for frame in frames]
+    for frame in frames:
+        names += [frame["file"], f"{frame['file']} in {frame['function']}"] if frame["file"] else []
+    return any(fnmatch.fnmatchcase(name, suppression.place) for name in names)
 
 
 def mark(values: list[dict], suppressed: list[Suppression], known: dict[str, str]) -> set[Suppression]:

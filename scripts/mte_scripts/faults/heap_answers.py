@@ -13,6 +13,7 @@ from pathlib import Path
 from mte_scripts.entry_point import Refusal
 from mte_scripts.faults import heap_reader
 from mte_scripts.faults.fault_log import Error, Log, NoLog, Text, open_log
+from mte_scripts.faults.variables import GLOBAL, NOT_TAGGED
 from mte_scripts.formats import FARTHEST_ACCESS, FARTHEST_MOVE, LARGEST_SIZE
 
 LARGE = 4 << 20  # bytes of a log that is told by a small one
@@ -26,8 +27,8 @@ FILES = "profile sheet log trace".split()  # of the reader, in the order of its 
 Promise = namedtuple("Promise", "answer report reason")
 # The chunk whose tag decides an error: of which slot and generation the pointer is, and the chunk.
 Meeting = namedtuple("Meeting", "own generation other other_generation is_dead")
-# What became of an error: `asked` has the promise, and the event that asks; `ruled` is refused by a rule, and no event can say it; `large` and
-# `left` are not asked, for the reason of the promise. The meeting is what decides one that is asked.
+# What became of an error: `asked` has the promise, and the event that asks; `ruled` is refused by a rule, and no event can say it; `large`,
+# which the heap surely misses, and `left` are not asked, for the reason of the promise. The meeting is what decides one that is asked.
 Verdict = namedtuple("Verdict", "kind promise event is_free meeting", defaults=(None,))
 # A granule that an error meets: what it is, and of a chunk its slot, and how often that was given out by then.
 Granule = namedtuple("Granule", "kind slot generation", defaults=(None, None))
@@ -41,6 +42,7 @@ REUSED = "it comes after the slot's next user was freed, and the same tag came a
 MISPLACED = "misplaced: free refuses what is not the first byte of a granule"
 NOT_GIVEN = "misplaced: free refuses an address that the heap never gave out"
 LARGE_BLOCK = "the block is larger than the heap serves"
+ONE_FREE = "the heap has one free for all that it gives out"
 FORGOTTEN = "its block was freed so long ago that the recorder forgot it"
 NEVER_GIVEN = "it is far from every block"
 NOT_OF_HEAP = "its memory is not the heap's"
@@ -130,9 +132,7 @@ def run(words: list) -> "list[str]":
     if done.returncode == 4:
         raise NoLog(done.stderr.strip())
     if done.returncode:
-        raise Refusal(
-            3, f"the log can't be told: {done.stderr.strip() or f'its reader ended with status {done.returncode}'}"
-        )
+        raise Refusal(3, f"the log can't be told: {done.stderr.strip() or f'its reader ended with status {done.returncode}'}")
     return done.stdout.split("\n")[:-1]
 
 
@@ -147,6 +147,10 @@ def why_not_asked(error: Error, its: Facts, log: Log) -> "tuple[str, str] | None
     size = log.size[error.block]
     if error.letter == "n":
         return "ruled", NOT_GIVEN
+    if error.letter == "y":
+        return "large", ONE_FREE
+    if error.variable and error.variable.kind == GLOBAL:
+        return "left", NOT_TAGGED
     if not error.block:
         return "left", NOT_OF_HEAP if error.is_inside() else (FORGOTTEN, NEVER_GIVEN, NOT_OF_HEAP)[error.offset]
     if size > LARGEST_SIZE:

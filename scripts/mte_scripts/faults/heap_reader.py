@@ -69,12 +69,8 @@ def path() -> str:
     """Where the program is, which is compiled once for each version of its source and of the library."""
     if os.access(PACKED, os.X_OK):
         return PACKED
-    compiler = compiler_driver.find_compiler("TRACED_CC", "gcc", "clang")  # before the library is built, which wants one too
+    compiler = compiler_driver.find_c_compiler()  # before the library is built, which wants one too
     folder = library()
     needed = [SOURCE, static(folder)]
-    words = [compiler, *FLAGS, f"-I{folder}/include", *needed, "-o"]
-    return compiler_driver.keep_in_cache(
-        f"reader-{sum_of(FLAGS, needed)}",
-        NAME,
-        lambda new: compile_alone([*words, new], "the reader could not be compiled"),
-    )
+    words, says = [compiler, *FLAGS, f"-I{folder}/include", *needed, "-o"], "the reader could not be compiled"
+    return compiler_driver.keep_in_cache(f"reader-{sum_of(FLAGS, needed)}", NAME, lambda new: compile_alone([*words, new], says))

@@ -122,16 +122,8 @@ class Histories:
         since = self.requests - requests if requests is not None and is_known else None
         # a small log lacks other blocks' requests and frees
         cut_from = before if at == self.requests and not self.is_small else 0
-        copy = replace(slot, marks=set(slot.marks))
-        return BlockPast(
-            copy,
-            since,
-            1 if self.is_small else self.frees - frees,
-            block in self.cut,
-            block in self.aligned,
-            cut_from,
-            tuple(later),
-        )
+        copy, more_frees = replace(slot, marks=set(slot.marks)), 1 if self.is_small else self.frees - frees
+        return BlockPast(copy, since, more_frees, block in self.cut, block in self.aligned, cut_from, tuple(later))
 
     def _is_wanted(self, block: int) -> bool:
         return self.wanted is None or block in self.wanted

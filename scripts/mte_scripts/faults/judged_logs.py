@@ -14,6 +14,7 @@ from mte_scripts.faults.fault_log import Log, NoLog, whole_log
 from mte_scripts.faults.heap_answers import Answers
 from mte_scripts.faults.odds import Odds
 
+NONE = "is no log of a program that traced_cc built, or of another version of it"
 
 
 class Lists:
@@ -38,7 +39,7 @@ def read_log(path: str, whole: str) -> Log:
     except OSError as error:
         raise Refusal(2, f"{path} can't be read: {error.strerror}") from None
     except NoLog:
-        raise Refusal(2, f"{path} is no log of a program that traced_cc built, or of another version of it") from None
+        raise Refusal(2, f"{path} {NONE}") from None
     if log.is_empty:
         raise Refusal(3, f"{path} is empty: it could not be written")
     return log
@@ -68,9 +69,7 @@ def ask_heaps(options: argparse.Namespace, path: str, whole: str) -> "tuple[Log,
     try:
         return log, None if options.children and not log.errors else Answers(log, whole, log.length, heap, seeds)
     except NoLog as why:
-        raise Refusal(
-            2, f"{path} is no log of a program that traced_cc built, or of another version of it: {why}"
-        ) from None
+        raise Refusal(2, f"{path} {NONE}: {why}") from None
 
 
 def kept_files(options: argparse.Namespace, answers: Answers) -> "tuple[dict[str, bytes], list[str]]":

@@ -177,12 +177,7 @@ class Odds:
         """The shares of the errors with these numbers, which are one entry, in the order of HEAPS."""
         verdicts = [self.verdicts[number] for number in numbers]
         scudo, glibc = zip(*map(self._elsewhere, numbers))
-        return [
-            on_this_heap(verdicts),
-            on_this_heap(verdicts, has_parity=False),
-            combine_shares(scudo),
-            combine_shares(glibc),
-        ]
+        return [on_this_heap(verdicts), on_this_heap(verdicts, has_parity=False), combine_shares(scudo), combine_shares(glibc)]
 
     def values(self, numbers: list[int]) -> dict[str, dict]:
         """What a machine reads of them, by heap."""

@@ -31,6 +31,7 @@ LARGER_BEFORE = UNKNOWN.since("a larger block may have had the place, and the sa
 GIVEN_BACK = UNKNOWN.since("the place may have been given back to the system")
 TAKEN = UNKNOWN.since("the place may have another user")
 CHECKSUM = at_least((1 << 16) - 1, 1 << 16).since("a header has a checksum of 16 bits")
+COMPARED = UNKNOWN.since("whether it compares the two is a setting")
 NO_RULE = UNKNOWN.since("what it would take for a header is not known")
 
 OTHER_OF_GLIBC = at_least(ALL - 1, ALL).since("each request draws one of 15 tags")
@@ -52,6 +53,8 @@ def meets(begin: int, end: int, granule: int) -> bool:
 
 def on_scudo(error: Error, size: int, past: BlockPast) -> Share:
     """`size`: of the block that the error names."""
+    if error.letter == "y":
+        return COMPARED
     if not error.block:
         return CHECKSUM if error.letter == "n" else NO_BLOCK
     if error.is_free():
@@ -61,14 +64,10 @@ def on_scudo(error: Error, size: int, past: BlockPast) -> Share:
     begin, end = span(error, size)
     if past.slot.is_large:
         return on_large(past.slot, past, begin, end)
-    share = around_slot(past.slot, past, begin, end)
-    if share is not None:
+    if share := around_slot(past.slot, past, begin, end):
         return share
-    return (
-        on_sure(error, past, begin, end)
-        if past.slot.is_live or past.since == 0
-        else on_reused_slot(past.slot, begin, end)
-    )
+    is_sure = past.slot.is_live or past.since == 0
+    return on_sure(error, past, begin, end) if is_sure else on_reused_slot(past.slot, begin, end)
 
 
 def free_on_scudo(error: Error, past: BlockPast) -> Share:
@@ -136,6 +135,8 @@ def on_reused_slot(slot: Slot, begin: int, end: int) -> Share:
 
 def on_glibc(error: Error, size: int, past: BlockPast) -> Share:
     """`size`: of the block that the error names."""
+    if error.letter == "y":
+        return NEVER
     if not error.block or size > GLIBC_HEAP:
         return NOT_ON_HEAP if error.block else NO_BLOCK
     if error.state == "resized" and (not past.later or max(past.later) > GLIBC_HEAP):
@@ -151,13 +152,10 @@ def on_glibc(error: Error, size: int, past: BlockPast) -> Share:
         return HEADER
     if not -GLIBC_BEFORE <= begin <= FAR:
         return FAR_AWAY
-    if error.state == "freed" and past.since == 0 and 0 <= begin < max(GRANULE, round_to_granule(size)) + GRANULE:
+    chunk = max(GRANULE, round_to_granule(size))
+    if error.state == "freed" and past.since == 0 and 0 <= begin < chunk + GRANULE:
         return FREE
-    return (
-        live_on_glibc(past, begin, end, max(GRANULE, round_to_granule(size)))
-        if error.state == "live"
-        else OTHER_OF_GLIBC
-    )
+    return live_on_glibc(past, begin, end, chunk) if error.state == "live" else OTHER_OF_GLIBC
 
 
 def live_on_glibc(past: BlockPast, begin: int, end: int, chunk: int) -> Share:

@@ -69,11 +69,8 @@ def check(scudo: str) -> None:
     """Refuses a folder that has no sources of Scudo, and a machine that lacks a command."""
     verification.place(scudo)
     if absent := [name for name in (COMPILER, LINKER, QEMU) if not shutil.which(name)]:
-        raise Refusal(
-            3,
-            f"there is no {absent[0]}, which the real heaps need (in Debian's clang, gcc-aarch64-linux-gnu and "
-            "qemu-user)",
-        )
+        packages = "Debian's clang, gcc-aarch64-linux-gnu and qemu-user"
+        raise Refusal(3, f"there is no {absent[0]}, which the real heaps need (in {packages})")
 
 
 def build(scudo: str, folder: str) -> None:
@@ -139,7 +136,7 @@ def question(log: Log, number: int) -> list[str]:
     error = log.errors[number]
     if error.letter == "n":
         return ["n"]
-    if not error.block or error.block in log.unrecorded:
+    if not error.block or error.block in log.unrecorded or error.letter == "y":
         return []
     if error.is_free():
         return [f"x {error.block} {error.offset}"]

@@ -8,28 +8,17 @@ from types import SimpleNamespace
 from typing import Any
 
 from mte_scripts import certificate_texts, text_files
-from mte_scripts.entry_point import printable
-from mte_scripts.faults import fault_entries, findings, report_verdicts, sarif, shares
+from mte_scripts.faults import fault_answer, fault_entries, findings, report_verdicts, shares
 from mte_scripts.faults.fault_places import Frame
 from mte_scripts.faults.fault_report import MOST_USES, count, often, sentence
 from mte_scripts.faults.report_verdicts import DEPENDS, HEAPS, RESULTS, Case, Judged, Layout
-from mte_scripts.faults.sanitizer_reports import CRASH, LARGEST_LOG, MISMATCH, NO_BLOCK, Report, read_reports
+from mte_scripts.faults.sanitizer_reports import CRASH, LARGEST_LOG, NO_BLOCK, Report, read_reports
+from mte_scripts.faults.variables import tell_variable, value_of
 from mte_scripts.places import EXAMPLES
 
 TABLE = "scudo_android.classes"  # the classes of Android's Scudo
-UNUSED = (
-    "keep",
-    "page",
-    "only",
-    "unfreed",
-    "children",
-    "preload",
-    "seeds",
-    "measure",
-    "tombstones",
-    "tombstone",
-)  # options of a run
-MISMATCHED_CWE = 762
+# options of a run
+UNUSED = "keep page only unfreed children preload seeds measure tombstones tombstone asan halt".split()
 
 
 def is_asked(options: argparse.Namespace) -> bool:
@@ -61,8 +50,12 @@ def answer_reports(options: argparse.Namespace, lists: Any) -> int:
         finish_finding(value)
     findings.number_ids(found)
     lists.mark(found)
-    write_answer(options, found, others, number, lists)
-    return int(any(value["state"] == "new" for value in found))
+    name, status = os.path.basename(options.read), int(any(value["state"] == "new" for value in found))
+    answer = findings.document(name, status, None, [{"name": name, "log": name, "findings": found, "incomplete": []}])
+    lines = [line for value in found if value["state"] == "new" for line in tell_finding(value)]
+    lines += totals(found, others, number) + fault_answer.counts([SimpleNamespace(values=found)], lists.known)
+    fault_answer.write(options, lines, answer)
+    return status
 
 
 class Judge:
@@ -77,21 +70,14 @@ class Judge:
         if alike not in self.known:
             self.known[alike] = report_verdicts.judge_report(report, self.layout)
         judged = self.known[alike]
-        key = judged.kind, report.act, *map(lines_of, (report.frames, report.made, report.ended))
+        key = judged.kind, report.act, report.variable and report.variable.name, *map(lines_of, (report.frames, report.made, report.ended))
         value = values.setdefault(key, new_finding(report, judged))
-        use = {
-            "what": sentence_of(report, judged),
-            "result": judged.result,
-            "why": judged.why,
-            "cases": [case_value(case) for case in judged.cases],
-        }
-        same = next(
-            (each for each in value["uses"] if all(each[name] == use[name] for name in ("what", "result", "why"))), None
-        )
-        if same:
+        use = {"what": sentence_of(report, judged), "result": judged.result, "why": judged.why}
+        if same := next((each for each in value["uses"] if use.items() <= each.items()), None):
             same["times"] += 1
         elif judged.result and len(value["uses"]) < MOST_USES:
-            value["uses"].append(use | {"times": 1, "frame": value["frames"][0] if value["frames"] else None})
+            frame = value["frames"][0] if value["frames"] else None
+            value["uses"].append({**use, "cases": list(map(case_value, judged.cases)), "times": 1, "frame": frame})
         value["times"] += 1
 
 
@@ -109,34 +95,17 @@ def sentence_of(report: Report, judged: Judged) -> str:
         return f"{done} of {count(report.length, 'byte')}, of which the report names no block ({report.word})"
     blocks: Any = SimpleNamespace(size=[0, judged.size])
     said = sentence(judged.error, blocks)
-    if report.act == MISMATCH:
-        return f"{said}, by another function than fits how it was allocated"
-    return said if judged.error.block else f"{said} ({report.word})"
+    return said if judged.error.block or judged.error.variable else f"{said} ({report.word})"
 
 
 def new_finding(report: Report, judged: Judged) -> dict:
     error = judged.error
-    cwe = findings.CWES[judged.kind][error.is_load()]
-    if error.letter == "n" or report.act == MISMATCH:
-        cwe = MISMATCHED_CWE if report.act == MISMATCH else findings.NOT_ON_HEAP
-    return {
-        "kind": judged.kind,
-        "cwe": cwe,
-        "what": sentence_of(report, judged),
-        "result": judged.result,
-        "why": judged.why,
-        "times": 0,
-        "odds": None,
-        "block": {"bytes": judged.size, "offset": error.offset, "state": error.state} if error.block else None,
-        "frames": findings.as_values(report.frames),
-        "ways": [],
-        "allocated": findings.as_values(report.made),
-        "ended": findings.as_values(report.ended),
-        "uses": [],
-        "id": findings.hash_words(*findings.id_words(judged.kind, report.frames, report.made, report.ended)),
-        "cases": [],
-        "tool": report.tool,
-    }
+    block = {"bytes": judged.size, "offset": error.offset, "state": error.state} if error.block else None
+    variable = {"variable": value_of(error.variable, error.size)} if error.variable else {}
+    return findings.begin_finding(
+        judged.kind, report.frames, report.made, report.ended, cwe=findings.cwe_of(judged.kind, error), cases=[],
+        what=sentence_of(report, judged), result=judged.result, why=judged.why, times=0, block=block, tool=report.tool, **variable
+    )
 
 
 def case_value(case: Case) -> dict:
@@ -170,6 +139,7 @@ def tell_finding(value: dict) -> "list[str]":
     first, *others = value["uses"] or [None]
     lines += [f"    {line}" for line in tell_cases(first)] if first else []
     lines += [f"    then {use['what']}{often(use['times'])}: {use['result']}: {use['why']}" for use in others]
+    lines += [f"    {line}" for line in tell_variable(value["variable"])] if "variable" in value else []
     for words, frames in (("allocated", value["allocated"]), ("freed", value["ended"])):
         lines += [f"    {words} at {', from '.join(map(findings.place, frames))}"] * bool(frames)
     return lines
@@ -187,11 +157,8 @@ def tell_cases(use: dict) -> "list[str]":
 
 
 def odds_line(value: dict) -> str:
-    return (
-        "odds: " + ", ".join(f"{heap} {share['text']}" for heap, share in value["odds"].items())
-        if value["odds"]
-        else "odds: not derived"
-    )
+    odds = value["odds"] or {}
+    return "odds: " + (", ".join(f"{heap} {share['text']}" for heap, share in odds.items()) or "not derived")
 
 
 def totals(found: "list[dict]", others: "Counter[str]", number: int) -> "list[str]":
@@ -199,30 +166,5 @@ def totals(found: "list[dict]", others: "Counter[str]", number: int) -> "list[st
     results = Counter(value["result"] for value in told)
     lines = [f"reports {number}", f"errors {len(told)}", *(f"{result} {results[result]}" for result in RESULTS)]
     lines += [f"crashed {results[None]}"] * bool(results[None])
-    return lines + [
-        f"left out: {count(times, 'report')} without an access: {word}" for word, times in sorted(others.items())
-    ]
-
-
-def write_answer(
-    options: argparse.Namespace, found: "list[dict]", others: "Counter[str]", number: int, lists: Any
-) -> None:
-    states = Counter(value["state"] for value in found)
-    name, status = os.path.basename(options.read), int(states["new"] > 0)
-    answer = findings.document(name, status, None, [{"name": name, "log": name, "findings": found, "incomplete": []}])
-    lines = [line for value in found if value["state"] == "new" for line in tell_finding(value)] + totals(
-        found, others, number
-    )
-    lines += [f"{state} {states[state]}" for state in ("suppressed", "known") if states[state]]
-    lines += [f"gone: {title}" for id, title in lists.known.items() if id not in {value["id"] for value in found}]
-    if options.annotations:
-        lines += sarif.annotations(answer)
-    files = [
-        (options.json, findings.text(answer)),
-        (options.sarif, findings.text(sarif.document(answer, bool(options.baseline)))),
-    ]
-    if "-" not in (options.json, options.sarif):
-        text_files.write("".join(printable(line) + "\n" for line in lines))
-    for path, text in files:
-        if path:
-            text_files.write(text) if path == "-" else text_files.write_file(path, text)
+    left_out = (f"{count(times, 'report')} without an access: {word}" for word, times in sorted(others.items()))
+    return lines + [f"left out: {each}" for each in left_out]

@@ -17,6 +17,7 @@ from mte_scripts.faults.histories import GRANULE, BlockPast, Histories, round_to
 from mte_scripts.faults.sanitizer_reports import CRASH, FOREIGN, FREE, HEAP, HWASAN, LOAD, MISMATCH, OVERLAP
 from mte_scripts.faults.sanitizer_reports import POISON_LOAD, POISON_STORE, Report
 from mte_scripts.faults.shares import ALWAYS, NEVER, UNKNOWN, Share
+from mte_scripts.faults.variables import GLOBAL, NOT_TAGGED
 from mte_scripts.formats import LARGEST_SIZE
 
 DEPENDS, BY_CHANCE = "depends", "by chance"
@@ -24,7 +25,7 @@ RESULTS = (CAUGHT, DEPENDS, BY_CHANCE, NOT_CAUGHT, NOT_REPLAYED)
 HEAPS = ("this heap", "Scudo", "glibc")
 FARTHEST = 3  # slots of its class around a block within which each place is looked at
 # of an act; others are stores
-LETTERS = {LOAD: "L", FREE: "x", MISMATCH: "x", OVERLAP: "V", POISON_LOAD: "P", POISON_STORE: "Q"}
+LETTERS = {LOAD: "L", FREE: "x", MISMATCH: "y", OVERLAP: "V", POISON_LOAD: "P", POISON_STORE: "Q"}
 
 LAWS = {
     "law_bookkeeping": "it meets a header, a tail or slack, whose tag is 0 (law_bookkeeping)",
@@ -33,21 +34,16 @@ LAWS = {
     "law_own_pointer": "free takes the own pointer of a live chunk alone (law_own_pointer)",
     "law_accesses": "it is outside the region (law_accesses)",
 }
-ONE_FREE = "the heap has one free for all that it gives out"
 NO_CLASS = "no class of the table serves its block"
 NO_PLACE = "the report names no block"
 
-IN_GRANULE, BEYOND = (
-    "if the call ends in the last granule of the block",
-    "if the call goes on after the last granule of the block",
-)
+IN_GRANULE = "if the call ends in the last granule of the block"
+BEYOND = "if the call goes on after the last granule of the block"
 IN_PLACE, NO_USER = "if a realloc ended the block, and in place", "if its slot has had no other user since"
 NEXT_USER, LATER_USER = "if its slot's next user is live", "if its slot's next user was freed too"
 NEXT_FREED, THIRD_USER = "if its slot's users since were all freed", "if its slot has its third user, or a later one"
-NEIGHBOUR, SAME_PARITY = (
-    "if it falls in a header, a tail, slack or a slot of the other parity",
-    "if it falls in a chunk of the same parity",
-)
+NEIGHBOUR = "if it falls in a header, a tail, slack or a slot of the other parity"
+SAME_PARITY = "if it falls in a chunk of the same parity"
 IN_NEW, AFTER_NEW = ", and the new size has what is touched", ", and the new size has not all of what is touched"
 OF_BLOCK, OF_ANOTHER = "if the pointer is to this block", "if the pointer is to another block"
 OTHER_PLACE, NO_OTHER = "if the other place of the call is a block", "if no place of the call is a block"
@@ -83,10 +79,8 @@ class Layout:
     def places(self, at: int) -> "list[int]":
         """Slots of a class, by their numbers in it, that stand for all: those near its ends, and one between."""
         last = self.slots[at] - 1
-        return sorted(
-            {place for near in range(2 * FARTHEST + 2) for place in (near, last - near) if 0 <= place <= last}
-            | {last // 2}
-        )
+        ends = {place for near in range(2 * FARTHEST + 2) for place in (near, last - near) if 0 <= place <= last}
+        return sorted(ends | {last // 2})
 
     def first(self, at: int, place: int) -> int:
         return at * self.share + place * self.table[at]
@@ -143,12 +137,8 @@ class Meetings:
         if kind != "payload":
             return Granule(kind)
         if slot == own_slot:
-            within = number - payload
-            return (
-                Granule(own.kind, slot, own.generation)
-                if within < (own.most if is_chunk else own.sure)
-                else Granule("tail")
-            )
+            is_own = number - payload < (own.most if is_chunk else own.sure)
+            return Granule(own.kind, slot, own.generation) if is_own else Granule("tail")
         return Granule("other", slot, 1) if is_chunk else Granule("tail")
 
 
@@ -175,21 +165,22 @@ def judge_report(report: Report, layout: Layout) -> Judged:
 def error_of(report: Report) -> Error:
     letter, state = LETTERS.get(report.act, "S"), report.state
     if report.where != HEAP:
-        letter = "n" if letter == "x" else {"P": "L", "Q": "S"}.get(letter, letter)
-        return Error(letter, 0, 2 if report.where == FOREIGN else 1, report.length, 0, "live")
+        letter = "n" if letter in "xy" else {"P": "L", "Q": "S"}.get(letter, letter)
+        return Error(letter, 0, 2 if report.where == FOREIGN else 1, report.length, 0, "live", variable=report.variable)
     is_inside = 0 <= report.offset and report.offset + report.length <= report.size and state == "live"
     if letter in "PQV" and not is_inside:
         letter = "L" if letter == "P" else "S"
     if report.is_resized:
         state = "resized"
-    return Error(letter, 1, report.offset, 0 if letter == "x" else report.length, 0, state)
+    functions = tuple(report.detail.split(" ")) if letter == "y" and report.detail else None
+    return Error(letter, 1, report.offset, 0 if letter in "xy" else report.length, 0, state, functions=functions)
 
 
 def cases_of(report: Report, error: Error, layout: Layout) -> "Iterator[Case]":
     if report.where != HEAP:
         yield from cases_without_block(report, error)
     elif report.act == MISMATCH:
-        yield Case("", NOT_CAUGHT, ONE_FREE, (NEVER, UNKNOWN.since("whether it compares the two is a setting"), NEVER))
+        yield Case("", NOT_CAUGHT, heap_answers.ONE_FREE, (NEVER, other_heaps.COMPARED, NEVER))
     elif report.size <= LARGEST_SIZE and layout.class_of(report.size) is None:
         yield Case("", NOT_REPLAYED, NO_CLASS, None)
     else:
@@ -218,7 +209,8 @@ def cases_without_block(report: Report, error: Error) -> "Iterator[Case]":
         yield Case(OTHER_PLACE, CAUGHT, LAWS["law_bookkeeping"], None)
         yield Case(NO_OTHER, NOT_REPLAYED, heap_answers.NOT_OF_HEAP, None)
     elif error.letter != "n":
-        yield Case("", NOT_REPLAYED, heap_answers.NOT_OF_HEAP if report.where == FOREIGN else NO_PLACE, None)
+        why = heap_answers.NOT_OF_HEAP if report.where == FOREIGN else NO_PLACE
+        yield Case("", NOT_REPLAYED, NOT_TAGGED if error.variable and error.variable.kind == GLOBAL else why, None)
     else:
         is_known = report.where == FOREIGN
         odds = ALWAYS, other_heaps.CHECKSUM, other_heaps.NO_BLOCK
@@ -238,15 +230,10 @@ def cases_while_live(report: Report, error: Error, layout: Layout) -> "Iterator[
     if report.is_end_open:
         most = error._replace(size=error.size + round_to_granule(size) + GRANULE)
     for each, supposed in ((least, IN_GRANULE), (most, BEYOND)) if least != most else ((error, ""),):
-        cases = list(
-            cases_at_places(
-                each, report, layout, Own("other", 1, chunk_granules(size), chunk_granules(size)), block_past(size), ""
-            )
-        )
-        for case in cases:
-            yield case._replace(
-                supposed=(supposed + case.supposed[2:] if case.supposed and supposed else case.supposed or supposed)
-            )
+        own = Own("other", 1, chunk_granules(size), chunk_granules(size))
+        for case in cases_at_places(each, report, layout, own, block_past(size), ""):
+            both = supposed + case.supposed[2:] if case.supposed and supposed else case.supposed or supposed
+            yield case._replace(supposed=both)
 
 
 def chunk_granules(size: int) -> int:
@@ -258,15 +245,9 @@ def cases_after_free(report: Report, error: Error, layout: Layout) -> "Iterator[
     size, at = report.size, layout.class_of(report.size)
     chunk, most = chunk_granules(size), layout.table[at] - 1 if at is not None else 0
     if report.is_resized is not False and at is not None and size <= LARGEST_SIZE:
-        in_place = error._replace(state="resized")
-        yield from cases_at_places(
-            in_place, report, layout, Own("other", 1, layout.least_chunk(at), most), None, IN_PLACE
-        )
-    supposed = [
-        (NO_USER, Own("dead", 1, chunk, chunk), 0),
-        (NEXT_USER, Own("other", 2, 0, most), 1),
-        (LATER_USER, Own("dead", 2, 0, most), 2),
-    ]
+        in_place, own = error._replace(state="resized"), Own("other", 1, layout.least_chunk(at), most)
+        yield from cases_at_places(in_place, report, layout, own, None, IN_PLACE)
+    supposed = [(NO_USER, Own("dead", 1, chunk, chunk), 0), (NEXT_USER, Own("other", 2, 0, most), 1), (LATER_USER, Own("dead", 2, 0, most), 2)]
     if error.is_free():
         supposed[2:] = [(NEXT_FREED, Own("dead", 2, 0, most), 1), (THIRD_USER, Own("other", 3, 0, most), 2)]
     for words, own, users in supposed:
@@ -285,8 +266,7 @@ def cases_at_places(
         facts = meetings.facts_of(error, report.size, own)
     else:
         header, chunk = Granule("header"), Granule("other", 2, 1)
-        facts = [Facts(1, 0, 0, 1, met) for met in ([chunk, chunk], [header, chunk])][: 2 if not error.is_free() else 0]
-        facts += [Facts(1, 0, 0, 1, met) for met in ([header, chunk], [chunk, chunk])] * error.is_free()
+        facts = [Facts(1, 0, 0, 1, [first, chunk]) for first in (chunk, header)]
     for each in facts:
         verdict = heap_answers.verdict(error, each, blocks)
         result, why = outcome(verdict)
@@ -294,12 +274,10 @@ def cases_at_places(
     if report.state == "freed" and BY_CHANCE in found:
         found = {BY_CHANCE: found[BY_CHANCE]}  # which may catch it too
     for result, (verdict, why) in sorted(found.items(), key=lambda pair: RESULTS.index(pair[0])):
-        words = supposed
-        if len(found) > 1:
-            more = (IN_NEW if result == NOT_CAUGHT else AFTER_NEW) if supposed == IN_PLACE else ""
-            words = (
-                supposed + more if more else join_conditions(supposed, NEIGHBOUR if result == CAUGHT else SAME_PARITY)
-            )
+        words = join_conditions(supposed, NEIGHBOUR if result == CAUGHT else SAME_PARITY)
+        if supposed == IN_PLACE:
+            words = supposed + (IN_NEW if result == NOT_CAUGHT else AFTER_NEW)
+        words = words if len(found) > 1 else supposed
         yield Case(words, result, why, odds_of(error, report, past, result, verdict, len(found) > 1))
 
 
@@ -338,10 +316,7 @@ def odds_of(
     if result == BY_CHANCE:
         here = other_heaps.REUSED if verdict.promise.reason == heap_answers.REUSED else other_heaps.ELSEWHERE
     if past is None:  # a realloc in place, by each heap's own rules
-        scudo = (
-            other_heaps.IN_PLACE
-            if result == NOT_CAUGHT and not is_one_of
-            else UNKNOWN.since("its new size is not known")
-        )
+        is_sure = result == NOT_CAUGHT and not is_one_of
+        scudo = other_heaps.IN_PLACE if is_sure else UNKNOWN.since("its new size is not known")
         return here, scudo, other_heaps.SAME_POINTER
     return here, other_heaps.on_scudo(error, report.size, past), other_heaps.on_glibc(error, report.size, past)

@@ -8,14 +8,14 @@ import struct
 
 from mte_scripts import checksum
 from mte_scripts.faults import compiler_driver
-from mte_scripts.faults.fault_log import ENDED, FORM, HEAD, MARK, RUNNING, STOPPED
+from mte_scripts.faults.fault_log import ENDED, FORM, HALTED, HEAD, MARK, RUNNING, STOPPED
 from mte_scripts.recording.shims import SHIMS, compile_alone, sum_of
 
 SOURCE, FLAGS, NAME = os.path.join(SHIMS, "sanitized.c"), "-O2 -g -Wall -fPIC -shared".split(), "libmte_sanitized.so"
 # 128 bytes stand between blocks, and it goes on after an error where it can.
 OPTIONS = (
     "redzone=128:halt_on_error=0:suppress_equal_pcs=0:symbolize=0:print_legend=0:detect_leaks=0:"
-    "allocator_may_return_null=1:alloc_dealloc_mismatch=0:detect_odr_violation=0:detect_stack_use_after_return=0:"
+    "allocator_may_return_null=1:alloc_dealloc_mismatch=1:detect_odr_violation=0:detect_stack_use_after_return=1:"
     "verify_asan_link_order=0:handle_abort=1:handle_sigill=1:allow_user_segv_handler=1"
 )
 BLOCK = re.compile(rb"^w (\d+) (\S+) (\S+)\n", re.M)
@@ -27,20 +27,20 @@ def library() -> str:
     """The path of what is loaded before the program, built once for each version of its source."""
 
     def build(to: str) -> None:
-        compiler = compiler_driver.find_compiler("TRACED_CC", "gcc", "clang")
-        compile_alone([compiler, *FLAGS, SOURCE, "-o", to, "-ldl", "-pthread"], f"{NAME} could not be compiled")
+        words = [compiler_driver.find_c_compiler(), *FLAGS, SOURCE, "-o", to, "-ldl", "-pthread"]
+        compile_alone(words, f"{NAME} could not be compiled")
 
     return compiler_driver.keep_in_cache(f"sanitized-{sum_of(FLAGS, [SOURCE])}", NAME, build)
 
 
-def environment_of(raw: str) -> "dict[str, str]":
+def environment_of(raw: str, halts: bool) -> "dict[str, str]":
     """What a run has in its environment beside LD_PRELOAD. `raw`: where the lines go, and AddressSanitizer's own reports
     beside it."""
-    given = os.environ.get("ASAN_OPTIONS", "")
-    return {"SANITIZED": raw, "ASAN_OPTIONS": ":".join(filter(None, (OPTIONS, f"log_path={raw}.report", given)))}
+    options = OPTIONS, f"log_path={raw}.report", os.environ.get("ASAN_OPTIONS", ""), "halt_on_error=1" * halts
+    return {"SANITIZED": raw, "ASAN_OPTIONS": ":".join(filter(None, options))}
 
 
-def make_log(raw: str, to: str) -> None:
+def make_log(raw: str, to: str, halts: bool) -> None:
     """Makes the log of the lines, if there are any."""
     for path in glob.glob(f"{glob.escape(raw)}.report.*"):
         os.remove(path)
@@ -51,7 +51,7 @@ def make_log(raw: str, to: str) -> None:
     os.remove(raw)
     is_stopped = text.endswith(b"\nD\n")
     text = put_stacks(text[: text.rfind(b"\n") + 1].removesuffix(b"D\n"))
-    state = STOPPED if is_stopped else ENDED if re.search(rb"^[eC] ", text[-4096:], re.M) else RUNNING
+    state = (HALTED if halts else STOPPED) if is_stopped else ENDED if re.search(rb"^[eC] ", text[-4096:], re.M) else RUNNING
     mark = [len(text), checksum.crc(text), 0, state]
     with open(to, "wb") as file:
         head = struct.pack("<8sQ", FORM, 0) + MARK.pack(*mark, checksum.checksum_of(mark))

@@ -10,6 +10,7 @@ from collections import namedtuple
 
 from mte_scripts.entry_point import Refusal
 from mte_scripts.faults.fault_places import Frame, is_own
+from mte_scripts.faults.variables import Variable, find_variable
 from mte_scripts.recording.calls import without_parameters
 
 LARGEST_LOG = 256 << 20
@@ -19,31 +20,19 @@ MOST_FRAMES = 16  # of a stack; the log of a traced program has as many
 LONGEST_NAME = 4096
 MOST_SIZE = 1 << 47  # of an address space
 WORD_SPACE = 1 << 64
-LOAD, STORE, FREE, MISMATCH, OVERLAP, POISON_LOAD, POISON_STORE, CRASH = (
-    "load",
-    "store",
-    "free",
-    "mismatch",
-    "overlap",
-    "P",
-    "Q",
-    "crash",
-)
-HEAP, NO_BLOCK, FOREIGN = (
-    "heap",
-    "no block",
-    "foreign",
-)  # where: in or near a block, nobody knows, in what is not the heap's
+LOAD, STORE, FREE, MISMATCH, OVERLAP, POISON_LOAD, POISON_STORE, CRASH = tuple("load store free mismatch overlap P Q crash".split())
+HEAP, NO_BLOCK, FOREIGN = "heap", "no block", "foreign"  # where: in or near a block, nobody knows, in what is not the heap's
 
 # A report. `word`: what its tool calls the error. `act`: what the program did, one of the above. `where`: one of the
 # above; with HEAP the offset of the access from its block on, the size of the block, and its state, `live` or `freed`.
 # `is_begin_open`: the offset is that of the first wrong byte of a call, which may begin before it. `is_end_open`: the
 # call may touch bytes after those that are told. `is_resized`: whether a realloc ended the block, or None where nobody
-# knows. `detail` is what a crash says.
+# knows. `detail` is what a crash says, and of a mismatch what made the block and what freed it, where that is known.
+# `variable`: what is near, where no block is.
 Report = namedtuple(
     "Report",
-    "tool word act frames detail length where offset size state is_begin_open is_end_open is_resized made ended",
-    defaults=("", 1, NO_BLOCK, 0, 0, "live", False, False, False, (), ()),
+    "tool word act frames detail length where offset size state is_begin_open is_end_open is_resized made ended variable",
+    defaults=("", 1, NO_BLOCK, 0, 0, "live", False, False, False, (), (), None),
 )
 
 ASAN, HWASAN, MEMCHECK = "AddressSanitizer", "HWAddressSanitizer", "memcheck"
@@ -100,6 +89,7 @@ LIBC_SOURCE = re.compile(
     r"|[\w-]+\.S"
 )
 KERNEL_STORES = re.compile(r"Syscall param (?:p?read|recv|getdents|ioctl|stat|fstat|time|getcwd|readlink|uname)")
+MEMCHECK_ACTS = {"Invalid free": FREE, "Mismatched": MISMATCH, "Source": OVERLAP, "Invalid write": STORE}  # by their first words
 REALLOCS, OTHER_ENDS = re.compile(r"realloc"), re.compile(r"free|operator delete|cfree")
 SETTERS = re.compile(r"mem_?set|bzero")  # a copy is told by its source
 OF_POISON = ("use-after-poison", "container-overflow")
@@ -127,11 +117,8 @@ def read_reports(data: bytes, name: str) -> "tuple[list[Report], list[str]]":
         if head["tool"] == b"LeakSanitizer":
             others.append("detected memory leaks")
             continue
-        report = (
-            report_of_memcheck(head["prefix"].decode(), lines, where)
-            if head["prefix"]
-            else report_of_sanitizer(head["tool"].decode(), lines, where)
-        )
+        read = report_of_memcheck if head["prefix"] else report_of_sanitizer
+        report = read((head["prefix"] or head["tool"]).decode(), lines, where)
         if report.word in NO_ACCESS:
             others.append(report.word)
         else:
@@ -166,14 +153,28 @@ def report_of_sanitizer(tool: str, lines: "list[str]", where: str) -> Report:
     offset, size, place = place_of(lines, at, word)
     is_range, is_tail = word.endswith("-param-overlap"), word == "allocation-tail-overwritten"
     is_whole = tool == HWASAN or is_direct(frames) or length < 2 or is_range or word.endswith("size-param")
+    variable = variable_of(word, lines, is_whole) if place == FOREIGN else None
     act = act_of(word, access, bool(frames) and not SETTERS.search(frames[0].function))
     return Report(
-        tool, word, act, [] if is_tail else programs_frames(frames), where=place, offset=offset, size=size,
+        tool, word, act, [] if is_tail else programs_frames(frames), functions_in(what) if act == MISMATCH else "",
+        where=place, offset=offset, size=size, variable=variable,
         length=length_of_range(what) if is_range else 1 if is_tail else min(length, WORD_SPACE - 1),
         state="freed" if ended else "live", is_begin_open=not is_whole and not ended and offset == size,
         is_end_open=is_tail, is_resized=is_resized(ended), made=programs_frames(stacks["made"]),
         ended=programs_frames(ended),
     )  # fmt: skip
+
+
+def variable_of(word: str, lines: "list[str]", is_whole: bool) -> "Variable | None":
+    found = find_variable([word if is_whole else f"{word} call", *lines[1:]])
+    frame = frame_of(found.frame.partition(" ")[2].strip().removeprefix("in ")) if found and found.frame else None
+    return found._replace(source=frame.source or "", function=frame.function) if frame else found
+
+
+def functions_in(text: str) -> str:
+    """What made a block and what freed it, of `(operator new [] vs free)` or `operator new[] free`; empty where they are not both known."""
+    found = re.findall(r"\b(?:malloc|free|new|delete)\b(?: ?\[\])?", text.partition(" on ")[0].partition(" thread ")[0])
+    return " ".join(each.replace(" ", "") for each in found) if len(found) == 2 else ""
 
 
 def address_of(what: str, access: "re.Match | None") -> "int | None":
@@ -275,9 +276,8 @@ def report_of_memcheck(prefix: str, lines: "list[str]", where: str) -> Report:
                 stacks[into].append(frame_of_memcheck(frame[1][:LONGEST_NAME]))
         elif found := VALGRIND_PLACE.match(line):
             place, size, is_freed = HEAP, number_in(found[3]), found[4] == "free'd"
-            offset = {"inside": 1, "after": 1, "before": -1}[found[2]] * number_in(found[1]) + size * (
-                found[2] == "after"
-            )
+            apart = number_in(found[1])
+            offset = {"inside": apart, "after": size + apart, "before": -apart}[found[2]]
             into = "ended" if is_freed else "made"
         elif VALGRIND_FOREIGN.match(line):
             place = FOREIGN
@@ -291,22 +291,13 @@ def report_of_memcheck(prefix: str, lines: "list[str]", where: str) -> Report:
 def memcheck_report(head: str, stacks: dict, place: str, offset: int, size: int, is_freed: bool) -> Report:
     frames, length = stacks["wrong"], re.search(r"of size (\d{1,12})", head)
     copied = re.search(r" overlap in .*[,(] ?(\d{1,19})\)", head)
-    act = (
-        FREE
-        if head.startswith("Invalid free")
-        else MISMATCH
-        if head.startswith("Mismatched")
-        else OVERLAP
-        if head.startswith("Source")
-        else STORE
-        if head.startswith("Invalid write") or KERNEL_STORES.match(head)
-        else LOAD
-    )
+    act = next((act for words, act in MEMCHECK_ACTS.items() if head.startswith(words)), STORE if KERNEL_STORES.match(head) else LOAD)
     is_open = act in (LOAD, STORE) and (not is_direct(frames) or head.startswith("Syscall"))
     number_of = int(length[1]) if length else int(copied[1]) if copied else 1
     word = re.split(r" of size|\(\)| in | points ", head, maxsplit=1)[0]
+    functions = functions_in(" ".join(each[0].function.partition("(")[0] for each in (stacks["made"], frames) if each))
     return Report(
-        MEMCHECK, word, act, programs_frames(frames), length=max(number_of, 1), where=place, offset=offset, size=size,
+        MEMCHECK, word, act, programs_frames(frames), functions * (act == MISMATCH), max(number_of, 1), place, offset, size,
         state="freed" if is_freed else "live", is_end_open=is_open and not is_freed,
         is_resized=is_resized(stacks["ended"]), made=programs_frames(stacks["made"]),
         ended=programs_frames(stacks["ended"]),
@@ -332,11 +323,8 @@ def frame_of_memcheck(text: str) -> Frame:
 
 def is_runtime(frame: Frame) -> bool:
     """Whether a frame is of the tool, which stands in for a function of libc."""
-    return bool(
-        RUNTIME_FUNCTION.match(frame.function)
-        or RUNTIME_FILE.search(frame.source or "")
-        or RUNTIME_MODULE.match(os.path.basename(frame.module or ""))
-    )
+    is_of_file = RUNTIME_FILE.search(frame.source or "") or RUNTIME_MODULE.match(os.path.basename(frame.module or ""))
+    return bool(is_of_file or RUNTIME_FUNCTION.match(frame.function))
 
 
 def is_system(frame: Frame) -> bool:
@@ -351,12 +339,7 @@ def is_system(frame: Frame) -> bool:
 
 def is_direct(frames: "list[Frame]") -> bool:
     """Whether the program's own code made the access: its innermost frame has a source line, and is not the tool's."""
-    return (
-        bool(frames)
-        and bool(frames[0].source)
-        and not is_runtime(frames[0])
-        and not SYSTEM_FILE.match(frames[0].source)
-    )
+    return bool(frames and frames[0].source) and not is_runtime(frames[0]) and not SYSTEM_FILE.match(frames[0].source)
 
 
 def is_resized(ended: "list[Frame]") -> "bool | None":

@@ -4,32 +4,20 @@ import os
 from collections.abc import Iterator
 
 from mte_scripts.faults import fault_entries, findings
+from mte_scripts.faults.fault_entries import KINDS
+from mte_scripts.faults.variables import TITLE
 
 SCHEMA = "https://docs.oasis-open.org/sarif/sarif/v2.1.0/errata01/os/schemas/sarif-schema-2.1.0.json"
 ROOT = "SRCROOT"
 SEVERITY = "8.0"  # of the Common Vulnerability Scoring System, as a code host sorts by it: high
-RULES = {
-    fault_entries.OVERFLOW: "An access after the end of a heap block",
-    fault_entries.UNDERFLOW: "An access before the start of a heap block",
-    fault_entries.USE_AFTER_FREE: "An access of a heap block that was freed",
-    fault_entries.USE_AFTER_REALLOC: "An access by a pointer from before a realloc",
-    fault_entries.DOUBLE_FREE: "A free of a heap block that was freed",
-    fault_entries.INVALID_FREE: "A free of what is no start of a heap block",
-    fault_entries.WILD: "An access far from every heap block",
-    fault_entries.TOO_LARGE: "An access of more bytes than an object can have",
-    fault_entries.POISON: "An access of memory that the program poisoned",
-    fault_entries.OVERLAP: "A copy between two places that overlap",
-    fault_entries.UNFREED: "A heap block to which no pointer is left",
-    fault_entries.CRASH: "The program was ended by a signal",
-}
 STATES = {"new": "new", "known": "unchanged"}
 MOST_RUNS_OF_FILE = 20  # that GitHub takes
 
 
 def rule(kind: str) -> dict:
-    cwes = sorted({cwe for cwe in findings.CWES[kind] if cwe} | ({findings.NOT_ON_HEAP} if kind == fault_entries.INVALID_FREE else set()))
-    tags = ["security", *(f"external/cwe/cwe-{cwe}" for cwe in cwes)]
-    return {"id": findings.kind_id(kind), "shortDescription": {"text": RULES[kind]}, "fullDescription": {"text": RULES[kind] + "."},
+    text, *cwes = KINDS[kind]
+    tags = ["security", *(f"external/cwe/cwe-{cwe}" for cwe in sorted({cwe for cwe in cwes if cwe}))]
+    return {"id": findings.kind_id(kind), "shortDescription": {"text": text}, "fullDescription": {"text": f"{text}."},
             "defaultConfiguration": {"level": "error"}, "properties": {"tags": tags, "security-severity": SEVERITY}}
 
 
@@ -71,6 +59,8 @@ def finding_text(value: dict) -> str:
     parts = [value["what"][:1].upper() + value["what"][1:] + "."]
     if value["result"]:
         parts.append(f"On the tagged heap: {value['result']}, {value['why']}.")
+    for case in (value.get("variable") or {}).get("stack_tagging_model") or ():
+        parts.append(f"{TITLE}: {': '.join(filter(None, case.values()))}.")
     if value["odds"]:
         parts.append("Odds of being caught: " + ", ".join(f"{name} {share['text']}" for name, share in value["odds"].items()) + ".")
     return " ".join(parts)
@@ -97,13 +87,13 @@ def result(value: dict, kinds: list[str], has_baseline: bool) -> dict:
         made["suppressions"] = [{"kind": "external", "justification": value["suppressed_by"]}]
     if has_baseline:
         made["baselineState"] = STATES.get(value.get("state"), "unchanged")
-    properties = {key: value[key] for key in ("cwe", "result", "odds", "block") if value[key] is not None}
+    properties = {key: value[key] for key in ("cwe", "result", "odds", "block", "variable") if value.get(key) is not None}
     return made | ({"properties": properties} if properties else {})
 
 
 def document(answer: dict, has_baseline: bool = False) -> dict:
     """Of the answer of findings.document: a run for each program, with all rules; one for all, where these are more than a code host takes."""
-    kinds = list(RULES)
+    kinds = list(KINDS)
     programs = sorted({process["name"] for process in answer["processes"]})
     names = programs if len(programs) <= MOST_RUNS_OF_FILE else [answer["program"]]
     of_name = {name: [process for process in answer["processes"] if process["name"] == name or names != programs] for name in names}
@@ -150,5 +140,5 @@ def annotations(answer: dict) -> Iterator[str]:
         place = next((frame for frame in value["frames"] if frame["file"] and not os.path.isabs(frame["file"])), None)
         where = f"file={escape_annotation(place['file'], True)},line={place['line'] or 1}," if place else ""
         callers = "".join(f"\nfrom {findings.place(frame)}" for frame in value["frames"][1:])
-        title, words = escape_annotation(RULES[value["kind"]], True), escape_annotation(finding_text(value) + callers)
+        title, words = escape_annotation(KINDS[value["kind"]].text, True), escape_annotation(finding_text(value) + callers)
         yield f"::error {where}title={title}::{words}"

@@ -89,12 +89,11 @@ def where(offset: int, size: int) -> str:
 
 def of_free(error: Error) -> "list[str]":
     """The message of Scudo."""
-    if error.block and error.offset % GRANULE == 0 and error.offset == 0:
+    says = "corrupted chunk header at address"
+    if error.block and not error.offset:
         says = "invalid chunk state when deallocating address"
     elif error.block and error.offset % GRANULE:
         says = "misaligned pointer when deallocating address"
-    else:
-        says = "corrupted chunk header at address"
     return ["signal 6 (SIGABRT), code -1 (SI_QUEUE), fault addr --------", f"Abort message: 'Scudo ERROR: {says}'"]
 
 

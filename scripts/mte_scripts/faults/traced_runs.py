@@ -12,22 +12,17 @@ from mte_scripts.faults.fault_log import Log
 from mte_scripts.faults.fault_options import ENDED
 from mte_scripts.recording import children
 
-
 GRACE = 10  # seconds that the program has to end by a signal that is handed on to it
 
 
 def record_program(options: argparse.Namespace, folder: str) -> None:
     """Runs the program; its log is in the folder then."""
     log = os.path.join(folder, "%p" if options.children else "log")
-    environment = dict(os.environ, ACCESSES=log)
-    environment.pop("ACCESSES_ONLY", None)
-    if options.unfreed:
-        environment["ACCESSES_UNFREED"] = "1"
-    if options.only:
-        environment["ACCESSES_ONLY"] = options.only
+    asked = {"ACCESSES": log, "ACCESSES_UNFREED": options.unfreed and "1", "ACCESSES_HALT": options.halt and "1", "ACCESSES_ONLY": options.only}
+    environment = {name: value for name, value in {**os.environ, **asked}.items() if value or name not in asked}
     raw = os.path.join(folder, "sanitized")
     if options.asan:
-        environment |= sanitized_runs.environment_of(raw)
+        environment |= sanitized_runs.environment_of(raw, options.halt)
     if options.preload or options.asan:
         environment["LD_PRELOAD"] = ":".join(filter(None, (preload_value(options.asan), environment.get("LD_PRELOAD"))))
     try:
@@ -35,26 +30,19 @@ def record_program(options: argparse.Namespace, folder: str) -> None:
     except OSError as error:
         raise Refusal(3, f"{options.words[0]} can't be run: {error.strerror}") from None
     if options.asan:
-        sanitized_runs.make_log(raw, log)
+        sanitized_runs.make_log(raw, log, options.halt)
     if not any(os.path.exists(os.path.join(folder, name)) for name in fault_answer.logs(folder, options.children) or [log]):
         if options.asan:
             raise Refusal(3, f"{options.words[0]}: no process that was built with -fsanitize=address made a log in {folder}")
         whom = f"no process that has the name {options.only} and that" if options.only else f"{options.words[0]}: no process that"
-        raise Refusal(
-            3,
-            f"{whom} traced_cc built made a log in {folder}: build the program with scripts/traced_cc, or a library "
-            "that it loads, for --preload",
-        )
+        remedy = "build the program with scripts/traced_cc, or a library that it loads, for --preload"
+        raise Refusal(3, f"{whom} traced_cc built made a log in {folder}: {remedy}")
     text_files.write_file(os.path.join(folder, ENDED), b"%d\n" % (status if status >= 0 else 128 - status))
 
 
 def preload_value(is_sanitized: bool) -> str:
     """The runtime of traced_cc, or what stands before AddressSanitizer's, as LD_PRELOAD has it."""
-    library = (
-        sanitized_runs.library()
-        if is_sanitized
-        else compiler_driver.runtime(compiler_driver.find_compiler("TRACED_CC", "gcc", "clang"))
-    )
+    library = sanitized_runs.library() if is_sanitized else compiler_driver.runtime(compiler_driver.find_c_compiler())
     if " " in library:
         raise Refusal(3, f"LD_PRELOAD takes no path with a space, as in {library}: {compiler_driver.PLACE}")
     return library

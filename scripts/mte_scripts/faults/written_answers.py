@@ -6,9 +6,9 @@ import os
 from mte_scripts import text_files
 from mte_scripts.builds import web_page
 from mte_scripts.entry_point import printable, say
-from mte_scripts.faults import fault_answer, fault_report, sarif, tombstone, unfreed_blocks
+from mte_scripts.faults import fault_answer, fault_report, tombstone, unfreed_blocks
 from mte_scripts.faults.fault_answer import Judged
-from mte_scripts.faults.fault_log import STOP
+from mte_scripts.faults.fault_log import HALT, STOP
 from mte_scripts.faults.fault_options import NAME
 from mte_scripts.faults.judged_logs import Lists, spread_seeds
 
@@ -34,33 +34,23 @@ def exit_status(processes: "list[Judged]", differing: list, ended: int) -> int:
     """DIFFERING are events whose answer is not what the laws promise."""
     names = [judged.name for judged in processes]
     is_new = any(fault_answer.new(judged) for judged in processes)
-    is_partial = any(each != STOP for judged in processes for each in fault_answer.incomplete(judged, names))
+    is_partial = any(each not in (HALT, STOP) for judged in processes for each in fault_answer.incomplete(judged, names))
     return 3 if differing or is_partial else 1 if is_new else 4 if ended else 0
 
 
 def write_texts(options: argparse.Namespace, processes: "list[Judged]", lists: Lists, ended: int, status: int) -> None:
     """Writes the answer, and the files that were asked for."""
     name = os.path.basename(options.words[0] if options.words else os.path.abspath(options.read))
-    lines = (
-        fault_answer.answer_of_many(processes, options)
-        if options.children
-        else fault_answer.answer_of_one(processes[0], options)
-    )
+    lines = fault_answer.answer_of_many(processes, options) if options.children else fault_answer.answer_of_one(processes[0], options)
     for judged in processes if options.unfreed else ():
-        lines += unfreed_blocks.reachable(judged.log, judged.places)
+        lines += unfreed_blocks.tell_left(judged.log, judged.places)
     lines += fault_answer.counts(processes, lists.known) + fault_report.ending(ended)
     for judged in processes:
         of_whom = f" of process {judged.name}, {judged.program}" if options.children else ""
         lines += [f"incomplete{of_whom}: {each}" for each in fault_answer.incomplete(judged, [each.name for each in processes])]
     if options.tombstone:
         lines += tombstone.ranking(processes, lists.tombstone)
-    if options.annotations:
-        lines += sarif.annotations(fault_answer.document(processes, name, status, ended))
-    written = list(fault_answer.files(options, processes, name, status, ended))
-    if "-" not in (path for path, _ in written):
-        text_files.write("".join(printable(line) + "\n" for line in lines))
-    for path, text in written:
-        text_files.write(text) if path == "-" else text_files.write_file(path, text)
+    fault_answer.write(options, lines, fault_answer.document(processes, name, status, ended), processes)
     if options.page:
         write_page(options, processes[0], lines)
     for each in lists.unused_suppressions():

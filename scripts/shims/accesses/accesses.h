@@ -15,6 +15,7 @@
 //
 // ACCESSES=FILE       the log; %p in it stands for the number of the process. Without it nothing is logged.
 // ACCESSES_ONLY=NAME  only a process whose program has this name makes a log.
+// ACCESSES_HALT=1     a process that makes a log ends at its first error.
 #pragma once
 #ifndef _GNU_SOURCE
 #define _GNU_SOURCE
@@ -51,13 +52,16 @@ enum { CLOSED = 0xFF };
 
 // A block is dropped once the log has nothing of it any more. Then its number is unused, until it is another block's.
 enum state { UNUSED, LIVE, FREED, DROPPED };
+// What made a block, which the same kind of function has to free; realloc is one of MALLOC's.
+enum maker { MALLOC, NEW, NEW_ARRAY, REALLOC };
 struct block {
   address start;
   size_t size;  // of an unused number: the next one
-  uint8_t state, has_error, has_request, has_end;  // the last two are records
+  uint8_t state, maker, has_error : 1, has_request : 1, has_end : 1;  // the last two are records
   uint32_t chunk;
 };
 
+struct stack;
 // where the program calls: the address that the call returns to, and the frame of the function that calls
 struct caller { address pc, *frame; };
 #define CALLER ((struct caller){(address)__builtin_return_address(0), *(address **)__builtin_frame_address(0)})
@@ -115,6 +119,7 @@ int is_right(address, size_t);
 void touch_slowly(address, size_t, int store, struct caller);
 void forget_accesses(void);  // what the thread remembers of its last ones, which are addresses of blocks
 void see_overlap(address to, address from, size_t, struct caller);
+void see_mismatch(const struct block *, enum maker used, struct caller, const struct stack *);
 void report_access(address, size_t, int store, struct caller);
 
 #define MOST_BYTES ((size_t)PTRDIFF_MAX)  // no object has more: a greater size is a wrong one
@@ -151,7 +156,9 @@ void put_end(void);
 void drop_begun(void);
 long number_of_wrong(void);
 void take_back(long number);
-enum { NO_STATUS = -1, CRASHED = -2 };
+enum { NO_STATUS = -1, CRASHED = -2, HALTS = -3 };
+extern int is_halting;  // the first error ends the program
+void halt(void);
 void end_without_room(void);
 void end_log(int status);  // of the program, or one of these
 extern long not_logged;

@@ -4,8 +4,8 @@
 // last block's. The memory of freed blocks goes to new ones or back to the system a mebibyte at a time, once another 64 MiB were freed; then
 // their addresses are owned by nobody.
 #include "../formats.h"
-#include "accesses.h"
-#include <dlfcn.h>
+#include "calls.h"
+#include <errno.h>
 #include <link.h>
 
 #ifndef DELAY
@@ -218,7 +218,7 @@ static struct block *new_block(size_t size, size_t alignment) {
   }
 
   struct block *block = &BLOCKS[last_block = new_number()];
-  *block = (struct block){start, size, LIVE, 0, 0, 0, chunk_of(next)};
+  *block = (struct block){.start = start, .size = size, .state = LIVE, .chunk = chunk_of(next)};
   requests++;
   live_in_chunk[block->chunk]++;
   address rest = is_large ? round_up(end, CHUNK) : end;
@@ -287,12 +287,13 @@ static struct block *enter_at(address a, struct caller from) {
   return NULL;
 }
 
-static void give_back(void *pointer, struct caller from) {
+static void give_back(void *pointer, enum maker maker, struct caller from) {
   struct stack stack;
   if (!pointer || busy) return;
   unwind_request(from, &stack);
   struct block *block = enter_at((address)pointer, from);
   if (block) {
+    if (block->maker != maker) see_mismatch(block, maker, from, &stack);
     if (is_logging()) {
       block->has_end = 1;
       put_record('f', 1, (long)(block - BLOCKS));
@@ -306,10 +307,11 @@ static void give_back(void *pointer, struct caller from) {
 // Each realloc moves the block, so that a stale pointer is seen. One of a wrong pointer is a wrong free and a request.
 static void *resize(void *pointer, size_t size, struct caller from) {
   if (!pointer) return request('m', size, 16, from);
-  if (!size) return give_back(pointer, from), NULL;
+  if (!size) return give_back(pointer, MALLOC, from), NULL;
   struct stack stack;
   unwind_request(from, &stack);
   struct block *block = enter_at((address)pointer, from), *new = new_block(size, 16), *old = owner((address)pointer);
+  if (block && block->maker != MALLOC) see_mismatch(block, REALLOC, from, &stack);
   if (new) {
     if (is_logging()) {
       new->has_request = 1;
@@ -349,7 +351,7 @@ SHOWN void *calloc(size_t number, size_t each) {
   return request('c', size, 16, CALLER);
 }
 
-SHOWN void free(void *pointer) { give_back(pointer, CALLER); }
+SHOWN void free(void *pointer) { give_back(pointer, MALLOC, CALLER); }
 SHOWN void *realloc(void *pointer, size_t size) { return resize(pointer, size, CALLER); }
 
 SHOWN void *reallocarray(void *pointer, size_t number, size_t each) {
@@ -384,27 +386,37 @@ SHOWN size_t malloc_usable_size(void *pointer) {
 
 // C++: new and delete, by the names that its ABI gives them
 extern void throw_bad_alloc(void) __asm__("_ZSt17__throw_bad_allocv") __attribute__((weak));
+extern void (*new_handler(void))(void) __asm__("_ZSt15get_new_handlerv") __attribute__((weak));
 
-static void *new_or_throw(size_t size, size_t alignment, struct caller from) {
-  void *pointer = request('m', size, alignment, from);
-  if (!pointer && throw_bad_alloc) throw_bad_alloc();
-  if (!pointer) abort();
+static void *note_maker(void *pointer, enum maker maker) {
+  if (pointer) owner((address)pointer)->maker = maker;
   return pointer;
 }
 
-SHOWN void *_Znwm(size_t size) { return new_or_throw(size, 16, CALLER); }
-SHOWN void *_Znam(size_t size) { return new_or_throw(size, 16, CALLER); }
-SHOWN void *_ZnwmSt11align_val_t(size_t size, size_t alignment) { return new_or_throw(size, alignment, CALLER); }
-SHOWN void *_ZnamSt11align_val_t(size_t size, size_t alignment) { return new_or_throw(size, alignment, CALLER); }
-SHOWN void *_ZnwmRKSt9nothrow_t(size_t size, void *unused) { return (void)unused, request('m', size, 16, CALLER); }
-SHOWN void *_ZnamRKSt9nothrow_t(size_t size, void *unused) { return (void)unused, request('m', size, 16, CALLER); }
-SHOWN void _ZdlPv(void *pointer) { give_back(pointer, CALLER); }
-SHOWN void _ZdaPv(void *pointer) { give_back(pointer, CALLER); }
-SHOWN void _ZdlPvm(void *pointer, size_t size) { (void)size, give_back(pointer, CALLER); }
-SHOWN void _ZdaPvm(void *pointer, size_t size) { (void)size, give_back(pointer, CALLER); }
-SHOWN void _ZdlPvSt11align_val_t(void *pointer, size_t alignment) { (void)alignment, give_back(pointer, CALLER); }
-SHOWN void _ZdaPvSt11align_val_t(void *pointer, size_t alignment) { (void)alignment, give_back(pointer, CALLER); }
-SHOWN void _ZdlPvmSt11align_val_t(void *pointer, size_t size, size_t alignment) { (void)size, (void)alignment, give_back(pointer, CALLER); }
-SHOWN void _ZdaPvmSt11align_val_t(void *pointer, size_t size, size_t alignment) { (void)size, (void)alignment, give_back(pointer, CALLER); }
-SHOWN void _ZdlPvRKSt9nothrow_t(void *pointer, void *unused) { (void)unused, give_back(pointer, CALLER); }
-SHOWN void _ZdaPvRKSt9nothrow_t(void *pointer, void *unused) { (void)unused, give_back(pointer, CALLER); }
+// Where there is no memory, the program's handler is called until it has freed some, throws, or is none any more.
+static void *new_or_throw(size_t size, size_t alignment, enum maker maker, struct caller from) {
+  void *pointer, (*handler)(void);
+  while (!(pointer = request('m', size, alignment, from)) && new_handler && (handler = new_handler())) handler();
+  if (!pointer && throw_bad_alloc) throw_bad_alloc();
+  if (!pointer) abort();
+  return note_maker(pointer, maker);
+}
+
+// What a handler throws, the library's own function catches, which calls the one that throws.
+#define OPERATORS(new, delete, maker) \
+  SHOWN void *_Zn##new##m(size_t size) { return new_or_throw(size, 16, maker, CALLER); } \
+  SHOWN void *_Zn##new##mSt11align_val_t(size_t size, size_t alignment) { return new_or_throw(size, alignment, maker, CALLER); } \
+  SHOWN void *_Zn##new##mRKSt9nothrow_t(size_t size, void *nothrow) { \
+    void *pointer = request('m', size, 16, CALLER); \
+    REAL(_Zn##new##mRKSt9nothrow_t); \
+    return !pointer && real && new_handler && new_handler() ? real(size, nothrow) : note_maker(pointer, maker); \
+  } \
+  SHOWN void _Zd##delete##Pv(void *pointer) { give_back(pointer, maker, CALLER); } \
+  SHOWN void _Zd##delete##Pvm(void *pointer, size_t size) { (void)size, give_back(pointer, maker, CALLER); } \
+  SHOWN void _Zd##delete##PvSt11align_val_t(void *pointer, size_t alignment) { (void)alignment, give_back(pointer, maker, CALLER); } \
+  SHOWN void _Zd##delete##PvRKSt9nothrow_t(void *pointer, void *nothrow) { (void)nothrow, give_back(pointer, maker, CALLER); } \
+  SHOWN void _Zd##delete##PvmSt11align_val_t(void *pointer, size_t size, size_t alignment) { \
+    (void)size, (void)alignment, give_back(pointer, maker, CALLER); \
+  }
+OPERATORS(w, l, NEW)
+OPERATORS(a, a, NEW_ARRAY)

@@ -6,7 +6,7 @@
 #include "accesses.h"
 
 enum { MOST_RIGHT = 600000, MOST_WAITS = 1 << 22, SEEN = 1 << 16, TRIES = 64, MOST_WAYS = 7 };
-enum part { IN_FREED = 1, BEFORE_FREED, AFTER_FREED, BEFORE, IN_LAST_GRANULE, AFTER, TOO_LARGE, POISON, OVERLAP };
+enum part { IN_FREED = 1, BEFORE_FREED, AFTER_FREED, BEFORE, IN_LAST_GRANULE, AFTER, TOO_LARGE, POISON, OVERLAP, MISMATCH };
 enum { FORGOTTEN, NEVER_GIVEN, NOT_OF_HEAP };  // of an access of no block, in place of an offset
 
 // The first of some bytes has how many other ways led there, each of which has an entry of its own.
@@ -183,6 +183,16 @@ void see_overlap(address to, address from, size_t size, struct caller caller) {
     will_tell(&found);
   }
   leave();
+}
+
+// A free, delete or realloc that does not fit what made the block, once for each way to it.
+void see_mismatch(const struct block *block, enum maker used, struct caller from, const struct stack *known) {
+  struct wrong found = {.letter = 'y', .number = number_of(block), .offset = block->maker, .size = used, .at = block->start,
+                        .block_size = (long)block->size, .stack = *known};
+  if (!has_log() || !has_room() || !is_first(from, 0, 2 * MISMATCH + 8 * block->maker + 32 * used)) return;
+  if (!found.stack.count) walk(from, (address)__builtin_frame_address(0), &found.stack);
+  put_missing(BLOCKS + found.number), put_record('y', 3, found.number, found.offset, found.size), put_frames(&found.stack);
+  will_tell(&found);
 }
 
 // an access that the program says is wrong

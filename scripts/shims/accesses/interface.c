@@ -35,6 +35,7 @@ SHOWN const char *__asan_get_report_description(void) {
   switch (last_told.letter) {
     case 0: return "";
     case 'P': case 'Q': return "use-after-poison";
+    case 'y': return "alloc-dealloc-mismatch";
     case 'x': case 'o': case 'n': return last_told.is_freed ? "attempting double-free" : "attempting free on address which was not malloc()-ed";
     default: return last_told.is_freed ? "heap-use-after-free" : "heap-buffer-overflow";
   }

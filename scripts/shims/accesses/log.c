@@ -11,15 +11,19 @@
 //   p BLOCK OFFSET SIZE STACK  the program poisons bytes; u it unpoisons them; as in P and Q, block 0 stands for memory that is not the heap's,
 //                              and the offset is the address then
 //   k BLOCK                    a block that is lost at the end; the block 0 says that all such are told
+//   q BLOCK                    a block to which the stack alone has a pointer at the end, which may be an old one
 //   V BLOCK OFFSET SIZE STACK  a copy whose two places overlap, by where it stores
 //   i BLOCK                    the program asks to pass over the block where what it left unfreed is told
 //   - NUMBER                   the wrong access or free of this number, counted from 1, is taken back
+//   y BLOCK MADE USED STACK    a free that does not fit what made the block: 0 malloc or free, 1 new or delete, 2 new[] or delete[], and
+//                              used also 3 realloc. The free follows
 //   x BLOCK OFFSET STACK       a wrong free of an address of a block; o STACK of a forgotten one, n STACK of one that was never given out
 //   + NUMBER TIMES             the wrong access of this number came so often, where that is more than once
 //   C SIGNAL CODE ADDRESS STACK  the signal that ends the program, the kernel's code of it, and the address that was not to be had
 //   e STATUS                   the exit status
 //   M LOW HIGH OFFSET PATH     a file that is mapped with code
 //   g NUMBER                   where the wrong access of this number begins, or of which block it is, is a guess
+//   v NUMBER TEXT              of which variable the wrong access of this number is, as AddressSanitizer's report has it
 //   h                          handlers of signals requested blocks that have no record
 //   d COUNT                    here stood so many requests, and their frees, of blocks that were dropped
 //   z SIZE COUNT               so many blocks of this size were dropped in all; a size above LARGEST_SIZE stands for all of these
@@ -159,7 +163,8 @@ void put_missing(struct block *block) {
 }
 
 void put_numbers(char kind, int count, const long *numbers) {
-  int is_wrong = kind == 'L' || kind == 'S' || kind == 'P' || kind == 'Q' || kind == 'V' || kind == 'x' || kind == 'o' || kind == 'n';
+  static const uint8_t WRONG['z' + 1] = {['L'] = 1, ['S'] = 1, ['P'] = 1, ['Q'] = 1, ['V'] = 1, ['x'] = 1, ['y'] = 1, ['o'] = 1, ['n'] = 1};
+  int is_wrong = WRONG[(int)kind];
   wrong_records += is_wrong;
   if (is_wrong && count) BLOCKS[numbers[0]].has_error = 1;
   has_to_mark = is_wrong || kind == 'C' || kind == '-';
@@ -364,16 +369,24 @@ static void end_file(void) {
 void end_log(int status) {
   if (!text || process != syscall(SYS_getpid)) return;
   int is_held = busy++ ? !pthread_mutex_trylock(&accesses_lock) : !pthread_mutex_lock(&accesses_lock);
-  if (is_held && state == RUNNING && status != CRASHED && is_logging()) put_lost((address)__builtin_frame_address(0));
+  if (is_held && state == RUNNING && status >= NO_STATUS && is_logging()) put_lost((address)__builtin_frame_address(0));
   if (is_held && state != ENDED && has_room()) put_times();
   if (is_held && state != ENDED && has_unrecorded && has_room()) put_record('h', 0, 0l), put_end();
   if (is_held && status >= 0 && has_room()) put_record('e', 1, (long)status & 255), put_end();
-  if (state == RUNNING) state = ENDED;
+  if (state == RUNNING) state = status == HALTS ? HALTED : ENDED;
   if (text) write_mark(), end_file();
   if (is_held) pthread_mutex_unlock(&accesses_lock);
   busy--;
   if (!busy) tell_guess();
   if (has_to_tell && !busy) tell();
+}
+
+// As AddressSanitizer does at its first error: nothing of the program runs any more, and its options say the exit status.
+int is_halting;
+void halt(void) {
+  const char *options = getenv("ASAN_OPTIONS"), *status = options ? strstr(options, "exitcode=") : NULL;
+  end_log(HALTS);
+  for (;;) syscall(SYS_exit_group, status ? atoi(status + strlen("exitcode=")) : 1);
 }
 
 static __attribute__((destructor)) void stop(void) { end_log(NO_STATUS); }
@@ -417,6 +430,7 @@ static __attribute__((constructor(101))) void start(void) {
     syscall(SYS_write, 2, unasked, sizeof unasked - 1);
     return;
   }
+  is_halting = getenv("ACCESSES_HALT") != NULL;
   enter();
   make_absolute();
   open_log();

@@ -7,7 +7,7 @@
 #include <elf.h>
 #include <sys/wait.h>
 
-enum { MOST_TOLD = 64, MOST_ASKED = 6, MOST_ANSWER = 16384, WAIT = 10 /* seconds */ };
+enum { MOST_TOLD = 64, MOST_ASKED = 6, MOST_ANSWER = 16384, MOST_VARIABLES = 1000, WAIT = 10 /* seconds */ };
 __thread int has_to_tell __attribute__((tls_model("initial-exec")));
 static __thread struct wrong pending[2] __attribute__((tls_model("initial-exec")));  // the second where a guess was told first
 pthread_mutex_t tell_lock = PTHREAD_MUTEX_INITIALIZER;
@@ -17,6 +17,8 @@ void (*report_callback)(const char *);
 void will_tell(const struct wrong *wrong) {
   if (has_to_tell < 2) pending[has_to_tell++] = *wrong;
 }
+
+static int begins(const char *text, const char *with) { return !strncmp(text, with, strlen(with)); }
 
 struct line { size_t length; char text[2048]; };
 
@@ -56,7 +58,7 @@ static address address_in_file(const struct module *module, address pc) {
   return found;
 }
 
-struct question { char *words[8]; int answer; };
+struct question { char *words[8], **variables; int answer; };
 
 // the child has the memory of the program until it is another program
 static int become_addr2line(void *data) {
@@ -70,7 +72,7 @@ static int become_addr2line(void *data) {
     size_t length = strcspn(folder, ":");
     if (length && length < sizeof path - 16) {
       memcpy(path, folder, length), memcpy(path + length, "/addr2line", 11);
-      syscall(SYS_execve, path, question->words, environ);
+      syscall(SYS_execve, path, question->words, question->variables);
     }
     folder += length + (folder[length] == ':');
   }
@@ -80,6 +82,10 @@ static int become_addr2line(void *data) {
 // what addr2line says of a place: a line with a function and one with a source, for each frame that was inlined there
 static size_t ask(const struct module *module, address in_file, char *answer, size_t room) {
   static _Alignas(16) char stack[1 << 15];
+  static char *variables[MOST_VARIABLES + 1];  // without the runtime, which --preload would put before addr2line too
+  int count = 0;
+  for (char **at = environ; *at && count < MOST_VARIABLES; at++)
+    if (!begins(*at, "LD_PRELOAD=") && !begins(*at, "ACCESSES")) variables[count++] = *at;
   struct line number = {0};
   int ends[2];
   size_t length = 0;
@@ -89,7 +95,7 @@ static size_t ask(const struct module *module, address in_file, char *answer, si
     int high = syscall(SYS_fcntl, ends[i], F_DUPFD_CLOEXEC, 3);
     syscall(SYS_close, ends[i]), ends[i] = high;
   }
-  struct question question = {{"addr2line", "-f", "-C", "-i", "-e", (char *)module->path, number.text, NULL}, ends[1]};
+  struct question question = {{"addr2line", "-f", "-C", "-i", "-e", (char *)module->path, number.text, NULL}, variables, ends[1]};
   pid_t child = ends[1] < 0 ? -1 : clone(become_addr2line, stack + sizeof stack, CLONE_VM | CLONE_VFORK, &question);
   syscall(SYS_close, ends[1]);
   struct pollfd wait = {ends[0], POLLIN, 0};
@@ -197,6 +203,11 @@ static void add_sentence(struct line *line, const struct wrong *wrong) {
   }
   if (wrong->letter == 'n') return add(line, "free of an address that the heap never gave out");
   if (wrong->letter == 'o') return add(line, "free of a block that was freed long ago");
+  if (wrong->letter == 'y') {
+    static const char *const MADE[] = {"malloc", "new", "new[]"}, *const USED[] = {"free", "delete", "delete[]", "realloc"};
+    add(line, USED[wrong->size]), add(line, " of"), add_block(line, wrong);
+    return add(line, " that "), add(line, MADE[offset]), add(line, " made");
+  }
   if (wrong->letter == 'x') {
     add(line, "free of");
     if (offset) add(line, " a pointer "), add_count(line, offset < 0 ? -offset : offset, "byte"), add(line, offset < 0 ? " before" : " into");
@@ -228,6 +239,7 @@ static int is_new(const struct wrong *wrong) {
   static int number;
   long kind = wrong->letter << 1 | wrong->is_freed;
   if ((size_t)wrong->size > MOST_BYTES) kind |= wrong->number << 8;  // each of the two blocks
+  if (wrong->letter == 'y') kind |= wrong->offset << 8 | wrong->size << 12;
   for (int i = 0; i < number; i++)
     if (told[i].pc == wrong->stack.pcs[0] && told[i].kind == kind) return 0;
   if (number == MOST_TOLD) return wrong->letter == 'C';
@@ -290,14 +302,15 @@ void print_stack(struct caller from) {
 
 void tell(void) {
   uint64_t all = ~(uint64_t)0, before;  // as the kernel has signals: libc's functions for them are the program's
-  int error = errno, number = has_to_tell;
+  int error = errno, number = has_to_tell, halts = 0;
   has_to_tell = 0;
   syscall(SYS_rt_sigprocmask, SIG_SETMASK, &all, &before, sizeof all);
   busy++;
   pthread_mutex_lock(&tell_lock);
-  for (int i = 0; i < number; i++) tell_one(&pending[i]);
+  for (int i = 0; i < number; i++) halts |= is_halting && pending[i].letter != 'C', tell_one(&pending[i]);
   pthread_mutex_unlock(&tell_lock);
   busy--;
+  if (halts) halt();
   syscall(SYS_rt_sigprocmask, SIG_SETMASK, &before, NULL, sizeof before);
   errno = error;
 }

@@ -116,15 +116,15 @@ static inline __attribute__((always_inline)) struct record read_record(const cha
   int numbers = 0, has_stack = 1;
   switch (*at) {
     case 'l': case 's': numbers = 3, has_stack = 0; break;
-    case '-': case 'g': case 'i': case 'k': case 'd': numbers = 1, has_stack = 0; break;
+    case '-': case 'g': case 'i': case 'k': case 'q': case 'd': numbers = 1, has_stack = 0; break;
     case '+': case 'a': case 'z': numbers = 2, has_stack = 0; break;
     case 'h': has_stack = 0; break;
-    case 'L': case 'S': case 'P': case 'Q': case 'V': case 'p': case 'u': case 'r': numbers = 3; break;
+    case 'L': case 'S': case 'P': case 'Q': case 'V': case 'y': case 'p': case 'u': case 'r': numbers = 3; break;
     case 'm': case 'c': case 'x': numbers = 2; break;
     case 'f': numbers = 1; break;
     case 'o': case 'n': case 't': break;
     case 'C': record.stack = last_word(&record); break;
-    case 'M': case 'e': return record;
+    case 'M': case 'e': case 'v': return record;
     default: check(0, "a letter is wrong");
   }
   for (at++; record.count < numbers; record.count++) {
@@ -190,7 +190,7 @@ static void learn_error(const struct record *record) {
   if (error_count == room) is_taken_back = larger(is_taken_back, room, 2 * room + 1024, 1), room = 2 * room + 1024;
   error_count++;
   if (!record->count) return;
-  check(number[1] > -MOST_SIZE && number[1] < MOST_SIZE && (letter == 'x' || number[2]), "an error is wrong");
+  check(number[1] > -MOST_SIZE && number[1] < MOST_SIZE && (letter == 'x' || letter == 'y' || number[2]), "an error is wrong");
   if (number[0]) know(number[0]);
   else check(is_inside(letter) || letter == 'x' || (number[1] >= 0 && number[1] <= 2), "an error of no block is wrong");
   for (uint32_t block = number[0]; block && !(marks[block] & WANTED); block = made_of[block]) marks[block] |= WANTED | IN_USE;
@@ -210,7 +210,7 @@ static void learn(const struct record *record) {
     case 'p': case 'u':
       check(number[1] >= 0 && number[1] < MOST_SIZE && number[2] > 0 && number[2] <= MOST_SIZE, "a mark is wrong");
       // fall through
-    case 'i': case 'k':
+    case 'i': case 'k': case 'q':
       if (number[0] || record->letter == 'i') know(number[0]);
       return;
     case 'd':
@@ -227,7 +227,7 @@ static void learn(const struct record *record) {
       check(number[0] > 0 && number[0] <= error_count && (record->letter != '+' || number[1] > 0), "an error is not there");
       if (record->letter == '-') is_taken_back[number[0] - 1] = 1;
       return;
-    case 'L': case 'S': case 'P': case 'Q': case 'V': case 'x': case 'o': case 'n': return learn_error(record);
+    case 'L': case 'S': case 'P': case 'Q': case 'V': case 'x': case 'y': case 'o': case 'n': return learn_error(record);
   }
 }
 
@@ -614,7 +614,8 @@ static void do_error(const struct record *record, long number) {
   if (own && own->state != LIVE && own->requests < request_count && own->small_requests == small_requests) write_filler();
   write_record(record, own_number);
   int is_unknown = own && own->state != LIVE && own->gaps < gap_count;  // who had its slot since
-  if (own && *pointers_of(block) && !is_taken_back[number] && !is_unknown) return print_error(record, block);
+  int is_asked = record->letter != 'y' && !is_taken_back[number] && !is_unknown;  // the heap has one free for all
+  if (own && *pointers_of(block) && is_asked) return print_error(record, block);
   puts(is_unknown ? "-1 0 0 0" : "0 0 0 0");
   for (int k = 0; k < seed_count; k++) putchar('\n');
 }
@@ -628,9 +629,9 @@ static void do_text(const struct record *record, const char *end, long *error) {
       if (!block || number_of(block)) write_record(record, block ? number_of(block) : 0);
       return;
     case 'C': write_text(record->begin, record->stack - 1), write_stack(record); return;
-    case 'M': case '-': case 'g': case '+': case 'e': return write_text(record->begin, end);
+    case 'M': case '-': case 'g': case 'v': case '+': case 'e': return write_text(record->begin, end);
     case 'd': begin_frees(), request_count += record->numbers[0] + 1, gap_count++; return;
-    case 'i': case 'k': case 'z': case 't': case 'h': return;
+    case 'i': case 'k': case 'q': case 'z': case 't': case 'h': return;
   }
   do_error(record, (*error)++);
 }

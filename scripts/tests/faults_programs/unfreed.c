@@ -43,7 +43,11 @@ int main(void) {
     item->next = items, items = item;
   }
   lose_one(), lose_more();
+  {
+    char *volatile stale = make(25);  // its word of the stack outlives it
+    number += *stale;
+  }
   clear_stack();
   printf("%d\n", number > 0);
-  return 0;
+  exit(0);
 }

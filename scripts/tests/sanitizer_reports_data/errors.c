@@ -19,7 +19,7 @@ int main(int count, char **words) {
     case 7: free(p); free(p); break;                      // double free 0: by chance, caught
     case 8: free(p + 16); break;                          // invalid free 16: caught
     case 9: free(stacked); break;                         // invalid free 2: caught
-    case 10: store(stacked, 16 + count); break;           // access of no block 2: not replayed
+    case 10: store(stacked, 16 + count); break;           // overflow of a variable 2: not replayed
     case 11: memcpy(p, p + 8, 20 + count); break;         // overlapping copy 0: not caught
     case 12: memcpy(p, source, -1 - count); break;        // impossible size 2: caught, not replayed
     case 13: p = realloc(p, 41); store(p, 20000); break;  // access of no block 1: not replayed
