@@ -1,0 +1,82 @@
+"""What a program requested of its allocator: a timeline, a history or a profile, and what its live blocks come to."""
+
+import hashlib
+import io
+import itertools
+from collections.abc import Callable, Iterator
+from typing import NamedTuple
+
+from mte_scripts import count_texts, text_files
+from mte_scripts.entry_point import Refusal, printable
+from mte_scripts.formats import LARGEST_SIZE, MOST_COUNT
+from mte_scripts.tables import figures
+
+
+class Record(NamedTuple):
+    """A record of this name: of a timeline the DATA, else the counts of each size at some moments, of a profile at one."""
+
+    kind: str
+    name: str
+    data: bytes
+    counts: "dict[int, list[int]]"
+
+    @property
+    def digest(self) -> str:
+        return hashlib.sha256(self.data).hexdigest()
+
+    def sizes(self) -> "list[int]":
+        """The sizes that were requested, but for large ones."""
+        if self.kind != "timeline":
+            return sorted(self.counts)
+        return sorted(int(event) for event in set().union(*self.events()) if event.isdigit())
+
+    def events(self) -> "Iterator[list[bytes]]":
+        """The events of a timeline, in pieces."""
+        for piece in count_texts.whole_lines(io.BytesIO(self.data[self.data.find(b"\n") + 1 :]), self.name, b""):
+            yield piece[:-1].split(b"\n")
+
+    def most(self, amount: "dict[int, int]") -> int:
+        """The most of all live blocks together at a moment, each with the amount of its size; the others count for nothing."""
+        if self.kind != "timeline":
+            rows = [[amount.get(size, 0) * count for count in counts] for size, counts in self.counts.items()]
+            return max(map(sum, zip(*rows)), default=0)
+        weights = {event: 0 for event in set().union(*self.events())}
+        weights |= {b"%d" % size: each for size, each in amount.items()} | {b"-%d" % size: -each for size, each in amount.items()}
+        most = live = 0
+        for events in self.events():
+            for live in itertools.accumulate(map(weights.__getitem__, events), initial=live):
+                most = live if live > most else most
+        return most
+
+    def changed(self, size_of: "dict[int, int]", more: "dict[int, int]") -> bytes:
+        """The same with other sizes, without those that have none; and with more blocks of sizes, which are live from begin to end."""
+        if self.kind == "timeline":
+            words = {event: b"" for event in set().union(*self.events())}
+            for size, other in size_of.items():
+                words |= {b"%d" % size: b"%d\n" % other, b"-%d" % size: b"-%d\n" % other}
+            first = b"".join(b"%d\n" % size * count for size, count in more.items())
+            return b"timeline\n" + first + b"".join(b"".join(map(words.__getitem__, events)) for events in self.events())
+        snapshots = len(next(iter(self.counts.values())))
+        rows: "dict[int, list[int]]" = {size: [count] * snapshots for size, count in more.items()}
+        for size in size_of.keys() & self.counts.keys():
+            count_texts.add_row(rows, size_of[size], self.counts[size])
+        return count_texts.history_text(count_texts.History(snapshots, rows)).encode()
+
+
+def read_record(path: str, name: str) -> Record:
+    """The record in a file, which is called NAME."""
+    data = text_files.read_some(path, if_empty=3)
+    if count_texts.is_timeline(data):
+        figures.refuse_timeline(data, printable(name))
+        record = Record("timeline", name, data, {})
+    elif count_texts.is_history(data):
+        record = Record("history", name, data, count_texts.parse_history(data, name).counts)
+    else:
+        counts = count_texts.parse_profile(data, name)
+        record = Record("profile", name, data, {size: [count] for size, count in counts.items() if count})
+    record.counts.pop("large", None)  # type: ignore[call-overload]
+    if max(map(max, record.counts.values()), default=0) > MOST_COUNT:
+        raise Refusal(2, f"{printable(name)}: a count is above {MOST_COUNT:,}, the most that a text may have")
+    if not record.sizes():
+        raise Refusal(3, f"{printable(name)} has no request of at most {LARGEST_SIZE:,} bytes: there is nothing to tune")
+    return record

@@ -1,0 +1,205 @@
+"""Finds block sizes for an allocator with size classes. `tune_allocator --help` says all."""
+
+import argparse
+import os
+import re
+import sys
+from typing import Any, NamedTuple, Optional
+
+from mte_scripts import claim_words, claims, private_folder, text_files, text_layout
+from mte_scripts.allocators import parts
+from mte_scripts.allocators.models import MODELS, Model
+from mte_scripts.allocators.records import Record, read_record
+from mte_scripts.entry_point import Refusal, printable
+from mte_scripts.formats import MOST_CLASSES
+from mte_scripts.places import SCRIPTS
+from mte_scripts.recording import children, recording
+from mte_scripts.tables import figures
+from mte_scripts.words import ProgramWords, nonempty_word, number_between
+
+RUNNING = f"  {{:16}} {{}} sizes above {{}} and up to {{:,}} bytes{chr(10)}"
+HELP = f"""\
+Find block sizes for an allocator with size classes: those that take less memory for a program than its own, and what they save, or that
+there is nothing to gain.
+
+Usage: tune_allocator NAME [OPTION..] PROGRAM ARGS..
+       tune_allocator NAME [OPTION..] --read FILE
+
+  --limit K        at most so many sizes; as many as the allocator has where it is left out
+  --against SIZES  other sizes to compare with, as 16,32,48
+  --line           print the sizes alone, as they are built in
+  --output FOLDER  make a folder with the record, the sizes, and for each part of them what mte_tool was given and what it printed
+  --only NAME      follow only processes whose program has this name, as NAME of /usr/bin/NAME
+  --read FILE      run no program: take a timeline, a history or a profile; `-` for standard input
+
+NAME is one of these, whose largest size stays, and for {" and ".join(name for name in MODELS if MODELS[name].forced)} some others:
+{"".join(RUNNING.format(name, sum(size > its.ends[0] for size in its.own), its.ends[0], its.ends[-1]) for name, its in MODELS.items())}
+The program runs under scripts/profile_program, which makes a timeline of it, and as ever: its standard input is its own, its standard
+output goes to standard error. {", ".join(name for name in MODELS if MODELS[name].serves)} serve no program's malloc: they take a FILE.
+
+What sizes take is the sum over the sizes of the most of their blocks live at once, each at its cost. That is what an allocator takes which
+gives a block of one size never to another one. Most give memory that is wholly free to other sizes. So a saving is predicted only where a
+program grows: where what is live at one moment comes within {{share}}% of that sum. Blocks below and above the sizes are left alone, and what
+is not of one block is not seen: slabs that are partly free, caches of threads, alignment.
+
+{claim_words.general_sentence("allocators")}
+
+Exit status:
+  0  the answer is printed
+  1  the same; the program itself ended with another status than 0, which standard error has
+  2  the words or a file are refused
+  3  nothing was recorded, mte_tool could not run, or a write failed
+
+Examples:
+  scripts/tune_allocator jemalloc sqlite3 :memory: < examples/sqlite_large.sql
+  scripts/tune_allocator musl --limit 24 --read examples/sqlite_large.history
+"""
+GROWS = 90  # percent of the sum that are live at one moment
+WIDTH = 100
+
+
+class Options(argparse.Namespace):
+    def __init__(self, words: "list[str]") -> None:
+        is_first = bool(words) and not words[0].startswith("-")
+        kinds: "dict[str, Any]" = {"limit": number_between(1, 2 * MOST_CLASSES), "against": sizes_of}
+        ProgramWords(HELP.replace("{share}", str(100 - GROWS)), **kinds).take(words[is_first:], into=self)
+        named = words[:1] if is_first else self.words[:1]
+        self.words = self.words if is_first else self.words[1:]
+        if not named or named[0] not in MODELS:
+            wrong = f", and {printable(named[0])} is none" if named else ""
+            raise Refusal(2, f"it wants the name of an allocator first, {', '.join(MODELS)}{wrong}; --help says more")
+        self.model = MODELS[named[0]]
+        self.agree()
+
+    def agree(self) -> None:
+        if self.read is None and not self.words:
+            raise Refusal(2, "it wants a program to run, or --read FILE; --help says more")
+        if self.read is not None and (self.words or self.only is not None):
+            what = f"place for {self.words[0]}" if self.words else "process that --only could name"
+            raise Refusal(2, f"--read runs no program, so there is no {what}")
+        if self.model.serves and self.read is None:
+            raise Refusal(2, f"{self.model.title} serves no malloc of a program: give a record of what {self.model.serves}, by --read")
+
+
+def sizes_of(value: str) -> "list[int]":
+    """Ascending sizes."""
+    if not re.fullmatch("[1-9][0-9]{0,5}(,[1-9][0-9]{0,5})*", value):
+        raise argparse.ArgumentTypeError(f"takes sizes as 16,32,48, and not {value}")
+    return sorted({*map(int, value.split(","))})
+
+
+class Table(NamedTuple):
+    """Block sizes, what they take, and what of it is live at one moment at most."""
+
+    name: str
+    sizes: "list[int]"
+    taken: int
+    live: int
+
+
+class Answer(NamedTuple):
+    """The fits of the parts, and the tables: the allocator's own, the one to build, and others."""
+
+    model: Model
+    record: Record
+    fits: "list[parts.PartFit]"
+    own: Table
+    built: Table
+    others: "list[Table]"
+
+    def saved(self) -> int:
+        return self.own.taken - self.built.taken
+
+    def grows(self) -> bool:
+        """Whether blocks of all sizes are live at one moment, nearly all that there ever are."""
+        return self.model.keeps_empty or all(100 * each.live >= GROWS * each.taken for each in (self.own, self.built))
+
+
+def tune_allocator(words: "list[str]") -> int:
+    options = Options(words)
+    figures.run(["footprint"], "snapshots 1\n16 1\n", [2])  # there is a program, before another one runs
+    place = text_files.new_folder(options.output, "--output") if options.output is not None else None
+    record, status = (read_record(options.read, text_files.input_name(options.read)), 0) if options.words == [] else record_program(options)
+    answer = answer_record(options, record)
+    line = ",".join(map(str, answer.built.sizes)) + "\n"
+    if place:
+        place.write(f"record.{record.kind}", record.data)
+        place.write("sizes.txt", line.encode())
+        for number, fit in enumerate(answer.fits, 1):
+            place.write(f"part{number}.fit", fit.answer.encode())
+            place.write(f"part{number}.{'timeline' if record.kind == 'timeline' else 'history'}", fit.text)
+    text_files.write(line if options.line else summary(answer))
+    return status
+
+
+def record_program(options: Options) -> "tuple[Record, int]":
+    """Runs the program: its record, and 1 where it ended with another status than 0."""
+    recording.find_program(options.words[0])
+    only = ["--only", options.only] if options.only else []
+    command = [sys.executable, "-ISXutf8", "--", os.path.join(SCRIPTS, "profile_program"), "--timeline", *only, "--", *options.words]
+    with private_folder.temporary_folder() as work:
+        with open(work.file("record"), "wb") as file:
+            status = children.run(command, stdout=file)
+        if status not in (0, 1):
+            raise Refusal(3, f"nothing is recorded of {options.words[0]}")
+        return read_record(work.file("record"), os.path.basename(options.words[0])), status
+
+
+def answer_record(options: Options, record: Record) -> Answer:
+    model = options.model
+    own = [size for size in model.own if size > model.ends[0]]
+    fits = parts.fit_parts(model, record, options.limit or len(own))
+    fitted = [size for fit in fits for size in fit.sizes]
+    built = parts.filled_sizes(model, fitted, record) if model.exact else fitted
+    name = fits[0].claim.table() if built == fitted[: len(built)] and len(fits) == 1 else "the sizes to build"
+    tables = [table_of(name, sizes, fits, record) for name, sizes in ((f"{model.title} as it is", own), (name, built))]
+    if len(fitted) != len({*built, model.ends[-1]}):
+        tables.append(table_of(f"{fits[0].claim.table()}, fewer", fitted, fits, record))
+    if options.against:
+        tables.append(table_of("--against", options.against, fits, record))
+    return Answer(model, record, fits, tables[0], tables[1], tables[2:])
+
+
+def table_of(name: str, sizes: "list[int]", fits: "list[parts.PartFit]", record: Record) -> Table:
+    """What block sizes come to, with the largest of each part."""
+    model = fits[0].part.model
+    if outside := [size for size in sizes if not model.ends[0] < size <= model.ends[-1]]:
+        raise Refusal(2, f"{outside[0]:,} bytes are not above {model.ends[0]:,} and up to {model.ends[-1]:,}, as the sizes are for {model.title}")
+    taken = sum(fit.part.taken(sizes, fit.text) for fit in fits)
+    every = sorted({*sizes, *(fit.part.top for fit in fits)})
+    blocks = {size: next((block for fit in fits if (block := fit.part.block(size))), 0) for size in record.sizes()}
+    cost = {each: cost for fit in fits for each, cost in fit.part.cost.items()}
+    amounts = {size: cost[min(each for each in every if each >= block)] for size, block in blocks.items() if block}
+    return Table(name, sizes, taken, record.most(amounts))
+
+
+def summary(answer: Answer) -> str:
+    model, record, ends = answer.model, answer.record, answer.model.ends
+    rows = [["Table", "sizes", "takes", "less", ""]]
+    for table in (answer.own, answer.built, *answer.others):
+        less = answer.own.taken - table.taken
+        cells = [figures.kibibytes(less), figures.percent(less, answer.own.taken)] if table is not answer.own else ["", ""]
+        rows.append([table.name, str(len({*table.sizes, ends[-1]})), figures.kibibytes(table.taken), *cells])
+    alone = record.most({size: size for size in record.sizes() if not any(fit.part.block(size) for fit in answer.fits)})
+    lines = [f"{printable(record.name)} in {model.title}, blocks above {ends[0]} and up to {ends[-1]:,} bytes", ""]
+    lines += [*text_layout.columns(rows), ""]
+    said = [prediction(answer), *(fit.sentence(record) for fit in answer.fits)]
+    if len(answer.fits) > 1:
+        said.append(claims.shared_sizes(f"{end:,}" for end in ends[1:-1]))
+    said.append(f"Left alone are smaller blocks and larger ones, of requests with {figures.kibibytes(alone)} live at most, without large ones.")
+    if figures.helps(answer.saved(), answer.own.taken):
+        said.append(f"To build: {model.build}.")
+        said.append(",".join(map(str, answer.built.sizes)))
+    return "".join(f"{line}\n" for line in [*lines, *(each for text in said for each in [*text_layout.wrap_text(text, WIDTH), ""])][:-1])
+
+
+def prediction(answer: Answer) -> str:
+    """What follows for the memory of the program."""
+    own, built, saved = answer.own, answer.built, answer.saved()
+    if not figures.helps(saved, own.taken):
+        return f"Nothing to gain: {answer.model.title} as it is takes {figures.kibibytes(own.taken)}, and other sizes {figures.kibibytes(built.taken)}."
+    both = f"{figures.kibibytes(own.live)} of {figures.kibibytes(own.taken)}, and {figures.kibibytes(built.live)} of {figures.kibibytes(built.taken)}"
+    if answer.grows():
+        return f"Predicted: {figures.kibibytes(saved)} less. The program grows: live at one moment are {both}."
+    return (f"No saving is predicted: sizes have the most blocks at different moments. Live at one moment are {both}, and {answer.model.title} "
+            "gives memory that is wholly free to other sizes. Measure it.")
