@@ -54,17 +54,17 @@ class Part:
         """The request that needs as many granules as the number of a block size."""
         return GRANULE_BYTES * self.number[size] - GRANULE_BYTES
 
-    def bytes(self, footprint: int) -> int:
+    def cost_of(self, footprint: int) -> int:
         """What a footprint, or a bound of it, is in bytes, without the blocks that were added."""
         added = sum(GRANULE_BYTES * self.number[size] * count for size, count in self.held.items())
         return -(-(footprint - added) * self.grain // (GRANULE_BYTES * self.times))
 
     def taken(self, sizes: "list[int]", text: bytes) -> int:
-        """What block sizes take over a record, as the program gets it: those of them that are of this part."""
-        wanted = sorted({size for size in sizes if self.low < size <= self.top} | {self.top})
+        """What block sizes take over a record, as the program gets it: those of them that are of this part, and those that stay."""
+        wanted = sorted({size for size in sizes if self.low < size <= self.top} | self.held.keys())
         if others := [size for size in wanted if size not in self.number]:
             raise Refusal(2, f"{self.model.title} has no block of {others[0]:,} bytes that costs less than a larger one")
-        return self.bytes(figures.footprint([self.number[size] for size in wanted], text) or 0)
+        return self.cost_of(figures.footprint([self.number[size] for size in wanted], text) or 0)
 
 
 class PartFit(NamedTuple):
@@ -76,17 +76,12 @@ class PartFit(NamedTuple):
     claim: claims.Claim
     sizes: "list[int]"
 
-    @property
-    def bytes(self) -> int:
-        """What the table takes."""
-        return self.part.bytes(self.claim.numbers["takes"] if self.claim.is_bound else self.claim.cost)
-
     def sentence(self, record: Record) -> str:
         """What is known of it."""
         part, given = self.part, (record.kind, record.name, record.digest)
         places = {"allocator": part.model.title, "words": part.model.words, "first": f"{part.sizes[0]:,}", "top": f"{part.top:,}"}
         places["kept"] = claim_words.join_words(f"{size:,}" for size in part.held)
-        return claims.block_sizes(self.claim, given, part.bytes(self.claim.cost), places)
+        return claims.block_sizes(self.claim, given, part.cost_of(self.claim.cost), places)
 
 
 def fit_part(part: Part, text: bytes, limit: int, record: Record) -> PartFit:
@@ -124,7 +119,7 @@ def share_sizes(found: "list[PartFit]", budget: int) -> "tuple[int, ...]":
         return (*first, budget - sum(first))
     rows = [[row[0] for row in certificate_texts.parse_fit(fit.answer).rows] for fit in found]
     counts = [range(len(fit.part.held), len(row) + 1) for fit, row in zip(found, rows)]
-    taken = lambda share: sum(fit.part.bytes(row[count - 1]) for fit, row, count in zip(found, rows, share))
+    taken = lambda share: sum(fit.part.cost_of(row[count - 1]) for fit, row, count in zip(found, rows, share))
     return min((share for share in itertools.product(*counts) if sum(share) <= budget), key=lambda share: (taken(share), sum(share)))
 
 

@@ -70,12 +70,12 @@ def read_record(path: str, name: str) -> Record:
         figures.refuse_timeline(data, printable(name))
         record = Record("timeline", name, data, {})
     elif count_texts.is_history(data):
-        record = Record("history", name, data, count_texts.parse_history(data, name).counts)
+        counts = count_texts.parse_history(data, name).counts
+        record = Record("history", name, data, {size: each for size, each in counts.items() if size != "large"})
     else:
         counts = count_texts.parse_profile(data, name)
-        record = Record("profile", name, data, {size: [count] for size, count in counts.items() if count})
-    record.counts.pop("large", None)  # type: ignore[call-overload]
-    if max(map(max, record.counts.values()), default=0) > MOST_COUNT:
+        record = Record("profile", name, data, {size: [count] for size, count in counts.items() if count and size != "large"})
+    if any(count > MOST_COUNT for counts in record.counts.values() for count in counts):
         raise Refusal(2, f"{printable(name)}: a count is above {MOST_COUNT:,}, the most that a text may have")
     if not record.sizes():
         raise Refusal(3, f"{printable(name)} has no request of at most {LARGEST_SIZE:,} bytes: there is nothing to tune")

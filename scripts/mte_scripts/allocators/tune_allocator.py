@@ -4,7 +4,7 @@ import argparse
 import os
 import re
 import sys
-from typing import Any, NamedTuple, Optional
+from typing import Any, NamedTuple
 
 from mte_scripts import claim_words, claims, private_folder, text_files, text_layout
 from mte_scripts.allocators import parts
@@ -17,10 +17,14 @@ from mte_scripts.recording import children, recording
 from mte_scripts.tables import figures
 from mte_scripts.words import ProgramWords, nonempty_word, number_between
 
-RUNNING = f"  {{:16}} {{}} sizes above {{}} and up to {{:,}} bytes{chr(10)}"
+GROWS = 90  # percent of what sizes take that are live at one moment, where a program grows
+WIDTH = 100
+LISTED = "".join(
+    f"  {name:16} {sum(size > its.ends[0] for size in its.own)} sizes above {its.ends[0]} and up to {its.ends[-1]:,} bytes\n" for name, its in MODELS.items()
+)
 HELP = f"""\
-Find block sizes for an allocator with size classes: those that take less memory for a program than its own, and what they save, or that
-there is nothing to gain.
+Find block sizes for an allocator with size classes that take less memory for a program than its own, and say what they save, or
+that there is nothing to gain.
 
 Usage: tune_allocator NAME [OPTION..] PROGRAM ARGS..
        tune_allocator NAME [OPTION..] --read FILE
@@ -33,14 +37,14 @@ Usage: tune_allocator NAME [OPTION..] PROGRAM ARGS..
   --read FILE      run no program: take a timeline, a history or a profile; `-` for standard input
 
 NAME is one of these, whose largest size stays, and for {" and ".join(name for name in MODELS if MODELS[name].forced)} some others:
-{"".join(RUNNING.format(name, sum(size > its.ends[0] for size in its.own), its.ends[0], its.ends[-1]) for name, its in MODELS.items())}
-The program runs under scripts/profile_program, which makes a timeline of it, and as ever: its standard input is its own, its standard
-output goes to standard error. {", ".join(name for name in MODELS if MODELS[name].serves)} serve no program's malloc: they take a FILE.
+{LISTED}
+The program runs under scripts/profile_program, which makes a timeline of it, and as ever: its standard input is its own, its
+standard output goes to standard error. {", ".join(name for name in MODELS if MODELS[name].serves)} serve no program's malloc: they take a FILE.
 
-What sizes take is the sum over the sizes of the most of their blocks live at once, each at its cost. That is what an allocator takes which
-gives a block of one size never to another one. Most give memory that is wholly free to other sizes. So a saving is predicted only where a
-program grows: where what is live at one moment comes within {{share}}% of that sum. Blocks below and above the sizes are left alone, and what
-is not of one block is not seen: slabs that are partly free, caches of threads, alignment.
+What sizes take is the sum over the sizes of the most of their blocks live at once, each at its cost. An allocator takes that which
+gives the memory of one size never to another. Most give what is wholly free to others. So a saving is predicted only where a
+program grows: where what is live at one moment comes within {100 - GROWS}% of that sum. Smaller and larger blocks are left alone, and
+what is of no one block is not seen: slabs that are partly free, caches of threads, alignment.
 
 {claim_words.general_sentence("allocators")}
 
@@ -54,15 +58,16 @@ Examples:
   scripts/tune_allocator jemalloc sqlite3 :memory: < examples/sqlite_large.sql
   scripts/tune_allocator musl --limit 24 --read examples/sqlite_large.history
 """
-GROWS = 90  # percent of the sum that are live at one moment
-WIDTH = 100
 
 
 class Options(argparse.Namespace):
+    words: "list[str]"
+    read: "str | None"
+
     def __init__(self, words: "list[str]") -> None:
         is_first = bool(words) and not words[0].startswith("-")
         kinds: "dict[str, Any]" = {"limit": number_between(1, 2 * MOST_CLASSES), "against": sizes_of}
-        ProgramWords(HELP.replace("{share}", str(100 - GROWS)), **kinds).take(words[is_first:], into=self)
+        ProgramWords(HELP, **kinds).take(words[is_first:], into=self)
         named = words[:1] if is_first else self.words[:1]
         self.words = self.words if is_first else self.words[1:]
         if not named or named[0] not in MODELS:
@@ -98,21 +103,21 @@ class Table(NamedTuple):
 
 
 class Answer(NamedTuple):
-    """The fits of the parts, and the tables: the allocator's own, the one to build, and others."""
+    """The fits of the parts, and the tables: the allocator's own, the fitted one, and others. SIZES are to be built, and come to BUILT."""
 
     model: Model
     record: Record
     fits: "list[parts.PartFit]"
-    own: Table
+    tables: "list[Table]"
+    sizes: "list[int]"
     built: Table
-    others: "list[Table]"
 
     def saved(self) -> int:
-        return self.own.taken - self.built.taken
+        return self.tables[0].taken - self.built.taken
 
     def grows(self) -> bool:
         """Whether blocks of all sizes are live at one moment, nearly all that there ever are."""
-        return self.model.keeps_empty or all(100 * each.live >= GROWS * each.taken for each in (self.own, self.built))
+        return all(100 * each.live >= GROWS * each.taken for each in (self.tables[0], self.built))
 
 
 def tune_allocator(words: "list[str]") -> int:
@@ -121,7 +126,7 @@ def tune_allocator(words: "list[str]") -> int:
     place = text_files.new_folder(options.output, "--output") if options.output is not None else None
     record, status = (read_record(options.read, text_files.input_name(options.read)), 0) if options.words == [] else record_program(options)
     answer = answer_record(options, record)
-    line = ",".join(map(str, answer.built.sizes)) + "\n"
+    line = ",".join(map(str, answer.sizes)) + "\n"
     if place:
         place.write(f"record.{record.kind}", record.data)
         place.write("sizes.txt", line.encode())
@@ -150,56 +155,57 @@ def answer_record(options: Options, record: Record) -> Answer:
     own = [size for size in model.own if size > model.ends[0]]
     fits = parts.fit_parts(model, record, options.limit or len(own))
     fitted = [size for fit in fits for size in fit.sizes]
-    built = parts.filled_sizes(model, fitted, record) if model.exact else fitted
-    name = fits[0].claim.table() if built == fitted[: len(built)] and len(fits) == 1 else "the sizes to build"
-    tables = [table_of(name, sizes, fits, record) for name, sizes in ((f"{model.title} as it is", own), (name, built))]
-    if len(fitted) != len({*built, model.ends[-1]}):
-        tables.append(table_of(f"{fits[0].claim.table()}, fewer", fitted, fits, record))
+    sizes = parts.filled_sizes(model, fitted, record) if model.exact else fitted
+    name = fits[0].claim.table() if len(fits) == 1 else "fitted"
+    tables = [table_of(each, which, fits, record) for each, which in ((f"{model.title} as it is", own), (name, fitted))]
+    if len(sizes) > len(fitted):
+        tables.append(table_of(f"with {model.exact + 1} sizes, as there have to be", sizes, fits, record))
+    built = tables[-1]
     if options.against:
         tables.append(table_of("--against", options.against, fits, record))
-    return Answer(model, record, fits, tables[0], tables[1], tables[2:])
+    return Answer(model, record, fits, tables, sizes, built)
 
 
 def table_of(name: str, sizes: "list[int]", fits: "list[parts.PartFit]", record: Record) -> Table:
-    """What block sizes come to, with the largest of each part."""
+    """What block sizes come to, with those that stay."""
     model = fits[0].part.model
     if outside := [size for size in sizes if not model.ends[0] < size <= model.ends[-1]]:
         raise Refusal(2, f"{outside[0]:,} bytes are not above {model.ends[0]:,} and up to {model.ends[-1]:,}, as the sizes are for {model.title}")
     taken = sum(fit.part.taken(sizes, fit.text) for fit in fits)
-    every = sorted({*sizes, *(fit.part.top for fit in fits)})
+    every = sorted({*sizes, *(size for fit in fits for size in fit.part.held)})
     blocks = {size: next((block for fit in fits if (block := fit.part.block(size))), 0) for size in record.sizes()}
     cost = {each: cost for fit in fits for each, cost in fit.part.cost.items()}
     amounts = {size: cost[min(each for each in every if each >= block)] for size, block in blocks.items() if block}
-    return Table(name, sizes, taken, record.most(amounts))
+    return Table(name, every, taken, record.most(amounts))
 
 
 def summary(answer: Answer) -> str:
-    model, record, ends = answer.model, answer.record, answer.model.ends
+    model, ends, own = answer.model, answer.model.ends, answer.tables[0]
     rows = [["Table", "sizes", "takes", "less", ""]]
-    for table in (answer.own, answer.built, *answer.others):
-        less = answer.own.taken - table.taken
-        cells = [figures.kibibytes(less), figures.percent(less, answer.own.taken)] if table is not answer.own else ["", ""]
-        rows.append([table.name, str(len({*table.sizes, ends[-1]})), figures.kibibytes(table.taken), *cells])
-    alone = record.most({size: size for size in record.sizes() if not any(fit.part.block(size) for fit in answer.fits)})
-    lines = [f"{printable(record.name)} in {model.title}, blocks above {ends[0]} and up to {ends[-1]:,} bytes", ""]
-    lines += [*text_layout.columns(rows), ""]
-    said = [prediction(answer), *(fit.sentence(record) for fit in answer.fits)]
+    for table in answer.tables:
+        less = own.taken - table.taken
+        cells = [figures.kibibytes(less), figures.percent(less, own.taken)] if table is not own else ["", ""]
+        rows.append([table.name, str(len(table.sizes)), figures.kibibytes(table.taken), *cells])
+    said = [prediction(answer), *(fit.sentence(answer.record) for fit in answer.fits)]
     if len(answer.fits) > 1:
         said.append(claims.shared_sizes(f"{end:,}" for end in ends[1:-1]))
-    said.append(f"Left alone are smaller blocks and larger ones, of requests with {figures.kibibytes(alone)} live at most, without large ones.")
-    if figures.helps(answer.saved(), answer.own.taken):
-        said.append(f"To build: {model.build}.")
-        said.append(",".join(map(str, answer.built.sizes)))
-    return "".join(f"{line}\n" for line in [*lines, *(each for text in said for each in [*text_layout.wrap_text(text, WIDTH), ""])][:-1])
+    if alone := answer.record.most({size: size for size in answer.record.sizes() if not any(fit.part.block(size) for fit in answer.fits)}):
+        said.append(f"Left alone are smaller and larger blocks, of requests with {figures.kibibytes(alone)} live at most, and large ones.")
+    if figures.helps(answer.saved(), own.taken):
+        said += [f"To build, by {model.build}:", ",".join(map(str, answer.sizes))]
+    lines = [f"{printable(answer.record.name)} in {model.title}, blocks above {ends[0]} and up to {ends[-1]:,} bytes", "", *text_layout.columns(rows)]
+    return "".join(f"{line}\n" for line in [*lines, *(each for text in said for each in ["", *text_layout.wrap_text(text, WIDTH)])])
 
 
 def prediction(answer: Answer) -> str:
     """What follows for the memory of the program."""
-    own, built, saved = answer.own, answer.built, answer.saved()
+    own, built, saved, title = answer.tables[0], answer.built, answer.saved(), answer.model.title
     if not figures.helps(saved, own.taken):
-        return f"Nothing to gain: {answer.model.title} as it is takes {figures.kibibytes(own.taken)}, and other sizes {figures.kibibytes(built.taken)}."
+        return f"Nothing to gain: {title} as it is takes {figures.kibibytes(own.taken)}, and with other sizes {figures.kibibytes(built.taken)}."
+    if answer.model.keeps_empty:
+        return f"Predicted: {figures.kibibytes(saved)} less. What blocks of one size have taken, no other size gets."
     both = f"{figures.kibibytes(own.live)} of {figures.kibibytes(own.taken)}, and {figures.kibibytes(built.live)} of {figures.kibibytes(built.taken)}"
     if answer.grows():
         return f"Predicted: {figures.kibibytes(saved)} less. The program grows: live at one moment are {both}."
-    return (f"No saving is predicted: sizes have the most blocks at different moments. Live at one moment are {both}, and {answer.model.title} "
-            "gives memory that is wholly free to other sizes. Measure it.")
+    return (f"No saving is predicted: sizes have their most blocks at different moments, and {title} gives memory that is wholly free to other "
+            f"sizes. Live at one moment are {both}. Measure it.")
