@@ -124,8 +124,8 @@ TEMPLATES = {
     "pools.all": "{known} Tested, and not proved: a request takes so many units; so {claim}",
     "pools.each.so": "The same holds of each number above, with its own limit.",
     # block sizes of an allocator: {over} is allocator.KIND
-    "allocator.claim": "of the tables of at most {sizes} of {allocator} from {first} to {top} bytes, {kept} among them, that serve {over}, none "
-    "takes less than {cost}.",
+    "allocator.claim": "of the tables of at most {sizes} of {allocator}, from {first} to {top} bytes, its own or multiples of {unit}, {kept} among "
+    "them, that serve {over}, none takes less than {cost}.",
     "allocator.timeline": "every moment of {given}",
     "allocator.history": "the snapshots of {given}",
     "allocator.profile": "{given}",

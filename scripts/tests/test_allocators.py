@@ -37,7 +37,7 @@ while size < int(sys.argv[3]):
     size = of(size + 1, 0)
     print(size)
 """
-CLAIM = re.compile(r"of the tables of at most (\d+) block sizes? of (.+?) from ([\d,]+) to ([\d,]+) bytes, (.*?) among them, that serve (.*?), none takes less than ([\d,]+) bytes?\.")
+CLAIM = re.compile(r"of the tables of at most (\d+) block sizes? of (.+?), from ([\d,]+) to ([\d,]+) bytes, its own or multiples of \d+, (.*?) among them, that serve (.*?), none takes less than ([\d,]+) bytes?\.")
 
 
 # ---- what an allocator is
@@ -144,7 +144,7 @@ class Truth(claims_cases.WithProgram):
         chosen = random.Random(6)
         for trial in range(TRIALS):
             record, moments = random_record(chosen, MODELS["jemalloc"], chosen.choice(["timeline", "history"]))
-            amount = {size: chosen.randrange(0, 99) for size in record.sizes()[1:]}
+            amount = {size: chosen.randrange(0, 99) for size in record.sizes[1:]}
             wanted = max(sum(amount.get(size, 0) * count for size, count in live.items()) for live in moments)
             expect(f"{record.kind} {trial}: the most live", record.most(amount) == wanted, record.most(amount), wanted)
 
@@ -194,6 +194,8 @@ class Truth(claims_cases.WithProgram):
         pages = ctypes.CDLL(library).pages
         wrong = [size for size in range(16, 4096, 16) if pages(ctypes.c_ulong(size)) != models.slab_pages(size)]
         expect("the pages of slabs", not wrong, *wrong)
+        costs = [size for size in MODELS["jemalloc"].own if models.slab_share(size) != size]
+        expect("jemalloc's own slabs have no rest", not costs, *costs)
 
 
 class Command(commands.Commands):
@@ -258,11 +260,14 @@ class Command(commands.Commands):
 
     def test_refused_fit(self):
         """Nothing is claimed of a fit that the checker refuses, or of a part whose sizes do not stay."""
-        self.write("a.history", "snapshots 1\n24 5\n")
-        program = self.environment.get("MTE_TOOL") or checks.PROGRAM
-        for command, answer in (("check-fit", "refused 47 NotTight"), ("fit", "classes 2\\nlimit 28\\nfootprint 0")):
+        self.write("a.timeline", "timeline\n24\n")
+        program, bound = self.environment.get("MTE_TOOL") or checks.PROGRAM, "footprint 16384\\nnot shown least: no table takes less than 16000"
+        for status, command, answer in ((3, "check-fit", "refused 47 NotTight"), (3, "fit", f"classes 9 1024\\n{bound}"), (3, "fit", f"classes 4\\n{bound}"),
+                                        (3, "fit", "classes 9\\nlimit 28\\nfootprint 0"), (0, "fit", f"classes 8 1024\\n{bound}")):
             test = f'#!/bin/sh\nif [ "$1" = {command} ]; then cat >/dev/null; printf "{answer}\\n"; exit 1; fi\nexec {program} "$@"\n'
-            self.runs(3, "", "tune_allocator", "jemalloc", "--read", "a.history", MTE_TOOL=self.write("refusing", test, 0o755))
+            self.runs(status, "" if status else "*", "tune_allocator", "jemalloc", "--read", "a.timeline", MTE_TOOL=self.write("refusing", test, 0o755))
+        is_said = "`fit` found no certificate: the table takes 16,384 bytes" in self.out.replace("\n", " ") and "least footprint" not in self.out
+        expect("a bound is told, and no certificate", is_said, self.out)
 
     def test_program(self):
         """A program is recorded, and its status is told."""

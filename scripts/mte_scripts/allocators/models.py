@@ -3,6 +3,7 @@
 The sizes are those of the sources that stand beside each model; `test_allocators` compares jemalloc's and gperftools' with the libraries."""
 
 from collections.abc import Callable
+from fractions import Fraction
 from typing import NamedTuple
 
 PAGE = 4096
@@ -34,17 +35,13 @@ def quarters(first: int, top: int) -> "tuple[int, ...]":
 
 
 def slab_pages(size: int) -> int:
-    """The pages of a slab of such blocks, as examples/jemalloc/classes.diff chooses them."""
-    chosen = 1
-    for pages in range(2, 9):
-        blocks = pages * PAGE // size
-        if blocks <= 512 and blocks * chosen * 1000 > chosen * PAGE // size * pages * 1004:
-            chosen = pages
-    return chosen
+    """The pages of a slab of such blocks, as examples/jemalloc/classes.diff chooses them: a block takes least, with 128 bytes of its slab's."""
+    few = [pages for pages in range(1, 9) if pages == 1 or pages * PAGE // size <= 512]
+    return min(few, key=lambda pages: Fraction(pages * PAGE + 128, pages * PAGE // size))
 
 
 def slab_share(size: int) -> int:
-    """A block's share of its slab, to the nearest four bytes. Of jemalloc's own sizes that is the size: its slabs have no rest."""
+    """A block's share of its slab, to the nearest four bytes: of jemalloc's own sizes that is the size."""
     pages = slab_pages(size)
     return 4 * round(pages * PAGE / (pages * PAGE // size) / 4)
 

@@ -47,7 +47,7 @@ class Part:
         """The record as the program gets it."""
         if record.kind == "timeline" and len(self.held) > 1:
             raise Refusal(2, f"{self.model.title} keeps some of its sizes, which a timeline can't say: give a history or a profile")
-        given = {size: self.given(block) for size in record.sizes() if (block := self.block(size))}
+        given = {size: self.given(block) for size in record.sizes if (block := self.block(size))}
         return record.changed(given, {self.given(size): count for size, count in self.held.items()})
 
     def given(self, size: int) -> int:
@@ -80,16 +80,19 @@ class PartFit(NamedTuple):
         """What is known of it."""
         part, given = self.part, (record.kind, record.name, record.digest)
         places = {"allocator": part.model.title, "words": part.model.words, "first": f"{part.sizes[0]:,}", "top": f"{part.top:,}"}
-        places["kept"] = claim_words.join_words(f"{size:,}" for size in part.held)
+        places["unit"], places["kept"] = str(part.model.unit), claim_words.join_words(f"{size:,}" for size in part.held)
         return claims.block_sizes(self.claim, given, part.cost_of(self.claim.cost), places)
 
 
 def fit_part(part: Part, text: bytes, limit: int, record: Record) -> PartFit:
     how = claim_words.how("retabled", allocator=part.model.title)
     answer, claim = claims.fit_counts(text, record.name, (limit, 1, False), how)
-    sizes = [part.size[each] for each in certificate_texts.parse_class_line(answer.split("\n")[0], "the answer of `mte_tool fit`")]
     if not claim.holds and not claim.is_bound:
         raise Refusal(3, claim.sentence())
+    classes = certificate_texts.parse_class_line(answer.split("\n")[0], "the answer of `mte_tool fit`")
+    if not {*classes} <= part.size.keys():
+        raise Refusal(3, f"`mte_tool fit` has a class that is no block size of {part.model.title}: {classes}")
+    sizes = [part.size[each] for each in classes]
     if missing := part.held.keys() - {*sizes}:
         raise Refusal(3, f"the record has so many blocks that {min(missing):,} bytes are not kept: give a shorter one")
     return PartFit(part, text, answer, claim, sizes)
@@ -126,7 +129,7 @@ def share_sizes(found: "list[PartFit]", budget: int) -> "tuple[int, ...]":
 def filled_sizes(model: Model, sizes: "list[int]", record: Record) -> "list[int]":
     """Block sizes below the largest, as many as the allocator has to have: first such that no request gets a block of, and its own."""
     found, parts = {*sizes} - {model.ends[-1]}, [Part(model, low, top) for low, top in zip(model.ends, model.ends[1:])]
-    needed = {part.block(size) for part in parts for size in record.sizes()}
+    needed = {part.block(size) for part in parts for size in record.sizes}
     every = [size for part in parts for size in part.sizes if size < model.ends[-1]]
     while len(found) < model.exact:
         left = [size for size in every if size not in found]

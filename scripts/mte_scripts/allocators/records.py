@@ -3,8 +3,7 @@
 import hashlib
 import io
 import itertools
-from collections.abc import Callable, Iterator
-from typing import NamedTuple
+from collections.abc import Iterator
 
 from mte_scripts import count_texts, text_files
 from mte_scripts.entry_point import Refusal, printable
@@ -12,23 +11,18 @@ from mte_scripts.formats import LARGEST_SIZE, MOST_COUNT
 from mte_scripts.tables import figures
 
 
-class Record(NamedTuple):
-    """A record of this name: of a timeline the DATA, else the counts of each size at some moments, of a profile at one."""
+class Record:
+    """A record of this name: of a timeline the DATA, else the counts of each size at some moments, of a profile at one. SIZES were requested, but
+    for large ones."""
 
-    kind: str
-    name: str
-    data: bytes
-    counts: "dict[int, list[int]]"
+    def __init__(self, kind: str, name: str, data: bytes, counts: "dict[int, list[int]]") -> None:
+        self.kind, self.name, self.data, self.counts = kind, name, data, counts
+        self.lines = set().union(*self.events()) if kind == "timeline" else {b"%d" % size for size in counts}
+        self.sizes = sorted(int(line) for line in self.lines if line.isdigit())
 
     @property
     def digest(self) -> str:
         return hashlib.sha256(self.data).hexdigest()
-
-    def sizes(self) -> "list[int]":
-        """The sizes that were requested, but for large ones."""
-        if self.kind != "timeline":
-            return sorted(self.counts)
-        return sorted(int(event) for event in set().union(*self.events()) if event.isdigit())
 
     def events(self) -> "Iterator[list[bytes]]":
         """The events of a timeline, in pieces."""
@@ -40,18 +34,18 @@ class Record(NamedTuple):
         if self.kind != "timeline":
             rows = [[amount.get(size, 0) * count for count in counts] for size, counts in self.counts.items()]
             return max(map(sum, zip(*rows)), default=0)
-        weights = {event: 0 for event in set().union(*self.events())}
+        weights = dict.fromkeys(self.lines, 0)
         weights |= {b"%d" % size: each for size, each in amount.items()} | {b"-%d" % size: -each for size, each in amount.items()}
         most = live = 0
         for events in self.events():
-            for live in itertools.accumulate(map(weights.__getitem__, events), initial=live):
-                most = live if live > most else most
+            sums = list(itertools.accumulate(map(weights.__getitem__, events), initial=live))
+            most, live = max(most, max(sums)), sums[-1]
         return most
 
     def changed(self, size_of: "dict[int, int]", more: "dict[int, int]") -> bytes:
         """The same with other sizes, without those that have none; and with more blocks of sizes, which are live from begin to end."""
         if self.kind == "timeline":
-            words = {event: b"" for event in set().union(*self.events())}
+            words = dict.fromkeys(self.lines, b"")
             for size, other in size_of.items():
                 words |= {b"%d" % size: b"%d\n" % other, b"-%d" % size: b"-%d\n" % other}
             first = b"".join(b"%d\n" % size * count for size, count in more.items())
@@ -77,6 +71,6 @@ def read_record(path: str, name: str) -> Record:
         record = Record("profile", name, data, {size: [count] for size, count in counts.items() if count and size != "large"})
     if any(count > MOST_COUNT for counts in record.counts.values() for count in counts):
         raise Refusal(2, f"{printable(name)}: a count is above {MOST_COUNT:,}, the most that a text may have")
-    if not record.sizes():
+    if not record.sizes:
         raise Refusal(3, f"{printable(name)} has no request of at most {LARGEST_SIZE:,} bytes: there is nothing to tune")
     return record

@@ -173,7 +173,7 @@ def table_of(name: str, sizes: "list[int]", fits: "list[parts.PartFit]", record:
         raise Refusal(2, f"{outside[0]:,} bytes are not above {model.ends[0]:,} and up to {model.ends[-1]:,}, as the sizes are for {model.title}")
     taken = sum(fit.part.taken(sizes, fit.text) for fit in fits)
     every = sorted({*sizes, *(size for fit in fits for size in fit.part.held)})
-    blocks = {size: next((block for fit in fits if (block := fit.part.block(size))), 0) for size in record.sizes()}
+    blocks = {size: next((block for fit in fits if (block := fit.part.block(size))), 0) for size in record.sizes}
     cost = {each: cost for fit in fits for each, cost in fit.part.cost.items()}
     amounts = {size: cost[min(each for each in every if each >= block)] for size, block in blocks.items() if block}
     return Table(name, every, taken, record.most(amounts))
@@ -189,7 +189,7 @@ def summary(answer: Answer) -> str:
     said = [prediction(answer), *(fit.sentence(answer.record) for fit in answer.fits)]
     if len(answer.fits) > 1:
         said.append(claims.shared_sizes(f"{end:,}" for end in ends[1:-1]))
-    if alone := answer.record.most({size: size for size in answer.record.sizes() if not any(fit.part.block(size) for fit in answer.fits)}):
+    if alone := answer.record.most({size: size for size in answer.record.sizes if not any(fit.part.block(size) for fit in answer.fits)}):
         said.append(f"Left alone are smaller and larger blocks, of requests with {figures.kibibytes(alone)} live at most, and large ones.")
     if figures.helps(answer.saved(), own.taken):
         said += [f"To build, by {model.build}:", ",".join(map(str, answer.sizes))]
