@@ -41,9 +41,9 @@ GENERAL = {
     "pools of small runs, and not proved: that a request of so many bytes takes so many units, and that such a table is pools with as\n"
     "many blocks as are live at most.",
     "allocators": "What is proved: for the requests in numbers, `mte_tool check-fit` says `optimal` only where, of the tables of at most K\n"
-    "classes, all multiples of the fit's step, that serve them, none takes less. No class is forced. What is tested against all tables\n"
-    "of small records, and not proved: that classes are block sizes at their costs. An allocator with more than 32 sizes is fitted in\n"
-    "parts; of how many sizes each has nothing is shown.",
+    "classes, all multiples of the fit's step, that serve them, none takes less. No class is forced. What is tested against\n"
+    "all tables of small records, and not proved: that classes are block sizes at their costs. An allocator with more than 32\n"
+    "sizes is fitted in parts; of how many sizes each has nothing is shown.",
     "fleet": "The last sentence has what\nbounds the worst of every table of at most K classes, multiples of S granules, with class 1024 but "
     "for --no-largest, by a certificate;\nwhere that is the worst of this one, none of these has a lower one.",
 }

@@ -12,8 +12,8 @@ from mte_scripts.tables import figures
 
 
 class Record:
-    """A record of this name: of a timeline the DATA, else the counts of each size at some moments, of a profile at one. SIZES were requested, but
-    for large ones."""
+    """A record of this name: of a timeline the DATA, else the counts of each size at some moments, of a profile at one.
+    SIZES were requested, but for large ones."""
 
     def __init__(self, kind: str, name: str, data: bytes, counts: "dict[int, list[int]]") -> None:
         self.kind, self.name, self.data, self.counts = kind, name, data, counts
@@ -30,12 +30,13 @@ class Record:
             yield piece[:-1].split(b"\n")
 
     def most(self, amount: "dict[int, int]") -> int:
-        """The most of all live blocks together at a moment, each with the amount of its size; the others count for nothing."""
+        """The most of all live blocks together at a moment, each with the amount of its size, the others with 0."""
         if self.kind != "timeline":
             rows = [[amount.get(size, 0) * count for count in counts] for size, counts in self.counts.items()]
             return max(map(sum, zip(*rows)), default=0)
         weights = dict.fromkeys(self.lines, 0)
-        weights |= {b"%d" % size: each for size, each in amount.items()} | {b"-%d" % size: -each for size, each in amount.items()}
+        for size, each in amount.items():
+            weights |= {b"%d" % size: each, b"-%d" % size: -each}
         most = live = 0
         for events in self.events():
             sums = list(itertools.accumulate(map(weights.__getitem__, events), initial=live))
@@ -43,13 +44,14 @@ class Record:
         return most
 
     def changed(self, size_of: "dict[int, int]", more: "dict[int, int]") -> bytes:
-        """The same with other sizes, without those that have none; and with more blocks of sizes, which are live from begin to end."""
+        """The same with other sizes, without those that have none; and with more blocks of sizes, live all the time."""
         if self.kind == "timeline":
             words = dict.fromkeys(self.lines, b"")
             for size, other in size_of.items():
                 words |= {b"%d" % size: b"%d\n" % other, b"-%d" % size: b"-%d\n" % other}
             first = b"".join(b"%d\n" % size * count for size, count in more.items())
-            return b"timeline\n" + first + b"".join(b"".join(map(words.__getitem__, events)) for events in self.events())
+            pieces = (b"".join(map(words.__getitem__, events)) for events in self.events())
+            return b"".join([b"timeline\n", first, *pieces])
         snapshots = len(next(iter(self.counts.values())))
         rows: "dict[int, list[int]]" = {size: [count] * snapshots for size, count in more.items()}
         for size in size_of.keys() & self.counts.keys():
@@ -68,9 +70,11 @@ def read_record(path: str, name: str) -> Record:
         record = Record("history", name, data, {size: each for size, each in counts.items() if size != "large"})
     else:
         counts = count_texts.parse_profile(data, name)
-        record = Record("profile", name, data, {size: [count] for size, count in counts.items() if count and size != "large"})
+        sized = {size: [count] for size, count in counts.items() if count and size != "large"}
+        record = Record("profile", name, data, sized)
     if any(count > MOST_COUNT for counts in record.counts.values() for count in counts):
         raise Refusal(2, f"{printable(name)}: a count is above {MOST_COUNT:,}, the most that a text may have")
     if not record.sizes:
-        raise Refusal(3, f"{printable(name)} has no request of at most {LARGEST_SIZE:,} bytes: there is nothing to tune")
+        none = f"no request of at most {LARGEST_SIZE:,} bytes: there is nothing to tune"
+        raise Refusal(3, f"{printable(name)} has {none}")
     return record

@@ -4,6 +4,7 @@ import argparse
 import os
 import re
 import sys
+from bisect import bisect_left
 from typing import Any, NamedTuple
 
 from mte_scripts import claim_words, claims, private_folder, text_files, text_layout
@@ -19,12 +20,17 @@ from mte_scripts.words import ProgramWords, nonempty_word, number_between
 
 GROWS = 90  # percent of what sizes take that are live at one moment, where a program grows
 WIDTH = 100
-LISTED = "".join(
-    f"  {name:16} {sum(size > its.ends[0] for size in its.own)} sizes above {its.ends[0]} and up to {its.ends[-1]:,} bytes\n" for name, its in MODELS.items()
-)
+
+
+def listed(name: str, model: Model) -> str:
+    """What the help says of a model."""
+    number = sum(size > model.ends[0] for size in model.own)
+    return f"  {name:16} {number} sizes above {model.ends[0]} and up to {model.ends[-1]:,} bytes\n"
+
+
 HELP = f"""\
-Find block sizes for an allocator with size classes that take less memory for a program than its own, and say what they save, or
-that there is nothing to gain.
+Find block sizes for an allocator with size classes that take less memory for a program than its own, and say what they
+save, or that there is nothing to gain.
 
 Usage: tune_allocator NAME [OPTION..] PROGRAM ARGS..
        tune_allocator NAME [OPTION..] --read FILE
@@ -32,19 +38,20 @@ Usage: tune_allocator NAME [OPTION..] PROGRAM ARGS..
   --limit K        at most so many sizes; as many as the allocator has where it is left out
   --against SIZES  other sizes to compare with, as 16,32,48
   --line           print the sizes alone, as they are built in
-  --output FOLDER  make a folder with the record, the sizes, and for each part of them what mte_tool was given and what it printed
+  --output FOLDER  make a folder with the record, the sizes, and for each part what mte_tool was given and has printed
   --only NAME      follow only processes whose program has this name, as NAME of /usr/bin/NAME
   --read FILE      run no program: take a timeline, a history or a profile; `-` for standard input
 
-NAME is one of these, whose largest size stays, and for {" and ".join(name for name in MODELS if MODELS[name].forced)} some others:
-{LISTED}
-The program runs under scripts/profile_program, which makes a timeline of it, and as ever: its standard input is its own, its
-standard output goes to standard error. {", ".join(name for name in MODELS if MODELS[name].serves)} serve no program's malloc: they take a FILE.
+NAME is one of these. The largest size stays, and in kmalloc and aset some others:
+{"".join(listed(name, model) for name, model in MODELS.items())}
+The program runs under scripts/profile_program, which makes a timeline of it, and as ever: its standard input is its
+own, its standard output goes to standard error. go, kmalloc and aset serve no program's malloc: they take a FILE.
 
-What sizes take is the sum over the sizes of the most of their blocks live at once, each at its cost. An allocator takes that which
-gives the memory of one size never to another. Most give what is wholly free to others. So a saving is predicted only where a
-program grows: where what is live at one moment comes within {100 - GROWS}% of that sum. Smaller and larger blocks are left alone, and
-what is of no one block is not seen: slabs that are partly free, caches of threads, alignment.
+What sizes take is the sum over the sizes of the most of their blocks live at once, each at its cost. That is what an
+allocator takes that gives the memory of one size never to another. Most give what is wholly free to others. So a saving
+is predicted only where a program grows: if what is live at one moment comes within {100 - GROWS}% of that sum. Smaller
+and larger blocks are left alone. What is of no one block is not seen: slabs that are partly free, caches of threads,
+alignment.
 
 {claim_words.general_sentence("allocators")}
 
@@ -63,6 +70,7 @@ Examples:
 class Options(argparse.Namespace):
     words: "list[str]"
     read: "str | None"
+    output: "str | None"
 
     def __init__(self, words: "list[str]") -> None:
         is_first = bool(words) and not words[0].startswith("-")
@@ -83,7 +91,8 @@ class Options(argparse.Namespace):
             what = f"place for {self.words[0]}" if self.words else "process that --only could name"
             raise Refusal(2, f"--read runs no program, so there is no {what}")
         if self.model.serves and self.read is None:
-            raise Refusal(2, f"{self.model.title} serves no malloc of a program: give a record of what {self.model.serves}, by --read")
+            what = f"a record of what {self.model.serves}"
+            raise Refusal(2, f"{self.model.title} serves no malloc of a program: give {what}, by --read")
 
 
 def sizes_of(value: str) -> "list[int]":
@@ -103,7 +112,8 @@ class Table(NamedTuple):
 
 
 class Answer(NamedTuple):
-    """The fits of the parts, and the tables: the allocator's own, the fitted one, and others. SIZES are to be built, and come to BUILT."""
+    """The fits of the parts, and the tables: the own one, the fitted one, and others. SIZES are to be built, and
+    come to BUILT."""
 
     model: Model
     record: Record
@@ -115,17 +125,32 @@ class Answer(NamedTuple):
     def saved(self) -> int:
         return self.tables[0].taken - self.built.taken
 
+    def cells(self, table: Table) -> "list[str]":
+        """The row of a table."""
+        own = self.tables[0].taken
+        less = own - table.taken
+        saved = [figures.kibibytes(less), figures.percent(less, own)] if table is not self.tables[0] else ["", ""]
+        return [table.name, str(len(table.sizes)), figures.kibibytes(table.taken), *saved]
+
     def grows(self) -> bool:
         """Whether blocks of all sizes are live at one moment, nearly all that there ever are."""
         return all(100 * each.live >= GROWS * each.taken for each in (self.tables[0], self.built))
 
 
 def tune_allocator(words: "list[str]") -> int:
-    options = Options(words)
+    options, status = Options(words), 0
     figures.run(["footprint"], "snapshots 1\n16 1\n", [2])  # there is a program, before another one runs
     place = text_files.new_folder(options.output, "--output") if options.output is not None else None
-    record, status = (read_record(options.read, text_files.input_name(options.read)), 0) if options.words == [] else record_program(options)
-    answer = answer_record(options, record)
+    try:
+        if options.read is None:
+            record, status = record_program(options)
+        else:
+            record = read_record(options.read, text_files.input_name(options.read))
+        answer = answer_record(options, record)
+    except BaseException:
+        if place:
+            os.rmdir(options.output)  # there is nothing in it
+        raise
     line = ",".join(map(str, answer.sizes)) + "\n"
     if place:
         place.write(f"record.{record.kind}", record.data)
@@ -139,15 +164,16 @@ def tune_allocator(words: "list[str]") -> int:
 
 def record_program(options: Options) -> "tuple[Record, int]":
     """Runs the program: its record, and 1 where it ended with another status than 0."""
-    recording.find_program(options.words[0])
-    only = ["--only", options.only] if options.only else []
-    command = [sys.executable, "-ISXutf8", "--", os.path.join(SCRIPTS, "profile_program"), "--timeline", *only, "--", *options.words]
+    name = options.words[0]
+    recording.find_program(name)
+    words = ["--timeline", *(["--only", options.only] if options.only else []), "--", *options.words]
+    command = [sys.executable, "-ISXutf8", "--", os.path.join(SCRIPTS, "profile_program"), *words]
     with private_folder.temporary_folder() as work:
         with open(work.file("record"), "wb") as file:
             status = children.run(command, stdout=file)
         if status not in (0, 1):
-            raise Refusal(3, f"nothing is recorded of {options.words[0]}")
-        return read_record(work.file("record"), os.path.basename(options.words[0])), status
+            raise Refusal(3, f"nothing is recorded of {name}")
+        return read_record(work.file("record"), os.path.basename(name)), status
 
 
 def answer_record(options: Options, record: Record) -> Answer:
@@ -169,43 +195,44 @@ def answer_record(options: Options, record: Record) -> Answer:
 def table_of(name: str, sizes: "list[int]", fits: "list[parts.PartFit]", record: Record) -> Table:
     """What block sizes come to, with those that stay."""
     model = fits[0].part.model
-    if outside := [size for size in sizes if not model.ends[0] < size <= model.ends[-1]]:
-        raise Refusal(2, f"{outside[0]:,} bytes are not above {model.ends[0]:,} and up to {model.ends[-1]:,}, as the sizes are for {model.title}")
+    low, top = model.ends[0], model.ends[-1]
+    if outside := [size for size in sizes if not low < size <= top]:
+        raise Refusal(2, f"{outside[0]:,} bytes are not above {low} and up to {top:,}, as sizes are for {model.title}")
     taken = sum(fit.part.taken(sizes, fit.text) for fit in fits)
     every = sorted({*sizes, *(size for fit in fits for size in fit.part.held)})
-    blocks = {size: next((block for fit in fits if (block := fit.part.block(size))), 0) for size in record.sizes}
-    cost = {each: cost for fit in fits for each, cost in fit.part.cost.items()}
-    amounts = {size: cost[min(each for each in every if each >= block)] for size, block in blocks.items() if block}
+    cost = {size: each for fit in fits for size, each in fit.part.cost.items()}
+    blocks = {size: block for fit in fits for size in record.sizes if (block := fit.part.block(size))}
+    amounts = {size: cost[every[bisect_left(every, block)]] for size, block in blocks.items()}
     return Table(name, every, taken, record.most(amounts))
 
 
 def summary(answer: Answer) -> str:
-    model, ends, own = answer.model, answer.model.ends, answer.tables[0]
-    rows = [["Table", "sizes", "takes", "less", ""]]
-    for table in answer.tables:
-        less = own.taken - table.taken
-        cells = [figures.kibibytes(less), figures.percent(less, own.taken)] if table is not own else ["", ""]
-        rows.append([table.name, str(len(table.sizes)), figures.kibibytes(table.taken), *cells])
-    said = [prediction(answer), *(fit.sentence(answer.record) for fit in answer.fits)]
+    model, record, ends, own = answer.model, answer.record, answer.model.ends, answer.tables[0]
+    lines = [f"{printable(record.name)} in {model.title}, blocks above {ends[0]} and up to {ends[-1]:,} bytes", ""]
+    said = [prediction(answer), *(fit.sentence(record) for fit in answer.fits)]
     if len(answer.fits) > 1:
         said.append(claims.shared_sizes(f"{end:,}" for end in ends[1:-1]))
-    if alone := answer.record.most({size: size for size in answer.record.sizes if not any(fit.part.block(size) for fit in answer.fits)}):
-        said.append(f"Left alone are smaller and larger blocks, of requests with {figures.kibibytes(alone)} live at most, and large ones.")
+    alone = {size: size for size in record.sizes if not any(fit.part.block(size) for fit in answer.fits)}
+    if live := record.most(alone):
+        others = f"of requests with {figures.kibibytes(live)} live at most, and large ones"
+        said.append(f"Left alone are smaller and larger blocks, {others}.")
     if figures.helps(answer.saved(), own.taken):
         said += [f"To build, by {model.build}:", ",".join(map(str, answer.sizes))]
-    lines = [f"{printable(answer.record.name)} in {model.title}, blocks above {ends[0]} and up to {ends[-1]:,} bytes", "", *text_layout.columns(rows)]
-    return "".join(f"{line}\n" for line in [*lines, *(each for text in said for each in ["", *text_layout.wrap_text(text, WIDTH)])])
+    lines += text_layout.columns([["Table", "sizes", "takes", "less", ""], *map(answer.cells, answer.tables)])
+    lines += [line for text in said for line in ["", *text_layout.wrap_text(text, WIDTH)]]
+    return "".join(f"{line}\n" for line in lines)
 
 
 def prediction(answer: Answer) -> str:
     """What follows for the memory of the program."""
-    own, built, saved, title = answer.tables[0], answer.built, answer.saved(), answer.model.title
-    if not figures.helps(saved, own.taken):
-        return f"Nothing to gain: {title} as it is takes {figures.kibibytes(own.taken)}, and with other sizes {figures.kibibytes(built.taken)}."
+    own, built, title = answer.tables[0], answer.built, answer.model.title
+    saved, *amounts = map(figures.kibibytes, (answer.saved(), own.live, own.taken, built.live, built.taken))
+    if not figures.helps(answer.saved(), own.taken):
+        return f"Nothing to gain: {title} as it is takes {amounts[1]}, and with other sizes {amounts[3]}."
     if answer.model.keeps_empty:
-        return f"Predicted: {figures.kibibytes(saved)} less. What blocks of one size have taken, no other size gets."
-    both = f"{figures.kibibytes(own.live)} of {figures.kibibytes(own.taken)}, and {figures.kibibytes(built.live)} of {figures.kibibytes(built.taken)}"
+        return f"Predicted: {saved} less. What blocks of one size have taken, no other size gets."
+    live = "Live at one moment are {} of {}, and {} of {}.".format(*amounts)
     if answer.grows():
-        return f"Predicted: {figures.kibibytes(saved)} less. The program grows: live at one moment are {both}."
-    return (f"No saving is predicted: sizes have their most blocks at different moments, and {title} gives memory that is wholly free to other "
-            f"sizes. Live at one moment are {both}. Measure it.")
+        return f"Predicted: {saved} less. The program grows. {live}"
+    why = f"blocks of the sizes peak at different moments, and {title} gives memory that is wholly free to other sizes"
+    return f"No saving is predicted: {why}. {live} Measure it."
