@@ -82,7 +82,7 @@ def sizes_above(model, low, top):
     return sorted({*multiples, *(size for size in model.own if low < size <= top)})
 
 
-def taken(model, table, moments, low, top):
+def cost_of(model, table, moments, low, top):
     """The sum over the sizes of a table of the most of their blocks at once, each at its cost."""
     most = dict.fromkeys(table, 0)
     for live in moments:
@@ -102,12 +102,12 @@ def lowest(model, low, top, limit, moments):
     needs = {min(size for size in legal if size >= each) for each in wanted if low < each <= top}
     near = {size for need in needs for size in legal[legal.index(need) :][:3]} - kept
     extra = (more for count in range(limit - len(kept) + 1) for more in itertools.combinations(sorted(near), count))
-    return min(taken(model, sorted(kept | {*more}), moments, low, top) for more in extra)
+    return min(cost_of(model, sorted(kept | {*more}), moments, low, top) for more in extra)
 
 
 def saved_bytes(moments):
     """What the least table of jemalloc takes less than its own."""
-    return taken(JEMALLOC, JEMALLOC.own, moments, 8, 4096) - lowest(JEMALLOC, 8, 4096, 6, moments)
+    return cost_of(JEMALLOC, JEMALLOC.own, moments, 8, 4096) - lowest(JEMALLOC, 8, 4096, 6, moments)
 
 
 def random_record(chosen, model, kind):
@@ -137,7 +137,7 @@ def history_of(rows, kind="history"):
 
 class Truth(claims_cases.WithProgram):
     def test_models(self):
-        """A model's own sizes are among those that there may be, each with a number that a class may have, by its cost."""
+        """A model's own sizes are among those that there may be, each with a number of a class, by its cost."""
         parted = [(name, model, low) for name, model in MODELS.items() for low in model.ends[:-1]]
         for name, model, low in parted:
             top = model.ends[model.ends.index(low) + 1]
@@ -150,7 +150,8 @@ class Truth(claims_cases.WithProgram):
             costs = [size for size in part.sizes if part.number[size] * part.grain != part.times * model.cost(size)]
             expect(f"{what}: costs", not costs, *costs)
             left = [size for size in sizes_above(model, low, top) if size not in part.number]
-            wrong = [size for size in left if model.cost(size) < min(model.cost(each) for each in part.sizes if each > size)]
+            above = {size: min(model.cost(each) for each in part.sizes if each > size) for size in left}
+            wrong = [size for size in left if model.cost(size) < above[size]]
             expect(f"{what}: what is left out costs no less than a larger one", not wrong, *wrong)
 
     def test_small_records(self):
@@ -166,8 +167,8 @@ class Truth(claims_cases.WithProgram):
             compared += len(fits)
             ends = [(fit.part.low, fit.part.top) for fit in fits]
             own = [[size for size in model.own if low < size <= top] for low, top in ends]
-            costs = sum(taken(model, sizes, moments, *each) for sizes, each in zip(own, ends))
-            got = sum(fit.part.taken(sum(own, []), fit.text) for fit in fits)
+            costs = sum(cost_of(model, sizes, moments, *each) for sizes, each in zip(own, ends))
+            got = sum(fit.part.footprint(sum(own, []), fit.text) for fit in fits)
             expect(f"{name}, {kind} {trial}: what its own sizes take", costs == got, costs, got)
         expect(f"{compared} fits are compared", compared > 200)
 
@@ -175,7 +176,7 @@ class Truth(claims_cases.WithProgram):
         """A fit of a part, and what is said of it, with all tables."""
         part, limit = fit.part, fit.claim.numbers["limit"]
         least = lowest(part.model, part.low, part.top, limit, moments)
-        got, what = taken(part.model, fit.sizes, moments, part.low, part.top), f"{name}, to {part.top}, {limit} sizes"
+        got, what = cost_of(part.model, fit.sizes, moments, part.low, part.top), f"{name}, to {part.top}, {limit} sizes"
         is_least = fit.claim.holds and least == got == part.cost_of(fit.claim.cost)
         expect(f"{what}: the least of all tables", is_least, least, got, fit.sizes)
         said = fit.sentence(record)
@@ -197,7 +198,7 @@ class Truth(claims_cases.WithProgram):
         [fit] = parts.fit_parts(JEMALLOC, record, 28)
         sizes = parts.filled_sizes(JEMALLOC, fit.sizes, record)
         expect("27 sizes", len(sizes) == 27 and {*fit.sizes} <= {*sizes, 4096} and max(sizes) < 4096, *sizes)
-        expect("what is added costs nothing", fit.part.taken(sizes, fit.text) == fit.part.cost_of(fit.claim.cost))
+        expect("what is added costs nothing", fit.part.footprint(sizes, fit.text) == fit.part.cost_of(fit.claim.cost))
         many = history_of({size: [size % 7 + 1] for size in range(16, 4097, 16)})
         for limit in (2, 28):
             sizes = parts.filled_sizes(JEMALLOC, parts.fit_parts(JEMALLOC, many, limit)[0].sizes, many)
@@ -256,7 +257,7 @@ class Command(commands.Commands):
             pytest.skip("without a program and rustc: tune_allocator")
         cls.environment |= {"MTE_TOOL": program} if program else {}
 
-    def tuned(self, *words, status=0, **more):
+    def tune(self, *words, status=0, **more):
         """What tune_allocator prints, in one line."""
         return " ".join(self.runs(status, "*", "tune_allocator", *words, **more).split())
 
@@ -277,23 +278,23 @@ class Command(commands.Commands):
     def test_records(self):
         """What is said where there is nothing to gain, where a program grows, and where it does not."""
         self.write("small.profile", "24 5\n100 2\n")
-        text = self.tuned("jemalloc", "--read", "small.profile")
+        text = self.tune("jemalloc", "--read", "small.profile")
         begins = text.startswith("small.profile in jemalloc 5.3.0, blocks above 8 and up to 4,096 bytes Table sizes")
         none = "Nothing to gain: jemalloc 5.3.0 as it is takes 0.4 KiB, and with other sizes 0.4 KiB."
         expect("nothing to gain", begins and none in text and "To build" not in text, text)
         self.write("falls.history", "snapshots 2\n1030 4000 0\n3000 0 900\n")
-        text = self.tuned("jemalloc", "--read", "falls.history")
+        text = self.tune("jemalloc", "--read", "falls.history")
         none = "No saving is predicted: blocks of the sizes peak at different moments"
         expect("no saving is predicted", none in text, text)
-        text = self.tuned("aset", "--read", "falls.history")
+        text = self.tune("aset", "--read", "falls.history")
         expect("what no other size gets", "less. What blocks of one size have taken, no other size gets." in text, text)
-        text = self.tuned("musl", "--read", "-", given="timeline\n24\n2000\n")
+        text = self.tune("musl", "--read", "-", given="timeline\n24\n2000\n")
         expect("two parts", len(CLAIM.findall(text)) == 2 and "How many sizes are up to 2,032 bytes" in text, text)
 
     def test_folder(self):
         """What a program that grows is told, and what is left in the folder."""
         self.write("grows.history", "snapshots 2\n1030 2000 4000\n3000 100 900\n5 0 7\n9000 1 2\n")
-        text = self.tuned("jemalloc", "--read", "grows.history", "--output", "made", "--against", "1056,2048")
+        text = self.tune("jemalloc", "--read", "grows.history", "--output", "made", "--against", "1056,2048")
         saved = figures.kibibytes(saved_bytes([{1030: 2000, 3000: 100}, {1030: 4000, 3000: 900}]))
         expect("what is predicted", f"Predicted: {saved} less. The program grows. Live" in text, saved, text)
         expect("what is left alone", "of requests with 17.6 KiB live at most" in text, text)
@@ -320,8 +321,8 @@ class Command(commands.Commands):
             path = self.write("refusing", f'#!/bin/sh\n{answers}\nexec {program} "$@"\n', 0o755)
             text = self.runs(status, "*" * (not status), "tune_allocator", "jemalloc", *words, MTE_TOOL=path)
         text = " ".join(text.split())
-        is_bound = "`fit` found no certificate: the table takes 16,512 bytes" in text and "none takes less than 29 " in text
-        is_said = is_bound and "least footprint" not in text
+        bounds = "`fit` found no certificate: the table takes 16,512 bytes", "none takes less than 29 bytes."
+        is_said = all(each in text for each in bounds) and "Table sizes" in text and "least footprint" not in text
         expect("a bound is told, and no certificate", is_said, text)
 
     def test_program(self):
@@ -330,7 +331,7 @@ class Command(commands.Commands):
         subprocess.run(["cc", "-O0", "-x", "c", "-", "-o", self.path("blocks")], input=BLOCKS, text=True, check=True)
         wanted = saved_bytes([{1030: 4000, 520: 9000}]) / 1024
         for status in (0, 1):
-            text = self.tuned("jemalloc", "./blocks", *["7"] * status, status=status)
+            text = self.tune("jemalloc", "./blocks", *["7"] * status, status=status)
             found = re.search(r"least footprint \d+ [\d,]+ KiB ([\d,.]+) KiB", text)
             close = found and abs(float(found[1].replace(",", "")) - wanted) < 8
             expect(f"what two sizes save, with status {status}", close and "The program grows" in text, wanted, text)

@@ -67,7 +67,7 @@ class Part:
         added = sum(GRANULE_BYTES * self.number[size] * count for size, count in self.held.items())
         return -(-(footprint - added) * self.grain // (GRANULE_BYTES * self.times))
 
-    def taken(self, sizes: "list[int]", text: bytes) -> int:
+    def footprint(self, sizes: "list[int]", text: bytes) -> int:
         """What block sizes take over a record, as the program gets it: those of this part, with those that stay."""
         wanted = sorted({size for size in sizes if self.low < size <= self.top} | self.held.keys())
         if others := [size for size in wanted if size not in self.number]:

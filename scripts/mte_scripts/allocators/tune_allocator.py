@@ -22,7 +22,7 @@ GROWS = 90  # percent of what sizes take that are live at one moment, where a pr
 WIDTH = 100
 
 
-def listed(name: str, model: Model) -> str:
+def model_line(name: str, model: Model) -> str:
     """What the help says of a model."""
     number = sum(size > model.ends[0] for size in model.own)
     return f"  {name:16} {number} sizes above {model.ends[0]} and up to {model.ends[-1]:,} bytes\n"
@@ -43,7 +43,7 @@ Usage: tune_allocator NAME [OPTION..] PROGRAM ARGS..
   --read FILE      run no program: take a timeline, a history or a profile; `-` for standard input
 
 NAME is one of these. The largest size stays, and in kmalloc and aset some others:
-{"".join(listed(name, model) for name, model in MODELS.items())}
+{"".join(model_line(name, model) for name, model in MODELS.items())}
 The program runs under scripts/profile_program, which makes a timeline of it, and as ever: its standard input is its
 own, its standard output goes to standard error. go, kmalloc and aset serve no program's malloc: they take a FILE.
 
@@ -198,7 +198,7 @@ def table_of(name: str, sizes: "list[int]", fits: "list[parts.PartFit]", record:
     low, top = model.ends[0], model.ends[-1]
     if outside := [size for size in sizes if not low < size <= top]:
         raise Refusal(2, f"{outside[0]:,} bytes are not above {low} and up to {top:,}, as sizes are for {model.title}")
-    taken = sum(fit.part.taken(sizes, fit.text) for fit in fits)
+    taken = sum(fit.part.footprint(sizes, fit.text) for fit in fits)
     every = sorted({*sizes, *(size for fit in fits for size in fit.part.held)})
     cost = {size: each for fit in fits for size, each in fit.part.cost.items()}
     blocks = {size: block for fit in fits for size in record.sizes if (block := fit.part.block(size))}
