@@ -321,8 +321,7 @@ class Command(commands.Commands):
             path = self.write("refusing", f'#!/bin/sh\n{answers}\nexec {program} "$@"\n', 0o755)
             text = self.runs(status, "*" * (not status), "tune_allocator", "jemalloc", *words, MTE_TOOL=path)
         text = " ".join(text.split())
-        bounds = "`fit` found no certificate: the table takes 16,512 bytes", "none takes less than 29 bytes."
-        is_said = all(each in text for each in bounds) and "Table sizes" in text and "least footprint" not in text
+        is_said = "none takes less than 29 bytes." in text and " the fit 2 " in text and "least footprint" not in text
         expect("a bound is told, and no certificate", is_said, text)
 
     def test_program(self):
