@@ -19,7 +19,7 @@ from checks import expect
 from mte_scripts.allocators import models, parts, records
 from mte_scripts.allocators.models import MODELS
 from mte_scripts.entry_point import Refusal
-from mte_scripts.places import EXAMPLES
+from mte_scripts.places import EXAMPLES, ROOT
 from mte_scripts.tables import figures
 
 TRIALS = 12  # of each model, and kind of record
@@ -138,6 +138,11 @@ def history_of(rows, kind="history"):
 class Truth(claims_cases.WithProgram):
     def test_models(self):
         """A model's own sizes are among those that there may be, each with a number of a class, by its cost."""
+        with open(os.path.join(ROOT, "docs/ALLOCATORS.md"), encoding="utf-8") as file:
+            page = file.read()
+        for name, model in MODELS.items():
+            row = f"| `{name}` | {sum(size > model.ends[0] for size in model.own)} | {model.ends[-1]:,} |"
+            expect(f"{name}: its row of docs/ALLOCATORS.md", row in page, row)
         parted = [(name, model, low) for name, model in MODELS.items() for low in model.ends[:-1]]
         for name, model, low in parted:
             top = model.ends[model.ends.index(low) + 1]
