@@ -241,11 +241,11 @@ class Truth(claims_cases.WithProgram):
         checks.need("gcc", "the slabs of examples/jemalloc/classes.diff")
         with open(os.path.join(EXAMPLES, "jemalloc/classes.diff")) as file:
             added = "".join(line[1:] for line in file.read().splitlines(True) if line.startswith("+"))
-        loop = re.search(r"unsigned long best = 1, n;.*?\n\t\t\}\n", added, re.S)[0]
+        loop = re.search(r"unsigned long chosen = 1, n;.*?\n\t\t\}\n", added, re.S)[0]
         begin = "#define PAGE 4096ul\n#define BITMAP_MAXBITS 512\nint pages(unsigned long size)"
         library, how = os.path.join(self.folder(), "slabs.so"), {"text": True, "check": True}
         words = ["gcc", "-shared", "-fPIC", "-x", "c", "-", "-o", library]
-        subprocess.run(words, input=f"{begin} {{ {loop} return best; }}\n", **how)
+        subprocess.run(words, input=f"{begin} {{ {loop} return chosen; }}\n", **how)
         pages = ctypes.CDLL(library).pages
         wrong = [size for size in range(16, 4096, 16) if pages(ctypes.c_ulong(size)) != models.slab_pages(size)]
         expect("the pages of slabs", not wrong, *wrong)
