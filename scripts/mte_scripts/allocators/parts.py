@@ -140,7 +140,8 @@ def share_sizes(found: "list[PartFit]", budget: int) -> "tuple[int, ...]":
 
 
 def filled_sizes(model: Model, sizes: "list[int]", record: Record) -> "list[int]":
-    """Block sizes below the largest, as many as there have to be: first such that no request gets, and its own."""
+    """Block sizes below the largest, as many as there have to be: first such that few sizes of requests get, and its
+    own."""
     top = model.ends[-1]
     parts = [Part(model, low, end) for low, end in zip(model.ends, model.ends[1:])]
     needed = {part.block(size) for part in parts for size in record.sizes}
@@ -148,6 +149,6 @@ def filled_sizes(model: Model, sizes: "list[int]", record: Record) -> "list[int]
     while len(found) < model.exact:
         left = [size for size in every if size not in found]
         below = {size: max((each for each in found if each < size), default=0) for size in left}
-        is_needed = {size: any(below[size] < each <= size for each in needed) for size in left}
-        found.add(min(left, key=lambda size: (is_needed[size], size not in model.own, -size)))
+        served = {size: sum(below[size] < each <= size for each in needed) for size in left}
+        found.add(min(left, key=lambda size: (served[size], size not in model.own, -size)))
     return sorted(found)
