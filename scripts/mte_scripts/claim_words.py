@@ -40,6 +40,10 @@ GENERAL = {
     "multiples of the fit's step, that serve them, none takes less over every moment. No class is forced. What is tested against all\n"
     "pools of small runs, and not proved: that a request of so many bytes takes so many units, and that such a table is pools with as\n"
     "many blocks as are live at most.",
+    "allocators": "What is proved: for the requests in numbers, `mte_tool check-fit` says `optimal` only where, of the tables of at most K\n"
+    "classes, all multiples of the fit's step, that serve them, none takes less. No class is forced. What is tested against\n"
+    "all tables of small records, and not proved: that classes are block sizes at their costs. An allocator with more than 32\n"
+    "sizes is fitted in parts; of how many sizes each has nothing is shown.",
     "fleet": "The last sentence has what\nbounds the worst of every table of at most K classes, multiples of S granules, with class 1024 but "
     "for --no-largest, by a certificate;\nwhere that is the worst of this one, none of these has a lower one.",
 }
@@ -55,6 +59,7 @@ TEMPLATES = {
     "how.bound": ", of counts that bound those of it",
     "how.units": ", in units of {unit} bytes",
     "how.capped": ", with the counts of {machines} cut at {most} times the median of each size",
+    "how.retabled": ", in numbers for {allocator}",
     "how.changed": ", but for the requests of one place and size",
     "profile.claim": "of {tables}, none wastes less on its {requests} of {sizes}, {bytes} in all{large}, than {cost}.",
     "history.claim": "of {tables}, none takes less over its {snapshots} than {cost}.",
@@ -118,6 +123,14 @@ TEMPLATES = {
     "pools.snapshots": "the snapshots of {given}",
     "pools.all": "{known} Tested, and not proved: a request takes so many units; so {claim}",
     "pools.each.so": "The same holds of each number above, with its own limit.",
+    # block sizes of an allocator: {over} is allocator.KIND
+    "allocator.claim": "of the tables of at most {sizes} of {allocator}, from {first} to {top} bytes, its own or multiples of {unit}, {kept} among "
+    "them, that serve {over}, none takes less than {cost}.",
+    "allocator.timeline": "every moment of {given}",
+    "allocator.history": "the snapshots of {given}",
+    "allocator.profile": "{given}",
+    "allocator.all": "{known} Tested, and not proved: {words}, and a request gets the smallest that holds it; so {claim}",
+    "allocator.shared": "How many sizes are up to {ends} bytes, and how many above, was chosen: of other numbers nothing is shown.",
     # of a program that is not known to be proved
     "program.other": "MTE_TOOL names another program, {path}: nothing is proved of what it answers",
     "picture.unproved": "not proved: {why}",

@@ -265,6 +265,21 @@ def pools(claim: Claim, runs: Iterable[str], is_sampled: bool, block: "tuple[int
     return claim_sentence("pools.all", known=claim.known(), claim=said_)
 
 
+def block_sizes(claim: Claim, given: "tuple[str, str, str]", cost: int, places: "dict[str, str]") -> str:
+    """What is known of an allocator's block sizes: the claim is of a record in numbers. GIVEN are the kind of the record, its name and its
+    digest; COST are the bytes of the blocks, or by the bound; PLACES are others of allocator.claim."""
+    kind, name, digest = given
+    over = fill_template(f"allocator.{kind}", given=fill_template("input", name=quote_name(name), digest=digest[:DIGITS], how=""))
+    sizes = count_text(claim.numbers["limit"], "block size")
+    said_ = fill_template("allocator.claim", sizes=sizes, over=over, cost=byte_text(cost), **places)
+    return claim_sentence("allocator.all", known=claim.known(), claim=said_, words=places["words"])
+
+
+def shared_sizes(ends: Iterable[str]) -> str:
+    """What is not known of several parts of block sizes, which meet at these."""
+    return claim_sentence("allocator.shared", ends=join_words(ends))
+
+
 def curve(claim: Claim, step: int, forced: int) -> str:
     """What the line over the numbers of classes shows."""
     return claim_sentence(

@@ -203,7 +203,7 @@ def forms(draw: random.Random, folder: str) -> "list[list[str]]":
     os.makedirs(log, exist_ok=True)
     spoiled_file(draw, log, "log", draw.choice((profile, draw.randbytes(500))))
     every = [["check_sheet", b, a], ["draw_waste", a], ["merge_profiles", a, c], ["report", a, b], ["scudo_classes", b], ["pools", c],
-             ["scudo_classes", "--config", b], ["tune_program", "--output", os.path.join(folder, "tuned"), "--read", c], ["fleet_profiles", d],
+             ["tune_allocator", "jemalloc", "--read", c], ["scudo_classes", "--config", b], ["tune_program", "--output", os.path.join(folder, "tuned"), "--read", c], ["fleet_profiles", d],
              ["find_faults", "--read", log]]
     return [words for words in every if not checks.missing_tools(f"scripts/{words[0]}")]
 

@@ -11,7 +11,7 @@ from typing import NoReturn
 GROUPS = {
     "unbuilt": """layout alone dead twice comments names refusals statement endings types interface scripts launcher first_answer
         recorders unfollowed hostile imports folders faults_folders programs texts numbers sanitizer_reports rollout
-        many""".split(),
+        many allocators""".split(),
     "built": """program formats claims sentences footprint footprint_law timeline windows long_runs who fleet fleet_claims pools
         documents memory build tuning release_model services servers fleet_servers qemu faults faults_asan odds findings faults_builds faults_costs
         library page checker modules package adversary plants definitions""".split(),

@@ -35,6 +35,7 @@ PARTS = {
         "fleet_month.py test_fleet.py test_fleet_claims.py test_fleet_servers.py test_fleet_simulation.py test_rollout.py",
     ),
     "pools": Part("scripts/mte_scripts/pools", "pools", "test_pools.py test_pools_lwip.py"),
+    "allocators": Part("scripts/mte_scripts/allocators", "tune_allocator", "test_allocators.py"),
     "faults": Part(
         "scripts/mte_scripts/faults", "find_faults traced_c++ traced_cc",
         "faults_programs heap_cases.py heap_rows.tsv known_bugs_programs sanitizer_reports_data simulated_heaps.py slot_model.py test_faults.py "

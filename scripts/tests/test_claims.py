@@ -259,6 +259,7 @@ def test_templates():
         expect(f"{kind}: its large requests: {said}", ("without 4 large ones" in said) == (kind == "profile"))
         others = [claims.bound(claim, "load", 7, False), claims.worst(claim, '"load"', 1.0, 2.0, True), claims.curve(claim, 2, forced),
                   *claims.interval(claim, 80_000, 5), claims.pools(claim, ["run"], kind == "history", (8, 4), 9), claims.who_input(claim),
+                  claims.block_sizes(claim, (kind, "run", digest), 9, dict.fromkeys("allocator words unit first top kept".split(), "4")),
                   claims.place_cost(claim, claim, "f", 16, 1, 32, 4), claims.regret(claim, "load", "the table", 5, 1.0)]
         expect(f"{kind}: a place is left open", not any("{" in each for each in others), *others)
         proved = [each for each in others if "roved" in each and not re.search("[Tt]ested,? and not proved|tested and not proved", each)]

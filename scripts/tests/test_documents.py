@@ -18,7 +18,7 @@ from mte_scripts.entry_point import Refusal
 from mte_scripts.places import ROOT, SCRIPTS
 from mte_scripts.reports import prices as drawn_prices
 
-DOCUMENTS = ["README.md", *(f"docs/{name}.md" for name in "TUNING POOLS CERTIFICATES FORMATS FAULTS HEAP".split())]
+DOCUMENTS = ["README.md", *(f"docs/{name}.md" for name in "TUNING ALLOCATORS POOLS CERTIFICATES FORMATS FAULTS HEAP".split())]
 DOCUMENTS += [f"examples/{name}/README.md" for name in ("build", "fleet", "memcached")]
 FEWEST = 20  # commands
 NEEDED = ((r"(scripts/tune_program )?sqlite3 ", "sqlite3"), (r"(scripts/traced_c|gc)c ", "gcc"))  # of a command

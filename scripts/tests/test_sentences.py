@@ -36,7 +36,7 @@ ELSE = re.compile(
 )
 NAMES = [claim_words.TEMPLATES[f"{kind}.table"] for kind in ("profile", "timeline")]
 SCRIPTS = """check_sheet draw_waste fleet_day fleet_profiles fleet_regret fleet_rollout fleet_table fleet_trial
-    memcached_profile memcached_sizes merge_profiles pools profile_program report scudo_classes trace_program tune_program""".split()
+    memcached_profile memcached_sizes merge_profiles pools profile_program report scudo_classes trace_program tune_allocator tune_program""".split()
 
 
 # ---- the cases
@@ -120,6 +120,9 @@ CASES = [
     ("right", "pools --limit 2 --certificate P1 app.timeline", 0), ("right", "pools --limit 3 --overhead 8 --each app.history", 0),
     ("right", "pools --limit 2 --as c app.timeline", 0), ("refused", "pools --check app.pools app.history", 2),
     ("refused", "pools --check app.pools long.timeline", 1), ("right", "pools --check app.pools app.timeline", 0),
+    ("right", "tune_allocator jemalloc --limit 3 --output A1 --read app.timeline", 0), ("right", "tune_allocator musl --read app.history", 0),
+    ("right", "tune_allocator aset --read app.profile", 0), ("refused", "tune_allocator jemalloc --read app.history", 3, "refusing"),
+    ("bounded", "tune_allocator go --read app.timeline", 3, "bounding"),
     *(("help", f"{name} --help", 0) for name in SCRIPTS),
 ]
 
@@ -196,7 +199,7 @@ def faults_of_claim(match, said, kind, words, place):
         return
     with open(path, "rb") as file:
         data = file.read()
-    if re.search(", (?:as merge_profiles|in units|of counts that bound|but for)", match[3]):
+    if re.search(", (?:as merge_profiles|in units|in numbers|of counts that bound|but for)", match[3]):
         return  # of another text, which is said
     if hashlib.sha256(data).hexdigest()[:16] != digest:
         yield f"{name} has another digest: `{said}`"
