@@ -18,8 +18,6 @@ void will_tell(const struct wrong *wrong) {
   if (has_to_tell < 2) pending[has_to_tell++] = *wrong;
 }
 
-static int begins(const char *text, const char *with) { return !strncmp(text, with, strlen(with)); }
-
 struct line { size_t length; char text[2048]; };
 
 static void add(struct line *line, const char *text) {
