@@ -39,11 +39,11 @@ static void *more(void *at, uint64_t bytes) {
 // Room for NUMBER entries and more, those that are new all 0.
 static void grow(void **at, uint64_t *room, uint64_t number, uint64_t bytes) {
   uint64_t before = *room;
-  if (number <= before) return;
   *room = before * 2 > number ? before * 2 : number;
   *at = more(*at, *room * bytes), memset((char *)*at + before * bytes, 0, (*room - before) * bytes);
 }
-#define GROW(list, number) grow((void **)&(list).at, &(list).room, number, sizeof *(list).at)
+#define GROW(list, number) \
+  ((number) <= (list).room ? (void)0 : grow((void **)&(list).at, &(list).room, number, sizeof *(list).at))
 
 // ---- the memory
 
@@ -81,7 +81,7 @@ struct group {
   uint64_t free, batches, checkpoint[LANES];
   uint64_t idle;  // resident pages that no block uses, of each lane
 };
-struct page { uint8_t users, resident; };  // blocks that are not in the list; and a set of lanes
+struct pages { uint8_t *at; uint64_t room; };  // a number for each
 // What a class's releases go by, the same in all these lanes.
 struct watch {
   uint64_t checkpoint, threshold;
@@ -93,7 +93,7 @@ static struct class {
   uint32_t keep, kept;      // of the thread: at most twice so many, and how many
   uint32_t cache[2 * MOST_HINT + 2];
   struct { struct group *at; uint64_t room; } groups;
-  struct { struct page *at; uint64_t room; } pages;
+  struct pages users, resident;  // blocks that are not in the list; and a set of lanes
   uint64_t has_free[WORDS]; // of the groups
   struct watch watches[LANES];
   int number_of_watches;
@@ -106,11 +106,8 @@ static uint64_t group_of(const struct class *class, uint64_t block) { return blo
 // A block leaves the list, or comes to it.
 static void use(struct class *class, uint64_t block, int by) {
   uint64_t from = block * class->size / PAGE, to = ((block + 1) * class->size - 1) / PAGE;
-  for (uint64_t p = from; p <= to; p++) {
-    struct page *page = &class->pages.at[p];
-    page->users += by;
-    if (page->users == (by > 0)) class->groups.at[p / PAGES].idle -= by * ones_of(page->resident);
-  }
+  for (uint64_t p = from; p <= to; p++)
+    if ((class->users.at[p] += by) == (by > 0)) class->groups.at[p / PAGES].idle -= by * ones_of(class->resident.at[p]);
 }
 
 static void list(struct class *class, uint32_t block) {
@@ -173,7 +170,8 @@ static int cut(struct class *class) {
     uint64_t mapped = class->mapped + (wanted - class->mapped + MAPPED - 1) / MAPPED * MAPPED;
     if (mapped > REGION) return 0;
     class->mapped = mapped;
-    GROW(class->pages, mapped / PAGE + 1), GROW(class->groups, (mapped + GROUP - 1) / GROUP + 1);
+    uint64_t groups = (mapped + GROUP - 1) / GROUP + 1;
+    GROW(class->groups, groups), GROW(class->users, groups * PAGES), GROW(class->resident, groups * PAGES);
   }
   uint64_t number = (class->mapped - class->used) / class->size, end;
   if (number > SETS * class->keep) number = SETS * class->keep;
@@ -195,14 +193,21 @@ static int is_looked_at(const struct class *class, const uint64_t *chosen, uint6
   return is_in(chosen, group_of(class, page * PAGE / class->size)) && (last >= blocks || is_in(chosen, group_of(class, last)));
 }
 
+// Whether one of eight pages has no user.
+static int have_unused(const uint8_t *pages) {
+  uint64_t eight;
+  memcpy(&eight, pages, sizeof eight);
+  return ((eight - 0x101010101010101) & ~eight & 0x8080808080808080) != 0;
+}
+
 // The lanes in which a page is released, of these.
 static unsigned release_group(struct class *class, const uint64_t *chosen, uint64_t at, unsigned of) {
   uint64_t begin = at * PAGES, *idle = &class->groups.at[at].idle, released = 0, wanted = 0xffff * ones_of(of);
-  for (uint64_t p = begin; *idle & wanted && p < begin + PAGES && p * PAGE < class->used; p++) {
-    struct page *page = &class->pages.at[p];
-    unsigned gone = page->resident & of;
-    if (!gone || page->users || !is_looked_at(class, chosen, p)) continue;
-    page->resident &= ~gone, *idle -= ones_of(gone), released += ones_of(gone);
+  for (uint64_t p = begin; *idle & wanted && p < begin + PAGES; p++) {
+    if (p % 8 == 0 && !have_unused(class->users.at + p)) { p += 7; continue; }
+    unsigned gone = class->resident.at[p] & of;
+    if (!gone || class->users.at[p] || !is_looked_at(class, chosen, p)) continue;
+    class->resident.at[p] &= ~gone, *idle -= ones_of(gone), released += ones_of(gone);
   }
   unsigned found = 0;
   for (int lane = 0; lane < lanes; lane++)
@@ -287,11 +292,11 @@ static int64_t take(struct class *class) {
 static void touch(struct class *class, uint64_t block, uint64_t size, uint64_t copied, uint64_t zeros) {
   uint64_t begin = block * class->size + HEADER - 1, p = block * class->size / PAGE;
   int reach = lanes, rose = batches > most_batches;
+  if (class->resident.at[p] == all && !rose && ((block + 1) * class->size - 1) / PAGE == p) return;
   for (; reach; p++) {
-    struct page *page = &class->pages.at[p];
-    unsigned new = ((1U << reach) - 1) & ~page->resident;
+    unsigned new = ((1U << reach) - 1) & ~class->resident.at[p];
     for (int lane = 0; new >> lane; lane++) resident[lane] += new >> lane & 1;
-    page->resident |= new, rose |= new;
+    class->resident.at[p] |= new, rose |= new;
     if ((begin + written_of(0, size, copied, zeros)) / PAGE == p) break;
     while (reach && (begin + written_of(reach - 1, size, copied, zeros)) / PAGE == p) reach--;
   }

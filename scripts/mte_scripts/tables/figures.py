@@ -40,8 +40,8 @@ def class_text(classes: list[int]) -> str:
 def run(words: list[str], text: "str | bytes", classes: "list[int] | None" = None) -> tuple[int, str]:
     """The output of the program over a text, which comes after the line of these CLASSES; and its status, 0 or 1: a verdict. Any other ends the
     script."""
-    given = os.fsencode(text)
-    status, out, error = program_runs.mte_tool(words, given) if classes is None else program_runs.over_two(words, class_text(classes), given)
+    border, line = program_runs.border(class_text(classes)) if classes is not None else ([], b"")
+    status, out, error = program_runs.answer_once((*words, *border), *filter(None, (line, os.fsencode(text))))
     if status not in (0, 1):
         raise Refusal(
             2 if status == 2 else 3, f"`mte_tool {' '.join(words)}` failed: {error or f'its status is {status}'}"
@@ -71,21 +71,17 @@ class Peaks(NamedTuple):
 
 def peaks(classes: list[int], text: bytes) -> Optional[Peaks]:
     """What a table comes to over a timeline; None where it does not serve a size. A class above the largest one counts as that."""
-    return peaks_of(tuple(min(each, LARGEST_CLASS) for each in classes), text)
-
-
-@functools.lru_cache(maxsize=8)
-def peaks_of(classes: Classes, text: bytes) -> Optional[Peaks]:
-    status, answer = run(["peaks"], text, list(classes))
+    status, answer = run(["peaks"], text, [min(each, LARGEST_CLASS) for each in classes])
     if status:
         return None
     most, moments, (live,), (freed,) = ([int(word) for word in line.split()[1:]] for line in answer.split("\n"))
     return Peaks(most, moments, live, freed)
 
 
-def refuse_timeline(data: bytes, name: str) -> None:
-    """Refuses a timeline at its first faulty line, which the program finds."""
-    status, _, error = program_runs.over_two(["footprint"], class_text([LARGEST_CLASS]), data)
+def refuse_timeline(data: bytes, name: str, command: str = "footprint", classes: "Classes | list[int]" = (LARGEST_CLASS,)) -> None:
+    """Refuses a timeline at its first faulty line, which the program finds: by what it says of a table, which may be asked again later."""
+    border, line = program_runs.border(class_text(list(classes)))
+    status, _, error = program_runs.answer_once((command, *border), line, data)
     if match := re.fullmatch(r"error (\d+) (\w+) line (\d+)", error):
         at = int(match[3]) - 1
         line = text_files.lines_of(data)[at - 1]
@@ -94,7 +90,7 @@ def refuse_timeline(data: bytes, name: str) -> None:
         raise Refusal(2, f"{name}: {match[1]} {match[2]} line {at}: {why}: {text_layout.shorten_line(line)}")
     if status not in (0, 1):
         raise Refusal(
-            2 if status == 2 else 3, f"`mte_tool footprint` of {name} failed: {error or f'its status is {status}'}"
+            2 if status == 2 else 3, f"`mte_tool {command}` of {name} failed: {error or f'its status is {status}'}"
         )
 
 
@@ -138,23 +134,27 @@ def over_time(kind: str, text: bytes, largest: bool, limit: int, step: int, name
 
 
 class Table:
-    """A class table with its score: its waste, or the least counted size that it does not serve."""
+    """A class table with its score: its WASTE, which a claim may have told, or the least counted size that it does not serve."""
 
-    def __init__(self, name: str, classes: list[int], profile: dict) -> None:
-        self.name = name
-        self.classes = classes
-        status, answer = run(["score"], count_texts.profile_text(profile), classes)
-        number = int(answer.split()[-1])
-        self.waste, self.unserved = (number, None) if status == 0 else (None, number)
+    def __init__(self, name: str, classes: list[int], profile: dict, waste: Optional[int] = None) -> None:
+        self.name, self.classes, self.waste = name, classes, waste
+        self.unserved: Optional[int] = None
+        if waste is None:
+            status, answer = run(["score"], count_texts.profile_text(profile), classes)
+            number = int(answer.split()[-1])
+            self.waste, self.unserved = (number, None) if status == 0 else (None, number)
         # over a history or a timeline whose sizes it serves: what it takes there, and over the run, of which a history may have some moments
         self.seen: Optional[int] = None
         self.footprint: Optional[int] = None
         self.is_known = ""  # how the two differ: it takes that over the run, "at least" that, or "at most"
 
     def over(self, timed: OverTime, has_peaks: bool, is_chosen: bool) -> None:
-        """What it takes over time. By its peaks, which take longer, where these are asked for later. Of a run that is longer than its history,
-        what was counted, or what it takes at least, over the moments; the one that IS_CHOSEN takes at most what bounds it."""
-        if timed.kind == "timeline" and has_peaks:
+        """What it takes over time: of the fit's table its claim says it. By its peaks, which take longer, where these are asked for later. Of a
+        run that is longer than its history, what was counted, or what it takes at least, over the moments; the one that IS_CHOSEN takes at most
+        what bounds it."""
+        if self.classes == timed.fit.classes and (timed.claim.holds or timed.claim.is_bound):
+            self.seen = timed.fit.footprint
+        elif timed.kind == "timeline" and has_peaks:
             found = peaks(self.classes, timed.text)
             self.seen = found and sum(GRANULE * each * most for each, most in zip(self.classes, found.most))
         else:
@@ -187,7 +187,7 @@ class Figures:
             raise Refusal(3, NOTHING)
         found = certificate_texts.parse_sheet(sheet)
         claim = claims.check_certificate(sheet, count_texts.profile_text(profile).encode(), given, how, "the sheet")
-        self.best = Table(claim.table(), found.classes, profile)
+        self.best = Table(claim.table(), found.classes, profile, claim.cost if claim.holds else None)
         if self.best.waste is None:
             unserved = f"the sheet's table does not serve {self.best.unserved} bytes, which the profile counts"
             raise Refusal(2, f"{unserved}: is it the sheet of another profile?")
@@ -210,7 +210,8 @@ class Figures:
 
     def take_fit(self, timed: OverTime, profile: dict[int, int]) -> None:
         """The table of the fit, and the footprint of each."""
-        self.fitted = Table(timed.claim.table(), timed.interval.classes if timed.interval else timed.fit.classes, profile)
+        classes = timed.interval.classes if timed.interval else timed.fit.classes
+        self.fitted = Table(timed.claim.table(), classes, profile, self.best.waste if classes == self.best.classes else None)
         for table in (self.best, self.fitted, *self.others):
             table.over(timed, table in (self.made()[0], *self.others[:1]), table.classes == self.fitted.classes)
 
@@ -225,6 +226,8 @@ class Figures:
         words = options(MOST_CLASSES, self.certificate.step, self.certificate.forced)
         if self.objective == "waste":
             rows = certificate_texts.parse_sheet(run(["tune", *words], count_texts.profile_text(self.profile))[1]).rows
+        elif self.timed.fit.limit == MOST_CLASSES and self.timed.fit.rows:
+            rows = self.timed.fit.rows
         else:
             rows = certificate_texts.parse_fit(run(["fit", *words], count_texts.history_text(self.timed.history))[1]).rows
         return [row[0] if row else 0 for row in rows]
@@ -265,7 +268,8 @@ class Figures:
         """The most of all live blocks together at a moment, each with an amount of its size."""
         if self.timed.kind == "timeline":
             return timelines.peak_of(self.timed.text, amount)[0]
-        rows = [[amount(size) * count for count in counts] for size, counts in self.timed.history.counts.items() if size != "large"]
+        amounts = {size: amount(size) for size in self.timed.history.counts.keys() - {"large"}}
+        rows = [[each * count for count in self.timed.history.counts[size]] for size, each in amounts.items() if each]
         return max(map(sum, zip(*rows)), default=0)
 
     def most_live(self, table: Table) -> int:

@@ -10,11 +10,10 @@ the first or any block of the size goes. What is predicted is wider at both ends
 
 import os
 import re
-import subprocess
 from collections.abc import Iterable
 from typing import NamedTuple, Optional
 
-from mte_scripts import count_texts, private_folder
+from mte_scripts import count_texts, private_folder, program_runs
 from mte_scripts.entry_point import Refusal
 from mte_scripts.formats import LARGEST_CLASS
 from mte_scripts.recording import recording
@@ -97,7 +96,7 @@ def simulate(program: str, record: bytes, maps: "list[Map]", interval: int, orde
     each share of the blocks that is written. By a record of blocks, or by a timeline, of which the order says what is freed."""
     tables = [f"{each.most_kept}:{each.bytes_log}:{','.join(map(str, each.classes))}" for each in maps]
     words = [program, str(interval), ",".join(map(str, shares)), *tables, *orders]
-    done = subprocess.run(words, input=record, capture_output=True)
+    done = program_runs.run_over(words, program, record)
     if done.returncode:
         why = done.stderr.decode(errors="replace").split("\n")[0] or "it was ended"
         raise Refusal(3, f"Scudo could not be simulated: {why}")

@@ -13,7 +13,7 @@ from typing import Any, NoReturn, Optional
 
 from mte_scripts import private_folder, text_files, text_layout
 from mte_scripts.entry_point import Refusal, say
-from mte_scripts.recording import profile_program, programs
+from mte_scripts.recording import programs, recording
 from mte_scripts.tables import long_runs, process_tree, processes, service_runs, verdict, verification
 from mte_scripts.tables.figures import kibibytes
 from mte_scripts.tables.result_folder import Folder, Folders
@@ -109,7 +109,9 @@ class ServiceRuns(long_runs.Runs):
         super().__init__([*only, *["--as-scudo"] * (not options.all), "--follow", self.stream], work, os.devnull)
 
     def run_recorder(self, command: "list[str]", to: int, again: "int | None") -> int:
-        library = profile_program.install_library(profile_program.recording.make("stream", self.work), self.shared.path)
+        from mte_scripts.recording import profile_program  # it takes its time, which other runs are spared
+
+        library = profile_program.install_library(recording.make("stream", self.work), self.shared.path)
         say("tune_program", f"recording {self.server.words[0]} under its load")
         return process_tree.in_process(lambda: self.record_run(command, to, library))
 
