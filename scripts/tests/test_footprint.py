@@ -75,12 +75,9 @@ def peaks(events, classes):
     by_class = [list(counts) for counts in zip(*moments)]
     most = list(map(max, by_class))
     kept = [sum(max(counts[: at + 1]) for counts in by_class) for at in range(len(moments))]
-    lines = [
-        line("peaks", most),
-        line("moments", [counts.index(peak) for counts, peak in zip(by_class, most)]),
-        line("live", [max(sum(16 * c * n for c, n in zip(classes, now)) for now in moments)]),
-        line("freed", [max(has - sum(now) for has, now in zip(kept, moments))]),
-    ]
+    lines = [line("peaks", most), line("moments", [counts.index(peak) for counts, peak in zip(by_class, most)]),
+             line("live", [max(sum(16 * c * n for c, n in zip(classes, now)) for now in moments)]),
+             line("freed", [max(has - sum(now) for has, now in zip(kept, moments))])]
     return "".join(lines)
 
 
@@ -312,31 +309,29 @@ class Trial:
 
 
 # inputs without the form, and what is wrong with them; a program that shows no codes has to refuse them with the same status
-FAULTS = [
-    ("fit --limit 2", "", "34 BadSnapshots line 1"),
-    ("fit --limit 2", "16 1\n", "34 BadSnapshots line 1"),
-    ("fit --limit 2", "snapshots 0\n", "34 BadSnapshots line 1"),
-    ("fit --limit 2", "snapshots 1025\n", "34 BadSnapshots line 1"),
-    ("fit --limit 2", "snapshots 1 1\n", "34 BadSnapshots line 1"),
-    ("fit --limit 2", "snapshots 2\n16 1 01\n", "30 BadLine line 2"),
-    ("fit --limit 2", f"snapshots 2\n{formats.LARGEST_SIZE + 1} 1 1\n", "30 BadLine line 2"),
-    ("fit --limit 2", "snapshots 2\nlarge 1 1\n16 1 1\n", "30 BadLine line 3"),
-    ("fit --limit 2", "snapshots 2\n16 1 1\n\n", "30 BadLine line 3"),
-    ("fit --limit 2", "snapshots 2\n16 1 1\n8 0\n", "35 WrongLength line 3"),
-    ("fit --limit 2", "snapshots 2\n16 1 1 1\n", "35 WrongLength line 2"),
-    ("fit --limit 2", "snapshots 2\n16 1 1\n16 0 0\n", "31 NotAscending line 3"),
-    ("fit --limit 2", "snapshots 2\n16 0 0\n", "32 CountOutOfRange line 2"),
-    ("fit --limit 2", "snapshots 2\n16 1 1000000001\n", "32 CountOutOfRange line 2"),
-    ("fit --limit 2", "snapshots 2\nlarge 0 0\n", "32 CountOutOfRange line 2"),
-    ("footprint", "classes 1\nsnapshots 1\n", "21 OutOfRange line 1"),
-    ("footprint", "classes 2\nsnapshots 1\n16 x\n", "30 BadLine line 3"),
-    ("check-fit", "classes 2\nlimit 1\nwaste 0\nrow\nsnapshots 1\n", "36 BadFit line 3"),
-    ("check-fit", "classes 2\nlimit 33\nfootprint 0\nrow\nsnapshots 1\n", "36 BadFit line 2"),
-    ("check-fit", "classes 2\nlimit 1\nstep 1\nfootprint 0\nrow\nsnapshots 1\n", "36 BadFit line 3"),
-    ("check-fit", "classes 2\nlimit 1\nstep 2\nfootprint 18446744073709551616\nrow\nsnapshots 1\n", "36 BadFit line 4"),
-    ("check-fit", "classes\nlimit 32\nfootprint 0\n" + "row\n" * 33 + "snapshots 1\n", "36 BadFit line 36"),
-    ("check-fit", "classes\nlimit 1\nfootprint 0\nrow\nrow 1\nsnapshots 0\n", "34 BadSnapshots line 6"),
-]
+FAULTS = [("fit --limit 2", "", "34 BadSnapshots line 1"), ("fit --limit 2", "16 1\n", "34 BadSnapshots line 1"),
+          ("fit --limit 2", "snapshots 0\n", "34 BadSnapshots line 1"),
+          ("fit --limit 2", "snapshots 1025\n", "34 BadSnapshots line 1"),
+          ("fit --limit 2", "snapshots 1 1\n", "34 BadSnapshots line 1"),
+          ("fit --limit 2", "snapshots 2\n16 1 01\n", "30 BadLine line 2"),
+          ("fit --limit 2", f"snapshots 2\n{formats.LARGEST_SIZE + 1} 1 1\n", "30 BadLine line 2"),
+          ("fit --limit 2", "snapshots 2\nlarge 1 1\n16 1 1\n", "30 BadLine line 3"),
+          ("fit --limit 2", "snapshots 2\n16 1 1\n\n", "30 BadLine line 3"),
+          ("fit --limit 2", "snapshots 2\n16 1 1\n8 0\n", "35 WrongLength line 3"),
+          ("fit --limit 2", "snapshots 2\n16 1 1 1\n", "35 WrongLength line 2"),
+          ("fit --limit 2", "snapshots 2\n16 1 1\n16 0 0\n", "31 NotAscending line 3"),
+          ("fit --limit 2", "snapshots 2\n16 0 0\n", "32 CountOutOfRange line 2"),
+          ("fit --limit 2", "snapshots 2\n16 1 1000000001\n", "32 CountOutOfRange line 2"),
+          ("fit --limit 2", "snapshots 2\nlarge 0 0\n", "32 CountOutOfRange line 2"),
+          ("footprint", "classes 1\nsnapshots 1\n", "21 OutOfRange line 1"),
+          ("footprint", "classes 2\nsnapshots 1\n16 x\n", "30 BadLine line 3"),
+          ("check-fit", "classes 2\nlimit 1\nwaste 0\nrow\nsnapshots 1\n", "36 BadFit line 3"),
+          ("check-fit", "classes 2\nlimit 33\nfootprint 0\nrow\nsnapshots 1\n", "36 BadFit line 2"),
+          ("check-fit", "classes 2\nlimit 1\nstep 1\nfootprint 0\nrow\nsnapshots 1\n", "36 BadFit line 3"),
+          ("check-fit", "classes 2\nlimit 1\nstep 2\nfootprint 18446744073709551616\nrow\nsnapshots 1\n",
+           "36 BadFit line 4"),
+          ("check-fit", "classes\nlimit 32\nfootprint 0\n" + "row\n" * 33 + "snapshots 1\n", "36 BadFit line 36"),
+          ("check-fit", "classes\nlimit 1\nfootprint 0\nrow\nrow 1\nsnapshots 0\n", "34 BadSnapshots line 6")]
 
 
 def faults(program):

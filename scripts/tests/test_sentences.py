@@ -406,9 +406,8 @@ class Plants(claims_cases.WithProgram):
             if not expect(f"{what}: the text stands once in {file}", text.count(good) == 1, text.count(good)):
                 continue
             self.clean(place)
-            expect(
-                f"{what}: nothing is found before", not list(faults(*case[:2], run_case(scripts, place, case), place))
-            )
+            expect(f"{what}: nothing is found before",
+                   not list(faults(*case[:2], run_case(scripts, place, case), place)))
             self.clean(place)
             write(os.path.dirname(path), os.path.basename(path), text.replace(good, bad))
             found = run_case(scripts, place, case)

@@ -303,10 +303,8 @@ def test_scudo_memory():
     """Numbers worked by hand from the constants of LLVM 19's Scudo: a thread takes min(14, 1024 / block) blocks at once, at least one; eight times
     as many are cut at once; 256 KiB are mapped at once, or as many times that as hold the blocks that a thread takes."""
     for block, wanted in ((32, 14), (73, 14), (80, 12), (96, 10), (128, 8), (512, 2), (1024, 1), (16400, 1)):
-        expect(
-            f"a thread takes {scudo_memory.cached_blocks(block)} blocks of {block} bytes",
-            scudo_memory.cached_blocks(block) == wanted,
-        )
+        expect(f"a thread takes {scudo_memory.cached_blocks(block)} blocks of {block} bytes",
+               scudo_memory.cached_blocks(block) == wanted)
     # 51 blocks of 5,120 bytes have room in 256 KiB: six sets of 8, and one of 3. Of 48 bytes 5,461 have: 48 sets of 112, and one of 85, as 14 of
     # them still have room
     for (block, blocks), wanted in (
@@ -320,10 +318,9 @@ def test_scudo_memory():
         expect(f"of {block} bytes, a billion blocks: {before}, {last}", before < 10**9 <= before + last and 0 < last <= 112)
     # 112 blocks of 64 bytes: 64 of them in the first page, 48 in the second. Of two drawn, both are in the first in 2,016 of 6,216 cases, and
     # in the second in 1,128. Four of eight blocks of 1,024 bytes are those of one page in 1 of 70
-    for (block, blocks), wanted in (
-        ((64, 0), 0), ((64, 1), 1), ((64, 2), 2 - (2016 + 1128) / 6216), ((64, 112), 2), ((4096, 3), 3), ((16384, 9), 36), ((1024, 8), 2),
-        ((1024, 12), 4 - 2 / 70), ((5120, 50), 60 + 2 / 3 + 1 + 1 + 2 / 3),
-    ):
+    for (block, blocks), wanted in (((64, 0), 0), ((64, 1), 1), ((64, 2), 2 - (2016 + 1128) / 6216), ((64, 112), 2),
+                                    ((4096, 3), 3), ((16384, 9), 36), ((1024, 8), 2), ((1024, 12), 4 - 2 / 70),
+                                    ((5120, 50), 60 + 2 / 3 + 1 + 1 + 2 / 3)):
         got = scudo_memory.pages(block, blocks)
         expect(f"of {block} bytes, {blocks} blocks: {got} pages, and not {wanted}", abs(got - wanted) < 1e-9)
     # the group of a class begins two batches of 128 bytes, of which 64 are cut, 32 in a page; 868 free blocks fill 62 more
@@ -484,17 +481,8 @@ def test_history(place):
     expect(f"a history, --objective waste: {status}: {error}", status == 0 and map_of(folder) == tuned_table(folder)[:-1])
     compare_fit(folder, "a history, --objective waste", history, is_map=False)
     refuses(2, "this has the live blocks", "tune_program", "--all", "--output", "no", "--read", source, cwd=place)
-    refuses(
-        2,
-        "line 2 has not 2 counts",
-        "tune_program",
-        "--output",
-        "no",
-        "--read",
-        "-",
-        given=b"snapshots 2\n16 1\n",
-        cwd=place,
-    )
+    refuses(2, "line 2 has not 2 counts", "tune_program", "--output", "no", "--read", "-", given=b"snapshots 2\n16 1\n",
+            cwd=place)
     refuses(3, "nothing to tune", "tune_program", "--output", "large", "--read", "-", given=b"snapshots 1\nlarge 7\n", cwd=place)
     expect("a refused history leaves a folder", not os.path.exists(os.path.join(place, "no")))
 
@@ -552,9 +540,8 @@ def test_read(place):
     # a folder that is there stays as it is
     before = {file: read(folder, file) for file in os.listdir(folder)}
     refuses(3, "jq.tuned is there already", "tune_program", "--output", "jq.tuned", "--read", source, "--limit", "4", cwd=place)
-    refuses(
-        3, "--output", "tune_program", "--output", folder, "--read", os.path.join(EXAMPLES, "perl.profile"), cwd=place
-    )
+    refuses(3, "--output", "tune_program", "--output", folder, "--read", os.path.join(EXAMPLES, "perl.profile"),
+            cwd=place)
     after = {file: read(folder, file) for file in os.listdir(folder)}
     expect("a folder that was there is another one now", before == after)
 
@@ -653,24 +640,19 @@ def test_refusals(place):
         file.write("classes 4 2\n")
     for name in ("--limit", "--step", "--only", "--against", "--output", "--read", "--objective"):
         refuses(2, f"{name} takes a value", "tune_program", name, cwd=place)
-    for words, reason in (
-        ([], "wants a program"),
-        (["--wrong", "true"], "no option --wrong"),
-        (["--limit", "0", "true"], "1 to 32"),
-        (["--limit", "33", "true"], "1 to 32"),
-        (["--limit", "8x", "true"], "1 to 32"),
-        (["--step", "3", "true"], "1, 2, 4 or 8"),
-        (["--limit", "1", "true"], "--no-largest"),
-        (["--read", perl, "true"], "--read runs no program"),
-        (["--only", "x", "--read", perl], "--read runs no program"),
-        (["--against", "nowhere", "true"], "nowhere can't be read"),
-        (["--against", "bad.classes", "true"], "do not ascend"),
-        (["--objective", "both", "true"], "footprint or waste, and not both"),
-        (["--objective", "footprint", "--all", "true"], "wants a history"),
-        (["--objective", "footprint", "--read", perl], "wants a history"),
-        (["--read", "nowhere"], "nowhere can't be read"),
-        (["--read", os.path.join(EXAMPLES, "perl.trace")], "of a trace"),
-    ):
+    for words, reason in (([], "wants a program"), (["--wrong", "true"], "no option --wrong"),
+                          (["--limit", "0", "true"], "1 to 32"), (["--limit", "33", "true"], "1 to 32"),
+                          (["--limit", "8x", "true"], "1 to 32"), (["--step", "3", "true"], "1, 2, 4 or 8"),
+                          (["--limit", "1", "true"], "--no-largest"),
+                          (["--read", perl, "true"], "--read runs no program"),
+                          (["--only", "x", "--read", perl], "--read runs no program"),
+                          (["--against", "nowhere", "true"], "nowhere can't be read"),
+                          (["--against", "bad.classes", "true"], "do not ascend"),
+                          (["--objective", "both", "true"], "footprint or waste, and not both"),
+                          (["--objective", "footprint", "--all", "true"], "wants a history"),
+                          (["--objective", "footprint", "--read", perl], "wants a history"),
+                          (["--read", "nowhere"], "nowhere can't be read"),
+                          (["--read", os.path.join(EXAMPLES, "perl.trace")], "of a trace")):
         refuses(2, reason, "tune_program", *words, cwd=place)
     with open(os.path.join(place, "empty"), "w"):
         pass
@@ -698,9 +680,8 @@ def refuses_locked(place, perl):
 
 def keeps_the_profile(place, perl):
     """What a step could not use stays in the folder."""
-    refuses(
-        3, "nothing to tune", "tune_program", "--read", "-", "--output", "only_large", given=b"large 7\n", cwd=place
-    )
+    refuses(3, "nothing to tune", "tune_program", "--read", "-", "--output", "only_large", given=b"large 7\n",
+            cwd=place)
     expect("a profile that could not be tuned is lost", read(place, "only_large", "program.profile") == "large 7\n")
     fake = os.path.join(place, "fake")
     denying = f'[ "$1" = check ] || exec {BUILT} "$@"; echo refused 47 NotTight; exit 1'
@@ -713,17 +694,8 @@ def keeps_the_profile(place, perl):
         kept = [read(place, name, "program.profile")] if os.path.exists(os.path.join(place, name)) else []
         expect(f"{name}: what stays", kept == [read(perl)] * (name == "denying"), *kept)
     limit = {"preexec_fn": lambda: resource.setrlimit(resource.RLIMIT_FSIZE, (4096, 4096))}
-    refuses(
-        3,
-        "tuned.sheet can't be written: File too large",
-        "tune_program",
-        "--read",
-        perl,
-        "--output",
-        "limited",
-        cwd=place,
-        **limit
-    )
+    refuses(3, "tuned.sheet can't be written: File too large", "tune_program", "--read", perl, "--output", "limited",
+            cwd=place, **limit)
     left = sorted(os.listdir(os.path.join(place, "limited")))
     expect(f"a file that could not be written stays: {left}", left == ["program.profile"])
     if os.path.exists("/dev/full"):
@@ -939,9 +911,8 @@ def measures_settings(out, status, error):
 def refuses_to_verify(scudo, how, place):
     """What --verify refuses before it runs anything."""
     refuses(2, "takes no custom_scudo_config.h", "tune_program", "--verify", scudo, "./verified", **how)
-    refuses(
-        2, "is not the folder compiler-rt/lib/scudo/standalone", "tune_program", "--verify", place, "./verified", **how
-    )
+    refuses(2, "is not the folder compiler-rt/lib/scudo/standalone", "tune_program", "--verify", place, "./verified",
+            **how)
     refuses(2, verification.FETCH, "tune_program", "--verify", place, "./verified", **how)
     commands = re.split(" && |; ", verification.FETCH)
     expect("--verify: where the sources come from stands in TUNING.md too", all(each in read(ROOT, "docs/TUNING.md") for each in commands), commands)
@@ -949,16 +920,8 @@ def refuses_to_verify(scudo, how, place):
         file.write('#include "custom_scudo_config.h"\n')
     for words in (["--read", "x"], ["--all", "./verified"], ["--only", "x", "./verified"]):
         refuses(2, "--verify runs the program itself", "tune_program", "--verify", scudo, *words, **how)
-    refuses(
-        3,
-        "no compiler no_such",
-        "tune_program",
-        "--verify",
-        scudo,
-        "./verified",
-        cwd=place,
-        env={**os.environ, "CXX": "no_such"},
-    )
+    refuses(3, "no compiler no_such", "tune_program", "--verify", scudo, "./verified", cwd=place,
+            env={**os.environ, "CXX": "no_such"})
     expect("--verify: the program ran before it was refused", not os.path.exists(os.path.join(place, "seen")))
 
 
@@ -987,19 +950,15 @@ def says_verdict(out, words, folder, place, error):
     page = read(folder, "report.html")
     shown = html.unescape(re.search(r'</h1>\s*<p class="lead" id="verdict">(.*?)</p>', page)[1])
     expect(f"--verify: report.html has another verdict, or has it later: {shown}", told.startswith(shown))
-    expect(
-        "--verify: report.html has no bar for each allocator",
-        page.split('<h2>Each table')[0].count('<rect') == 2 * (3 + len(verdict.installed_allocators())),
-    )
+    expect("--verify: report.html has no bar for each allocator",
+           page.split('<h2>Each table')[0].count('<rect') == 2 * (3 + len(verdict.installed_allocators())))
     strange = [line for line in out.splitlines() if line.startswith("! With ")]
     expect(f"--verify: other statuses: {strange}", len(strange) == 2 * bool(words))
     seen = read(place, "seen").splitlines()
     os.remove(os.path.join(place, "seen"))
     runs, rooms = [line.rpartition(" ")[0] for line in seen], {line.split()[-1] for line in seen[1:]}
-    expect(
-        f"--verify: the runs are {seen}",
-        runs == (1 + 5 * (3 + len(verdict.installed_allocators()))) * [f"10 {1 + len(words)}"],
-    )
+    expect(f"--verify: the runs are {seen}",
+           runs == (1 + 5 * (3 + len(verdict.installed_allocators()))) * [f"10 {1 + len(words)}"])
     expect("--verify: the environment is as long in each run", len(rooms) == 1, *rooms)
 
 
@@ -1044,10 +1003,8 @@ def test_intervals():
     expect("no peak is below 0", evenly("glibc", 1, 9).interval()[0] == 0)
     random_, rounds, within, shares = random.Random(7), 20000, 0, 0
     for _ in range(rounds):
-        rows = [
-            row(name, *sorted(draw_peak(random_, middle, 0.3) for _ in range(5)))
-            for name, middle in (("glibc", 40), (verdict.DEFAULT, 50), ("tuned", 45))
-        ]
+        middles = {"glibc": 40, verdict.DEFAULT: 50, "tuned": 45}
+        rows = [row(name, *sorted(draw_peak(random_, middle, 0.3) for _ in range(5))) for name, middle in middles.items()]
         plain, default, tuned = further = [int(draw_peak(random_, middle, 0.3) * 2**20) for middle in (40, 50, 45)]
         within += sum(low <= peak <= high for peak, (low, high) in zip(further, (row_.interval() for row_ in rows)))
         low, high = verdict.Price(*rows).range()
@@ -1092,16 +1049,8 @@ def test_as_scudo(place):
     found = read(place, "shrinks.tuned", "program.timeline").split()
     expect(f"tune_program: {status}: {found} {error}", status == 0 and found == ["timeline", *wanted])
     refuses(2, "--as-scudo goes with --live", "profile_program", "--as-scudo", "./shrinks", cwd=place)
-    refuses(
-        2,
-        "--import reads a file, and --as-scudo is for a run",
-        "profile_program",
-        "--live",
-        "--as-scudo",
-        "--import",
-        "x",
-        cwd=place,
-    )
+    refuses(2, "--import reads a file, and --as-scudo is for a run", "profile_program", "--live", "--as-scudo",
+            "--import", "x", cwd=place)
 
 
 def test_unproved(place):

@@ -7,23 +7,15 @@ from typing import NamedTuple
 from mte_scripts.recording import TABLES
 
 PAGE, RINGS = 4096, 1024
-REASONS = (
-    f"more than {RINGS:,} run at once",
-    "a limit of their address space (ulimit -v) leaves no room for the stream",
-    "they can't open the stream from where they are (chroot, another user or namespace)",
-    "they began in a program that gave up system calls (seccomp)",
-    "the file of the stream has no room for them (a full disk)",
-)
+REASONS = (f"more than {RINGS:,} run at once",
+           "a limit of their address space (ulimit -v) leaves no room for the stream",
+           "they can't open the stream from where they are (chroot, another user or namespace)",
+           "they began in a program that gave up system calls (seccomp)",
+           "the file of the stream has no room for them (a full disk)")
 # of shims/loadable.h, from 1 on: why a program is not followed
-UNFOLLOWED = (
-    "it is static",
-    "its C library is not this machine's glibc",
-    "it is for another kind of processor",
-    "it is set-user-id or set-group-id",
-    "it has file capabilities",
-    "it can't be read",
-    "system calls were given up before it (seccomp)",
-)
+UNFOLLOWED = ("it is static", "its C library is not this machine's glibc", "it is for another kind of processor",
+              "it is set-user-id or set-group-id", "it has file capabilities", "it can't be read",
+              "system calls were given up before it (seccomp)")
 
 
 class Texts(NamedTuple):

@@ -150,15 +150,12 @@ class Options(argparse.Namespace):
     live: "str | None"
 
     def __init__(self, words: list[str]) -> None:
-        kinds: dict = {
-            "history": {"type": number_between(1, SNAPSHOTS), "nargs": "?", "const": 32},
-            "live": {"action": "store_const", "const": "--live"},
-        }
+        kinds: dict = {"history": {"type": number_between(1, SNAPSHOTS), "nargs": "?", "const": 32},
+                       "live": {"action": "store_const", "const": "--live"}}
         kinds["windows"] = {"type": number_between(1, WINDOWS), "nargs": "?", "const": USUAL_WINDOWS}
         kinds["classes"] = {"action": "append", "type": nonempty_word, "default": []}
-        ProgramWords(HELP, as_=name_among(*importers.NAMES) if importers else nonempty_word, **kinds).take(
-            words, into=self
-        )
+        kinds["as_"] = name_among(*importers.NAMES) if importers else nonempty_word
+        ProgramWords(HELP, **kinds).take(words, into=self)
         names = "follow said measured peak upper stacks blocks processes".split()
         written = [(f"--{name}", getattr(self, name)) for name in names]
         text_files.refuse_over(written, [self.import_, self.again, self.read, *self.classes], [*self.words, *["-"] * bool(self.words)])
@@ -178,11 +175,8 @@ class Options(argparse.Namespace):
         if len(over_time) > 1 or (self.tables and over_time == ["--history"]):
             raise Refusal(2, f"take one of {' and '.join([*over_time, *['--classes'] * (len(over_time) < 2)])}")
         if len(self.tables) > (TABLES if over_time else 1):
-            raise Refusal(
-                2,
-                f"there are {len(self.tables)} tables of --classes: it takes "
-                f"{TABLES if over_time else 'one without --windows'}",
-            )
+            raise Refusal(2, f"there are {len(self.tables)} tables of --classes: it takes "
+                             f"{TABLES if over_time else 'one without --windows'}")
         over_time += ["--classes"] * bool(self.tables)
         self.live = over_time[0] if over_time else self.live
         goes_with = {
@@ -228,9 +222,8 @@ def moments_in(path: str) -> "list[int]":
     lines = text_files.read(path).decode(errors="replace").splitlines()
     found = [line.removeprefix("moment ") for line in lines if line.startswith("moment ")]
     if not 0 < len(found) <= MOST_SNAPSHOTS or not all(re.fullmatch("[1-9][0-9]{0,17}", each) for each in found):
-        raise Refusal(
-            2, f"{text_files.input_name(path)} does not name 1 to {MOST_SNAPSHOTS:,} moments: --measured of --windows does"
-        )
+        raise Refusal(2, f"{text_files.input_name(path)} does not name 1 to {MOST_SNAPSHOTS:,} moments: --measured of "
+                         "--windows does")
     return sorted({int(each) for each in found})
 
 
@@ -319,9 +312,8 @@ def read_only(options: Options, speaker: recording.Speaker) -> int:
             path = os.path.join(os.path.realpath(os.path.dirname(options.read) or "."), os.path.basename(options.read))
             with Reader(reader, descriptor) as found:
                 if form != FORM or not found.follows(os.fstat(file.fileno()), path):
-                    raise Refusal(
-                        3, f"{options.read} is no stream, or nobody follows it: `profile_program --follow` does"
-                    )
+                    raise Refusal(3,
+                                  f"{options.read} is no stream, or nobody follows it: `profile_program --follow` does")
                 with open(found.path(descriptor), "rb") as shared:
                     run = recording.ReaderResult(shared.fileno())
                     return print_service(options, speaker, found.asked(run, options.read), options.read)
@@ -386,11 +378,8 @@ def import_file(options: Options, speaker: recording.Speaker) -> int:
             return 0
         raise Refusal(3, f"{text_files.input_name(options.import_)}: it counts nothing")
     if not importers:
-        raise Refusal(
-            3,
-            f"{options.import_} can't be read: the files of other tools want scripts/mte_scripts/recording/imports, "
-            "which is not here",
-        )
+        raise Refusal(3, f"{options.import_} can't be read: the files of other tools want "
+                         "scripts/mte_scripts/recording/imports, which is not here")
     wanted = options.live.removeprefix("--") if options.live else importers.import_result.ALL
     got = importers.import_file(options.import_, options.as_, wanted, options.history)
     for line in got.told:
@@ -426,11 +415,8 @@ def install_library(library: str, folder: str) -> str:
     try:
         with private_folder.open_private_folder(folder) as place:
             if not recording.is_plain(place.path):
-                raise Refusal(
-                    3,
-                    f"the loader takes no path with a space, a colon or a dollar sign, as in {place.path}: choose "
-                    "another place",
-                )
+                raise Refusal(3, "the loader takes no path with a space, a colon or a dollar sign, as in "
+                                 f"{place.path}: choose another place")
             with place.new_file(LIBRARY) as new, open(new, "wb") as file:
                 file.write(text_files.read(library))
             path = place.file(LIBRARY)

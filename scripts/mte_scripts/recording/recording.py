@@ -100,9 +100,8 @@ def find_packaged(name: str) -> "str | None":
     path = os.path.realpath(os.path.join(RECORDERS, f"{name}{ENDINGS[name]}"))
     try:
         with private_folder.open_private_folder(os.path.dirname(path)) as place:
-            return (
-                path if place.has(os.path.basename(path)) and is_plain(path) and not try_loading(name, path) else None
-            )
+            return (path if place.has(os.path.basename(path)) and is_plain(path) and not try_loading(name, path)
+                    else None)
     except (NotPrivate, OSError):
         return None
 
@@ -165,9 +164,8 @@ class Library:
                     os.symlink(self.path, name)
                     return name
                 self.link.close()
-        raise Refusal(
-            3, f"the loader takes no path with a space, a colon or a dollar sign, as in {self.path}: {ANOTHER_PLACE}"
-        )
+        raise Refusal(3, f"the loader takes no path with a space, a colon or a dollar sign, as in {self.path}: "
+                         f"{ANOTHER_PLACE}")
 
     def keep(self) -> None:
         """For processes that are left: what they start loads the library by its name."""

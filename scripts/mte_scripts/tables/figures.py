@@ -43,9 +43,8 @@ def run(words: list[str], text: "str | bytes", classes: "list[int] | None" = Non
     border, line = program_runs.border(class_text(classes)) if classes is not None else ([], b"")
     status, out, error = program_runs.answer_once((*words, *border), *filter(None, (line, os.fsencode(text))))
     if status not in (0, 1):
-        raise Refusal(
-            2 if status == 2 else 3, f"`mte_tool {' '.join(words)}` failed: {error or f'its status is {status}'}"
-        )
+        raise Refusal(2 if status == 2 else 3,
+                      f"`mte_tool {' '.join(words)}` failed: {error or f'its status is {status}'}")
     return status, out.decode("ascii", "replace").strip()
 
 
@@ -89,9 +88,8 @@ def refuse_timeline(data: bytes, name: str, command: str = "footprint", classes:
         why = count_texts.encoding(line, at) or CODES[int(match[1])].words + forms
         raise Refusal(2, f"{name}: {match[1]} {match[2]} line {at}: {why}: {text_layout.shorten_line(line)}")
     if status not in (0, 1):
-        raise Refusal(
-            2 if status == 2 else 3, f"`mte_tool {command}` of {name} failed: {error or f'its status is {status}'}"
-        )
+        raise Refusal(2 if status == 2 else 3,
+                      f"`mte_tool {command}` of {name} failed: {error or f'its status is {status}'}")
 
 
 class Interval(NamedTuple):

@@ -187,9 +187,8 @@ def spread_tables(step: int) -> list[figures.Classes]:
     return list(dict.fromkeys(found))
 
 
-def join_spans(
-    spans: Spans, counted: dict[figures.Classes, Optional[int]], fit: certificate_texts.Fit
-) -> "tuple[int, figures.Classes]":
+def join_spans(spans: Spans, counted: dict[figures.Classes, Optional[int]],
+               fit: certificate_texts.Fit) -> "tuple[int, figures.Classes]":
     """Of the tables that join spans of tables that were counted, and may be that of this fit, the one that takes least, and what it takes over
     the run; no classes where there is none. A span's peak is in the history where its table takes there what was counted."""
     usable = [table for table, taken in counted.items() if sum(map(spans.cost, spans.of(table))) == taken]
@@ -252,9 +251,8 @@ class IntervalNarrower:
             run = with_difference(again, run, self.runs.number)
             self.take(lower, self.runs.taken("peak"))
 
-    def with_tables(
-        self, made: list[figures.Classes], timed: figures.OverTime, run: RunRecord
-    ) -> list[figures.Classes]:
+    def with_tables(self, made: list[figures.Classes], timed: figures.OverTime,
+                    run: RunRecord) -> list[figures.Classes]:
         """The tables to count next: that of the fit; what would be fitted next if each class of those before had some more blocks than are seen;
         and those of fewer classes and of the upper history. The peaks of their classes are in the next lower history."""
         history, found = by_need(timed.history), [tuple(timed.fit.classes)]
@@ -317,9 +315,8 @@ def count(options: Any, folder: Any, runs: Runs, others: list) -> RunRecord:
     if found.status not in (0, 1):
         # it said why on standard error itself
         kept = f"; what it wrote is in {shown}" if os.path.exists(printed) and os.path.getsize(printed) else ""
-        raise Refusal(
-            2 if found.status == 2 else 3, f"there is no profile of {options.name()}, and nothing to tune{kept}"
-        )
+        raise Refusal(2 if found.status == 2 else 3,
+                      f"there is no profile of {options.name()}, and nothing to tune{kept}")
     if not options.all:
         folder.write("program.profile", runs.taken("peak"))
     return found

@@ -53,9 +53,8 @@ def other_program(text: str, words: list[str], remedy: str) -> Optional[str]:
     if largest.requests * NEARLY > whole * (NEARLY - 1):
         return None if largest is found[0] else largest.name
     listed = "; ".join(each.said() for each in sorted(found, key=lambda each: -each.requests))
-    raise Refusal(
-        3, f"{words[0]} ran more than one program, and none has nine tenths of the requests: {remedy}. {listed}"
-    )
+    raise Refusal(3,
+                  f"{words[0]} ran more than one program, and none has nine tenths of the requests: {remedy}. {listed}")
 
 
 def counted_program(text: str, others: int, only: Optional[str], is_followed: bool = True) -> Optional[str]:

@@ -21,11 +21,8 @@ class Folder:
         kept = next((name for name in KEPT if os.path.isfile(os.path.join(path, name))), None)
         if kept:
             again = f"--read {shell_words.path_word(os.path.join(path, kept))} --output ANOTHER"
-            raise Refusal(
-                3,
-                f"{path} is there already: name another folder by --output, or tune its record again, without a run: "
-                f"{again}",
-            )
+            raise Refusal(3, f"{path} is there already: name another folder by --output, or tune its record again, "
+                             f"without a run: {again}")
         self.place = text_files.new_folder(path, "--output")
         self.path = path
 

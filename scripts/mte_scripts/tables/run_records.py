@@ -55,9 +55,8 @@ def record_program(plan: Plan, folders: Folders, runs: long_runs.Runs) -> Record
             break
         folders.new.drop_record()
         if why := runs.why_not(run, long_runs.MOST_RUNS):
-            raise Refusal(
-                3, f"{processes.most(name)}; that is not run again, since {why}: {services.remedy(options, name)}"
-            )
+            raise Refusal(3, f"{processes.most(name)}; that is not run again, since {why}: "
+                             f"{services.remedy(options, name)}")
         say("tune_program", f"{processes.most(name)}: it is run again for that, as with --only {name}")
         options, words = options.changed(only=name), ["--only", name, *words]
     if not options.only:

@@ -226,11 +226,8 @@ class Rounds:
         if reading.failed and name == first:
             raise Refusal(3, reading.failed)
         if self.server.measure and reading.number is None and not reading.failed:
-            raise Refusal(
-                3,
-                f"the load printed no number that --measure `{self.server.measure}` "
-                f"finds{service_runs.last_line(run.load_log)}",
-            )
+            raise Refusal(3, f"the load printed no number that --measure `{self.server.measure}` "
+                             f"finds{service_runs.last_line(run.load_log)}")
         if reading.killed and self.takes > service_runs.SHORT_END:
             self.takes = service_runs.SHORT_END
             say("tune_program", f"it did not end by --stop {self.server.stop}, and was killed: so are the next ones after {self.takes:.0f} s")

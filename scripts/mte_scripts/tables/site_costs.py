@@ -138,11 +138,8 @@ class SiteCosts:
         self.parts = at_peaks(run, fit.classes, sorted(set(fit.moments or figures.peaks(fit.classes, timed.text).reached())))
         self.footprint = sum(part.taken() for part in self.parts)
         if timed.claim.holds and self.footprint != fit.footprint:
-            raise Refusal(
-                3,
-                f"the stacks are of another run: the blocks at the peaks take {self.footprint:,} bytes, not "
-                f"{fit.footprint:,}",
-            )
+            raise Refusal(3, f"the stacks are of another run: the blocks at the peaks take {self.footprint:,} bytes, "
+                             f"not {fit.footprint:,}")
         self.stacks = run.frames([part.site for part in self.parts])
         self.handing = self.find_handing()
         self.kept = certificate_texts.class_line(os.path.join(EXAMPLES, KEPT_FILE))
@@ -204,16 +201,8 @@ class SiteCosts:
         for ((place, size), blocks), each in zip(able, second):
             below, both = self.below(size), (self.timed.claim, each)
             kept_ = Fewer(figures.block_of(self.kept, size), size - below, next(saved)) if below else None
-            found.append(
-                WhatIf(
-                    place,
-                    size,
-                    blocks,
-                    Fewer(block_of[place, size], granule_of(size), claims.saved_bytes(*both)),
-                    both,
-                    kept_,
-                )
-            )
+            found.append(WhatIf(place, size, blocks,
+                                Fewer(block_of[place, size], granule_of(size), claims.saved_bytes(*both)), both, kept_))
         return found
 
     def below(self, size: int) -> int:
@@ -233,11 +222,8 @@ class SiteCosts:
         """What is claimed of the fit of that run; None where that of the run itself has no certificate."""
         fit, first = self.timed.fit, self.timed.claim
         how = claim_words.how("changed")
-        return (
-            claims.fit_counts(self.changed(change), first.name, (fit.limit, fit.step, fit.forced), how)[1]
-            if first.holds
-            else None
-        )
+        return (claims.fit_counts(self.changed(change), first.name, (fit.limit, fit.step, fit.forced), how)[1]
+                if first.holds else None)
 
     def saved_by(self, change: "tuple[tuple[str, int], int]") -> Optional[int]:
         """By how many bytes the table that stays takes less over that run."""
@@ -271,10 +257,8 @@ class SiteCosts:
         if not self.run.unsure:
             return ""
         objects = claim_words.join_words(sorted(self.run.unsure))
-        return (
-            f"addr2line does not read all debug symbols of DWARF 5 right: in {objects} a file may be wrong, or a caller left out. "
-            "Install llvm-addr2line (of Debian's package llvm), or build with -gdwarf-4."
-        )
+        return (f"addr2line does not read all debug symbols of DWARF 5 right: in {objects} a file may be wrong, or a "
+                "caller left out. Install llvm-addr2line (of Debian's package llvm), or build with -gdwarf-4.")
 
     def input(self) -> str:
         return claims.who_input(self.timed.claim)
@@ -287,17 +271,14 @@ class SiteCosts:
         lines += ["", *(f"{line}  {place}" for line, place in zip(text_layout.columns(rows, left=10), places)), ""]
         for each in self.what_ifs:
             lines += text_layout.wrap_text(f"- {each.said()}", indent="  ")
-        return "".join(
-            f"{printable(line)}\n"
-            for line in lines + text_layout.wrap_text(self.unsure()) + text_layout.wrap_text(self.input())
-        )
+        return "".join(f"{printable(line)}\n"
+                       for line in lines + text_layout.wrap_text(self.unsure()) + text_layout.wrap_text(self.input()))
 
     def lead(self) -> str:
         lost = sum(map(self.lost, self.parts))
-        return (
-            f"The footprint of {kibibytes(self.footprint)} by the places that request it, each class at the moment of its most blocks. "
-            f"{kibibytes(lost)} of it, {percent(lost, self.footprint)}, are lost by rounding. A place is the innermost call that hands no request on."
-        )
+        return (f"The footprint of {kibibytes(self.footprint)} by the places that request it, each class at the moment "
+                f"of its most blocks. {kibibytes(lost)} of it, {percent(lost, self.footprint)}, are lost by rounding. "
+                "A place is the innermost call that hands no request on.")
 
     def files(self, name: str) -> "dict[str, str]":
         """The text, the flame graphs, and the file for speedscope."""

@@ -98,10 +98,8 @@ def profile_at_peak(timeline: bytes) -> dict:
 def read_stacks(options: Options) -> "tuple[Options, GivenRecord]":
     """The record of heaptrack that --read names, whose calls are wanted too."""
     if not (heaptrack_stacks := entry_point.part("recording.imports.heaptrack_stacks")):
-        raise Refusal(
-            3,
-            "--who with --read wants scripts/mte_scripts/recording/imports, which is not here: run the program itself",
-        )
+        raise Refusal(3, "--who with --read wants scripts/mte_scripts/recording/imports, which is not here: run the "
+                         "program itself")
     record = heaptrack_stacks.read(options.read)
     run = site_costs.Run(record.events, record.sizes, record.stacks)
     text = site_costs.timeline_of(run, {})
@@ -115,7 +113,8 @@ def need_program(options: Options, given: Optional[GivenRecord]) -> None:
         recording.find_program(options.words[0])
         recording.need_recorder()
     words, why = ["tune", *figures.options(options.limit, options.step, options.largest)], ""
-    for text in [*[given.files["program.profile"]] * bool(given), "16 1\n"]:  # what is to be tuned may be refused for what it is
+    known = [given.files["program.profile"]] if given else []  # which may be refused for what it is
+    for text in [*known, "16 1\n"]:
         try:
             certificate_texts.parse_sheet(figures.run(words, text)[1])
             return

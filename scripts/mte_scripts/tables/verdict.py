@@ -101,26 +101,21 @@ def present(path: str) -> str:
     return linked[1] if linked else GLIBC
 
 
-def measure_allocators(
-    runner: str, words: list, path: str, libraries: dict[str, Optional[str]], given: Optional[str]
-) -> list[Row]:
+def measure_allocators(runner: str, words: list, path: str, libraries: dict[str, Optional[str]],
+                       given: Optional[str]) -> list[Row]:
     """Runs the program some times with each library, each round in a random order. The first is the present allocator: no library."""
     order, found = random.Random(SEED), dict[str, list]((name, []) for name in libraries)
     for made in range(RUNS):
         say("tune_program", f"round {made + 1} of {RUNS}: {words[0]} with {', '.join(libraries)}")
         for name in order.sample(sorted(libraries), len(libraries)):
-            found[name].append(
-                verification.run_once(runner, words, path, libraries[name], given, None, libraries.values())
-            )
+            run = verification.run_once(runner, words, path, libraries[name], given, None, libraries.values())
+            found[name].append(run)
     statuses = {run.status for run in found[next(iter(libraries))]}
     if len(statuses) > 1:
-        raise Refusal(
-            3, f"{words[0]} does not end the same each time: with status {' or '.join(map(str, sorted(statuses)))}"
-        )
-    return [
-        Row(name, sorted(run.peak for run in each), sorted(run.spent for run in each), sum(run.status not in statuses for run in each))
-        for name, each in found.items()
-    ]
+        raise Refusal(3, f"{words[0]} does not end the same each time: with status "
+                         f"{' or '.join(map(str, sorted(statuses)))}")
+    return [Row(name, sorted(run.peak for run in each), sorted(run.spent for run in each),
+                sum(run.status not in statuses for run in each)) for name, each in found.items()]
 
 
 def price_of(rows: list[Row], tuned: str) -> Optional[Price]:
