@@ -76,11 +76,11 @@ class Claim:
         """That of the table, or the bound. Only where one of the two is known."""
         return self.numbers["waste" if self.kind == "profile" else "footprint"]
 
-    def among(self) -> "dict[str, str]":
+    def name_tables(self) -> "dict[str, str]":
         """The tables in question: their limit and step, and the class that they have."""
         return {"limit": limit_words(self.numbers["limit"], self.numbers["step"]), "having": having_words(self.numbers["forced"])}
 
-    def given(self) -> str:
+    def name_input(self) -> str:
         """What was counted, by its name and digest."""
         return fill_template("input", name=quote_name(self.name), digest=self.digest[:DIGITS], how=self.how)
 
@@ -93,17 +93,17 @@ class Claim:
         }
         places = {f"{noun}s": words for noun, words in count.items()}
         large = fill_template("large", large=count_text(numbers["large"], "large one")) if numbers.get("large") else ""
-        tables = fill_template("tables", **self.among(), given=self.given())
+        tables = fill_template("tables", **self.name_tables(), given=self.name_input())
         return fill_template(f"{self.kind}.claim", tables=tables, cost=byte_text(self.cost), large=large, **places)
 
-    def says(self) -> str:
+    def state_verdict(self) -> str:
         """What the verdict means, whoever gave it."""
         if self.is_bound:
             return fill_template("between", cost=byte_text(self.numbers["takes"]), claim=self.words())
         if self.holds:
             return fill_template("says", command=self.command, claim=self.words())
         return fill_template(
-            "refused", command=self.command, verdict=self.verdict, given=self.given(), meaning=self.meaning()
+            "refused", command=self.command, verdict=self.verdict, given=self.name_input(), meaning=self.meaning()
         ).rstrip()
 
     def meaning(self) -> str:
@@ -115,17 +115,17 @@ class Claim:
         except KeyError:
             return ""
 
-    def known(self) -> str:
+    def state_finding(self) -> str:
         """What is known of the table: proved, if the program is."""
         if not self.holds and not self.is_bound:
-            return self.says()
+            return self.state_verdict()
         if self.trust.is_proved:
-            return fill_template("known.proved", by=self.trust.by.value, says=self.says())
+            return fill_template("known.proved", by=self.trust.by.value, says=self.state_verdict())
         return fill_template("known.unproved", why=self.trust.why, command=self.command, claim=self.words())
 
     def sentence(self) -> str:
         """The same for a summary or a page."""
-        return mark_claim(self.known())
+        return mark_claim(self.state_finding())
 
     def refusal(self) -> str:
         """The verdict and its meaning."""
@@ -191,7 +191,7 @@ def interval(claim: Claim, high: int, events: int) -> "tuple[str, str]":
         else fill_template("interval.run", name=name)
     )
     one = fill_template(
-        "interval.one", over=over, low=mebibytes(claim.cost, 0), high=mebibytes(high, 1), **claim.among()
+        "interval.one", over=over, low=mebibytes(claim.cost, 0), high=mebibytes(high, 1), **claim.name_tables()
     )
     unproved = "" if claim.trust.is_proved else "If the program is right: "
     return mark_claim(f"{unproved}{one}"), claim_sentence("interval.rests", over=over, high=byte_text(high))
@@ -218,7 +218,7 @@ def saving(saved: "int | None") -> Optional[str]:
 
 def who_input(claim: Claim) -> str:
     """Of which tables and of which run that is."""
-    return claim_sentence("who.input", given=claim.given(), **claim.among()) if claim.holds else ""
+    return claim_sentence("who.input", given=claim.name_input(), **claim.name_tables()) if claim.holds else ""
 
 
 def bound(claim: Claim, load: str, divisor: int, is_own: bool) -> str:
@@ -228,7 +228,7 @@ def bound(claim: Claim, load: str, divisor: int, is_own: bool) -> str:
     kind = "profile" if claim.kind == "profile" else "histories"
     return claim_sentence(
         f"bound.{kind}",
-        known=claim.known(),
+        known=claim.state_finding(),
         load=quote_name(load),
         divisor=f"{divisor:,}",
         cost=byte_text(divisor * claim.cost),
@@ -253,7 +253,7 @@ def regret(claim: Claim, load: str, table: str, cost: "int | None", above: "floa
 def worst(claim: Claim, loads: str, low: float, high: float, is_exact: bool) -> str:
     """Of a table for several loads: what bounds the worst percentage of every table, by a certificate of these joined, and its own."""
     own = fill_template("worst.exact" if is_exact else "worst.chosen", percent=f"{high:,.2f}")
-    return claim_sentence("worst.all", known=claim.known(), loads=loads, percent=f"{low:,.2f}", own=own)
+    return claim_sentence("worst.all", known=claim.state_finding(), loads=loads, percent=f"{low:,.2f}", own=own)
 
 
 def pools(claim: Claim, runs: Iterable[str], is_sampled: bool, block: "tuple[int, int]", cost: int) -> str:
@@ -262,7 +262,7 @@ def pools(claim: Claim, runs: Iterable[str], is_sampled: bool, block: "tuple[int
     what = fill_template("pools.snapshots" if is_sampled else "pools.runs", given=join_words(map(quote_name, runs)))
     limit = count_text(claim.numbers["limit"], "pool")
     said_ = fill_template("pools.claim", pools=limit, what=what, unit=block[0], overhead=block[1], cost=byte_text(cost))
-    return claim_sentence("pools.all", known=claim.known(), claim=said_)
+    return claim_sentence("pools.all", known=claim.state_finding(), claim=said_)
 
 
 def curve(claim: Claim, step: int, forced: int) -> str:

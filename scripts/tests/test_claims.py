@@ -197,10 +197,10 @@ def try_figures():
             timed = figures.over_time(kind, text.encode(), with_forced, limit, step)
             found = figures.Figures(profile, sheet, [], timed, objective)
             what = f"{kind}, limit {limit}, step {step}, {'forced' if with_forced else 'not forced'}"
-            told = compare(" ".join(found.known()), profile, history, what)
+            told = compare(" ".join(found.state_findings()), profile, history, what)
             order = ["takes", "wastes"][:: 1 if objective == "footprint" else -1]
-            expect(f"{what}: not two claims: {found.known()}", [kind for kind, *_ in told] == order)
-            expect(f"{what}: {found.unheld()}", not found.unheld())
+            expect(f"{what}: not two claims: {found.state_findings()}", [kind for kind, *_ in told] == order)
+            expect(f"{what}: {found.state_refusals()}", not found.state_refusals())
             expect(f"{what}: the first table is not of the {objective}", (found.first is found.best) == (objective == "waste"))
             taken, wasted = told[:: 1 if objective == "footprint" else -1]
             for _, forced, _ in told:

@@ -345,7 +345,7 @@ class Documents(checks.Part):
                 more = {"takes": 80_000} if verdict.startswith("between") else {}
                 claim = claims.Claim(kind, name, "0123456789abcdef" * 4, "", verdict, {**numbers, **more}, program_runs.Trust(True, ""), claims._KEY)
                 given.append({"kind": kind, "name": name, "digest": claim.digest, "verdict": verdict, "line": f"claim {line.format(forced)}", "more": more})
-                wanted.append([claim.says(), claims.curve(claim, numbers["step"], forced).strip(OPEN + CLOSE)])
+                wanted.append([claim.state_verdict(), claims.curve(claim, numbers["step"], forced).strip(OPEN + CLOSE)])
         sources = "\n".join(open(os.path.join(ROOT, "web", f"{name}.js"), encoding="utf-8").read() for name in ("formats", "words", "claims"))
         program = f"""const data = {json.dumps({"claims": claim_words.TEMPLATES})}; {sources.replace('"use strict";', "")}
             console.log(JSON.stringify({json.dumps(given)}.map((it) => {{

@@ -115,7 +115,7 @@ class Member:
         """Of a timeline: also the moments at which the classes of this table have the most blocks."""
         if self.timeline is None or self.at_moments(classes) == self.footprint(classes):
             return
-        more = timelines.history_at(self.timeline, figures.peaks(classes, self.timeline).reached())
+        more = timelines.history_at(self.timeline, figures.peaks(classes, self.timeline).moments_of_peaks())
         both = {
             size: [*self.history.counts.get(size, [0] * self.history.snapshots), *more.counts.get(size, [0] * more.snapshots)]
             for size in {**self.history.counts, **more.counts}

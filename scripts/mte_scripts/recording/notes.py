@@ -83,7 +83,7 @@ class Notes(ctypes.Structure):
     ]
 
     @classmethod
-    def of(cls, page: bytes) -> "Notes":
+    def of_page(cls, page: bytes) -> "Notes":
         """Those of a page, which may be cut off."""
         return cls.from_buffer_copy(page.ljust(PAGE, b"\0"))
 
@@ -102,19 +102,19 @@ class Notes(ctypes.Structure):
         found = sorted((each for each in self.named if each.requests), key=lambda each: each.name != self.followed)
         return [each.line(self.resident if each.name == self.followed else 0) for each in found]
 
-    def unfollowed(self) -> "list[str]":
+    def name_unfollowed(self) -> "list[str]":
         """The programs that were run without the library, each with the reason."""
         found = [str(each) for each in self.programs_left_alone if each.number]
         return [*found, *[f"{self.more_left_alone:,} others"] * bool(self.more_left_alone)]
 
-    def last_unfollowed(self) -> "tuple[str, str] | None":
+    def name_last_unfollowed(self) -> "tuple[str, str] | None":
         """The name of the program that the first process ran at last, and why it is not followed; None where it is."""
         if not self.instead:
             return None
         last = self.programs_left_alone[self.instead - 1] if self.instead <= len(self.programs_left_alone) else ProgramLeftAlone()
         return os.fsdecode(last.name), last.reason()
 
-    def remaining(self) -> list:
+    def remaining_processes(self) -> list:
         """The processes that run on, or some of them."""
         return list(self.processes[: self.left])
 

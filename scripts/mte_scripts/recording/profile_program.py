@@ -209,7 +209,7 @@ class Options(argparse.Namespace):
     def table_words(self) -> str:
         return ",".join(" ".join(map(str, table)) for table in self.tables)
 
-    def wanted(self) -> str:
+    def request_to_reader(self) -> str:
         """What the reader is asked for."""
         kinds = {None: "all", "--live": "live", "--history": f"history {self.history}", "--classes": "classes",
                  "--timeline": "timeline blocks" if self.blocks else "timeline",
@@ -285,7 +285,7 @@ def follow(options: Options, speaker: recording.Speaker, work: private_folder.Fo
     """Follows what something else starts, until it is told to end."""
     if options.words:
         raise Refusal(2, "--follow takes one file, and runs no program")
-    with recording.Run(speaker, work, options.wanted(), options.only, options.table_words()) as run:
+    with recording.Run(speaker, work, options.request_to_reader(), options.only, options.table_words()) as run:
         status, notes = run.follow(os.path.abspath(options.follow), "", []), run.found.notes()
         if status or not notes.version:
             raise Refusal(3, f"{options.follow} can't be followed: {notes.why or 'the reader was ended'}")
@@ -316,7 +316,7 @@ def read_only(options: Options, speaker: recording.Speaker) -> int:
                                   f"{options.read} is no stream, or nobody follows it: `profile_program --follow` does")
                 with open(found.path(descriptor), "rb") as shared:
                     run = recording.ReaderResult(shared.fileno())
-                    return print_service(options, speaker, found.asked(run, options.read), options.read)
+                    return print_service(options, speaker, found.ask_again(run, options.read), options.read)
     except OSError as error:
         if error.errno == errno.ELOOP:
             raise Refusal(3, f"{options.read} is a link: name the file itself") from None
@@ -358,7 +358,7 @@ class Reader:
             return (own.st_dev, own.st_ino) == (status.st_dev, status.st_ino) and os.readlink(self.path(descriptor)) == path
         return False
 
-    def asked(self, run: recording.ReaderResult, stream: str) -> recording.ReaderResult:
+    def ask_again(self, run: recording.ReaderResult, stream: str) -> recording.ReaderResult:
         """What it found, once it has written that anew."""
         before, end = run.notes().version, time.monotonic() + ANSWERED
         signal.pidfd_send_signal(self.opened, signal.SIGUSR1)
@@ -373,7 +373,7 @@ def import_file(options: Options, speaker: recording.Speaker) -> int:
     """Prints what a file of another tool counts, and says what that is; or what is kept of a timeline."""
     if options.is_timeline():
         with private_folder.temporary_folder() as work:
-            of_reader = recording.of_timeline(options.import_, work, options.wanted(), options.table_words())
+            of_reader = recording.of_timeline(options.import_, work, options.request_to_reader(), options.table_words())
         if print_found(options, speaker, *of_reader):
             return 0
         raise Refusal(3, f"{text_files.input_name(options.import_)}: it counts nothing")
@@ -442,7 +442,7 @@ def refuse_unreachable(path: str) -> None:
 
 def say_left(speaker: recording.Speaker, options: Options, notes: Notes) -> None:
     """Says of a program that goes on."""
-    begin = f"{options.words[0]} ended but left process {' '.join(map(str, notes.remaining()))} running"
+    begin = f"{options.words[0]} ended but left process {' '.join(map(str, notes.remaining_processes()))} running"
     if options.live:
         speaker.say(f"{begin}, which {options.live} does not count: {FOREGROUND}, or count all requests, without {options.live}")
     else:
@@ -451,7 +451,7 @@ def say_left(speaker: recording.Speaker, options: Options, notes: Notes) -> None
 
 def run_program(options: Options, speaker: recording.Speaker, path: str, work: private_folder.Folder) -> int:
     program = options.words[0]
-    wanted, recorder = options.wanted(), "stacks" if options.stacks else "stream"
+    wanted, recorder = options.request_to_reader(), "stacks" if options.stacks else "stream"
     if wanted == "all":
         wanted, recorder = "counts", "counts"
     with recording.Run(speaker, work, wanted, options.only, options.table_words(), recorder) as run:

@@ -153,9 +153,9 @@ class Library:
     def __init__(self, work: private_folder.Folder, name: str = "stream") -> None:
         self.path, self.work = make(name, work), work
         self.link: "private_folder.Folder | None" = None
-        self.name = self.path if is_plain(self.path) else self.linked()
+        self.name = self.path if is_plain(self.path) else self.link_apart()
 
-    def linked(self) -> str:
+    def link_apart(self) -> str:
         for where in (self.work.path, "/tmp", "/var/tmp", "/dev/shm"):
             with contextlib.suppress(NotPrivate, OSError):
                 self.link = private_folder.new_folder(private_folder.open_folder(where))
@@ -232,7 +232,7 @@ def say_lost(speaker: Speaker, notes: Notes) -> None:
         speaker.say(f"calls without a whole record: {notes.lost}; a signal's handler jumped out of them, or the program or a thread ended in them")
     if reasons := notes.reasons():
         speaker.say(f"some processes are not counted: {', '.join(reasons)}")
-    if unfollowed := notes.unfollowed():
+    if unfollowed := notes.name_unfollowed():
         speaker.say(f"not followed, nor what they start: {', '.join(unfollowed)}")
 
 
@@ -250,7 +250,7 @@ class ReaderResult:
         self.descriptor = descriptor
 
     def notes(self) -> Notes:
-        return Notes.of(os.pread(self.descriptor, PAGE, 0))
+        return Notes.of_page(os.pread(self.descriptor, PAGE, 0))
 
     def texts(self) -> Texts:
         with open(os.dup(self.descriptor), "rb") as file:
@@ -322,7 +322,7 @@ class Run:
         if status or not notes.version:
             raise Refusal(3, f"nothing can be recorded: {notes.why or NO_NOTES.get(status, 'the reader was ended')}")
         refuse_spoiled(notes, word)
-        if not self.only and (last := notes.last_unfollowed()):
+        if not self.only and (last := notes.name_last_unfollowed()):
             ran = f"it ran {last[0]} in its own place, which can't be followed: " if notes.started else ""
             raise Refusal(3, f"{word} can't be recorded: {ran}{last[1]}")
         if notes.started:
@@ -330,7 +330,7 @@ class Run:
         if notes.refused[:] != [0] * len(notes.refused):
             raise Refusal(3, f"{word} can't be recorded: {', '.join(notes.reasons())}")
         if self.only:
-            others = f". Not followed, nor what they start: {', '.join(unfollowed)}" if (unfollowed := notes.unfollowed()) else ""
+            others = f". Not followed, nor what they start: {', '.join(unfollowed)}" if (unfollowed := notes.name_unfollowed()) else ""
             raise Refusal(3, f"no process that could be recorded has the name {self.only}{others}")
         if why := try_loading("stream", self.library.name).decode(errors="replace").strip():
             raise Refusal(3, f"nothing can be recorded: {why}")

@@ -63,7 +63,7 @@ class Peaks(NamedTuple):
     live: int
     freed: int
 
-    def reached(self) -> list[int]:
+    def moments_of_peaks(self) -> list[int]:
         """The moments at which some class first has its most blocks, in the order of time."""
         return sorted({moment for most, moment in zip(self.most, self.moments) if most})
 
@@ -123,7 +123,7 @@ def over_time(kind: str, text: bytes, largest: bool, limit: int, step: int, name
     answer, claim = claims.fit_counts(text, name or f"the {kind}", (limit, step, largest), how)
     if claim.is_bound:
         fit = certificate_texts.Fit(certificate_texts.parse_class_line(answer.split("\n")[0]), limit, step, largest, claim.numbers["takes"], [], [])
-        moments = peaks(fit.classes, text).reached()
+        moments = peaks(fit.classes, text).moments_of_peaks()
     else:
         fit = certificate_texts.parse_fit(answer)
         moments = fit.moments or []
@@ -146,7 +146,7 @@ class Table:
         self.footprint: Optional[int] = None
         self.is_known = ""  # how the two differ: it takes that over the run, "at least" that, or "at most"
 
-    def over(self, timed: OverTime, has_peaks: bool, is_chosen: bool) -> None:
+    def take_record(self, timed: OverTime, has_peaks: bool, is_chosen: bool) -> None:
         """What it takes over time: of the fit's table its claim says it. By its peaks, which take longer, where these are asked for later. Of a
         run that is longer than its history, what was counted, or what it takes at least, over the moments; the one that IS_CHOSEN takes at most
         what bounds it."""
@@ -203,7 +203,7 @@ class Figures:
         certified = certified[::-1] if objective == "footprint" else certified
         self.claims: list[claims.Claim] = [each for _, each in certified]
         self.certificate = certified[0][0]
-        self.first, *self.rest = self.made() + self.others
+        self.first, *self.rest = self.order_made() + self.others
         self.least = self.least_by_classes()
 
     def take_fit(self, timed: OverTime, profile: dict[int, int]) -> None:
@@ -211,9 +211,9 @@ class Figures:
         classes = timed.interval.classes if timed.interval else timed.fit.classes
         self.fitted = Table(timed.claim.table(), classes, profile, self.best.waste if classes == self.best.classes else None)
         for table in (self.best, self.fitted, *self.others):
-            table.over(timed, table in (self.made()[0], *self.others[:1]), table.classes == self.fitted.classes)
+            table.take_record(timed, table in (self.order_made()[0], *self.others[:1]), table.classes == self.fitted.classes)
 
-    def made(self) -> list[Table]:
+    def order_made(self) -> list[Table]:
         """The tables that were made, the first by the objective before the other one."""
         made = [table for table in (self.best, self.fitted) if table]
         return made[::-1] if self.objective == "footprint" else made
@@ -234,7 +234,7 @@ class Figures:
         """The waste or the footprint of a table, None where it does not serve all sizes."""
         return table.footprint if self.objective == "footprint" else table.waste
 
-    def seen(self, table: Table) -> "int | None":
+    def cost_over_record(self, table: Table) -> "int | None":
         """The same, of the footprint over what was recorded, which all tables are known over."""
         return table.seen if self.objective == "footprint" else table.waste
 
@@ -242,7 +242,7 @@ class Figures:
         """The bytes of the blocks that the counted requests take: headers, requests and waste."""
         return GRANULE * self.requests + self.bytes + table.waste
 
-    def whole(self, table: Table) -> int:
+    def base_of_share(self, table: Table) -> int:
         """Of what a saving against this table is a share."""
         return table.footprint if self.objective == "footprint" else self.blocks(table)
 
@@ -262,7 +262,7 @@ class Figures:
         is_alike = table.is_known == self.first.is_known
         return table.footprint - self.first.footprint if is_alike and None not in (table.footprint, self.first.footprint) else None
 
-    def most(self, amount: Callable[[int], int]) -> int:
+    def most_at_a_moment(self, amount: Callable[[int], int]) -> int:
         """The most of all live blocks together at a moment, each with an amount of its size."""
         if self.timed.kind == "timeline":
             return timelines.peak_of(self.timed.text, amount)[0]
@@ -274,7 +274,7 @@ class Figures:
         """The most bytes of all its live blocks together: what it takes where each block that is freed is given back at once."""
         if self.timed.kind == "timeline":
             return peaks(table.classes, self.timed.text).live
-        return self.most(lambda size: block_of(table.classes, size))
+        return self.most_at_a_moment(lambda size: block_of(table.classes, size))
 
     def heights(self, parts: int) -> list[list[int]]:
         """The most live blocks of each class of the first table in each of so many equal parts of a timeline, or at each moment of a
@@ -317,26 +317,26 @@ class Figures:
             return (self.simulated.low + self.simulated.high) // 2
         return self.saved_in_scudo if self.timed else None
 
-    def requested(self) -> dict:
+    def count_requests(self) -> dict:
         """How often each size was requested over time; of a history, which has not all, how many blocks it has."""
         if self.timed.kind == "timeline":
             return timelines.requests_of(self.timed.text)
         return {size: sum(counts) for size, counts in self.timed.history.counts.items()}
 
-    def larger(self, other: Table) -> tuple[list[tuple[int, int, int]], int, int]:
+    def find_larger_blocks(self, other: Table) -> tuple[list[tuple[int, int, int]], int, int]:
         """The sizes that get a larger block of the first table than of the other one, as (size, block, the other block), and what that costs at
         a moment at most. Sizes that one of the two does not serve are left out."""
-        sizes = sorted(size for size in self.requested() if size != "large")
+        sizes = sorted(size for size in self.count_requests() if size != "large")
         found = {size: (block_of(self.first.classes, size), block_of(other.classes, size)) for size in sizes}
         found = {size: blocks for size, blocks in found.items() if 0 < blocks[1] < blocks[0]}
-        cost = self.most(lambda size: found[size][0] - found[size][1] if size in found else 0)
+        cost = self.most_at_a_moment(lambda size: found[size][0] - found[size][1] if size in found else 0)
         return [(size, *blocks) for size, blocks in found.items()], len(sizes), cost
 
     def waste_over_time(self, table: Table) -> "int | None":
         """The waste of all requests of a timeline, a sum over time; None where a size is not served, or not all requests are known."""
         if self.timed.kind != "timeline":
             return None
-        requests = {size: min(times, MOST_COUNT) for size, times in self.requested().items()}
+        requests = {size: min(times, MOST_COUNT) for size, times in self.count_requests().items()}
         return Table(table.name, table.classes, requests).waste
 
     def classes(self) -> Iterator[tuple[int, int, int, int, int]]:
@@ -355,7 +355,7 @@ class Figures:
             yield GRANULE * granules, below + 1, most, count, cost
             below = most
 
-    def known(self) -> list[str]:
+    def state_findings(self) -> list[str]:
         """What is known of the table that is the first by the objective, and of the other one that is made."""
         return [each.sentence() for each in self.claims]
 
@@ -366,7 +366,7 @@ class Figures:
             return []
         return list(claims.interval(timed.claim, timed.interval.high, timed.interval.events))
 
-    def unheld(self) -> list[str]:
+    def state_refusals(self) -> list[str]:
         """What `check` and `check-fit` say where nothing follows."""
         return [each.sentence() for each in self.claims if not each.holds and not each.is_bound]
 

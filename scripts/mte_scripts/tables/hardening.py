@@ -57,7 +57,7 @@ class InScudo:
             ended = rounds.measure()
             if ended and not rounds.has_rows():
                 services.refuse_end(folder, rounds, ended)
-            rows, further = rounds.rows(), rounds.further()
+            rows, further = rounds.rows(), rounds.further_lines()
         else:
             rows, further = self.measure(libraries, tuned, path, work)
         said = f"{options.name()}: {verdict.verdict(rows, tuned)}"

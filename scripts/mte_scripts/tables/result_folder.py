@@ -27,7 +27,7 @@ class Folder:
         self.path = path
 
     @classmethod
-    def numbered(cls, path: str) -> "Folder":
+    def make_numbered(cls, path: str) -> "Folder":
         """The folder that nobody named: where it is there already, one with the first number that is free."""
         for number in range(1, MOST_FOLDERS + 1):
             numbered = path if number == 1 else f"{path}.{number}"
@@ -103,7 +103,7 @@ class Folders(NamedTuple):
 @contextlib.contextmanager
 def open_folders(options: Any) -> "Iterator[Folders]":
     """Those of the options of tune_program."""
-    new = Folder(options.output) if options.output else Folder.numbered(options.name() + ".tuned")
+    new = Folder(options.output) if options.output else Folder.make_numbered(options.name() + ".tuned")
     with private_folder.temporary_folder() as work:
         if options.load is None:
             yield Folders(new, work, work)

@@ -153,13 +153,13 @@ class ServiceRun:
             if now - begin > READY:
                 remedy = "" if self.server.ready else "; say by --ready PORT, --ready /REGEX/ or --ready 'CMD' when it is ready"
                 raise Refusal(3, f"{self.name} is not ready after {READY} s: waited for "
-                                 f"{self.awaited()}{last_line(self.log)}{remedy}")
+                                 f"{self.awaited_sign()}{last_line(self.log)}{remedy}")
             if now - told > 5:
                 told = now
-                say("tune_program", f"waiting for {self.name}: {self.awaited()}; {READY - (now - begin):.0f} s are left")
+                say("tune_program", f"waiting for {self.name}: {self.awaited_sign()}; {READY - (now - begin):.0f} s are left")
             time.sleep(LOOKS)
 
-    def awaited(self) -> str:
+    def awaited_sign(self) -> str:
         """What says that the server is ready."""
         ready = self.server.ready
         if ready is None:

@@ -156,14 +156,14 @@ def count(options: Any, folders: Folders, others: list) -> "tuple[Any, long_runs
         words = runs.words
         beside = [] if options.all else ["--processes", runs.file("processes"), "--blocks", runs.file("blocks")]
         runs.words = [*beside, *words]
-        recorded, runs.words, blocks = record_once(options, folder, runs, others), words, runs.taken("blocks")
-        name, started = None, os.fsdecode(runs.taken("processes"))
+        recorded, runs.words, blocks = record_once(options, folder, runs, others), words, runs.take_text("blocks")
+        name, started = None, os.fsdecode(runs.take_text("processes"))
         if not options.all:
             rest = recorded.measured.get("others", 0) if recorded else 0
             name = processes.counted_program(started, rest, options.only, recorded is not None)
         if name is None and recorded:
             if started and not options.only:
-                options = options.changed(ran=processes.last_program(started, options.words))
+                options = options.with_values(ran=processes.last_program(started, options.words))
             has = f"{options.name()} has"
             notes = [re.sub("^the service has", lambda _: has, note) for note in recorded.notes]
             return options, recorded._replace(notes=notes, blocks=blocks), runs
@@ -171,13 +171,13 @@ def count(options: Any, folders: Folders, others: list) -> "tuple[Any, long_runs
         if name is None:
             raise Refusal(3, f"there is no profile of {options.words[0]}{service_runs.last_line(runs.recorder_log)}")
         if name:
-            say("tune_program", f"{processes.most(name)}: it is recorded again for that, as with --only {name}")
-            options = options.changed(only=name)
+            say("tune_program", f"{processes.tell_most(name)}: it is recorded again for that, as with --only {name}")
+            options = options.with_values(only=name)
         else:
             say("tune_program", "its processes share the requests: it is recorded again for all requests of all of them, as with --all")
             if options.objective == "footprint" and options.is_objective_given:
                 raise Refusal(3, "of several processes there is no footprint: take --objective waste")
-            options = options.changed(all=True, objective="waste")
+            options = options.with_values(all=True, objective="waste")
 
 
 def record_once(options: Any, folder: Folder, runs: ServiceRuns, others: list) -> "long_runs.RunRecord | None":
@@ -259,7 +259,7 @@ class Rounds:
             found.append(verdict.Row(name, peaks, times, sum(bool(each.failed) for each in readings)))
         return found
 
-    def further(self) -> "list[str]":
+    def further_lines(self) -> "list[str]":
         """What else was measured, and in which way."""
         several = self.is_several()
         how = "of all processes together what is no file and no shared memory, sampled" if several else "the resident set, as Linux counts it"

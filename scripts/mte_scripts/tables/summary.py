@@ -34,7 +34,7 @@ def warnings(options: Any, found: figures.Figures, notes: list[str]) -> Iterator
         yield f"Less than 1 MiB counts here ({figures.byte_text(found.bytes)}): the resident set may not change."
     elif saving is not None and 0 <= saving < 1 << 20 and not options.all:
         yield f"The saving against {default.name} is below 1 MiB: the resident set may not show it."
-    for table in found.made():
+    for table in found.order_made():
         is_alike = found.timed and table.is_known == default.is_known and None not in (table.footprint, default.footprint)
         if is_alike and table.footprint > default.footprint:
             more, span = kibibytes(table.footprint - default.footprint), "the recorded moments" if table.is_known else "time"
@@ -78,12 +78,12 @@ def how_known(options: Any) -> str:
 def headline(options: Any, found: figures.Figures, process: int) -> str:
     """What the table of the map is, and what it saves: of the bytes of the process, where these were measured."""
     default = found.others[0]
-    saving, name = found.saving(default), f"{options.counted()}{how_known(options)}"
+    saving, name = found.saving(default), f"{options.name_counted()}{how_known(options)}"
     if found.simulated:
         return f"{name}: {simulated_words.first_line(found, found.simulated, process)}"
     if saving is None:
         return f"{name}: {found.first.name}"
-    share = "" if process else f" ({percent(abs(saving), found.whole(default))})"
+    share = "" if process else f" ({percent(abs(saving), found.base_of_share(default))})"
     saved = f"{kibibytes(abs(saving))}{share} {'less' if saving >= 0 else 'more'} than {default.name}"
     if not process:
         return f"{name}: {found.first.name}, {saved}"
@@ -108,8 +108,8 @@ def summary(options: Any, found: figures.Figures, folder: Folder, noted: list[st
         lines += wrap_text(f"Not counted: {count_text(found.large, 'large request')}, above {number(LARGEST_SIZE)} "
                            f"bytes{most}.")
     lines += over_time(found, measured) if found.timed else ["", *comparison(found), *wrap_text(legend(options))]
-    rest = [line for known in [*found.known()[:1], *found.interval()[1:]] for line in wrap_text(known)]
-    rest += [line for each in what_ifs for line in wrap_text(each.said())]
+    rest = [line for known in [*found.state_findings()[:1], *found.interval()[1:]] for line in wrap_text(known)]
+    rest += [line for each in what_ifs for line in wrap_text(each.state_saving())]
     rest += [line for text in noted for line in wrap_text(f"! {text}", indent="  ")]
     is_next = options.verify is None and folder.has("tuned_map.inc")
     files = short_folder_lines(folder, is_next) if found.timed else folder_lines(found, folder, is_next)
@@ -181,14 +181,14 @@ def over_time(found: figures.Figures, measured: dict[str, int]) -> list[str]:
 def unserved_sizes(found: figures.Figures, table: figures.Table) -> str:
     """Which sizes a table does not serve."""
     most = 16 * table.classes[-1] - 16 if table.classes else -1
-    above = figures.byte_text(found.most(lambda size: size if size > most else 0))
+    above = figures.byte_text(found.most_at_a_moment(lambda size: size if size > most else 0))
     return f"serves none above {number(most)} bytes, of which {above} were live"
 
 
 def larger_blocks(found: figures.Figures) -> str:
     """Which sizes have a larger block than by default."""
     default = found.others[0]
-    sizes, all_sizes, cost = found.larger(default)
+    sizes, all_sizes, cost = found.find_larger_blocks(default)
     if not sizes:
         return f"No requested size has a larger block than with {default.name}."
     return f"Of {all_sizes} requested sizes {len(sizes)} have a larger block than with {default.name}: together at most {figures.byte_text(cost)} more at a moment."

@@ -137,7 +137,7 @@ class Options(argparse.Namespace):
         if self.limit == 1 and self.largest:
             raise Refusal(2, "--limit 1 has no class beside 1024: take --no-largest too, or a higher limit")
 
-    def changed(self, **values: object) -> "Options":
+    def with_values(self, **values: object) -> "Options":
         """A copy with other values: what a step was given it leaves as it is."""
         found = copy.copy(self)
         vars(found).update(values)
@@ -151,7 +151,7 @@ class Options(argparse.Namespace):
         if history is not None and self.all:
             raise Refusal(2, "--all counts all requests, and this has the live blocks: leave it out")
         follows = "waste" if history is None else "footprint"
-        return self.changed(is_objective_given=self.objective is not None, objective=self.objective or follows)
+        return self.with_values(is_objective_given=self.objective is not None, objective=self.objective or follows)
 
     def with_divisor(self, found: "dict | count_texts.History") -> "Options":
         """With that of the counts, where it is wanted; else those that no text can have are refused."""
@@ -159,13 +159,13 @@ class Options(argparse.Namespace):
         if divisor < count_texts.divisor_of(found):
             raise Refusal(2, f"{text_files.input_name(self.read)}: 32 CountOutOfRange: {CODES[32].words}; --scale "
                              "divides all counts by the same number")
-        return self.changed(divisor=divisor)
+        return self.with_values(divisor=divisor)
 
     def name(self) -> str:
         if self.read is None:
             return self.ran or os.path.basename(self.words[0]) or self.words[0]
         return "profile" if self.read == "-" else figures.without_ending(self.read, ".profile", ".history", ".timeline")
 
-    def counted(self) -> str:
+    def name_counted(self) -> str:
         """The name of what is counted, with that of the program that started it."""
         return self.name() if self.only in (None, self.name()) else f"{self.only} of {self.name()}"

@@ -64,7 +64,7 @@ class Price(NamedTuple):
     def cost(self) -> int:
         return self.default.peak() - self.plain.peak()
 
-    def back(self) -> int:
+    def bytes_back(self) -> int:
         return self.default.peak() - self.tuned.peak()
 
     def range(self) -> Optional[tuple[float, float]]:
@@ -136,11 +136,11 @@ def verdict(rows: list[Row], tuned: str) -> str:
     takes = f"It takes {kibibytes(now.peak())} with {now.name}, as now"
     if price is None:
         return f"measured, and nothing follows for Scudo, with which it ended otherwise. {takes}."
-    share = f"in Scudo, {percent(abs(price.back()), price.default.peak())} of the peak"
+    share = f"in Scudo, {percent(abs(price.bytes_back()), price.default.peak())} of the peak"
     if is_worth(rows, tuned):
-        said = f"measured, the table saves {kibibytes(price.back())} {share}."
+        said = f"measured, the table saves {kibibytes(price.bytes_back())} {share}."
     else:
-        saved = f"saves {kibibytes(price.back())}" if price.back() >= 0 else f"takes {kibibytes(-price.back())} more"
+        saved = f"saves {kibibytes(price.bytes_back())}" if price.bytes_back() >= 0 else f"takes {kibibytes(-price.bytes_back())} more"
         said = f"this table is not worth it: take Scudo as it is. Measured, it {saved} {share}."
     takes += f"; {kibibytes(price.default.peak())} with {DEFAULT}; and {kibibytes(price.tuned.peak())} with the table."
     return f"{said} {payback_text(price, is_worth(rows, tuned))} {takes} {processor_time(price)}"
@@ -157,7 +157,7 @@ def payback_text(price: Price, is_worth_it: bool) -> str:
     ends = price.range()
     sure = f" ({math.floor(100 * ends[0])} to {math.ceil(100 * ends[1])}%)" if ends else ", as the middle of runs that differ much"
     left = "so that it costs no memory" if not now.is_below(price.tuned) else f"so that it costs {kibibytes(price.tuned.peak() - now.peak())}"
-    return f"{cost}; the table pays back {100 * price.back() / price.cost():.0f}% of that{sure}, {left}."
+    return f"{cost}; the table pays back {100 * price.bytes_back() / price.cost():.0f}% of that{sure}, {left}."
 
 
 def processor_time(price: Price) -> str:

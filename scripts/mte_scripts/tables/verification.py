@@ -138,7 +138,7 @@ def run_once(runner: str, words: list, path: str, library: Optional[str], given:
             process_tree.end_descendants()  # a signal ended this process
             raise
         after = resource.getrusage(resource.RUSAGE_CHILDREN)
-        notes = Notes.of(noted.read(PAGE))
+        notes = Notes.of_page(noted.read(PAGE))
     if done.returncode or notes.error:
         raise Refusal(3, f"{words[0]} can't be run again")
     return Run(notes.status, notes.resident, after.ru_utime + after.ru_stime - before.ru_utime - before.ru_stime)
