@@ -12,18 +12,8 @@ from dataclasses import InitVar, dataclass
 from typing import Optional
 
 from mte_scripts import certificate_texts, count_texts, program_runs, text_files
-from mte_scripts.claim_words import (
-    byte_text,
-    claim_sentence,
-    count_text,
-    fill_template,
-    having_words,
-    join_words,
-    limit_words,
-    mark_claim,
-    mebibytes,
-    quote_name,
-)
+from mte_scripts.claim_words import (byte_text, claim_sentence, count_text, fill_template, having_words, join_words,
+                                     limit_words, mark_claim, mebibytes, quote_name)
 from mte_scripts.engines import State
 from mte_scripts.entry_point import Refusal
 from mte_scripts.formats import LARGEST_CLASS
@@ -87,10 +77,8 @@ class Claim:
     def words(self) -> str:
         """Among which tables none costs less than this one, or than the bound."""
         numbers = self.numbers
-        count = {
-            noun: count_text(numbers.get(f"{noun}s", 0), noun)
-            for noun in ("size", "request", "snapshot", "event", "byte")
-        }
+        count = {noun: count_text(numbers.get(f"{noun}s", 0), noun)
+                 for noun in ("size", "request", "snapshot", "event", "byte")}
         places = {f"{noun}s": words for noun, words in count.items()}
         large = fill_template("large", large=count_text(numbers["large"], "large one")) if numbers.get("large") else ""
         tables = fill_template("tables", **self.name_tables(), given=self.name_input())
@@ -102,9 +90,8 @@ class Claim:
             return fill_template("between", cost=byte_text(self.numbers["takes"]), claim=self.words())
         if self.holds:
             return fill_template("says", command=self.command, claim=self.words())
-        return fill_template(
-            "refused", command=self.command, verdict=self.verdict, given=self.name_input(), meaning=self.meaning()
-        ).rstrip()
+        return fill_template("refused", command=self.command, verdict=self.verdict, given=self.name_input(),
+                             meaning=self.meaning()).rstrip()
 
     def meaning(self) -> str:
         """What a refusal means, in a sentence; empty for an answer that is none."""
@@ -135,18 +122,16 @@ class Claim:
         """The last line of a script that checks one sheet, where it holds."""
         trust = self.trust
         of_proved = "answer.proved" if trust.by is State.PROVED_HERE else "answer.project"
-        return claim_sentence(
-            of_proved if trust.is_proved else "answer.unproved", why=trust.why, by=trust.by.value, claim=self.words()
-        )
+        return claim_sentence(of_proved if trust.is_proved else "answer.unproved", why=trust.why, by=trust.by.value,
+                              claim=self.words())
 
     def table(self) -> str:
         """What the table is called among others."""
         return claim_sentence(f"{self.kind}.{'table' if self.holds else 'other'}")
 
 
-def check_certificate(
-    certificate: "str | bytes", counts: bytes, name: str, how: str = "", file: str = "the first text"
-) -> Claim:
+def check_certificate(certificate: "str | bytes", counts: bytes, name: str, how: str = "",
+                      file: str = "the first text") -> Claim:
     """What the engine says of a sheet or a fit, of this FILE, for the text that is of this NAME, or came of it (claim_words.how). A text that it
     refuses is refused."""
     is_fit = b"\nfootprint " in (certificate if isinstance(certificate, bytes) else certificate.encode())
@@ -169,9 +154,8 @@ def fit_counts(counts: bytes, name: str, options: "tuple[int, int, bool]", how: 
     status, out, error = program_runs.mte_tool(words, counts)
     answer = out.decode("ascii", "replace")
     if status not in (0, 1):
-        raise Refusal(
-            2 if status == 2 else 3, f"`mte_tool {' '.join(words)}` failed: {error or f'its status is {status}'}"
-        )
+        raise Refusal(2 if status == 2 else 3,
+                      f"`mte_tool {' '.join(words)}` failed: {error or f'its status is {status}'}")
     if status == 0:
         return answer, check_certificate(answer, counts, name, how, "the fit")
     takes, bound = (int(line.split()[-1]) for line in answer.splitlines()[1:])
@@ -185,14 +169,10 @@ def interval(claim: Claim, high: int, events: int) -> "tuple[str, str]":
     """Of a run, of which a history has moments: in one sentence what its claim means for the run, of which the first table takes at most HIGH
     bytes, and on what that rests. Without a number of events it is not known."""
     name = quote_name(claim.name)
-    over = (
-        fill_template("interval.events", events=count_text(events, "event"), name=name)
-        if events
-        else fill_template("interval.run", name=name)
-    )
-    one = fill_template(
-        "interval.one", over=over, low=mebibytes(claim.cost, 0), high=mebibytes(high, 1), **claim.name_tables()
-    )
+    over = (fill_template("interval.events", events=count_text(events, "event"), name=name) if events
+            else fill_template("interval.run", name=name))
+    one = fill_template("interval.one", over=over, low=mebibytes(claim.cost, 0), high=mebibytes(high, 1),
+                        **claim.name_tables())
     unproved = "" if claim.trust.is_proved else "If the program is right: "
     return mark_claim(f"{unproved}{one}"), claim_sentence("interval.rests", over=over, high=byte_text(high))
 
@@ -226,13 +206,8 @@ def bound(claim: Claim, load: str, divisor: int, is_own: bool) -> str:
     if is_own:
         return claim.sentence()
     kind = "profile" if claim.kind == "profile" else "histories"
-    return claim_sentence(
-        f"bound.{kind}",
-        known=claim.state_finding(),
-        load=quote_name(load),
-        divisor=f"{divisor:,}",
-        cost=byte_text(divisor * claim.cost),
-    )
+    return claim_sentence(f"bound.{kind}", known=claim.state_finding(), load=quote_name(load), divisor=f"{divisor:,}",
+                          cost=byte_text(divisor * claim.cost))
 
 
 def regret(claim: Claim, load: str, table: str, cost: "int | None", above: "float | None", unserved: "int | None" = None) -> str:
@@ -242,12 +217,8 @@ def regret(claim: Claim, load: str, table: str, cost: "int | None", above: "floa
         return claim_sentence("regret.unserved", table=table, size=byte_text(unserved or 0), load=quote_name(load))
     if above < 0:
         return claim_sentence("regret.below", table=table, cost=byte_text(cost))
-    return claim_sentence(
-        f"regret.{'profile' if claim.kind == 'profile' else 'history'}",
-        table=table,
-        cost=byte_text(cost),
-        percent=f"{above:,.2f}",
-    )
+    return claim_sentence(f"regret.{'profile' if claim.kind == 'profile' else 'history'}", table=table,
+                          cost=byte_text(cost), percent=f"{above:,.2f}")
 
 
 def worst(claim: Claim, loads: str, low: float, high: float, is_exact: bool) -> str:
@@ -267,9 +238,8 @@ def pools(claim: Claim, runs: Iterable[str], is_sampled: bool, block: "tuple[int
 
 def curve(claim: Claim, step: int, forced: int) -> str:
     """What the line over the numbers of classes shows."""
-    return claim_sentence(
-        f"{claim.kind}.curve", name=quote_name(claim.name), block=16 * step, having=having_words(forced)
-    )
+    return claim_sentence(f"{claim.kind}.curve", name=quote_name(claim.name), block=16 * step,
+                          having=having_words(forced))
 
 
 def unproved_note(trust: program_runs.Trust) -> str:

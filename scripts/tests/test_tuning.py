@@ -71,9 +71,22 @@ def refuses(status, reason, script, *words, **more):
     expect(f"{script} {words}: {error}", "Traceback" not in error)
 
 
+def works(name, script, *words, **more):
+    """What a run prints on standard output and on standard error that ends with status 0."""
+    status, out, error = run(script, *words, **more)
+    expect(f"{name}: the status is {status}: {error}", status == 0, out)
+    return out, error
+
+
 def read(*path):
     with open(os.path.join(*path), encoding="utf-8") as file:
         return file.read()
+
+
+def write(text, *path, mode=0o644):
+    with open(os.path.join(*path), "w", encoding="utf-8") as file:
+        file.write(text)
+    os.chmod(os.path.join(*path), mode)
 
 
 def counts_of(text):
@@ -579,8 +592,7 @@ def test_options(place):
         folder = os.path.join(place, f"options {limit}")
         words = ["--limit", str(limit), "--step", str(step), "--largest" if largest else "--no-largest"]
         given = read(EXAMPLES, "perl.profile").encode()
-        status, out, error = run("tune_program", *words, "--output", folder, "--all", "--read", "-", given=given)
-        expect(f"{words}: the status is {status}: {error}", status == 0)
+        out, error = works(words, "tune_program", *words, "--output", folder, "--all", "--read", "-", given=given)
         whole(folder, words)
         table, taken = tuned_table(folder), {**counts, LARGEST_SIZE: 1} if largest else counts
         expect(f"{words}: the table is {table}", len(table) <= limit and all(each % step == 0 for each in table))
@@ -590,15 +602,12 @@ def test_options(place):
         compare_page(read(folder, "report.html"), counts, large, table, words, limit, step, largest)
 
     # other tables: one that does not serve, and one that does, whose name is no markup
-    with open(os.path.join(place, "<b>&.classes"), "w") as file:
-        file.write("classes 4 8 1024\n")
-    with open(os.path.join(place, "few"), "w") as file:
-        file.write("classes 2 10\n")
+    write("classes 4 8 1024\n", place, "<b>&.classes")
+    write("classes 2 10\n", place, "few")
     unserved = min(size for size in counts if size > 144)
     folder = os.path.join(place, "against")
     words = ["--against", "<b>&.classes", "--against", "few", "--output", folder, "--read", os.path.join(EXAMPLES, "perl.profile")]
-    status, out, error = run("tune_program", *words, cwd=place)
-    expect(f"--against: the status is {status}: {error}", status == 0)
+    out, error = works("--against", "tune_program", *words, cwd=place)
     expect(f"--against: its waste: {rows_of(out)}", rows_of(out).get("<b>&", (0, 0))[:2] == (3, waste([4, 8, 1024], counts)))
     expect("--against: the table that does not serve", re.search(rf"^few +2  does not serve {unserved} bytes$", out, re.M))
     page = Numbers(read(folder, "report.html"))
@@ -607,18 +616,15 @@ def test_options(place):
 
     # profiles in any order, merged, with counts of 0
     mixed = os.path.join(place, "mixed.profile")
-    with open(mixed, "w") as file:
-        file.write("".join(f"{line}\n" for line in sorted(read(EXAMPLES, "perl.profile").splitlines(), reverse=True)) + "5000 0\n")
-    status, out, error = run("tune_program", "--read", mixed, "--output", os.path.join(place, "mixed"))
-    expect(f"a profile in another order: {status} {error}", status == 0)
+    write("".join(f"{line}\n" for line in sorted(read(EXAMPLES, "perl.profile").splitlines(), reverse=True)) + "5000 0\n", mixed)
+    out, error = works("a profile in another order", "tune_program", "--read", mixed, "--output", os.path.join(place, "mixed"))
     expect("a profile in another order: its counts", read(place, "mixed", "program.profile") == read(EXAMPLES, "perl.profile"))
 
 
 def test_warnings(place):
     def told(name, text, *words):
         folder = os.path.join(place, f"warned {name}")
-        status, out, error = run("tune_program", *words, "--output", folder, "--read", "-", given=text.encode())
-        expect(f"{name}: the status is {status}: {error}", status == 0)
+        out, error = works(name, "tune_program", *words, "--output", folder, "--read", "-", given=text.encode())
         expect(f"{name}: the summary has {len(out.splitlines())} lines", len(out.splitlines()) <= 24)
         return [line[2:] for line in out.splitlines() if line.startswith("! ")]
 
@@ -636,8 +642,7 @@ def test_warnings(place):
 
 def test_refusals(place):
     perl = os.path.join(EXAMPLES, "perl.profile")
-    with open(os.path.join(place, "bad.classes"), "w") as file:
-        file.write("classes 4 2\n")
+    write("classes 4 2\n", place, "bad.classes")
     for name in ("--limit", "--step", "--only", "--against", "--output", "--read", "--objective"):
         refuses(2, f"{name} takes a value", "tune_program", name, cwd=place)
     for words, reason in (([], "wants a program"), (["--wrong", "true"], "no option --wrong"),
@@ -686,9 +691,7 @@ def keeps_the_profile(place, perl):
     fake = os.path.join(place, "fake")
     denying = f'[ "$1" = check ] || exec {BUILT} "$@"; echo refused 47 NotTight; exit 1'
     for name, answer, reason in (("failing", "exit 3", "there is no program to tune with"), ("denying", denying, "47 NotTight")):
-        with open(fake, "w") as file:
-            file.write(f"#!/bin/sh\n{answer}\n")
-        os.chmod(fake, 0o755)
+        write(f"#!/bin/sh\n{answer}\n", fake, mode=0o755)
         status, out, error = run("tune_program", "--read", perl, "--output", name, cwd=place, env={**os.environ, "MTE_TOOL": fake})
         expect(f"{name}: {status}: {error}", status == 3 and reason in error and "Proved" not in out)
         kept = [read(place, name, "program.profile")] if os.path.exists(os.path.join(place, name)) else []
@@ -709,8 +712,7 @@ def keeps_the_profile(place, perl):
 def test_program(place):
     """A program is run: its words, its input, its output and its status are its own."""
     checks.need("cc", "a program that is run")
-    with open(os.path.join(place, "job.c"), "w") as file:
-        file.write(JOB)
+    write(JOB, place, "job.c")
     subprocess.run(["cc", "-O0", "job.c", "-o", "./job"], cwd=place, check=True)
     status, out, error = run("tune_program", "./job", "a b", "--all", given=b"one line\n", cwd=place)
     folder = os.path.join(place, "job.tuned")
@@ -770,9 +772,7 @@ def tunes_one_of_many(place):
     expect(f"--only: {status}: {error}", status == 0 and (counts.get(777), counts.get(1555)) == (3000, 2000))
     expect("--only: the summary and the page name it", out.startswith("job of sh, predicted (--verify SCUDO measures it): ") and "job of sh" in read(place, "only", "report.html"), out)
     script = os.path.join(place, "a script")
-    with open(script, "w") as file:
-        file.write("#!/bin/sh\nexec ./job\n")
-    os.chmod(script, 0o755)
+    write("#!/bin/sh\nexec ./job\n", script, mode=0o755)
     for name, words in (("job", ["sh", "-c", "exec ./job"]), ("a script", [script])):
         status, out, error = run("tune_program", "--output", f"of {name}", *words, cwd=place)
         is_named = out.startswith(f"{name}, predicted ") and f"<h1>Size classes for {name}</h1>" in read(place, f"of {name}", "report.html")
@@ -827,8 +827,7 @@ def try_timeline(place, recorded, counts):
     # a table of 3 classes without class 1024: what the fit's moments are, and what it takes at any
     small = "timeline\n" + "".join(f"{size}\n" for size in (0, 24, 100, 24)) + "-24\n-100\nlarge\n300\n100\n-large\n0\n-0\n200\n-24\n"
     folder, history = os.path.join(place, "few"), history_of_timeline(small)
-    status, out, error = run("tune_program", "--limit", "3", "--no-largest", "--output", folder, "--read", "-", given=small.encode())
-    expect(f"a small timeline: {status}: {error}", status == 0)
+    out, error = works("a small timeline", "tune_program", "--limit", "3", "--no-largest", "--output", folder, "--read", "-", given=small.encode())
     fitted = compare_fit(folder, "a small timeline", history, 3, False)
     moments = history_of(read(folder, "moments.history"))
     expect(f"a small timeline: its moments are {moments}", footprint(fitted, moments) == footprint(fitted, history))
@@ -841,9 +840,7 @@ def try_timeline(place, recorded, counts):
     # where `fit` ends with a bound
     fake = os.path.join(place, "bounded")
     bounded = "classes 2 60 1024\\nfootprint 5000000\\nnot shown least: no table takes less than 4000000\\n"
-    with open(fake, "w") as file:
-        file.write(f'#!/bin/sh\n[ "$1 $3" = "fit 3" ] || exec {BUILT} "$@"; cat > /dev/null; printf "{bounded}"; exit 1\n')
-    os.chmod(fake, 0o755)
+    write(f'#!/bin/sh\n[ "$1 $3" = "fit 3" ] || exec {BUILT} "$@"; cat > /dev/null; printf "{bounded}"; exit 1\n', fake, mode=0o755)
     folder = os.path.join(place, "bounded.tuned")
     words = ["tune_program", "--limit", "3", "--output", folder, "--read", "-"]
     status, out, error = run(*words, given=b"timeline\n" + 5000 * b"800\n", env={**os.environ, "MTE_TOOL": fake})
@@ -874,8 +871,7 @@ def test_verify(place):
     """--verify, over a compiler that makes a library of its own for Scudo's: how it is called, what runs, and what is printed of it."""
     checks.need("cc", "--verify")
     scudo, environment = scudo_stand_in.make(place, is_current=False)
-    with open(os.path.join(place, "verified.c"), "w") as file:
-        file.write(VERIFIED)
+    write(VERIFIED, place, "verified.c")
     subprocess.run(["cc", "-O0", "-w", "verified.c", "-o", "./verified"], cwd=place, check=True)
     how = {"cwd": place, "env": environment}
     refuses_to_verify(scudo, how, place)
@@ -916,8 +912,7 @@ def refuses_to_verify(scudo, how, place):
     refuses(2, verification.FETCH, "tune_program", "--verify", place, "./verified", **how)
     commands = re.split(" && |; ", verification.FETCH)
     expect("--verify: where the sources come from stands in TUNING.md too", all(each in read(ROOT, "docs/TUNING.md") for each in commands), commands)
-    with open(os.path.join(scudo, "allocator_config.h"), "w") as file:
-        file.write('#include "custom_scudo_config.h"\n')
+    write('#include "custom_scudo_config.h"\n', scudo, "allocator_config.h")
     for words in (["--read", "x"], ["--all", "./verified"], ["--only", "x", "./verified"]):
         refuses(2, "--verify runs the program itself", "tune_program", "--verify", scudo, *words, **how)
     refuses(3, "no compiler no_such", "tune_program", "--verify", scudo, "./verified", cwd=place,
@@ -1034,8 +1029,7 @@ int main(void) {
 
 def test_as_scudo(place):
     """What a realloc records with --as-scudo, and so under tune_program: nothing where Scudo leaves the block as it is."""
-    with open(os.path.join(place, "shrinks.c"), "w") as file:
-        file.write(SHRINKS)
+    write(SHRINKS, place, "shrinks.c")
     subprocess.run(["cc", "-O0", "shrinks.c", "-o", "./shrinks"], cwd=place, check=True)
     # 905 is 4,095 bytes less than 5,000, and 4,096 less than 5,001; 7,904 is 4,096 less than 12,000, and 12,273 is 4,095 less than 16,368
     wanted = "100 5000 -5000 5001 -5001 905 -905 large -large 7904 -7904 16368 -16368".split()
@@ -1084,8 +1078,7 @@ def test_report(place):
 
     # the same from a profile in another order, and a sheet with class 1024 forced; the command in the page checks these
     odd = os.path.join(place, "<i>odd'.profile")
-    with open(odd, "w") as file:
-        file.write("".join(f"{line}\n" for line in reversed(read(perl).splitlines())))
+    write("".join(f"{line}\n" for line in reversed(read(perl).splitlines())), odd)
     forced = os.path.join(place, "forced.sheet")
     with open(forced, "wb") as file:
         subprocess.run([BUILT, "tune", "--limit", "12", "--largest-class", "1"], input=read(perl).encode(), stdout=file, check=True)
@@ -1101,8 +1094,7 @@ def test_report(place):
 
 def reports_no_proof(place, counts, perl, sheet):
     """A sheet that shows nothing, one of another profile, no sheet, no words."""
-    with open(os.path.join(place, "loose.sheet"), "w") as file:
-        file.write(f"classes {DEFAULT}\nlimit 32\nwaste {waste(table_of(DEFAULT), counts)}\n")
+    write(f"classes {DEFAULT}\nlimit 32\nwaste {waste(table_of(DEFAULT), counts)}\n", place, "loose.sheet")
     status, out, error = run("report", perl, os.path.join(place, "loose.sheet"))
     expect(f"report of a loose sheet: {status}: {error}", status == 1 and Numbers(out).proved == ("0", "refused 43 Shape"))
     # sheets that would be right over what the end of one joined to the counts makes of them

@@ -8,7 +8,6 @@ import re
 import shutil
 import subprocess
 import sys
-import threading
 import time
 from collections.abc import Callable, Iterator
 from typing import NoReturn
@@ -350,25 +349,21 @@ def show_progress(notes: "Callable[[], Notes]") -> "Iterator[None]":
     if not os.isatty(2):
         yield
         return
-    end, begin = threading.Event(), time.monotonic()
+    begin = time.monotonic()
 
     def show(line: str) -> None:
         with contextlib.suppress(OSError):  # the terminal may be closed meanwhile, and what was recorded counts
             os.write(2, f"\r{line}\033[K\r".encode())
 
     def watch() -> None:
-        while not end.wait(WATCHED):
-            seen = notes()
-            live = f", {seen.live / 2**20:,.1f} MiB live" if seen.live else ""
-            show(f"{time.monotonic() - begin:,.0f} s, {seen.requests:,} requests{live}")
+        seen = notes()
+        live = f", {seen.live / 2**20:,.1f} MiB live" if seen.live else ""
+        show(f"{time.monotonic() - begin:,.0f} s, {seen.requests:,} requests{live}")
 
-    watcher = threading.Thread(target=watch, daemon=True)
-    watcher.start()
     try:
-        yield
+        with children.call_each(WATCHED, watch):
+            yield
     finally:
-        end.set()
-        watcher.join()
         show("")
 
 

@@ -6,14 +6,13 @@ import random
 import re
 import signal
 import statistics
-import threading
 import time
-from collections.abc import Iterator, Sequence
+from collections.abc import Sequence
 from typing import Any, NoReturn, Optional
 
 from mte_scripts import private_folder, text_files, text_layout
 from mte_scripts.entry_point import Refusal, say
-from mte_scripts.recording import programs, recording
+from mte_scripts.recording import children, programs, recording
 from mte_scripts.tables import long_runs, process_tree, processes, service_runs, verdict, verification
 from mte_scripts.tables.figures import kibibytes
 from mte_scripts.tables.result_folder import Folder, Folders
@@ -66,29 +65,17 @@ def remedy(options: Any, name: str = "NAME") -> str:
     return f"--verify measures one program, so name {'that' if name == 'NAME' else name} alone; {hint('redis-server')}"
 
 
-@contextlib.contextmanager
-def watch(options: Any) -> "Iterator[None]":
+def watch(options: Any) -> "contextlib.AbstractContextManager[None]":
     """While a program is recorded that is to be measured without a load: says at once if it is a server."""
-    if options.verify is None or options.load is not None:
-        yield
-        return
-    end = threading.Event()
+    def look() -> bool:
+        pid, place = process_tree.listening_place(process_tree.descendants())
+        if is_port := place.startswith("port"):
+            name = process_tree.name_of(pid)
+            say("tune_program", f"{name} listens on {place}: {hint(name)}; Ctrl-C ends this one")
+        return is_port
 
-    def look() -> None:
-        while not end.wait(LOOKS):
-            pid, place = process_tree.listening_place(process_tree.descendants())
-            if place.startswith("port"):
-                name = process_tree.name_of(pid)
-                say("tune_program", f"{name} listens on {place}: {hint(name)}; Ctrl-C ends this one")
-                break
-
-    watcher = threading.Thread(target=look, daemon=True)
-    watcher.start()
-    try:
-        yield
-    finally:
-        end.set()
-        watcher.join()
+    is_watched = options.verify is not None and options.load is None
+    return children.call_each(LOOKS, look) if is_watched else contextlib.nullcontext()
 
 
 def refuse_ended(options: Any, runs: "long_runs.Runs | None") -> None:

@@ -1,12 +1,10 @@
 """What Scudo's own settings do to a program, with its default table and with a tuned one: measured beside the verdict where it is asked for."""
 
 import itertools
-import random
 import statistics
 from typing import NamedTuple, Optional
 
 from mte_scripts import text_layout
-from mte_scripts.entry_point import say
 from mte_scripts.tables import verdict, verification
 
 AS_IT_IS = "as it is"
@@ -31,15 +29,14 @@ class Measurement(NamedTuple):
 
 def measure_settings(runner: str, words: list, path: str, libraries: list[str],
                      given: Optional[str]) -> dict[tuple[str, str], Measurement]:
-    """Runs the program some times with each setting and each library, each round in a random order."""
-    order, found = random.Random(verdict.SEED), {(setting, library): list[verification.Run]() for setting in SETTINGS for library in libraries}
+    """Runs the program some times with each setting and each library."""
     most = max(map(len, SETTINGS.values()))
-    for made in range(verdict.RUNS):
-        say("tune_program", f"round {made + 1} of {verdict.RUNS}: {words[0]} with {len(SETTINGS)} settings of Scudo")
-        for setting, library in order.sample(sorted(found), len(found)):
-            scudo_options = SETTINGS[setting].ljust(most, ":")  # equally long, and Scudo skips colons
-            run = verification.run_once(runner, words, path, library, given, scudo_options, libraries)
-            found[setting, library].append(run)
+
+    def run(how: "tuple[str, str]") -> verification.Run:
+        scudo_options = SETTINGS[how[0]].ljust(most, ":")  # equally long, and Scudo skips colons
+        return verification.run_once(runner, words, path, how[1], given, scudo_options, libraries)
+
+    found = verdict.run_rounds(itertools.product(SETTINGS, libraries), run, f"{words[0]} with {len(SETTINGS)} settings of Scudo")
     usual = {run.status for library in libraries for run in found[AS_IT_IS, library]}
     return {each: Measurement(int(statistics.median(run.peak for run in runs)), statistics.median(run.spent for run in runs),
                               any(run.status not in usual for run in runs)) for each, runs in found.items()}

@@ -6,7 +6,8 @@ import random
 import re
 import statistics
 import subprocess
-from typing import NamedTuple, Optional
+from collections.abc import Callable, Iterable
+from typing import Any, NamedTuple, Optional
 
 from mte_scripts import text_layout
 from mte_scripts.entry_point import Refusal, say
@@ -101,15 +102,23 @@ def present(path: str) -> str:
     return linked[1] if linked else GLIBC
 
 
+def run_rounds(names: "Iterable[Any]", run: "Callable[[Any], Any]", what: str) -> "dict[Any, list]":
+    """What some runs with each of these return, each round of them in a random order; WHAT says of which."""
+    order, found = random.Random(SEED), dict[Any, list]((name, []) for name in names)
+    for made in range(RUNS):
+        say("tune_program", f"round {made + 1} of {RUNS}: {what}")
+        for name in order.sample(sorted(found), len(found)):
+            found[name].append(run(name))
+    return found
+
+
 def measure_allocators(runner: str, words: list, path: str, libraries: dict[str, Optional[str]],
                        given: Optional[str]) -> list[Row]:
-    """Runs the program some times with each library, each round in a random order. The first is the present allocator: no library."""
-    order, found = random.Random(SEED), dict[str, list]((name, []) for name in libraries)
-    for made in range(RUNS):
-        say("tune_program", f"round {made + 1} of {RUNS}: {words[0]} with {', '.join(libraries)}")
-        for name in order.sample(sorted(libraries), len(libraries)):
-            run = verification.run_once(runner, words, path, libraries[name], given, None, libraries.values())
-            found[name].append(run)
+    """Runs the program some times with each library. The first is the present allocator: no library."""
+    def run(name: str) -> verification.Run:
+        return verification.run_once(runner, words, path, libraries[name], given, None, libraries.values())
+
+    found = run_rounds(libraries, run, f"{words[0]} with {', '.join(libraries)}")
     statuses = {run.status for run in found[next(iter(libraries))]}
     if len(statuses) > 1:
         raise Refusal(3, f"{words[0]} does not end the same each time: with status "
