@@ -23,6 +23,7 @@ import pytest
 import claims_cases
 import scudo_stand_in
 from checks import expect, skip
+from claims_cases import footprint, waste
 from library_cases import FUSED_PROFILE, FUSED_SHEET, LONG_SHEET
 from mte_scripts import certificate_texts
 from mte_scripts.builds import web_page
@@ -96,17 +97,6 @@ def counts_of(text):
     return {int(size): int(count) for size, count in pairs.items()}, large
 
 
-def waste(classes, counts):
-    """By the definition: a request takes the least class that serves it, and loses what this holds more. None where it has no class."""
-    total = 0
-    for size, count in counts.items():
-        serving = [16 * each - 16 for each in classes if 16 * each - 16 >= size]
-        if not serving:
-            return None
-        total += (min(serving) - size) * count
-    return total
-
-
 def least_waste(counts, limit, step=1):
     """The least wastes of 1, 2, .. LIMIT classes, by trying each class after each other: no certificate, and no law of the tuner."""
     needs = {}
@@ -176,18 +166,6 @@ def history_of(text):
     expect("a history: the length of a line", all(len(counts) == int(first.split()[1]) for counts in rows.values()))
     rows.pop("large", None)
     return {int(size): counts for size, counts in rows.items()}
-
-
-def footprint(classes, history):
-    """By the definition: the bytes of a block, times the most blocks of its class at one snapshot. None where a size has no class."""
-    blocks = {}
-    for size, counts in history.items():
-        serving = [each for each in classes if 16 * each - 16 >= size]
-        if not serving:
-            return None
-        before = blocks.get(min(serving), [0] * len(counts))
-        blocks[min(serving)] = [one + other for one, other in zip(before, counts)]
-    return sum(16 * each * max(counts) for each, counts in blocks.items())
 
 
 def least_footprint(history, limit):
