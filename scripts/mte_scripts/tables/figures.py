@@ -332,12 +332,16 @@ class Figures:
         cost = self.most_at_a_moment(lambda size: found[size][0] - found[size][1] if size in found else 0)
         return [(size, *blocks) for size, blocks in found.items()], len(sizes), cost
 
-    def waste_over_time(self, table: Table) -> "int | None":
-        """The waste of all requests of a timeline, a sum over time; None where a size is not served, or not all requests are known."""
+    def wastes_over_time(self, other: Table) -> "list[int]":
+        """The waste of all requests of a timeline, a sum over time, of the first table and of the other one, where the first one's is more;
+        empty where it is not, one of the two does not serve a size, or not all requests are known."""
         if self.timed.kind != "timeline":
-            return None
-        requests = {size: min(times, MOST_COUNT) for size, times in self.count_requests().items()}
-        return Table(table.name, table.classes, requests).waste
+            return []
+        requests, tables = {size: min(times, MOST_COUNT) for size, times in self.count_requests().items()}, (self.first, other)
+        blocks = [(times, *(block_of(table.classes, size) for table in tables)) for size, times in requests.items() if size != "large"]
+        if min(map(min, blocks), default=0) == 0 or sum(times * (own - its) for times, own, its in blocks) <= 0:
+            return []  # so there is nothing to ask the program
+        return [Table(table.name, table.classes, requests).waste for table in tables]
 
     def classes(self) -> Iterator[tuple[int, int, int, int, int]]:
         """For each class of the first table: its block in bytes, the least and the greatest size it serves, and by the objective its requests

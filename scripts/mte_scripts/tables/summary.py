@@ -52,11 +52,10 @@ def warnings(options: Any, found: figures.Figures, notes: list[str]) -> Iterator
 
 def wasteful(found: figures.Figures, default: figures.Table) -> Iterator[str]:
     """Whether all requests lose more than by default, though their peak does not."""
-    ours, theirs = (found.waste_over_time(table) for table in (found.first, default))
-    if None not in (ours, theirs) and ours > theirs:
+    if wastes := found.wastes_over_time(default):
         yield (f"Over all requests of the run, the table of {found.first.name} wastes more than {default.name}: "
-               f"{count_text(ours, 'byte')}, and not {number(theirs)}. Another run, which has other sizes at its peak, "
-               "may take more with it.")
+               f"{count_text(wastes[0], 'byte')}, and not {number(wastes[1])}. Another run, which has other sizes at its "
+               "peak, may take more with it.")
 
 
 def counted_requests(options: Any, timed: "figures.OverTime | None" = None) -> str:
