@@ -411,7 +411,8 @@ def install_library(library: str, folder: str) -> str:
     """Puts the library where a service may read it."""
     if not os.path.isdir(folder):
         raise Refusal(3, f"there is no folder {folder}")
-    refuse_unreachable(os.path.realpath(folder))
+    if closed := private_folder.first_closed(folder):
+        raise Refusal(3, f"no other user can enter {closed}: {OPEN_PLACE}")
     try:
         with private_folder.open_private_folder(folder) as place:
             if not recording.is_plain(place.path):
@@ -427,15 +428,6 @@ def install_library(library: str, folder: str) -> str:
     if recording.try_loading("stream", path):
         raise Refusal(3, f"the library can't be loaded from {folder}: perhaps it is mounted with noexec")
     return path
-
-
-def refuse_unreachable(path: str) -> None:
-    """Refuses a folder that a service's user can't enter, or one below such a folder."""
-    folder, below = path, ""
-    while folder != below:
-        if not os.stat(folder).st_mode & stat.S_IXOTH:
-            raise Refusal(3, f"no other user can enter {folder}: {OPEN_PLACE}")
-        folder, below = os.path.dirname(folder), folder
 
 
 # ---- a run

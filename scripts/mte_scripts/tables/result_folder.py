@@ -2,7 +2,6 @@
 
 import contextlib
 import os
-import stat
 from collections.abc import Iterator
 from typing import Any, NamedTuple
 
@@ -73,21 +72,11 @@ class Folder:
             pass  # there is something in it
 
 
-def is_open_to_all(path: str) -> bool:
-    """Whether every user can come to a folder."""
-    path, below = os.path.realpath(path), ""
-    while path != below:
-        if not os.stat(path).st_mode & stat.S_IXOTH:
-            return False
-        path, below = os.path.dirname(path), path
-    return True
-
-
 def shared_folder() -> private_folder.Folder:
     """A new folder for what a server reads, which may change its user: every user can go through it, and nobody else list or change it."""
     for where in dict.fromkeys((os.environ.get("TMPDIR") or "/tmp", "/tmp", "/var/tmp", "/dev/shm")):
         with contextlib.suppress(NotPrivate, OSError):
-            if is_open_to_all(where):
+            if not private_folder.first_closed(where):
                 return private_folder.new_folder(private_folder.open_folder(where))
     raise Refusal(3, "there is no folder for libraries that every user can read: set TMPDIR to one")
 

@@ -5,9 +5,8 @@ import os
 import random
 import re
 import signal
-import statistics
 import time
-from collections.abc import Sequence
+from statistics import median
 from typing import Any, NoReturn, Optional
 
 from mte_scripts import private_folder, text_files, text_layout
@@ -263,13 +262,9 @@ class Rounds:
             sets = [[each.loaded[0] for each in readings], [each.loaded[1] for each in readings], [each.idle[0] for each in readings],
                     [each.idle[1] for each in readings]]
             numbers = [each.number for each in readings if each.number is not None]
-            number = f"{middle(numbers):,.6g}" if numbers else ""
-            rows.append((name, *(f"{int(middle(each)) // 1024:,}" for each in sets), f"{middle([each.load for each in readings]):.2f}", number))
+            number = f"{median(numbers):,.6g}" if numbers else ""
+            rows.append((name, *(f"{int(median(each)) // 1024:,}" for each in sets), f"{median(each.load for each in readings):.2f}", number))
         return text_layout.columns(rows, most=80)
-
-
-def middle(values: "Sequence[float]") -> float:
-    return statistics.median(values)
 
 
 def measured_text(reading: Measurement) -> str:
