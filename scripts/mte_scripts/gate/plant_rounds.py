@@ -2,17 +2,20 @@
 its body is proved to meet its contract, which is all that the others know of it. Where a function can't be judged because one that it calls
 has a wrong body too, it is tried again without that one."""
 
+import contextlib
+import math
 import os
 import re
 import resource
 import shutil
 import subprocess
 import threading
+import time
 from collections import namedtuple
 
 from mte_scripts import entry_point, private_folder
 from mte_scripts.builds.crate_list import CrateList
-from mte_scripts.gate import plant_files
+from mte_scripts.gate import library_marks, plant_files
 from mte_scripts.gate.plant_files import Plant
 from mte_scripts.places import ROOT
 
@@ -34,6 +37,10 @@ CALLS = re.compile(r"(?:it calls|it passes|a call of) `")
 # What became of a wrong body, REFUSED, PASSES, BAD (it can't be tried) or BLOCKED, and what the check said of it.
 REFUSED, PASSES, BAD, BLOCKED = "refused", "passes", "bad", "blocked"
 Verdict = namedtuple("Verdict", "kind why")
+
+
+class OutOfTime(Exception):
+    """No time is left for a check."""
 
 
 def link_folder(folder: str, to: str) -> None:
@@ -63,9 +70,9 @@ def seconds_used() -> float:
 
 
 class Copy:
-    """A copy of a crate and those below it, in which wrong bodies are written and checked."""
+    """A copy of a crate and those below it, in which wrong bodies are written and checked until a moment, by time.monotonic()."""
 
-    def __init__(self, crate: str, folder: str, log: "str | None") -> None:
+    def __init__(self, crate: str, folder: str, log: "str | None", until: float) -> None:
         crates = CrateList(ROOT)
         below = crates.below([crate])
         crates.copy(list(below), folder)
@@ -74,7 +81,8 @@ class Copy:
             for part in ("rlib", "incremental") if name == crate else ("rlib",):
                 if os.path.isdir(os.path.join(out, part)):
                     link_folder(os.path.join(out, part), os.path.join(folder, "crates", name, "out", part))
-        self.crate, self.log = crate, log
+        library_marks.mark_libraries(folder, below)
+        self.crate, self.log, self.until = crate, log, until
         self.folder = os.path.join(folder, "crates", crate)
 
     def write(self, plants: "list[Plant]") -> None:
@@ -92,14 +100,19 @@ class Copy:
         """What a check says of the functions with these wrong bodies, or None if it takes too long."""
         if ENDED.is_set():
             raise entry_point.Refusal(3, "the run was ended")
+        left = self.until - time.monotonic()
+        if left <= 0:
+            raise OutOfTime
         self.write(plants)
         names = sorted({self.asked(it) for it in plants})
         command = ["rt", "check", *(word for name in names for word in ("--only", name)), "--jobs", "1"]
         before = seconds_used()
         try:
             done = subprocess.run(command, cwd=self.folder, stdin=subprocess.DEVNULL, stdout=subprocess.PIPE, stderr=subprocess.STDOUT,
-                                  text=True, errors="replace", timeout=SECONDS)
+                                  text=True, errors="replace", timeout=min(SECONDS, left))
         except subprocess.TimeoutExpired:
+            if left <= SECONDS:
+                raise OutOfTime from None
             return None
         if self.log:
             with open(self.log, "a", encoding="utf-8") as file:
@@ -198,11 +211,11 @@ def rounds(plants: "list[Plant]", most: int = MOST) -> "list[list[Plant]]":
     return turns
 
 
-def judge_plants(crate: str, plants: "list[Plant]", log: "str | None" = None) -> "dict[Plant, Verdict]":
-    """The verdict on each of these wrong bodies of a crate."""
+def judge_plants(crate: str, plants: "list[Plant]", log: "str | None" = None, until: float = math.inf) -> "dict[Plant, Verdict]":
+    """The verdict on each of these wrong bodies of a crate; on those alone that were tried by this moment, if it comes."""
     found: dict[Plant, Verdict] = {}
-    with private_folder.temporary() as folder:
-        copy = Copy(crate, folder, log)
+    with private_folder.temporary() as folder, contextlib.suppress(OutOfTime):
+        copy = Copy(crate, folder, log, until)
         turns = rounds(plants)
         while turns:
             blocked: list[Plant] = []

@@ -1,6 +1,6 @@
 """Tries wrong bodies in the functions of crates: which of them do the contracts let through?
 
-Usage: plants [--jobs N] [--log FILE] [--part N] [CRATE..]
+Usage: plants [--jobs N] [--log FILE] [--part N] [--minutes N] [CRATE..]
        plants --tool [--minutes N] [CRATE..]
        plants --definitions [--jobs N] [--write]
        plants --check | --table | --write
@@ -19,7 +19,7 @@ it a line is printed for
   --log FILE    what the checks said
   --tool        tries the wrong bodies of `rt plant` instead. What it lets through is compared with scripts/mte_scripts/gate/plants.txt, where
                 each has a reason: a line `NEW` has one that is not there, and `GONE` one that is there and is refused
-  --minutes N   the most minutes of `rt plant` in a crate, 10 if left out; what is not tried by then is counted
+  --minutes N   what is not tried after so many minutes is counted, and left; with --tool so many in a crate, 10 if left out
   --definitions  tries changes of definitions in agreement with the code, scripts/tests/definition_changes.txt, in the plain program, and
                  prints for each which answer shows it, and their table; with --write also into docs/MUST_FAIL.md
   --check       tries nothing, and says of each wrong body that could not be tried what is wrong
@@ -39,6 +39,7 @@ import os
 import re
 import subprocess
 import sys
+import time
 from collections import namedtuple
 from collections.abc import Iterator
 from concurrent.futures import ThreadPoolExecutor
@@ -105,31 +106,32 @@ def by_tool(names: "list[str]", minutes: int) -> int:
     return int(new > 0)
 
 
-def by_hand(plants: "dict[str, list[Plant]]", jobs: int, log: "str | None") -> int:
+def by_hand(plants: "dict[str, list[Plant]]", jobs: int, log: "str | None", until: float) -> int:
     """Tries these wrong bodies of each crate, and prints those whose verdict is not what their lines say."""
     wrong, before = 0, plant_rounds.seconds_used()
-    for crate, found in verdicts(plants, jobs, log):
-        for plant in plants[crate]:
-            kind, why = found[plant]
+    for crate, found in verdicts(plants, jobs, log, until):
+        for plant, (kind, why) in found.items():
             if kind == plant_rounds.BAD or (kind == plant_rounds.PASSES) != bool(plant.kind):
                 wrong += 1
                 more = f" ({why[:300]})" if kind == plant_rounds.BAD else ""
                 print(f"{WORDS[kind]:8} {crate}, {plant.name} of {plant.of}: {plant.what}{more}")
         refused = sum(it.kind == plant_rounds.REFUSED for it in found.values())
         used = plant_rounds.seconds_used()
-        print(f"{crate}: {len(found)} tried, {refused} refused{f', {used - before:.0f} s' if jobs == 1 else ''}", flush=True)
+        left = len(plants[crate]) - len(found)
+        print(f"{crate}: {len(found)} tried, {refused} refused{f', {left} left for lack of time' if left else ''}"
+              f"{f', {used - before:.0f} s' if jobs == 1 else ''}", flush=True)
         before = used
     return int(wrong > 0)
 
 
-def verdicts(plants: "dict[str, list[Plant]]", jobs: int, log: "str | None") -> "Iterator[tuple[str, dict]]":
+def verdicts(plants: "dict[str, list[Plant]]", jobs: int, log: "str | None", until: float) -> "Iterator[tuple[str, dict]]":
     """The verdicts on the wrong bodies of each crate. One job is done in this thread, which an interrupt ends at once."""
     if jobs == 1:
-        yield from ((crate, plant_rounds.judge_plants(crate, its, log)) for crate, its in plants.items())
+        yield from ((crate, plant_rounds.judge_plants(crate, its, log, until)) for crate, its in plants.items())
         return
     with ThreadPoolExecutor(max_workers=jobs) as pool:
         try:
-            yield from zip(plants, pool.map(lambda it: plant_rounds.judge_plants(it, plants[it], log), plants))
+            yield from zip(plants, pool.map(lambda it: plant_rounds.judge_plants(it, plants[it], log, until), plants))
         except BaseException:
             plant_rounds.ENDED.set()
             pool.shutdown(wait=False, cancel_futures=True)
@@ -225,7 +227,7 @@ def plants(words: "list[str]") -> int:
     parser = Words(
         __doc__,
         "crates",
-        {"minutes": 10, "jobs": 1},
+        {"jobs": 1},
         minutes=number_between(1, 10_000),
         jobs=number_between(1, 64),
         part=number_between(0, 10_000_000),
@@ -245,9 +247,10 @@ def plants(words: "list[str]") -> int:
         return check(options.crates or list(crates.stands_on))
     if options.tool:
         libraries = [it for it in crates.stands_on if os.path.exists(os.path.join(crates.folder(it), "src", "lib.rt"))]
-        return by_tool(options.crates or libraries, options.minutes)
+        return by_tool(options.crates or libraries, options.minutes or 10)
     try:
         plants = {crate: its for crate in options.crates or crates.stands_on if (its := plant_files.plants_of(crate))}
-        return by_hand(plants if options.part is None else part_of(plants, options.part), options.jobs, options.log)
+        until = time.monotonic() + 60 * options.minutes if options.minutes else math.inf
+        return by_hand(plants if options.part is None else part_of(plants, options.part), options.jobs, options.log, until)
     except plant_files.Unread as unread:
         raise entry_point.Refusal(3, str(unread)) from None

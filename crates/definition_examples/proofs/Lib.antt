@@ -1,0 +1,3 @@
+pub mod TheoryExamples
+pub mod TimelineExamples
+pub mod VerdictExamples
