@@ -12,11 +12,13 @@
 //
 // A number of WRITTEN is a lane. Which block a call takes or gives back is the same in each of them: so they are simulated together, and a page
 // has a bit for each lane in which it is resident.
+#include <signal.h>
 #include <stdint.h>
 #include <stdio.h>
 #include <stdlib.h>
 #include <string.h>
 #include <sys/mman.h>
+#include <sys/prctl.h>
 #include <sys/wait.h>
 #include <unistd.h>
 #include "block_kinds.h"
@@ -553,11 +555,12 @@ static void read_shares(char *rest) {
   all = (1U << lanes) - 1;
 }
 
-// Simulates one map in a process of its own.
+// Simulates one map in a process of its own, which ends with this one.
 static void begin_run(char *map, char order, int64_t *found) {
   pid_t child = fork();
   if (child < 0) refuse(3, "it can't begin a process");
   if (child) return;
+  prctl(PR_SET_PDEATHSIG, SIGKILL);
   read_map(map);
   if (order) replay_timeline(order);
   else replay_blocks();
