@@ -552,6 +552,17 @@ def compares_tables(best, folder, counts, out, name):
         expect(f"{name}: {table} saves {row[2]} KiB, not {saving}", near)
 
 
+def test_asked_once(place):
+    """The program runs once for the same words and bytes, and at most six times over a timeline."""
+    fake, given = os.path.join(place, "fake"), os.path.join(place, "given")
+    write(f'#!/bin/sh\ncat > {given}; echo "$(wc -c < {given}) $* $(md5sum < {given})" >> asked; exec {BUILT} "$@" < {given}\n', fake, mode=0o755)
+    text = "timeline\n" + "".join(f"{size}\n" * 900 for size in (40, 100, 3000, -100, 5000))
+    works("what is asked", "tune_program", "--output", "made", "--read", "-", given=text.encode(), cwd=place, env={**os.environ, "MTE_TOOL": fake})
+    asked = read(place, "asked").splitlines()
+    expect("something is asked twice", len(asked) == len(set(asked)) <= 14, *asked)
+    expect("the timeline is read in other runs", sum(int(each.split()[0]) > len(text) for each in asked) in (4, 5), *asked)
+
+
 def test_long_name(place):
     """The longest name that a file can have is that of the curve, and its label fits the picture."""
     name = "n" * 255
