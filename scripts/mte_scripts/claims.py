@@ -12,18 +12,8 @@ from dataclasses import InitVar, dataclass
 from typing import Optional
 
 from mte_scripts import certificate_texts, count_texts, program_runs, text_files
-from mte_scripts.claim_words import (
-    byte_text,
-    claim_sentence,
-    count_text,
-    fill_template,
-    having_words,
-    join_words,
-    limit_words,
-    mark_claim,
-    mebibytes,
-    quote_name,
-)
+from mte_scripts.claim_words import (byte_text, claim_sentence, count_text, fill_template, having_words, join_words,
+                                     limit_words, mark_claim, mebibytes, quote_name)
 from mte_scripts.engines import State
 from mte_scripts.entry_point import Refusal
 from mte_scripts.formats import LARGEST_CLASS
@@ -76,35 +66,32 @@ class Claim:
         """That of the table, or the bound. Only where one of the two is known."""
         return self.numbers["waste" if self.kind == "profile" else "footprint"]
 
-    def among(self) -> "dict[str, str]":
+    def name_tables(self) -> "dict[str, str]":
         """The tables in question: their limit and step, and the class that they have."""
         return {"limit": limit_words(self.numbers["limit"], self.numbers["step"]), "having": having_words(self.numbers["forced"])}
 
-    def given(self) -> str:
+    def name_input(self) -> str:
         """What was counted, by its name and digest."""
         return fill_template("input", name=quote_name(self.name), digest=self.digest[:DIGITS], how=self.how)
 
     def words(self) -> str:
         """Among which tables none costs less than this one, or than the bound."""
         numbers = self.numbers
-        count = {
-            noun: count_text(numbers.get(f"{noun}s", 0), noun)
-            for noun in ("size", "request", "snapshot", "event", "byte")
-        }
+        count = {noun: count_text(numbers.get(f"{noun}s", 0), noun)
+                 for noun in ("size", "request", "snapshot", "event", "byte")}
         places = {f"{noun}s": words for noun, words in count.items()}
         large = fill_template("large", large=count_text(numbers["large"], "large one")) if numbers.get("large") else ""
-        tables = fill_template("tables", **self.among(), given=self.given())
+        tables = fill_template("tables", **self.name_tables(), given=self.name_input())
         return fill_template(f"{self.kind}.claim", tables=tables, cost=byte_text(self.cost), large=large, **places)
 
-    def says(self) -> str:
+    def state_verdict(self) -> str:
         """What the verdict means, whoever gave it."""
         if self.is_bound:
             return fill_template("between", cost=byte_text(self.numbers["takes"]), claim=self.words())
         if self.holds:
             return fill_template("says", command=self.command, claim=self.words())
-        return fill_template(
-            "refused", command=self.command, verdict=self.verdict, given=self.given(), meaning=self.meaning()
-        ).rstrip()
+        return fill_template("refused", command=self.command, verdict=self.verdict, given=self.name_input(),
+                             meaning=self.meaning()).rstrip()
 
     def meaning(self) -> str:
         """What a refusal means, in a sentence; empty for an answer that is none."""
@@ -115,17 +102,17 @@ class Claim:
         except KeyError:
             return ""
 
-    def known(self) -> str:
+    def state_finding(self) -> str:
         """What is known of the table: proved, if the program is."""
         if not self.holds and not self.is_bound:
-            return self.says()
+            return self.state_verdict()
         if self.trust.is_proved:
-            return fill_template("known.proved", by=self.trust.by.value, says=self.says())
+            return fill_template("known.proved", by=self.trust.by.value, says=self.state_verdict())
         return fill_template("known.unproved", why=self.trust.why, command=self.command, claim=self.words())
 
     def sentence(self) -> str:
         """The same for a summary or a page."""
-        return mark_claim(self.known())
+        return mark_claim(self.state_finding())
 
     def refusal(self) -> str:
         """The verdict and its meaning."""
@@ -135,18 +122,16 @@ class Claim:
         """The last line of a script that checks one sheet, where it holds."""
         trust = self.trust
         of_proved = "answer.proved" if trust.by is State.PROVED_HERE else "answer.project"
-        return claim_sentence(
-            of_proved if trust.is_proved else "answer.unproved", why=trust.why, by=trust.by.value, claim=self.words()
-        )
+        return claim_sentence(of_proved if trust.is_proved else "answer.unproved", why=trust.why, by=trust.by.value,
+                              claim=self.words())
 
     def table(self) -> str:
         """What the table is called among others."""
         return claim_sentence(f"{self.kind}.{'table' if self.holds else 'other'}")
 
 
-def check_certificate(
-    certificate: "str | bytes", counts: bytes, name: str, how: str = "", file: str = "the first text"
-) -> Claim:
+def check_certificate(certificate: "str | bytes", counts: bytes, name: str, how: str = "",
+                      file: str = "the first text") -> Claim:
     """What the engine says of a sheet or a fit, of this FILE, for the text that is of this NAME, or came of it (claim_words.how). A text that it
     refuses is refused."""
     is_fit = b"\nfootprint " in (certificate if isinstance(certificate, bytes) else certificate.encode())
@@ -169,9 +154,8 @@ def fit_counts(counts: bytes, name: str, options: "tuple[int, int, bool]", how: 
     status, out, error = program_runs.mte_tool(words, counts)
     answer = out.decode("ascii", "replace")
     if status not in (0, 1):
-        raise Refusal(
-            2 if status == 2 else 3, f"`mte_tool {' '.join(words)}` failed: {error or f'its status is {status}'}"
-        )
+        raise Refusal(2 if status == 2 else 3,
+                      f"`mte_tool {' '.join(words)}` failed: {error or f'its status is {status}'}")
     if status == 0:
         return answer, check_certificate(answer, counts, name, how, "the fit")
     takes, bound = (int(line.split()[-1]) for line in answer.splitlines()[1:])
@@ -185,14 +169,10 @@ def interval(claim: Claim, high: int, events: int) -> "tuple[str, str]":
     """Of a run, of which a history has moments: in one sentence what its claim means for the run, of which the first table takes at most HIGH
     bytes, and on what that rests. Without a number of events it is not known."""
     name = quote_name(claim.name)
-    over = (
-        fill_template("interval.events", events=count_text(events, "event"), name=name)
-        if events
-        else fill_template("interval.run", name=name)
-    )
-    one = fill_template(
-        "interval.one", over=over, low=mebibytes(claim.cost, 0), high=mebibytes(high, 1), **claim.among()
-    )
+    over = (fill_template("interval.events", events=count_text(events, "event"), name=name) if events
+            else fill_template("interval.run", name=name))
+    one = fill_template("interval.one", over=over, low=mebibytes(claim.cost, 0), high=mebibytes(high, 1),
+                        **claim.name_tables())
     unproved = "" if claim.trust.is_proved else "If the program is right: "
     return mark_claim(f"{unproved}{one}"), claim_sentence("interval.rests", over=over, high=byte_text(high))
 
@@ -218,7 +198,7 @@ def saving(saved: "int | None") -> Optional[str]:
 
 def who_input(claim: Claim) -> str:
     """Of which tables and of which run that is."""
-    return claim_sentence("who.input", given=claim.given(), **claim.among()) if claim.holds else ""
+    return claim_sentence("who.input", given=claim.name_input(), **claim.name_tables()) if claim.holds else ""
 
 
 def bound(claim: Claim, load: str, divisor: int, is_own: bool) -> str:
@@ -226,13 +206,8 @@ def bound(claim: Claim, load: str, divisor: int, is_own: bool) -> str:
     if is_own:
         return claim.sentence()
     kind = "profile" if claim.kind == "profile" else "histories"
-    return claim_sentence(
-        f"bound.{kind}",
-        known=claim.known(),
-        load=quote_name(load),
-        divisor=f"{divisor:,}",
-        cost=byte_text(divisor * claim.cost),
-    )
+    return claim_sentence(f"bound.{kind}", known=claim.state_finding(), load=quote_name(load), divisor=f"{divisor:,}",
+                          cost=byte_text(divisor * claim.cost))
 
 
 def regret(claim: Claim, load: str, table: str, cost: "int | None", above: "float | None", unserved: "int | None" = None) -> str:
@@ -242,18 +217,14 @@ def regret(claim: Claim, load: str, table: str, cost: "int | None", above: "floa
         return claim_sentence("regret.unserved", table=table, size=byte_text(unserved or 0), load=quote_name(load))
     if above < 0:
         return claim_sentence("regret.below", table=table, cost=byte_text(cost))
-    return claim_sentence(
-        f"regret.{'profile' if claim.kind == 'profile' else 'history'}",
-        table=table,
-        cost=byte_text(cost),
-        percent=f"{above:,.2f}",
-    )
+    return claim_sentence(f"regret.{'profile' if claim.kind == 'profile' else 'history'}", table=table,
+                          cost=byte_text(cost), percent=f"{above:,.2f}")
 
 
 def worst(claim: Claim, loads: str, low: float, high: float, is_exact: bool) -> str:
     """Of a table for several loads: what bounds the worst percentage of every table, by a certificate of these joined, and its own."""
     own = fill_template("worst.exact" if is_exact else "worst.chosen", percent=f"{high:,.2f}")
-    return claim_sentence("worst.all", known=claim.known(), loads=loads, percent=f"{low:,.2f}", own=own)
+    return claim_sentence("worst.all", known=claim.state_finding(), loads=loads, percent=f"{low:,.2f}", own=own)
 
 
 def pools(claim: Claim, runs: Iterable[str], is_sampled: bool, block: "tuple[int, int]", cost: int) -> str:
@@ -262,7 +233,7 @@ def pools(claim: Claim, runs: Iterable[str], is_sampled: bool, block: "tuple[int
     what = fill_template("pools.snapshots" if is_sampled else "pools.runs", given=join_words(map(quote_name, runs)))
     limit = count_text(claim.numbers["limit"], "pool")
     said_ = fill_template("pools.claim", pools=limit, what=what, unit=block[0], overhead=block[1], cost=byte_text(cost))
-    return claim_sentence("pools.all", known=claim.known(), claim=said_)
+    return claim_sentence("pools.all", known=claim.state_finding(), claim=said_)
 
 
 def block_sizes(claim: Claim, given: "tuple[str, str, str]", cost: int, places: "dict[str, str]") -> str:
@@ -282,9 +253,8 @@ def shared_sizes(ends: Iterable[str]) -> str:
 
 def curve(claim: Claim, step: int, forced: int) -> str:
     """What the line over the numbers of classes shows."""
-    return claim_sentence(
-        f"{claim.kind}.curve", name=quote_name(claim.name), block=16 * step, having=having_words(forced)
-    )
+    return claim_sentence(f"{claim.kind}.curve", name=quote_name(claim.name), block=16 * step,
+                          having=having_words(forced))
 
 
 def unproved_note(trust: program_runs.Trust) -> str:

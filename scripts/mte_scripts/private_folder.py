@@ -357,6 +357,16 @@ def remove_left() -> None:
                 Folder(place, name).close()
 
 
+def first_closed(path: str) -> str:
+    """The first folder, from this one up, that not every user can enter; empty where there is none."""
+    path, below = os.path.realpath(path), ""
+    while path != below:
+        if not os.stat(path).st_mode & stat.S_IXOTH:
+            return path
+        path, below = os.path.dirname(path), path
+    return ""
+
+
 def temporary_folder() -> Folder:
     """A new folder in TMPDIR, or in /tmp if TMPDIR is missing or can't be written. A TMPDIR that others can change is refused."""
     wanted = os.environ.get("TMPDIR") or "/tmp"

@@ -79,16 +79,27 @@ def program() -> str:
     return engine().executable if engine().words == ["mte_tool"] else engines.make_native()
 
 
+def run_over(words: list[str], executable: str, *given: bytes) -> "subprocess.CompletedProcess[bytes]":
+    """Runs a program over these bytes, one after the other."""
+    with open(os.memfd_create("given"), "w+b") as file:  # a pipe would take a piece of it at a time
+        file.writelines(given)
+        file.seek(0)
+        return subprocess.run(words, executable=executable, stdin=file, capture_output=True)
+
+
 def mte_tool(words: list[str], *given: bytes) -> tuple[int, bytes, str]:
     """Runs the program over these bytes, one after the other: its status, its output, and its standard error as text."""
     try:
-        with open(os.memfd_create("given"), "w+b") as file:  # a pipe would take a piece of it at a time
-            file.writelines(given)
-            file.seek(0)
-            # its path may be no text, which the program refuses as a word
-            done = subprocess.run([*engine().words, *words], executable=engine().executable, stdin=file, stdout=subprocess.PIPE, stderr=subprocess.PIPE)
+        # its path may be no text, which the program refuses as a word
+        done = run_over([*engine().words, *words], engine().executable, *given)
     except OSError as error:
         raise Refusal(3, f"{engine().executable} can't be run: {error.strerror}") from None
     if engine().executable == BUILT and engines.state_of(BUILT) != look_at_program()[1]:
         raise Refusal(3, "the program was replaced while this ran: nothing is proved of its answers")
     return done.returncode, done.stdout, done.stderr.decode(errors="replace").strip()
+
+
+@functools.lru_cache(maxsize=32)
+def answer_once(words: "tuple[str, ...]", *given: bytes) -> "tuple[int, bytes, str]":
+    """The same, for which the program runs once in a command, however often it is asked that."""
+    return mte_tool(list(words), *given)

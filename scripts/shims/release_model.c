@@ -1,23 +1,33 @@
 // What LLVM 19's Scudo is predicted to have resident at most with a table of classes, page by page, by its rules of release (scudo_release.h).
 // A model of one thread: nothing of it is proved. mte_scripts/tables/release_model.py builds and runs it.
 //
-//   release_model MS HINT LOG WRITTEN GRANULES,.. [last|first|random] < RECORD
+//   release_model MS WRITTEN,.. HINT:LOG:GRANULES,.. .. [last|first|random].. < RECORD
 //
-// MS: release_to_os_interval_ms. HINT and LOG: how many blocks a thread keeps at most, and of how many bytes, as a power of 2. WRITTEN: how many
-// 64ths of each request are written, but at least a byte, what calloc writes and what a realloc copies. GRANULES: all
-// classes of the map, headers included, ascending. RECORD: that of blocks (block_kinds.h); or a timeline, which does not say which block of a
-// size is freed, and then the last word does. Prints the most KiB that the heap, with the files of the record, has resident. The status is 2
-// where the words or the record are faulty, and 3 without memory.
+// MS: release_to_os_interval_ms. WRITTEN: how many 64ths of each request are written, but at least a byte, what calloc writes and what a realloc
+// copies; up to four numbers, the greatest first. Then maps. HINT and LOG: how many blocks a thread keeps at most, and of how many bytes, as a
+// power of 2. GRANULES: all classes of the map, headers included, ascending. RECORD: that of blocks (block_kinds.h); or a timeline, which does
+// not say which block of a size is freed, and then the last words do. Prints for each of these, and for each map, a line with the most KiB that
+// the heap, with the files of the record, has resident: a number for each WRITTEN. The status is 2 where the words or the record are faulty, and
+// 3 without memory.
+//
+// A number of WRITTEN is a lane. Which block a call takes or gives back is the same in each of them: so they are simulated together, and a page
+// has a bit for each lane in which it is resident.
+#include <signal.h>
 #include <stdint.h>
 #include <stdio.h>
 #include <stdlib.h>
 #include <string.h>
+#include <sys/mman.h>
+#include <sys/prctl.h>
+#include <sys/wait.h>
+#include <unistd.h>
 #include "block_kinds.h"
 #include "formats.h"
 #include "events.h"
 #include "scudo_release.h"
 
 enum { CLASSES = 256, LARGEST_GRANULES = 1 << 14, MOST_HINT = 64, SHARES = 64, GROUPS = 1 << 11, WORDS = GROUPS / 64, LARGE = LARGEST_SIZE + 1 };
+enum { LANES = 4, PAGES = GROUP / PAGE, FREED = 1 << 15 };
 static const uint64_t MOST_SIZE = 1ULL << 46;
 
 static _Noreturn void refuse(int status, const char *why) { fprintf(stderr, "release_model: %s\n", why), exit(status); }
@@ -31,23 +41,38 @@ static void *more(void *at, uint64_t bytes) {
 // Room for NUMBER entries and more, those that are new all 0.
 static void grow(void **at, uint64_t *room, uint64_t number, uint64_t bytes) {
   uint64_t before = *room;
-  if (number <= before) return;
   *room = before * 2 > number ? before * 2 : number;
   *at = more(*at, *room * bytes), memset((char *)*at + before * bytes, 0, (*room - before) * bytes);
 }
-#define GROW(list, number) grow((void **)&(list).at, &(list).room, number, sizeof *(list).at)
+#define GROW(list, number) \
+  ((number) <= (list).room ? (void)0 : grow((void **)&(list).at, &(list).room, number, sizeof *(list).at))
 
 // ---- the memory
 
-static int64_t interval, resident, batches, most_batches, files, most;  // in milliseconds, pages and batches
+static int64_t interval, batches, most_batches, files;  // in milliseconds, batches and pages
+static int64_t resident[LANES], most[LANES];            // pages
 static int64_t clock_ms;
-static uint64_t delta, share_written;
+static uint64_t delta, share_written[LANES];
+static int lanes;
+static unsigned all;  // the set of all lanes
 
 static void note_most(void) {
   if (batches > most_batches) most_batches = batches;
-  int64_t all = resident + files + (most_batches * BATCH_BYTES + PAGE - 1) / PAGE;
-  if (all > most) most = all;
+  int64_t others = files + (most_batches * BATCH_BYTES + PAGE - 1) / PAGE;
+  for (int lane = 0; lane < lanes; lane++)
+    if (resident[lane] + others > most[lane]) most[lane] = resident[lane] + others;
 }
+
+// The bytes of a request that are written in a lane, of which COPIED are by a realloc; or these, of zeros.
+static uint64_t written_of(int lane, uint64_t size, uint64_t copied, uint64_t zeros) {
+  uint64_t share = size * share_written[lane] / SHARES, some = share > copied ? share : copied;
+  if (!some) some = 1;
+  return zeros ? zeros : some < size ? some : size;
+}
+
+// A number for each lane of a set: 1. Up to 16 bits of each are in one word.
+static uint64_t ones_of(unsigned set) { return set * 0x200040008001ULL & 0x1000100010001ULL; }
+static unsigned number_in_lane(uint64_t word, int lane) { return word >> 16 * lane & 0xffff; }
 
 // ---- the blocks of a class
 
@@ -55,18 +80,25 @@ static void note_most(void) {
 struct group {
   struct { uint32_t *at; uint64_t room; } blocks;
   struct { uint8_t *at; uint64_t room; } filled;
-  uint64_t free, batches, checkpoint;
-  uint32_t idle;  // resident pages that no block uses
+  uint64_t free, batches, checkpoint[LANES];
+  uint64_t idle;  // resident pages that no block uses, of each lane
 };
-struct page { uint8_t users, is_resident; };  // blocks that are not in the list
+struct pages { uint8_t *at; uint64_t room; };  // a number for each
+// What a class's releases go by, the same in all these lanes.
+struct watch {
+  uint64_t checkpoint, threshold;
+  int64_t last;  // when its pages were looked at
+  unsigned lanes;
+};
 static struct class {
-  uint64_t size, used, mapped, popped, pushed, checkpoint, threshold;
-  int64_t last;             // when its pages were looked at
+  uint64_t size, used, mapped, popped, pushed;
   uint32_t keep, kept;      // of the thread: at most twice so many, and how many
   uint32_t cache[2 * MOST_HINT + 2];
   struct { struct group *at; uint64_t room; } groups;
-  struct { struct page *at; uint64_t room; } pages;
+  struct pages users, resident;  // blocks that are not in the list; and a set of lanes
   uint64_t has_free[WORDS]; // of the groups
+  struct watch watches[LANES];
+  int number_of_watches;
 } classes[CLASSES];
 static uint32_t number_of_classes, hint;
 static uint8_t class_of[LARGEST_GRANULES + 1];  // by granules; 0 above the classes
@@ -76,19 +108,17 @@ static uint64_t group_of(const struct class *class, uint64_t block) { return blo
 // A block leaves the list, or comes to it.
 static void use(struct class *class, uint64_t block, int by) {
   uint64_t from = block * class->size / PAGE, to = ((block + 1) * class->size - 1) / PAGE;
-  for (uint64_t p = from; p <= to; p++) {
-    struct page *page = &class->pages.at[p];
-    int was_idle = page->is_resident && !page->users;
-    page->users += by;
-    int is_idle = page->is_resident && !page->users;
-    if (is_idle != was_idle) class->groups.at[p / (GROUP / PAGE)].idle += is_idle - was_idle;
-  }
+  for (uint64_t p = from; p <= to; p++)
+    if ((class->users.at[p] += by) == (by > 0)) class->groups.at[p / PAGES].idle -= by * ones_of(class->resident.at[p]);
 }
 
 static void list(struct class *class, uint32_t block) {
   uint64_t at = group_of(class, block);
   struct group *group = &class->groups.at[at];
-  if (!group->batches) group->checkpoint = 0, batches++, class->has_free[at / 64] |= 1ULL << at % 64;  // one more batch describes the group
+  if (!group->batches) {  // one more batch describes the group
+    memset(group->checkpoint, 0, sizeof group->checkpoint);
+    batches++, class->has_free[at / 64] |= 1ULL << at % 64;
+  }
   if (!group->batches || group->filled.at[group->batches - 1] == hint) {
     GROW(group->filled, group->batches + 1);
     group->filled.at[group->batches++] = 0, batches++;
@@ -142,7 +172,8 @@ static int cut(struct class *class) {
     uint64_t mapped = class->mapped + (wanted - class->mapped + MAPPED - 1) / MAPPED * MAPPED;
     if (mapped > REGION) return 0;
     class->mapped = mapped;
-    GROW(class->pages, mapped / PAGE + 1), GROW(class->groups, (mapped + GROUP - 1) / GROUP + 1);
+    uint64_t groups = (mapped + GROUP - 1) / GROUP + 1;
+    GROW(class->groups, groups), GROW(class->users, groups * PAGES), GROW(class->resident, groups * PAGES);
   }
   uint64_t number = (class->mapped - class->used) / class->size, end;
   if (number > SETS * class->keep) number = SETS * class->keep;
@@ -156,48 +187,76 @@ static int cut(struct class *class) {
 
 // ---- what is released
 
+static int is_in(const uint64_t *set, uint64_t k) { return set[k / 64] >> k % 64 & 1; }
+
 // Whether the blocks that begin on or reach a page are all of groups that are looked at.
-static int is_looked_at(const struct class *class, const uint8_t *chosen, uint64_t page) {
+static int is_looked_at(const struct class *class, const uint64_t *chosen, uint64_t page) {
   uint64_t last = ((page + 1) * PAGE - 1) / class->size, blocks = class->used / class->size;
-  return chosen[group_of(class, page * PAGE / class->size)] && (last >= blocks || chosen[group_of(class, last)]);
+  return is_in(chosen, group_of(class, page * PAGE / class->size)) && (last >= blocks || is_in(chosen, group_of(class, last)));
 }
 
-static uint64_t release_group(struct class *class, const uint8_t *chosen, uint64_t at) {
-  uint64_t begin = at * (GROUP / PAGE), released = 0;
-  for (uint64_t p = begin; class->groups.at[at].idle && p < begin + GROUP / PAGE && p * PAGE < class->used; p++) {
-    struct page *page = &class->pages.at[p];
-    if (!page->is_resident || page->users || !is_looked_at(class, chosen, p)) continue;
-    page->is_resident = 0, class->groups.at[at].idle--, resident--, released++;
+// Whether one of eight pages has no user.
+static int have_unused(const uint8_t *pages) {
+  uint64_t eight;
+  memcpy(&eight, pages, sizeof eight);
+  return ((eight - 0x101010101010101) & ~eight & 0x8080808080808080) != 0;
+}
+
+// The lanes in which a page is released, of these.
+static unsigned release_group(struct class *class, const uint64_t *chosen, uint64_t at, unsigned of) {
+  uint64_t begin = at * PAGES, *idle = &class->groups.at[at].idle, released = 0, wanted = 0xffff * ones_of(of);
+  for (uint64_t p = begin; *idle & wanted && p < begin + PAGES; p++) {
+    if (p % 8 == 0 && !have_unused(class->users.at + p)) { p += 7; continue; }
+    unsigned gone = class->resident.at[p] & of;
+    if (!gone || class->users.at[p] || !is_looked_at(class, chosen, p)) continue;
+    class->resident.at[p] &= ~gone, *idle -= ones_of(gone), released += ones_of(gone);
   }
-  return released;
+  unsigned found = 0;
+  for (int lane = 0; lane < lanes; lane++)
+    resident[lane] -= number_in_lane(released, lane), found |= !!number_in_lane(released, lane) << lane;
+  return found;
 }
 
 // Which groups are looked at: how many. Of small blocks it sets the next threshold.
-static int choose(struct class *class, uint8_t *chosen) {
+static int choose(struct class *class, int at, uint64_t *chosen) {
   uint64_t nearest = GROUP, number = 0;
   for (uint64_t k = 0; k * GROUP < class->used; k++) {
     struct group *group = &class->groups.at[k];
     uint64_t free = group->free * class->size, begin = k * GROUP, there = class->used - begin < GROUP ? class->used - begin : GROUP;
+    uint64_t *checkpoint = &group->checkpoint[at];
     if (!free) continue;
-    if (free <= group->checkpoint) { group->checkpoint = free; continue; }
-    if (!group_goes(class->size, there, free, free - group->checkpoint, delta, &nearest)) continue;
-    group->checkpoint = free, chosen[k] = 1, number++;
+    if (free <= *checkpoint) { *checkpoint = free; continue; }
+    if (!group_goes(class->size, there, free, free - *checkpoint, delta, &nearest)) continue;
+    *checkpoint = free, chosen[k / 64] |= 1ULL << k % 64, number++;
   }
-  if (is_small(class->size)) class->threshold = nearest == GROUP ? delta : nearest;
+  if (is_small(class->size)) class->watches[at].threshold = nearest == GROUP ? delta : nearest;
   return number > 0;
 }
 
-static void release(struct class *class) {
-  uint64_t listed = class->used - (class->popped - class->pushed) * class->size, released = 0;
-  if (!listed) return;
-  if (listed < class->checkpoint) class->checkpoint = listed;
-  if (!may_release(class->size, listed - class->checkpoint, class->threshold, interval, class->last, clock_ms)) return;
-  uint8_t chosen[GROUPS + 2] = {0};
-  if (!choose(class, chosen)) return;
+// The lanes in which a page was released go by another checkpoint from now on.
+static void split(struct class *class, int at, unsigned of) {
+  int new = class->number_of_watches++;
+  class->watches[new] = class->watches[at], class->watches[new].lanes = of, class->watches[at].lanes &= ~of;
+  for (uint64_t k = 0; k < class->groups.room; k++) class->groups.at[k].checkpoint[new] = class->groups.at[k].checkpoint[at];
+}
+
+static void look(struct class *class, int at, uint64_t listed) {
+  struct watch *watch = &class->watches[at];
+  if (listed < watch->checkpoint) watch->checkpoint = listed;
+  if (!may_release(class->size, listed - watch->checkpoint, watch->threshold, interval, watch->last, clock_ms)) return;
+  uint64_t chosen[WORDS + 1] = {0};
+  unsigned found = 0;
+  if (!choose(class, at, chosen)) return;
   for (uint64_t k = 0; k * GROUP < class->used; k++)  // a chosen group's blocks may reach the next one
-    if (chosen[k] || (k && chosen[k - 1])) released += release_group(class, chosen, k);
-  if (released) class->checkpoint = listed;
-  class->last = clock_ms;
+    if (is_in(chosen, k) || (k && is_in(chosen, k - 1))) found |= release_group(class, chosen, k, watch->lanes);
+  watch->last = clock_ms;
+  if (found && found != watch->lanes) split(class, at, found), watch = &class->watches[class->number_of_watches - 1];
+  if (found) watch->checkpoint = listed;
+}
+
+static void release(struct class *class) {
+  uint64_t listed = class->used - (class->popped - class->pushed) * class->size;
+  for (int at = class->number_of_watches; listed && at-- > 0;) look(class, at, listed);
 }
 
 // ---- what a thread does
@@ -211,7 +270,8 @@ static void drain(struct class *class) {
       cache[j] = cache[j - 1], cache[j - 1] = block;
     }
   for (uint32_t k = 0; k < number; k++) use(class, cache[k], -1), list(class, cache[k]);
-  class->pushed += number, class->kept -= number, memmove(cache, cache + number, class->kept * sizeof *cache), note_most();
+  class->pushed += number, class->kept -= number, memmove(cache, cache + number, class->kept * sizeof *cache);
+  if (batches > most_batches) note_most();
 }
 
 static void give(struct class *class, uint32_t block) {
@@ -230,26 +290,30 @@ static int64_t take(struct class *class) {
   return class->cache[--class->kept];
 }
 
-static void touch(struct class *class, uint64_t block, uint64_t bytes) {
-  uint64_t begin = block * class->size;
-  for (uint64_t p = begin / PAGE; p <= (begin + bytes - 1) / PAGE; p++)
-    if (!class->pages.at[p].is_resident) class->pages.at[p].is_resident = 1, resident++;
-  note_most();
+// A block of a size begins on a page, and reaches others in the lanes that write so much of it.
+static void touch(struct class *class, uint64_t block, uint64_t size, uint64_t copied, uint64_t zeros) {
+  uint64_t begin = block * class->size + HEADER - 1, p = block * class->size / PAGE;
+  int reach = lanes, rose = batches > most_batches;
+  if (class->resident.at[p] == all && !rose && ((block + 1) * class->size - 1) / PAGE == p) return;
+  for (; reach; p++) {
+    unsigned new = ((1U << reach) - 1) & ~class->resident.at[p];
+    for (int lane = 0; new >> lane; lane++) resident[lane] += new >> lane & 1;
+    class->resident.at[p] |= new, rose |= new;
+    if ((begin + written_of(0, size, copied, zeros)) / PAGE == p) break;
+    while (reach && (begin + written_of(reach - 1, size, copied, zeros)) / PAGE == p) reach--;
+  }
+  if (rose) note_most();
 }
 
 // ---- larger blocks
 
-struct block { uint32_t class, at; uint64_t size, room, pages; };  // the class of none is 0; of a larger block, what is mapped and resident
-static struct kept { uint64_t room, pages; int64_t since; int is_there; } kept[KEPT_BLOCKS];
+struct large { uint64_t room, pages[LANES]; };  // what is mapped and resident
+static struct kept { struct large block; int64_t since; int is_there; } kept[KEPT_BLOCKS];
 static int times_full;
 
-static void drop(struct kept *one) { resident -= one->pages, *one = (struct kept){0}; }
-
-// The bytes of a request that are written, of which COPIED are by a realloc; or these, of zeros.
-static uint64_t written_of(uint64_t size, uint64_t copied, uint64_t zeros) {
-  uint64_t some = size * share_written / SHARES > copied ? size * share_written / SHARES : copied;
-  if (!some) some = 1;
-  return zeros ? zeros : some < size ? some : size;
+static void drop(struct kept *one) {
+  for (int lane = 0; lane < lanes; lane++) resident[lane] -= one->block.pages[lane];
+  *one = (struct kept){0};
 }
 
 static uint64_t need_of(uint64_t size) { return size + HEADER + LARGE_HEADER; }
@@ -258,93 +322,108 @@ static uint64_t pages_of(uint64_t bytes) { return (bytes + PAGE - 1) / PAGE; }
 static struct kept *kept_for(uint64_t need) {
   struct kept *best = NULL;
   for (struct kept *each = kept; each < kept + KEPT_BLOCKS; each++) {
-    if (!each->is_there || !fits_kept(each->room, need)) continue;
-    if (is_close(each->room, need)) return each;
-    if (!best || each->room <= best->room) best = each;
+    if (!each->is_there || !fits_kept(each->block.room, need)) continue;
+    if (is_close(each->block.room, need)) return each;
+    if (!best || each->block.room <= best->block.room) best = each;
   }
   return best;
 }
 
-static void map_large(struct block *block, uint64_t size, uint64_t copied, int is_zeroed) {
+// So many bytes of a block are written in each lane, and perhaps more zeros.
+static void write_large(struct large *block, uint64_t size, uint64_t copied, int is_zeroed) {
+  for (int lane = 0; lane < lanes; lane++) {
+    uint64_t before = block->pages[lane], zeros = is_zeroed && before ? size : 0;  // what was just mapped is zero
+    uint64_t pages = pages_of(need_of(written_of(lane, size, copied, zeros)));
+    if (pages > before) resident[lane] += pages - before, block->pages[lane] = pages;
+  }
+  note_most();
+}
+
+static struct large map_large(uint64_t size, uint64_t copied, int is_zeroed) {
   struct kept *one = kept_for(need_of(size));
-  is_zeroed = is_zeroed && one && one->pages;  // what was just mapped is zero
-  uint64_t pages = pages_of(need_of(written_of(size, copied, is_zeroed ? size : 0)));
-  *block = (struct block){0, 0, size, one ? one->room : pages_of(need_of(size)) * PAGE, one && one->pages > pages ? one->pages : pages};
-  if (one) drop(one);
-  resident += block->pages, note_most();
+  struct large block = one ? one->block : (struct large){pages_of(need_of(size)) * PAGE, {0}};
+  if (one) *one = (struct kept){0};
+  write_large(&block, size, copied, is_zeroed);
+  return block;
 }
 
 static void release_kept(void) {
   for (struct kept *each = kept; each < kept + KEPT_BLOCKS; each++)
-    if (each->is_there && each->since <= clock_ms - interval) resident -= each->pages, each->pages = 0;
+    for (int lane = 0; each->is_there && each->since <= clock_ms - interval && lane < lanes; lane++)
+      resident[lane] -= each->block.pages[lane], each->block.pages[lane] = 0;
 }
 
-static void unmap_large(const struct block *block) {
-  int place = 0, is_kept = block->room <= MOST_KEPT, empties = 0;
+static void unmap_large(struct large block) {
+  int place = 0, is_kept = block.room <= MOST_KEPT, empties = 0;
   while (place < KEPT_BLOCKS && kept[place].is_there) place++;
   if (is_kept && place == KEPT_BLOCKS) is_kept = 0, empties = ++times_full == FULL;
-  if (is_kept) {
-    kept[place] = kept[0];
-    kept[0] = (struct kept){block->room, interval ? block->pages : 0, clock_ms, 1};
-  }
-  if (!is_kept || !interval) resident -= block->pages;
+  for (int lane = 0; (!is_kept || !interval) && lane < lanes; lane++) resident[lane] -= block.pages[lane], block.pages[lane] = 0;
+  if (is_kept) kept[place] = kept[0], kept[0] = (struct kept){block, clock_ms, 1};
   if (empties) times_full = 0;
   for (int k = 0; empties && k < KEPT_BLOCKS; k++) drop(&kept[k]);
-  if (interval > 0 && block->room <= MOST_KEPT) release_kept();
+  if (interval > 0 && block.room <= MOST_KEPT) release_kept();
 }
 
 // ---- the calls
 
-static struct { struct block *at; uint64_t room; } blocks;
-static uint64_t number_of_blocks;
-static struct { uint32_t *at; uint64_t room; } unused;
-static uint64_t number_unused;
-enum { GONE = CLASSES };  // the class of a block that is of no request
+// Numbers from 0 on, of which the one that was given back last is taken first.
+struct numbers { uint32_t *at; uint64_t room, unused, next; };
+static uint32_t take_number(struct numbers *of) { return of->unused ? of->at[--of->unused] : of->next++; }
+static void give_number(struct numbers *of, uint32_t number) { GROW(*of, of->unused + 1), of->at[of->unused++] = number; }
+
+struct place { uint32_t class, at; };  // the class of a larger block is 0
+enum { GONE = CLASSES };               // that of a block that is of no request
+static struct { struct { struct place place; uint64_t size; } *at; uint64_t room; } blocks;
+static struct { struct large *at; uint64_t room; } larges;
+static struct numbers of_blocks, of_larges;
 
 static uint64_t granules_of(uint64_t size) { return (size ? (size + 15) / 16 : 1) + 1; }
 
-static void allocate(struct block *block, uint64_t size, uint64_t copied, int is_zeroed) {
-  uint64_t granules = granules_of(size);
-  int of = granules <= LARGEST_GRANULES ? class_of[granules] : 0;
-  int64_t at = of ? take(&classes[of]) : -1;
-  if (at < 0) { map_large(block, size, copied, is_zeroed); return; }
-  *block = (struct block){of, at, size, 0, 0};
-  touch(&classes[of], at, HEADER + written_of(size, copied, is_zeroed ? classes[of].size - HEADER : 0));
-}
-
-static void deallocate(const struct block *block) {
-  if (block->class) give(&classes[block->class], block->at);
-  else unmap_large(block);
-}
-
-static uint32_t request(uint64_t size, int is_zeroed) {
+static struct place allocate(uint64_t size, uint64_t copied, int is_zeroed) {
   if (size > MOST_SIZE) refuse(2, "the record has a request that there can't be");
-  uint32_t number = number_unused ? unused.at[--number_unused] : number_of_blocks++;
-  GROW(blocks, number + 1ULL);
-  allocate(&blocks.at[number], size, 0, is_zeroed);
-  return number;
+  uint64_t granules = granules_of(size);
+  uint32_t of = granules <= LARGEST_GRANULES ? class_of[granules] : 0;
+  int64_t at = of ? take(&classes[of]) : -1;
+  if (at >= 0) {
+    touch(&classes[of], at, size, copied, is_zeroed ? classes[of].size - HEADER : 0);
+    return (struct place){of, at};
+  }
+  uint32_t number = take_number(&of_larges);
+  GROW(larges, number + 1ULL), larges.at[number] = map_large(size, copied, is_zeroed);
+  return (struct place){0, number};
 }
 
-static struct block *live(uint64_t number) {
-  if (number >= number_of_blocks || blocks.at[number].class == GONE) refuse(2, "the record has a call for no live block");
-  return &blocks.at[number];
+static void deallocate(struct place place) {
+  if (place.class) { give(&classes[place.class], place.at); return; }
+  unmap_large(larges.at[place.at]), give_number(&of_larges, place.at);
+}
+
+static void request(uint64_t size, int is_zeroed) {
+  struct place place = allocate(size, 0, is_zeroed);
+  uint32_t number = take_number(&of_blocks);
+  GROW(blocks, number + 1ULL), blocks.at[number].place = place, blocks.at[number].size = size;
+}
+
+static void refuse_gone(uint64_t number) {
+  if (number >= of_blocks.next || blocks.at[number].place.class == GONE) refuse(2, "the record has a call for no live block");
 }
 
 static void free_block(uint64_t number) {
-  deallocate(live(number));
-  blocks.at[number].class = GONE;
-  GROW(unused, number_unused + 1), unused.at[number_unused++] = number;
+  refuse_gone(number), deallocate(blocks.at[number].place);
+  blocks.at[number].place.class = GONE, give_number(&of_blocks, number);
 }
 
 static void resize(uint64_t number, uint64_t size) {
-  struct block *block = live(number), old = *block;
+  refuse_gone(number);
+  struct place old = blocks.at[number].place;
+  uint64_t before = blocks.at[number].size;
   if (size > MOST_SIZE) refuse(2, "the record has a request that there can't be");
-  int fits = old.class ? HEADER + size <= classes[old.class].size : need_of(size) <= old.room;
-  if (!fits || (size <= old.size && old.size - size >= PAGE)) { allocate(block, size, size < old.size ? size : old.size, 0), deallocate(&old); return; }
-  block->size = size;
-  if (old.class) { touch(&classes[old.class], old.at, HEADER + written_of(size, 0, 0)); return; }
-  uint64_t pages = pages_of(need_of(written_of(size, 0, 0)));
-  if (pages > old.pages) resident += pages - old.pages, block->pages = pages, note_most();
+  int fits = old.class ? HEADER + size <= classes[old.class].size : need_of(size) <= larges.at[old.at].room;
+  blocks.at[number].size = size;
+  if (!fits || (size <= before && before - size >= PAGE))
+    blocks.at[number].place = allocate(size, size < before ? size : before, 0), deallocate(old);
+  else if (old.class) touch(&classes[old.class], old.at, size, 0, 0);
+  else write_large(&larges.at[old.at], size, 0, 0);
 }
 
 // ---- the record
@@ -381,21 +460,21 @@ static void replay_blocks(void) {
 }
 
 // The live blocks of each size, in the order of their requests.
-static struct pool { uint32_t *at; uint64_t room, first, last; } pools[LARGE];
+static struct pool { struct place *at; uint64_t room, first, last; } pools[LARGE];
 
-static uint32_t chosen_of(struct pool *pool, char order) {
+static struct place chosen_of(struct pool *pool, char order) {
   if (pool->first == pool->last) refuse(2, "the timeline frees no live block");
   if (order == 'f') return pool->at[pool->first++];
   if (order == 'r') {
     uint64_t at = pool->first + below(pool->last - pool->first);
-    uint32_t block = pool->at[at];
+    struct place block = pool->at[at];
     pool->at[at] = pool->at[--pool->last];
     return block;
   }
   return pool->at[--pool->last];
 }
 
-static void add(struct pool *pool, uint32_t block) {
+static void add(struct pool *pool, struct place block) {
   if (pool->first && pool->first > pool->last / 2) {
     memmove(pool->at, pool->at + pool->first, (pool->last - pool->first) * sizeof *pool->at);
     pool->last -= pool->first, pool->first = 0;
@@ -403,14 +482,26 @@ static void add(struct pool *pool, uint32_t block) {
   GROW(*pool, pool->last + 1), pool->at[pool->last++] = block;
 }
 
+static struct { uint16_t *at; uint64_t room, number; } events;
+
 static void replay_timeline(char order) {
+  for (const uint16_t *each = events.at; each < events.at + events.number; each++) {
+    int size = *each & ~FREED;
+    if (*each & FREED) deallocate(chosen_of(&pools[size], order));
+    else add(&pools[size], allocate(size, 0, 0));
+  }
+}
+
+// The events of a timeline, those of large blocks left out, which are of unknown size.
+static void read_events(void) {
+  static const char TIMELINE[] = "timeline\n";
   const char *at = (const char *)next, *last = (const char *)end;
-  for (at += strlen("timeline\n"); at < last; at++) {
+  if (last - at < (long)strlen(TIMELINE) || memcmp(at, TIMELINE, strlen(TIMELINE))) refuse(2, "this is no timeline");
+  for (at += strlen(TIMELINE); at < last; at++) {
     int is_free, size = read_event(&at, last, &is_free);
     if (size < 0 || (at < last && *at != '\n')) refuse(2, "a line of the timeline is no event");
-    if (size >= LARGE) continue;  // of unknown size
-    if (is_free) free_block(chosen_of(&pools[size], order));
-    else add(&pools[size], request(size, 0));
+    GROW(events, events.number + 1);
+    if (size < LARGE) events.at[events.number++] = size | (is_free ? FREED : 0);
   }
 }
 
@@ -424,7 +515,7 @@ static void read_all(void) {
   next = all, end = all + bytes;
 }
 
-// ---- the table
+// ---- the words
 
 static long number_in(const char *text, long least, long greatest, char **rest) {
   long value = strtol(text, rest, 10);
@@ -436,12 +527,16 @@ static void begin_class(uint64_t size, int log) {
   uint64_t kept_at_once = (1ULL << log) / size;
   struct class *class = &classes[++number_of_classes];
   class->size = size, class->keep = kept_at_once < 1 ? 1 : kept_at_once > hint ? hint : kept_at_once;
-  class->threshold = is_small(size) ? delta : PAGE, class->last = INT64_MIN / 2;
+  class->watches[0] = (struct watch){0, is_small(size) ? delta : PAGE, INT64_MIN / 2, all}, class->number_of_watches = 1;
 }
 
-static void read_table(const char *words, int log) {
+static void read_map(char *rest) {
   long before = 1, granules;
-  for (char *rest = (char *)words; *rest; rest += *rest == ',') {
+  hint = number_in(rest, 1, MOST_HINT, &rest);
+  if (*rest++ != ':') refuse(2, "a map is not HINT:LOG:GRANULES,..");
+  int log = number_in(rest, 4, 20, &rest);
+  if (*rest++ != ':') refuse(2, "a map is not HINT:LOG:GRANULES,..");
+  for (; *rest; rest += *rest == ',') {
     granules = number_in(rest, before + 1, LARGEST_GRANULES, &rest);
     if ((*rest && *rest != ',') || number_of_classes + 2 == CLASSES) refuse(2, "the classes are no numbers that ascend, or too many");
     if (!number_of_classes) delta = delta_of(16 * granules);
@@ -451,17 +546,47 @@ static void read_table(const char *words, int log) {
   }
 }
 
+static void read_shares(char *rest) {
+  for (long before = SHARES; *rest; rest += *rest == ',') {
+    if (lanes == LANES) refuse(2, "there are more than four shares");
+    share_written[lanes++] = before = number_in(rest, 0, before, &rest);
+    if (*rest && *rest != ',') refuse(2, "the shares are no numbers that descend");
+  }
+  all = (1U << lanes) - 1;
+}
+
+// Simulates one map in a process of its own, which ends with this one.
+static void begin_run(char *map, char order, int64_t *found) {
+  pid_t child = fork();
+  if (child < 0) refuse(3, "it can't begin a process");
+  if (child) return;
+  prctl(PR_SET_PDEATHSIG, SIGKILL);
+  read_map(map);
+  if (order) replay_timeline(order);
+  else replay_blocks();
+  memcpy(found, most, sizeof most);
+  exit(0);
+}
+
+static int is_order(const char *word) { return !strcmp(word, "last") || !strcmp(word, "first") || !strcmp(word, "random"); }
+
 int main(int argc, char **argv) {
-  static const char TIMELINE[] = "timeline\n";
   char *rest;
+  int maps = 0, status, worst = 0, orders;
   if (argc == 1) return 2;  // it is tried whether it runs
-  if (argc < 6 || argc > 7) refuse(2, "it wants MS, HINT, LOG, WRITTEN, a table, and perhaps which block is freed");
-  interval = number_in(argv[1], -1, INT32_MAX, &rest), hint = number_in(argv[2], 1, MOST_HINT, &rest);
-  share_written = number_in(argv[4], 0, SHARES, &rest);
-  read_table(argv[5], number_in(argv[3], 4, 20, &rest));
+  while (3 + maps < argc && !is_order(argv[3 + maps])) maps++;
+  if (!maps) refuse(2, "it wants MS, WRITTEN, maps, and perhaps which block is freed");
+  interval = number_in(argv[1], -1, INT32_MAX, &rest), read_shares(argv[2]), orders = argc - 3 - maps;
+  int runs = maps * (orders ? orders : 1);
+  int64_t *found = mmap(NULL, runs * sizeof most, PROT_READ | PROT_WRITE, MAP_SHARED | MAP_ANONYMOUS, -1, 0);
+  if (found == MAP_FAILED) refuse(3, "it has no memory");
   read_all();
-  if (argc == 6) replay_blocks();
-  else if (end - next < (long)strlen(TIMELINE) || memcmp(next, TIMELINE, strlen(TIMELINE))) refuse(2, "this is no timeline");
-  else replay_timeline(*argv[6]);
-  printf("%lld\n", (long long)most * (PAGE / 1024));
+  if (orders) read_events();
+  for (int run = 0; run < runs; run++) begin_run(argv[3 + run % maps], orders ? *argv[3 + maps + run / maps] : 0, found + run * LANES);
+  while (wait(&status) > 0)
+    if (status) worst = WIFEXITED(status) ? WEXITSTATUS(status) : 3;
+  for (int run = 0; !worst && run < runs; run++)
+    for (int lane = 0; lane < lanes; lane++)
+      printf("%lld%c", (long long)found[run * LANES + lane] * (PAGE / 1024), lane + 1 < lanes ? ' ' : '\n');
+  return worst;
 }

@@ -197,10 +197,10 @@ def try_figures():
             timed = figures.over_time(kind, text.encode(), with_forced, limit, step)
             found = figures.Figures(profile, sheet, [], timed, objective)
             what = f"{kind}, limit {limit}, step {step}, {'forced' if with_forced else 'not forced'}"
-            told = compare(" ".join(found.known()), profile, history, what)
+            told = compare(" ".join(found.state_findings()), profile, history, what)
             order = ["takes", "wastes"][:: 1 if objective == "footprint" else -1]
-            expect(f"{what}: not two claims: {found.known()}", [kind for kind, *_ in told] == order)
-            expect(f"{what}: {found.unheld()}", not found.unheld())
+            expect(f"{what}: not two claims: {found.state_findings()}", [kind for kind, *_ in told] == order)
+            expect(f"{what}: {found.state_refusals()}", not found.state_refusals())
             expect(f"{what}: the first table is not of the {objective}", (found.first is found.best) == (objective == "waste"))
             taken, wasted = told[:: 1 if objective == "footprint" else -1]
             for _, forced, _ in told:
@@ -275,15 +275,11 @@ def test_refusals():
             said = claim.sentence()
             expect(f"{verdict} gives `{said}`", "{" not in said and '"app"' in said and "roved" not in said and not CLAIM.search(said))
             expect(f"{verdict} is told", f"`{verdict}`" in said and not claim.holds and "least" not in claim.table() and "best" not in claim.table())
-            expect(
-                f"{verdict} and who",
-                claims.who_input(claim) == ""
-                and "nothing is said" in claims.place_cost(claim, claim, "f", 16, 1, 32, 4),
-            )
+            expect(f"{verdict} and who", claims.who_input(claim) == ""
+                   and "nothing is said" in claims.place_cost(claim, claim, "f", 16, 1, 32, 4))
         for status, out in ((0, "optimal\n"), (1, f"refused 42 WasteWrong\n{line}\n"), (2, ""), (3, ""), (139, "optimal\n")):
-            with stand_in_program(status, out, trust, "error 48 BadSheet line 1"), refuses(
-                f"{status} and {out!r}", Refusal
-            ):
+            what = f"{status} and {out!r}"
+            with stand_in_program(status, out, trust, "error 48 BadSheet line 1"), refuses(what, Refusal):
                 claims.check_certificate(certificate, counts, "app")
     with refuses("a claim that nobody checked", TypeError):
         claims.Claim("profile", "app", "", "", "optimal", {}, program_runs.Trust(True, ""))
@@ -299,9 +295,8 @@ def test_refusals():
 def test_between():
     """A timeline whose `fit` found no certificate: what is said of the bound."""
     for forced, trust in itertools.product((False, True), TRUSTS):
-        with stand_in_program(
-            1, "classes 4 1024\nfootprint 80000\nnot shown least: no table takes less than 70000\n", trust
-        ):
+        with stand_in_program(1, "classes 4 1024\nfootprint 80000\nnot shown least: no table takes less than 70000\n",
+                              trust):
             answer, claim = claims.fit_counts(b"timeline\n16\n", "app.timeline", (3, 2, forced))
         said = claim.sentence()
         found = CLAIM.search(said)
@@ -395,13 +390,10 @@ def try_manifest(place):
     environment = {name: value for name, value in os.environ.items() if name != "MTE_TOOL"}
     sheet, counts = f"{place}/app.sheet", write("17 3\n40 1\n", place, "app.profile")
     write(ask_program(["tune", "--limit", "2"], "17 3\n40 1\n"), sheet)
-    cases = {
-        "": good,
-        "the program has no manifest": None,
-        "the program is not the one of its manifest": good._replace(program=spoiled),
-        "its manifest says that the program was not proved": good._replace(proofs="unproved"),
-        "MTE_TOOL names another program": good,
-    }
+    cases = {"": good, "the program has no manifest": None,
+             "the program is not the one of its manifest": good._replace(program=spoiled),
+             "its manifest says that the program was not proved": good._replace(proofs="unproved"),
+             "MTE_TOOL names another program": good}
     for at, (why, each) in enumerate(cases.items()):
         if each is None:
             os.remove(f"{program}.manifest")

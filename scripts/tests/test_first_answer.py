@@ -51,14 +51,10 @@ class Answers(Repository):
     def test_different(self):
         answer = "echo one; echo a word >&2; exit 1"
         for built, differs in (
-            ("echo one; printf 'checked: ended status=1\\nrun=ended status=1\\n' >&2; exit 1", "messages"),
-            (answer.replace("one", "two"), "output"),
-            (answer.replace("one", "'one\n'"), "output"),
-            (answer.replace("a word", "another"), "messages"),
-            (answer.replace("exit 1", "exit 0"), "status (0, not 1)"),
-            ("exit 3", "output, messages, status (3, not 1)"),
-            ("kill -9 $$", "output, messages, status (137, not 1)"),
-        ):
+                ("echo one; printf 'checked: ended status=1\\nrun=ended status=1\\n' >&2; exit 1", "messages"),
+                (answer.replace("one", "two"), "output"), (answer.replace("one", "'one\n'"), "output"),
+                (answer.replace("a word", "another"), "messages"), (answer.replace("exit 1", "exit 0"), "status (0, not 1)"),
+                ("exit 3", "output, messages, status (3, not 1)"), ("kill -9 $$", "output, messages, status (137, not 1)")):
             self.unbuilt()
             self.write("tried", answer)
             self.write("built", built)

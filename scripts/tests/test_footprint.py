@@ -8,7 +8,6 @@ counted at each moment. The program is the one that MTE_TOOL names, else the pro
 import itertools
 import os
 import random
-import shutil
 import subprocess
 from collections import Counter, namedtuple
 from concurrent.futures import ProcessPoolExecutor
@@ -17,8 +16,6 @@ import checks
 import pytest
 from checks import expect
 from mte_scripts import formats
-
-ROOT = os.path.dirname(os.path.dirname(os.path.dirname(os.path.realpath(__file__))))
 
 MOST_NUMBER = 2**64 - 1
 # the refusals of a fit over a history: 42 is of sheets, 53 of fits over timelines
@@ -75,12 +72,9 @@ def peaks(events, classes):
     by_class = [list(counts) for counts in zip(*moments)]
     most = list(map(max, by_class))
     kept = [sum(max(counts[: at + 1]) for counts in by_class) for at in range(len(moments))]
-    lines = [
-        line("peaks", most),
-        line("moments", [counts.index(peak) for counts, peak in zip(by_class, most)]),
-        line("live", [max(sum(16 * c * n for c, n in zip(classes, now)) for now in moments)]),
-        line("freed", [max(has - sum(now) for has, now in zip(kept, moments))]),
-    ]
+    lines = [line("peaks", most), line("moments", [counts.index(peak) for counts, peak in zip(by_class, most)]),
+             line("live", [max(sum(16 * c * n for c, n in zip(classes, now)) for now in moments)]),
+             line("freed", [max(has - sum(now) for has, now in zip(kept, moments))])]
     return "".join(lines)
 
 
@@ -312,36 +306,33 @@ class Trial:
 
 
 # inputs without the form, and what is wrong with them; a program that shows no codes has to refuse them with the same status
-FAULTS = [
-    ("fit --limit 2", "", "34 BadSnapshots line 1"),
-    ("fit --limit 2", "16 1\n", "34 BadSnapshots line 1"),
-    ("fit --limit 2", "snapshots 0\n", "34 BadSnapshots line 1"),
-    ("fit --limit 2", "snapshots 1025\n", "34 BadSnapshots line 1"),
-    ("fit --limit 2", "snapshots 1 1\n", "34 BadSnapshots line 1"),
-    ("fit --limit 2", "snapshots 2\n16 1 01\n", "30 BadLine line 2"),
-    ("fit --limit 2", f"snapshots 2\n{formats.LARGEST_SIZE + 1} 1 1\n", "30 BadLine line 2"),
-    ("fit --limit 2", "snapshots 2\nlarge 1 1\n16 1 1\n", "30 BadLine line 3"),
-    ("fit --limit 2", "snapshots 2\n16 1 1\n\n", "30 BadLine line 3"),
-    ("fit --limit 2", "snapshots 2\n16 1 1\n8 0\n", "35 WrongLength line 3"),
-    ("fit --limit 2", "snapshots 2\n16 1 1 1\n", "35 WrongLength line 2"),
-    ("fit --limit 2", "snapshots 2\n16 1 1\n16 0 0\n", "31 NotAscending line 3"),
-    ("fit --limit 2", "snapshots 2\n16 0 0\n", "32 CountOutOfRange line 2"),
-    ("fit --limit 2", "snapshots 2\n16 1 1000000001\n", "32 CountOutOfRange line 2"),
-    ("fit --limit 2", "snapshots 2\nlarge 0 0\n", "32 CountOutOfRange line 2"),
-    ("footprint", "classes 1\nsnapshots 1\n", "21 OutOfRange line 1"),
-    ("footprint", "classes 2\nsnapshots 1\n16 x\n", "30 BadLine line 3"),
-    ("check-fit", "classes 2\nlimit 1\nwaste 0\nrow\nsnapshots 1\n", "36 BadFit line 3"),
-    ("check-fit", "classes 2\nlimit 33\nfootprint 0\nrow\nsnapshots 1\n", "36 BadFit line 2"),
-    ("check-fit", "classes 2\nlimit 1\nstep 1\nfootprint 0\nrow\nsnapshots 1\n", "36 BadFit line 3"),
-    ("check-fit", "classes 2\nlimit 1\nstep 2\nfootprint 18446744073709551616\nrow\nsnapshots 1\n", "36 BadFit line 4"),
-    ("check-fit", "classes\nlimit 32\nfootprint 0\n" + "row\n" * 33 + "snapshots 1\n", "36 BadFit line 36"),
-    ("check-fit", "classes\nlimit 1\nfootprint 0\nrow\nrow 1\nsnapshots 0\n", "34 BadSnapshots line 6"),
-]
+FAULTS = {  # by the words, a fault and its texts
+    "fit --limit 2": {"34 BadSnapshots line 1": ["", "16 1\n", "snapshots 0\n", "snapshots 1025\n", "snapshots 1 1\n"],
+                      "30 BadLine line 2": ["snapshots 2\n16 1 01\n", f"snapshots 2\n{formats.LARGEST_SIZE + 1} 1 1\n"],
+                      "30 BadLine line 3": ["snapshots 2\nlarge 1 1\n16 1 1\n", "snapshots 2\n16 1 1\n\n"],
+                      "35 WrongLength line 3": ["snapshots 2\n16 1 1\n8 0\n"],
+                      "35 WrongLength line 2": ["snapshots 2\n16 1 1 1\n"],
+                      "31 NotAscending line 3": ["snapshots 2\n16 1 1\n16 0 0\n"],
+                      "32 CountOutOfRange line 2": ["snapshots 2\n16 0 0\n", "snapshots 2\n16 1 1000000001\n",
+                      "snapshots 2\nlarge 0 0\n"]},
+    "footprint": {"21 OutOfRange line 1": ["classes 1\nsnapshots 1\n"],
+                  "30 BadLine line 3": ["classes 2\nsnapshots 1\n16 x\n"]},
+    "check-fit": {"36 BadFit line 3": ["classes 2\nlimit 1\nwaste 0\nrow\nsnapshots 1\n",
+                  "classes 2\nlimit 1\nstep 1\nfootprint 0\nrow\nsnapshots 1\n"],
+                  "36 BadFit line 2": ["classes 2\nlimit 33\nfootprint 0\nrow\nsnapshots 1\n"],
+                  "36 BadFit line 4": ["classes 2\nlimit 1\nstep 2\nfootprint 18446744073709551616\nrow\nsnapshots 1\n"],
+                  "36 BadFit line 36": ["classes\nlimit 32\nfootprint 0\n" + "row\n" * 33 + "snapshots 1\n"],
+                  "34 BadSnapshots line 6": ["classes\nlimit 1\nfootprint 0\nrow\nrow 1\nsnapshots 0\n"]}}
+
+
+def cases_of(faults):
+    """The words, a text and its fault of each."""
+    return [(words, text, fault) for words, found in faults.items() for fault, texts in found.items() for text in texts]
 
 
 def faults(program):
     trial = Trial(program)
-    for words, text, fault in FAULTS:
+    for words, text, fault in cases_of(FAULTS):
         trial.runs += 1
         status, out, err = run(program, words.split(), text)
         if status != 2 or out or (err.startswith("error ") and err != f"error {fault}\n"):
@@ -367,27 +358,11 @@ def part_of(program, seed, whole, part, parts):
     return trial
 
 
-def built_program():
-    """The proved program, if it is built."""
-    program = os.path.join(ROOT, "crates/mte_tool/out/mte_tool")
-    return program if os.access(program, os.X_OK) else None
-
-
-def plain(folder):
-    """The plain program, built; None without rustc."""
-    rustc = os.environ.get("RUSTC", "rustc")
-    if not shutil.which(rustc):
-        return None
-    program = os.path.join(folder, "plain")
-    subprocess.run([rustc, "-O", "--edition", "2021", os.path.join(ROOT, "scripts/tests/plain/main.rs"), "-o", program], check=True)
-    return program
-
-
 class Footprint(checks.Part):
     def test_histories(self):
-        program = os.environ.get("MTE_TOOL") or built_program() or plain(self.folder())
-        if program is None:
+        if (program := checks.any_program(self.folder())) == "":
             pytest.skip("without rustc: footprint")
+        program = program or checks.PROGRAM
         parts = os.cpu_count() or 1
         with ProcessPoolExecutor(parts) as pool:
             jobs = [pool.submit(part_of, program, checks.options.seed, checks.options.all, part, parts) for part in range(parts)]

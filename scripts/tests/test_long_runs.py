@@ -52,7 +52,7 @@ class LongRuns(commands.Commands):
             moments = tuple(range(0, 10 * number, 10))
             search = long_runs.IntervalNarrower(None, None, None, [], 4)
             search.needed = {*moments[:: number // needs][:needs], 5}
-            held, needed = search.held(moments), search.needed & {*moments}
+            held, needed = search.choose_moments(moments), search.needed & {*moments}
             what = f"{number} moments, of which {len(needed)} are needed"
             expect(f"{what}: in their order", held == sorted({*held}) and {*held} <= {*moments}, held[:9])
             expect(f"{what}: as many as there is room for", len(held) == min(number, long_runs.MOST_HELD), len(held))

@@ -441,8 +441,8 @@ def claims_hold(it):
         else:
             expect(f"{name}: the curve is the least", least[: len(curve)] == curve and len(set(least[len(curve) - 1 :])) == 1, (least, curve))
         claim = claims.check_certificate(it.value("tuner.sheet"), text.encode(), "it")
-        expect(f"{name}: what is said", said == claim.says().replace("`", ""), (said, claim.says()))
-        expect(f"{name}: its cost", claim.holds and claim.cost == least[limit - 1], claim.says())
+        expect(f"{name}: what is said", said == claim.state_verdict().replace("`", ""), (said, claim.state_verdict()))
+        expect(f"{name}: its cost", claim.holds and claim.cost == least[limit - 1], claim.state_verdict())
         wanted = claims.curve(claim, step, 1024 * largest)
         expect(f"{name}: what the curve says", told == wanted, (told, wanted))
         column = "[...document.querySelectorAll('#classes tbody tr')].map(row => row.cells[3].textContent)"
@@ -532,7 +532,7 @@ def timelines_work(it):
     it.value("takeText('timeline\\n40\\n100\\n', 'it')")
     made = 1, b"classes 4 8\nfootprint 192\nnot shown least: no table takes less than 128\n", ""
     with mock.patch.object(program_runs, "mte_tool", lambda words, *given: made):
-        wanted = claims.fit_counts(b"timeline\n40\n100\n", "it", (3, 1, False))[1].says().replace("`", "")
+        wanted = claims.fit_counts(b"timeline\n40\n100\n", "it", (3, 1, False))[1].state_verdict().replace("`", "")
     expect("a fit that is not shown to be a best one", it.value("$('claim').textContent") == wanted, it.value("$('claim').textContent"))
     it.value("checkSheet()")
     expect("its check says the same", it.value("[$('verdict').textContent, $('verdict').className]") == [wanted, "bad"])

@@ -13,7 +13,7 @@ import checks
 import pytest
 import release_model_plain as plain
 from checks import expect
-from mte_scripts import certificate_texts, count_texts
+from mte_scripts import certificate_texts, count_texts, entry_point
 from mte_scripts.places import SCRIPTS
 from mte_scripts.tables import figures, release_model, scudo_map, simulated_words
 from release_model_plain import cycle, record, request_blocks
@@ -37,7 +37,7 @@ def programs(tmp_path_factory):
 
 def simulated_size(program, calls, interval=5000, of=DEFAULT, share=64):
     """The KiB for these calls."""
-    return release_model.simulate(program, record(calls), of, interval, share=share) // 1024
+    return release_model.simulate(program, record(calls), [of], interval, shares=(share,))[0][0] // 1024
 
 
 def test_rules(programs):
@@ -84,17 +84,30 @@ def test_against_plain_model(programs):
     """The same as the plain model, to the page, for three maps and three settings."""
     for seed in range(12):
         calls, name = plain.draw_calls(seed), "model" if seed % 5 else "checked"
-        how = MAPS[seed % 3], release_model.SHARES[seed // 3]
+        of, at = MAPS[seed % 3], seed // 3
         for interval in (-1, 0, 5000):
-            got, wanted = (simulated_size(programs[name], calls, interval, *how), plain.Model(how[0], interval, how[1]).replay(calls))
-            expect(f"drawn {seed} at {interval}: {got} and {wanted} KiB", got == wanted)
+            got = [each // 1024 for each in release_model.simulate(programs[name], record(calls), [of], interval)[0]]
+            wanted = plain.Model(of, interval, release_model.SHARES[at]).replay(calls)
+            expect(f"drawn {seed} at {interval}: {got[at]} and {wanted} KiB", got[at] == wanted)
+            alone = [simulated_size(programs[name], calls, interval, of, share) for share in release_model.SHARES]
+            expect(f"drawn {seed}: {got} together, {alone} alone", got == alone)
+
+
+def test_several_at_once(programs):
+    """For each order and each map a line, as each of them alone gives it; and faults of each are told once."""
+    timeline, _ = plain.drawn_timeline(-1)
+    together = release_model.simulate(programs["checked"], timeline, list(MAPS), 0, release_model.ORDERS)
+    alone = [release_model.simulate(programs["model"], timeline, [of], 0, (order,))[0] for order in release_model.ORDERS for of in MAPS]
+    expect(f"{together} together, {alone} alone", together == alone)
+    with pytest.raises(entry_point.Refusal, match="simulated: release_model: the timeline frees no live block$"):
+        release_model.simulate(programs["model"], b"timeline\n-9\n", list(MAPS), 0, release_model.ORDERS)
 
 
 def test_orders(programs):
     """A timeline, of whose blocks of a size the last or the first is freed: what a record with these blocks takes."""
     for order, place in (("last", -1), ("first", 0)):
         timeline, calls = plain.drawn_timeline(place)
-        got = release_model.simulate(programs["checked"], timeline, DEFAULT, 5000, order) // 1024
+        got = release_model.simulate(programs["checked"], timeline, [DEFAULT], 5000, (order,), (64,))[0][0] // 1024
         expect(f"the {order} of a size: {got}", got == simulated_size(programs["model"], calls))
 
 
@@ -106,7 +119,7 @@ def test_time(programs):
 
     def spent(number):
         before = resource.getrusage(resource.RUSAGE_CHILDREN).ru_utime
-        release_model.simulate(programs["model"], number * piece, DEFAULT, 0)
+        release_model.simulate(programs["model"], number * piece, [DEFAULT], 0)
         return resource.getrusage(resource.RUSAGE_CHILDREN).ru_utime - before
 
     few = min(spent(2000) for _ in range(3))
@@ -117,7 +130,7 @@ def test_time(programs):
 def test_hostile_records(programs):
     """What is no record, and words that are none: refused, with no word of the compiler's checks."""
     for data, is_faulty in plain.hostile_records():
-        done = subprocess.run([programs["checked"], *"5000 14 10 40 2,9,1024".split()], input=data, capture_output=True)
+        done = subprocess.run([programs["checked"], *"5000 40 14:10:2,9,1024".split()], input=data, capture_output=True)
         is_plain = done.returncode in (0, 2) and done.stderr.count(b"\n") == (done.returncode == 2)
         expect(f"{data[:20]!r}: {done}", is_plain and done.returncode >= 2 * is_faulty)
     for words in plain.HOSTILE_WORDS:

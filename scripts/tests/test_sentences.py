@@ -348,7 +348,7 @@ class Documents(checks.Part):
                 more = {"takes": 80_000} if verdict.startswith("between") else {}
                 claim = claims.Claim(kind, name, "0123456789abcdef" * 4, "", verdict, {**numbers, **more}, program_runs.Trust(True, ""), claims._KEY)
                 given.append({"kind": kind, "name": name, "digest": claim.digest, "verdict": verdict, "line": f"claim {line.format(forced)}", "more": more})
-                wanted.append([claim.says(), claims.curve(claim, numbers["step"], forced).strip(OPEN + CLOSE)])
+                wanted.append([claim.state_verdict(), claims.curve(claim, numbers["step"], forced).strip(OPEN + CLOSE)])
         sources = "\n".join(open(os.path.join(ROOT, "web", f"{name}.js"), encoding="utf-8").read() for name in ("formats", "words", "claims"))
         program = f"""const data = {json.dumps({"claims": claim_words.TEMPLATES})}; {sources.replace('"use strict";', "")}
             console.log(JSON.stringify({json.dumps(given)}.map((it) => {{
@@ -409,9 +409,8 @@ class Plants(claims_cases.WithProgram):
             if not expect(f"{what}: the text stands once in {file}", text.count(good) == 1, text.count(good)):
                 continue
             self.clean(place)
-            expect(
-                f"{what}: nothing is found before", not list(faults(*case[:2], run_case(scripts, place, case), place))
-            )
+            expect(f"{what}: nothing is found before",
+                   not list(faults(*case[:2], run_case(scripts, place, case), place)))
             self.clean(place)
             write(os.path.dirname(path), os.path.basename(path), text.replace(good, bad))
             found = run_case(scripts, place, case)

@@ -101,16 +101,11 @@ class Services(Commands):
         """When it is ready and how it is stopped, in each form; and each kind of server, whose requests all count."""
         ready_command = f"{sys.executable} -c 'import socket; socket.create_connection((\"127.0.0.1\", {self.port}))'"
         stop_command = "for each in /proc/[0-9]*; do grep -qs services_server $each/comm && kill -INT ${each#/proc/}; done; true"
-        for server, words in [
-            ([], []),
-            ([], ["--ready", self.port, "--stop", "SIGTERM"]),
-            (["stubborn"], ["--ready", "/listens at/", "--stop", "int"]),
-            (["stubborn"], ["--ready", ready_command, "--stop", stop_command]),
-            (["user"], []),
-            (["daemon"], ["--ready", self.port]),
-            (["forks", "user"], ["--ready", "/last$/"]),
-            (["forks", "user", "daemon"], ["--stop", "TERM"]),
-        ]:
+        for server, words in [([], []), ([], ["--ready", self.port, "--stop", "SIGTERM"]),
+                              (["stubborn"], ["--ready", "/listens at/", "--stop", "int"]),
+                              (["stubborn"], ["--ready", ready_command, "--stop", stop_command]), (["user"], []),
+                              (["daemon"], ["--ready", self.port]), (["forks", "user"], ["--ready", "/last$/"]),
+                              (["forks", "user", "daemon"], ["--stop", "TERM"])]:
             self.tuned(0, *words, server=server)
             counts = dict(map(int, line.split()) for line in self.read("out/program.profile").splitlines() if line[0].isdigit())
             expect(f"{server}: the blocks that count", counts.get(777, 0) == 6001 and counts.get(1555, 0) == 2999, counts)
@@ -123,16 +118,14 @@ class Services(Commands):
 
     def test_refusals(self):
         """What does not fit is refused before anything runs, or in a line that says what to change."""
-        for words, says in [
-            (["--ready", "80", "true"], "--ready goes with --load 'CMD'"),
-            (["--idle", "x", "true"], "--idle takes seconds from 0 to 3600"),
-            (["--load", "x", "--read", "x"], "--read runs no program, so there is no place for --load"),
-            (["--load", "x", "--who", "true"], "--who is for a program that ends by itself"),
-            (["--load", "x", "--measure", "(", "true"], "--measure takes no `(`"),
-            (["--load", "x", "--ready", "/(/", "true"], "--ready takes no `/(/`"),
-            (["--load", "x", "--stop", "FOO", "true"], "there is no signal FOO"),
-            (["--verify", self.scudo, "--only", "x", "true"], "--load 'CMD'"),
-        ]:
+        for words, says in [(["--ready", "80", "true"], "--ready goes with --load 'CMD'"),
+                            (["--idle", "x", "true"], "--idle takes seconds from 0 to 3600"),
+                            (["--load", "x", "--read", "x"], "--read runs no program, so there is no place for --load"),
+                            (["--load", "x", "--who", "true"], "--who is for a program that ends by itself"),
+                            (["--load", "x", "--measure", "(", "true"], "--measure takes no `(`"),
+                            (["--load", "x", "--ready", "/(/", "true"], "--ready takes no `/(/`"),
+                            (["--load", "x", "--stop", "FOO", "true"], "there is no signal FOO"),
+                            (["--verify", self.scudo, "--only", "x", "true"], "--load 'CMD'")]:
             self.ends(2, "", TUNE, *words)
             self.says(says)
         for words, server, load, says in [
@@ -199,9 +192,8 @@ class Services(Commands):
             expect(f"{server}: the peaks", abs(wanted[0] - 40960) < 1500 and abs(wanted[1] - 16384) < 1500, rows)
             expect(f"{server}: what the peak is", ("no file and no shared memory" in said) == several, said)
             sets = re.findall(r"(?m)^(?:glibc|\w+malloc|Scudo's default|least \w+) .*$", self.out.split("0.3 s idle")[1].split("\n\n")[0])
-            expect(
-                f"{server}: a row for each allocator", len(sets) == 3 + len(verdict.installed_allocators()), self.out
-            )
+            expect(f"{server}: a row for each allocator", len(sets) == 3 + len(verdict.installed_allocators()),
+                   self.out)
             for row in map(numbers_of, sets):
                 loaded, proportional, idle, idle_proportional, _, number = row[-6:]
                 expect(f"{server}: its sets", loaded >= proportional > 3000 and idle >= idle_proportional > 3000 and abs(loaded - idle) < 3000, row)
@@ -210,9 +202,8 @@ class Services(Commands):
             expect(f"{server}: what is measured is the first line", first.startswith(f"services_server: measured, the table saves {wanted[0] - wanted[1]:,.0f} KiB in Scudo"), first)
             expect(f"{server}: what is predicted comes after it", "What was recorded, and is predicted of it:" in said.split("Measured, 5 runs each")[1], said)
             runs = self.read("out/measured.txt").splitlines()
-            expect(
-                f"{server}: a line for each run", len(runs) == 1 + 5 * (3 + len(verdict.installed_allocators())), *runs
-            )
+            expect(f"{server}: a line for each run", len(runs) == 1 + 5 * (3 + len(verdict.installed_allocators())),
+                   *runs)
             expect("progress with what is left", "round 5 of 5" in self.err and "left" in self.err, self.err)
         self.tuned(3, "--verify", self.scudo, "--measure", "nothing (\\d+)")
         self.says("the load printed no number that --measure `nothing (\\d+)` finds")
@@ -249,27 +240,22 @@ class Services(Commands):
 
     def test_counted_programs(self):
         """Which program of a server counts, by its requests."""
-        for text, others, only, wanted in [
-            ("1 100 0 server\n", 0, None, None),
-            ("1 5 0 sh\n1 100 0 server\n", 0, None, "server"),
-            ("3 100 0 server\n", 60, None, ""),
-            ("3 100 0 server\n", 9, None, None),
-            ("1 50 0 sh\n1 50 0 server\n", 50, None, ""),
-            ("1 50 0 sh\n1 50 0 server\n", 0, "server", None),
-            ("1 50 0 sh\n2 50 0 server\n", 30, "server", ""),
-        ]:
+        for text, others, only, wanted in [("1 100 0 server\n", 0, None, None),
+                                           ("1 5 0 sh\n1 100 0 server\n", 0, None, "server"),
+                                           ("3 100 0 server\n", 60, None, ""), ("3 100 0 server\n", 9, None, None),
+                                           ("1 50 0 sh\n1 50 0 server\n", 50, None, ""),
+                                           ("1 50 0 sh\n1 50 0 server\n", 0, "server", None),
+                                           ("1 50 0 sh\n2 50 0 server\n", 30, "server", "")]:
             found = processes.counted_program(text, others, only)
             expect(f"of {text!r} {found!r} counts", found == wanted)
 
     def test_numbers(self):
         """The number that a load prints."""
-        for text, pattern, wanted in [
-            ("SET: 100.00 requests per second, p50=0.1 msec\rGET: 400.00 requests per second\n", None, 200),
-            ("Requests per second:    1234.50 [#/sec] (mean)\n", None, 1234.5),
-            ("tps = 88.25 (without initial connection time)\n", None, 88.25),
-            ("12,345 of them\n", r"^([\d,]+) of", 12345),
-            ("nothing\n", None, None),
-        ]:
+        for text, pattern, wanted in [("SET: 100.00 requests per second, p50=0.1 msec\rGET: 400.00 requests per "
+                                       "second\n", None, 200),
+                                      ("Requests per second:    1234.50 [#/sec] (mean)\n", None, 1234.5),
+                                      ("tps = 88.25 (without initial connection time)\n", None, 88.25),
+                                      ("12,345 of them\n", r"^([\d,]+) of", 12345), ("nothing\n", None, None)]:
             found = service_runs.number_of(text, pattern)
             expect(f"the number of {text!r}", found == wanted or wanted and abs(found - wanted) < 1e-6, found)
 

@@ -192,39 +192,26 @@ class Trial(OF.Trial):
 
 # inputs without the form, and what is wrong with them
 FIT = "classes 2\nlimit 1\nfootprint 32\nrow 32\n"
-FAULTS = [
-    ("fit --limit 2", "timeline\n16\n\n", "37 BadTimeline line 3"),
-    ("fit --limit 2", f"timeline\n{LARGEST_SIZE + 1}\n", "37 BadTimeline line 2"),
-    ("fit --limit 2", "timeline\n01\n", "37 BadTimeline line 2"),
-    ("fit --limit 2", "timeline\n+1\n", "37 BadTimeline line 2"),
-    ("fit --limit 2", "timeline\n1 1\n", "37 BadTimeline line 2"),
-    ("fit --limit 2", "timeline\n--1\n", "37 BadTimeline line 2"),
-    ("fit --limit 2", "timeline\n-\n", "37 BadTimeline line 2"),
-    ("fit --limit 2", "timeline\nLarge\n", "37 BadTimeline line 2"),
-    ("fit --limit 2", "timeline\n18446744073709551616\n", "37 BadTimeline line 2"),
-    ("fit --limit 2", "timeline\n-16\n", "38 NotLive line 2"),
-    ("fit --limit 2", "timeline\n16\n-16\n-16", "38 NotLive line 4"),
-    ("fit --limit 2", "timeline\n16\n-17\n", "38 NotLive line 3"),
-    ("fit --limit 2", "timeline\nlarge\n-large\n-large\n", "38 NotLive line 4"),
-    ("fit --limit 2", "timeline \n16\n", "34 BadSnapshots line 1"),
-    ("footprint", "classes 1\ntimeline\n", "21 OutOfRange line 1"),
-    ("footprint", "classes 2\ntimeline\n-1\n", "38 NotLive line 3"),
-    ("check-fit", FIT + "timeline\n16\n", "34 BadSnapshots line 5"),
-    ("check-fit", FIT + "moments\ntimeline\n16\n", "36 BadFit line 5"),
-    ("check-fit", FIT + "moments 1 1\ntimeline\n16\n", "36 BadFit line 5"),
-    ("check-fit", FIT + "moments 1 0\ntimeline\n16\n", "36 BadFit line 5"),
-    ("check-fit", FIT + "moments 01\ntimeline\n16\n", "36 BadFit line 5"),
-    ("check-fit", FIT + "moments 1000000001\ntimeline\n16\n", "36 BadFit line 5"),
-    ("check-fit", FIT + OF.line("moments", range(1025)) + "timeline\n16\n", "36 BadFit line 5"),
-    ("check-fit", FIT + "moments 1\n", "37 BadTimeline line 6"),
-    ("check-fit", FIT + "moments 1\nsnapshots 1\n16 1\n", "37 BadTimeline line 6"),
-    ("check-fit", FIT + "moments 1\ntimeline\n16\n-17\n", "38 NotLive line 8"),
-]
+FAULTS = {  # by the words, a fault and its texts
+    "fit --limit 2": {"37 BadTimeline line 3": ["timeline\n16\n\n"],
+                      "37 BadTimeline line 2": [f"timeline\n{LARGEST_SIZE + 1}\n", "timeline\n01\n", "timeline\n+1\n",
+                      "timeline\n1 1\n", "timeline\n--1\n", "timeline\n-\n", "timeline\nLarge\n",
+                      "timeline\n18446744073709551616\n"], "38 NotLive line 2": ["timeline\n-16\n"],
+                      "38 NotLive line 4": ["timeline\n16\n-16\n-16", "timeline\nlarge\n-large\n-large\n"],
+                      "38 NotLive line 3": ["timeline\n16\n-17\n"], "34 BadSnapshots line 1": ["timeline \n16\n"]},
+    "footprint": {"21 OutOfRange line 1": ["classes 1\ntimeline\n"],
+                  "38 NotLive line 3": ["classes 2\ntimeline\n-1\n"]},
+    "check-fit": {"34 BadSnapshots line 5": [FIT + "timeline\n16\n"],
+                  "36 BadFit line 5": [FIT + "moments\ntimeline\n16\n", FIT + "moments 1 1\ntimeline\n16\n",
+                  FIT + "moments 1 0\ntimeline\n16\n", FIT + "moments 01\ntimeline\n16\n",
+                  FIT + "moments 1000000001\ntimeline\n16\n", FIT + OF.line("moments", range(1025)) + "timeline\n16\n"],
+                  "37 BadTimeline line 6": [FIT + "moments 1\n", FIT + "moments 1\nsnapshots 1\n16 1\n"],
+                  "38 NotLive line 8": [FIT + "moments 1\ntimeline\n16\n-17\n"]}}
 
 
 def faults(program, other):
     trial = Trial(program, other)
-    for words, text, fault in FAULTS:
+    for words, text, fault in OF.cases_of(FAULTS):
         status, out, err = trial.answer(words.split(), text)
         if (status, out, err) != (2, "", f"error {fault}\n"):
             trial.failures.append(f"{words} of {text[:200]!r}: status {status}, {out!r} and {err!r}, not 2 and {fault}")
@@ -297,10 +284,10 @@ def part_of(programs, seed, whole, part, parts):
 class Timeline(checks.Part):
     def test_timelines(self):
         folder = self.folder()
-        program, plain = os.environ.get("MTE_TOOL") or OF.built_program(), OF.plain(folder)
-        if not program and not plain:
+        program, plain = checks.any_program(folder), "" if checks.is_missing("rustc") else checks.compiled_plain(folder)
+        if program == "":
             pytest.skip("without a program and rustc: timeline")
-        programs = (program, plain) if program else (plain, None)
+        programs = (program or checks.PROGRAM, plain or None)
         parts = os.cpu_count() or 1
         with ProcessPoolExecutor(parts) as pool:
             written = pool.submit(write_long_run, os.path.join(folder, "long"), checks.options.seed)

@@ -23,6 +23,7 @@ import pytest
 import claims_cases
 import scudo_stand_in
 from checks import expect, skip
+from claims_cases import footprint, waste
 from library_cases import FUSED_PROFILE, FUSED_SHEET, LONG_SHEET
 from mte_scripts import certificate_texts
 from mte_scripts.builds import web_page
@@ -71,9 +72,22 @@ def refuses(status, reason, script, *words, **more):
     expect(f"{script} {words}: {error}", "Traceback" not in error)
 
 
+def works(name, script, *words, **more):
+    """What a run prints on standard output and on standard error that ends with status 0."""
+    status, out, error = run(script, *words, **more)
+    expect(f"{name}: the status is {status}: {error}", status == 0, out)
+    return out, error
+
+
 def read(*path):
     with open(os.path.join(*path), encoding="utf-8") as file:
         return file.read()
+
+
+def write(text, *path, mode=0o644):
+    with open(os.path.join(*path), "w", encoding="utf-8") as file:
+        file.write(text)
+    os.chmod(os.path.join(*path), mode)
 
 
 def counts_of(text):
@@ -81,17 +95,6 @@ def counts_of(text):
     pairs = dict(line.split() for line in text.splitlines())
     large = int(pairs.pop("large", 0))
     return {int(size): int(count) for size, count in pairs.items()}, large
-
-
-def waste(classes, counts):
-    """By the definition: a request takes the least class that serves it, and loses what this holds more. None where it has no class."""
-    total = 0
-    for size, count in counts.items():
-        serving = [16 * each - 16 for each in classes if 16 * each - 16 >= size]
-        if not serving:
-            return None
-        total += (min(serving) - size) * count
-    return total
 
 
 def least_waste(counts, limit, step=1):
@@ -163,18 +166,6 @@ def history_of(text):
     expect("a history: the length of a line", all(len(counts) == int(first.split()[1]) for counts in rows.values()))
     rows.pop("large", None)
     return {int(size): counts for size, counts in rows.items()}
-
-
-def footprint(classes, history):
-    """By the definition: the bytes of a block, times the most blocks of its class at one snapshot. None where a size has no class."""
-    blocks = {}
-    for size, counts in history.items():
-        serving = [each for each in classes if 16 * each - 16 >= size]
-        if not serving:
-            return None
-        before = blocks.get(min(serving), [0] * len(counts))
-        blocks[min(serving)] = [one + other for one, other in zip(before, counts)]
-    return sum(16 * each * max(counts) for each, counts in blocks.items())
 
 
 def least_footprint(history, limit):
@@ -303,10 +294,8 @@ def test_scudo_memory():
     """Numbers worked by hand from the constants of LLVM 19's Scudo: a thread takes min(14, 1024 / block) blocks at once, at least one; eight times
     as many are cut at once; 256 KiB are mapped at once, or as many times that as hold the blocks that a thread takes."""
     for block, wanted in ((32, 14), (73, 14), (80, 12), (96, 10), (128, 8), (512, 2), (1024, 1), (16400, 1)):
-        expect(
-            f"a thread takes {scudo_memory.cached_blocks(block)} blocks of {block} bytes",
-            scudo_memory.cached_blocks(block) == wanted,
-        )
+        expect(f"a thread takes {scudo_memory.cached_blocks(block)} blocks of {block} bytes",
+               scudo_memory.cached_blocks(block) == wanted)
     # 51 blocks of 5,120 bytes have room in 256 KiB: six sets of 8, and one of 3. Of 48 bytes 5,461 have: 48 sets of 112, and one of 85, as 14 of
     # them still have room
     for (block, blocks), wanted in (
@@ -320,10 +309,9 @@ def test_scudo_memory():
         expect(f"of {block} bytes, a billion blocks: {before}, {last}", before < 10**9 <= before + last and 0 < last <= 112)
     # 112 blocks of 64 bytes: 64 of them in the first page, 48 in the second. Of two drawn, both are in the first in 2,016 of 6,216 cases, and
     # in the second in 1,128. Four of eight blocks of 1,024 bytes are those of one page in 1 of 70
-    for (block, blocks), wanted in (
-        ((64, 0), 0), ((64, 1), 1), ((64, 2), 2 - (2016 + 1128) / 6216), ((64, 112), 2), ((4096, 3), 3), ((16384, 9), 36), ((1024, 8), 2),
-        ((1024, 12), 4 - 2 / 70), ((5120, 50), 60 + 2 / 3 + 1 + 1 + 2 / 3),
-    ):
+    for (block, blocks), wanted in (((64, 0), 0), ((64, 1), 1), ((64, 2), 2 - (2016 + 1128) / 6216), ((64, 112), 2),
+                                    ((4096, 3), 3), ((16384, 9), 36), ((1024, 8), 2), ((1024, 12), 4 - 2 / 70),
+                                    ((5120, 50), 60 + 2 / 3 + 1 + 1 + 2 / 3)):
         got = scudo_memory.pages(block, blocks)
         expect(f"of {block} bytes, {blocks} blocks: {got} pages, and not {wanted}", abs(got - wanted) < 1e-9)
     # the group of a class begins two batches of 128 bytes, of which 64 are cut, 32 in a page; 868 free blocks fill 62 more
@@ -484,17 +472,8 @@ def test_history(place):
     expect(f"a history, --objective waste: {status}: {error}", status == 0 and map_of(folder) == tuned_table(folder)[:-1])
     compare_fit(folder, "a history, --objective waste", history, is_map=False)
     refuses(2, "this has the live blocks", "tune_program", "--all", "--output", "no", "--read", source, cwd=place)
-    refuses(
-        2,
-        "line 2 has not 2 counts",
-        "tune_program",
-        "--output",
-        "no",
-        "--read",
-        "-",
-        given=b"snapshots 2\n16 1\n",
-        cwd=place,
-    )
+    refuses(2, "line 2 has not 2 counts", "tune_program", "--output", "no", "--read", "-", given=b"snapshots 2\n16 1\n",
+            cwd=place)
     refuses(3, "nothing to tune", "tune_program", "--output", "large", "--read", "-", given=b"snapshots 1\nlarge 7\n", cwd=place)
     expect("a refused history leaves a folder", not os.path.exists(os.path.join(place, "no")))
 
@@ -552,9 +531,8 @@ def test_read(place):
     # a folder that is there stays as it is
     before = {file: read(folder, file) for file in os.listdir(folder)}
     refuses(3, "jq.tuned is there already", "tune_program", "--output", "jq.tuned", "--read", source, "--limit", "4", cwd=place)
-    refuses(
-        3, "--output", "tune_program", "--output", folder, "--read", os.path.join(EXAMPLES, "perl.profile"), cwd=place
-    )
+    refuses(3, "--output", "tune_program", "--output", folder, "--read", os.path.join(EXAMPLES, "perl.profile"),
+            cwd=place)
     after = {file: read(folder, file) for file in os.listdir(folder)}
     expect("a folder that was there is another one now", before == after)
 
@@ -572,6 +550,17 @@ def compares_tables(best, folder, counts, out, name):
         expect(f"{name}: {table} is {row}, not {classes}, {lost}", row[:2] == (classes, lost))
         near = row[2] is None if saving is None else row[2] is not None and abs(row[2] - saving) <= 0.5
         expect(f"{name}: {table} saves {row[2]} KiB, not {saving}", near)
+
+
+def test_asked_once(place):
+    """The program runs once for the same words and bytes, and at most six times over a timeline."""
+    fake, given = os.path.join(place, "fake"), os.path.join(place, "given")
+    write(f'#!/bin/sh\ncat > {given}; echo "$(wc -c < {given}) $* $(md5sum < {given})" >> asked; exec {BUILT} "$@" < {given}\n', fake, mode=0o755)
+    text = "timeline\n" + "".join(f"{size}\n" * 900 for size in (40, 100, 3000, -100, 5000))
+    works("what is asked", "tune_program", "--output", "made", "--read", "-", given=text.encode(), cwd=place, env={**os.environ, "MTE_TOOL": fake})
+    asked = read(place, "asked").splitlines()
+    expect("something is asked twice", len(asked) == len(set(asked)) <= 14, *asked)
+    expect("the timeline is read in other runs", sum(int(each.split()[0]) > len(text) for each in asked) in (4, 5), *asked)
 
 
 def test_long_name(place):
@@ -592,8 +581,7 @@ def test_options(place):
         folder = os.path.join(place, f"options {limit}")
         words = ["--limit", str(limit), "--step", str(step), "--largest" if largest else "--no-largest"]
         given = read(EXAMPLES, "perl.profile").encode()
-        status, out, error = run("tune_program", *words, "--output", folder, "--all", "--read", "-", given=given)
-        expect(f"{words}: the status is {status}: {error}", status == 0)
+        out, error = works(words, "tune_program", *words, "--output", folder, "--all", "--read", "-", given=given)
         whole(folder, words)
         table, taken = tuned_table(folder), {**counts, LARGEST_SIZE: 1} if largest else counts
         expect(f"{words}: the table is {table}", len(table) <= limit and all(each % step == 0 for each in table))
@@ -603,15 +591,12 @@ def test_options(place):
         compare_page(read(folder, "report.html"), counts, large, table, words, limit, step, largest)
 
     # other tables: one that does not serve, and one that does, whose name is no markup
-    with open(os.path.join(place, "<b>&.classes"), "w") as file:
-        file.write("classes 4 8 1024\n")
-    with open(os.path.join(place, "few"), "w") as file:
-        file.write("classes 2 10\n")
+    write("classes 4 8 1024\n", place, "<b>&.classes")
+    write("classes 2 10\n", place, "few")
     unserved = min(size for size in counts if size > 144)
     folder = os.path.join(place, "against")
     words = ["--against", "<b>&.classes", "--against", "few", "--output", folder, "--read", os.path.join(EXAMPLES, "perl.profile")]
-    status, out, error = run("tune_program", *words, cwd=place)
-    expect(f"--against: the status is {status}: {error}", status == 0)
+    out, error = works("--against", "tune_program", *words, cwd=place)
     expect(f"--against: its waste: {rows_of(out)}", rows_of(out).get("<b>&", (0, 0))[:2] == (3, waste([4, 8, 1024], counts)))
     expect("--against: the table that does not serve", re.search(rf"^few +2  does not serve {unserved} bytes$", out, re.M))
     page = Numbers(read(folder, "report.html"))
@@ -620,18 +605,15 @@ def test_options(place):
 
     # profiles in any order, merged, with counts of 0
     mixed = os.path.join(place, "mixed.profile")
-    with open(mixed, "w") as file:
-        file.write("".join(f"{line}\n" for line in sorted(read(EXAMPLES, "perl.profile").splitlines(), reverse=True)) + "5000 0\n")
-    status, out, error = run("tune_program", "--read", mixed, "--output", os.path.join(place, "mixed"))
-    expect(f"a profile in another order: {status} {error}", status == 0)
+    write("".join(f"{line}\n" for line in sorted(read(EXAMPLES, "perl.profile").splitlines(), reverse=True)) + "5000 0\n", mixed)
+    out, error = works("a profile in another order", "tune_program", "--read", mixed, "--output", os.path.join(place, "mixed"))
     expect("a profile in another order: its counts", read(place, "mixed", "program.profile") == read(EXAMPLES, "perl.profile"))
 
 
 def test_warnings(place):
     def told(name, text, *words):
         folder = os.path.join(place, f"warned {name}")
-        status, out, error = run("tune_program", *words, "--output", folder, "--read", "-", given=text.encode())
-        expect(f"{name}: the status is {status}: {error}", status == 0)
+        out, error = works(name, "tune_program", *words, "--output", folder, "--read", "-", given=text.encode())
         expect(f"{name}: the summary has {len(out.splitlines())} lines", len(out.splitlines()) <= 24)
         return [line[2:] for line in out.splitlines() if line.startswith("! ")]
 
@@ -649,28 +631,22 @@ def test_warnings(place):
 
 def test_refusals(place):
     perl = os.path.join(EXAMPLES, "perl.profile")
-    with open(os.path.join(place, "bad.classes"), "w") as file:
-        file.write("classes 4 2\n")
+    write("classes 4 2\n", place, "bad.classes")
     for name in ("--limit", "--step", "--only", "--against", "--output", "--read", "--objective"):
         refuses(2, f"{name} takes a value", "tune_program", name, cwd=place)
-    for words, reason in (
-        ([], "wants a program"),
-        (["--wrong", "true"], "no option --wrong"),
-        (["--limit", "0", "true"], "1 to 32"),
-        (["--limit", "33", "true"], "1 to 32"),
-        (["--limit", "8x", "true"], "1 to 32"),
-        (["--step", "3", "true"], "1, 2, 4 or 8"),
-        (["--limit", "1", "true"], "--no-largest"),
-        (["--read", perl, "true"], "--read runs no program"),
-        (["--only", "x", "--read", perl], "--read runs no program"),
-        (["--against", "nowhere", "true"], "nowhere can't be read"),
-        (["--against", "bad.classes", "true"], "do not ascend"),
-        (["--objective", "both", "true"], "footprint or waste, and not both"),
-        (["--objective", "footprint", "--all", "true"], "wants a history"),
-        (["--objective", "footprint", "--read", perl], "wants a history"),
-        (["--read", "nowhere"], "nowhere can't be read"),
-        (["--read", os.path.join(EXAMPLES, "perl.trace")], "of a trace"),
-    ):
+    for words, reason in (([], "wants a program"), (["--wrong", "true"], "no option --wrong"),
+                          (["--limit", "0", "true"], "1 to 32"), (["--limit", "33", "true"], "1 to 32"),
+                          (["--limit", "8x", "true"], "1 to 32"), (["--step", "3", "true"], "1, 2, 4 or 8"),
+                          (["--limit", "1", "true"], "--no-largest"),
+                          (["--read", perl, "true"], "--read runs no program"),
+                          (["--only", "x", "--read", perl], "--read runs no program"),
+                          (["--against", "nowhere", "true"], "nowhere can't be read"),
+                          (["--against", "bad.classes", "true"], "do not ascend"),
+                          (["--objective", "both", "true"], "footprint or waste, and not both"),
+                          (["--objective", "footprint", "--all", "true"], "wants a history"),
+                          (["--objective", "footprint", "--read", perl], "wants a history"),
+                          (["--read", "nowhere"], "nowhere can't be read"),
+                          (["--read", os.path.join(EXAMPLES, "perl.trace")], "of a trace")):
         refuses(2, reason, "tune_program", *words, cwd=place)
     with open(os.path.join(place, "empty"), "w"):
         pass
@@ -698,32 +674,20 @@ def refuses_locked(place, perl):
 
 def keeps_the_profile(place, perl):
     """What a step could not use stays in the folder."""
-    refuses(
-        3, "nothing to tune", "tune_program", "--read", "-", "--output", "only_large", given=b"large 7\n", cwd=place
-    )
+    refuses(3, "nothing to tune", "tune_program", "--read", "-", "--output", "only_large", given=b"large 7\n",
+            cwd=place)
     expect("a profile that could not be tuned is lost", read(place, "only_large", "program.profile") == "large 7\n")
     fake = os.path.join(place, "fake")
     denying = f'[ "$1" = check ] || exec {BUILT} "$@"; echo refused 47 NotTight; exit 1'
     for name, answer, reason in (("failing", "exit 3", "there is no program to tune with"), ("denying", denying, "47 NotTight")):
-        with open(fake, "w") as file:
-            file.write(f"#!/bin/sh\n{answer}\n")
-        os.chmod(fake, 0o755)
+        write(f"#!/bin/sh\n{answer}\n", fake, mode=0o755)
         status, out, error = run("tune_program", "--read", perl, "--output", name, cwd=place, env={**os.environ, "MTE_TOOL": fake})
         expect(f"{name}: {status}: {error}", status == 3 and reason in error and "Proved" not in out)
         kept = [read(place, name, "program.profile")] if os.path.exists(os.path.join(place, name)) else []
         expect(f"{name}: what stays", kept == [read(perl)] * (name == "denying"), *kept)
     limit = {"preexec_fn": lambda: resource.setrlimit(resource.RLIMIT_FSIZE, (4096, 4096))}
-    refuses(
-        3,
-        "tuned.sheet can't be written: File too large",
-        "tune_program",
-        "--read",
-        perl,
-        "--output",
-        "limited",
-        cwd=place,
-        **limit
-    )
+    refuses(3, "tuned.sheet can't be written: File too large", "tune_program", "--read", perl, "--output", "limited",
+            cwd=place, **limit)
     left = sorted(os.listdir(os.path.join(place, "limited")))
     expect(f"a file that could not be written stays: {left}", left == ["program.profile"])
     if os.path.exists("/dev/full"):
@@ -737,8 +701,7 @@ def keeps_the_profile(place, perl):
 def test_program(place):
     """A program is run: its words, its input, its output and its status are its own."""
     checks.need("cc", "a program that is run")
-    with open(os.path.join(place, "job.c"), "w") as file:
-        file.write(JOB)
+    write(JOB, place, "job.c")
     subprocess.run(["cc", "-O0", "job.c", "-o", "./job"], cwd=place, check=True)
     status, out, error = run("tune_program", "./job", "a b", "--all", given=b"one line\n", cwd=place)
     folder = os.path.join(place, "job.tuned")
@@ -798,9 +761,7 @@ def tunes_one_of_many(place):
     expect(f"--only: {status}: {error}", status == 0 and (counts.get(777), counts.get(1555)) == (3000, 2000))
     expect("--only: the summary and the page name it", out.startswith("job of sh, predicted (--verify SCUDO measures it): ") and "job of sh" in read(place, "only", "report.html"), out)
     script = os.path.join(place, "a script")
-    with open(script, "w") as file:
-        file.write("#!/bin/sh\nexec ./job\n")
-    os.chmod(script, 0o755)
+    write("#!/bin/sh\nexec ./job\n", script, mode=0o755)
     for name, words in (("job", ["sh", "-c", "exec ./job"]), ("a script", [script])):
         status, out, error = run("tune_program", "--output", f"of {name}", *words, cwd=place)
         is_named = out.startswith(f"{name}, predicted ") and f"<h1>Size classes for {name}</h1>" in read(place, f"of {name}", "report.html")
@@ -855,8 +816,7 @@ def try_timeline(place, recorded, counts):
     # a table of 3 classes without class 1024: what the fit's moments are, and what it takes at any
     small = "timeline\n" + "".join(f"{size}\n" for size in (0, 24, 100, 24)) + "-24\n-100\nlarge\n300\n100\n-large\n0\n-0\n200\n-24\n"
     folder, history = os.path.join(place, "few"), history_of_timeline(small)
-    status, out, error = run("tune_program", "--limit", "3", "--no-largest", "--output", folder, "--read", "-", given=small.encode())
-    expect(f"a small timeline: {status}: {error}", status == 0)
+    out, error = works("a small timeline", "tune_program", "--limit", "3", "--no-largest", "--output", folder, "--read", "-", given=small.encode())
     fitted = compare_fit(folder, "a small timeline", history, 3, False)
     moments = history_of(read(folder, "moments.history"))
     expect(f"a small timeline: its moments are {moments}", footprint(fitted, moments) == footprint(fitted, history))
@@ -869,9 +829,7 @@ def try_timeline(place, recorded, counts):
     # where `fit` ends with a bound
     fake = os.path.join(place, "bounded")
     bounded = "classes 2 60 1024\\nfootprint 5000000\\nnot shown least: no table takes less than 4000000\\n"
-    with open(fake, "w") as file:
-        file.write(f'#!/bin/sh\n[ "$1 $3" = "fit 3" ] || exec {BUILT} "$@"; cat > /dev/null; printf "{bounded}"; exit 1\n')
-    os.chmod(fake, 0o755)
+    write(f'#!/bin/sh\n[ "$1 $3" = "fit 3" ] || exec {BUILT} "$@"; cat > /dev/null; printf "{bounded}"; exit 1\n', fake, mode=0o755)
     folder = os.path.join(place, "bounded.tuned")
     words = ["tune_program", "--limit", "3", "--output", folder, "--read", "-"]
     status, out, error = run(*words, given=b"timeline\n" + 5000 * b"800\n", env={**os.environ, "MTE_TOOL": fake})
@@ -902,8 +860,7 @@ def test_verify(place):
     """--verify, over a compiler that makes a library of its own for Scudo's: how it is called, what runs, and what is printed of it."""
     checks.need("cc", "--verify")
     scudo, environment = scudo_stand_in.make(place, is_current=False)
-    with open(os.path.join(place, "verified.c"), "w") as file:
-        file.write(VERIFIED)
+    write(VERIFIED, place, "verified.c")
     subprocess.run(["cc", "-O0", "-w", "verified.c", "-o", "./verified"], cwd=place, check=True)
     how = {"cwd": place, "env": environment}
     refuses_to_verify(scudo, how, place)
@@ -939,26 +896,16 @@ def measures_settings(out, status, error):
 def refuses_to_verify(scudo, how, place):
     """What --verify refuses before it runs anything."""
     refuses(2, "takes no custom_scudo_config.h", "tune_program", "--verify", scudo, "./verified", **how)
-    refuses(
-        2, "is not the folder compiler-rt/lib/scudo/standalone", "tune_program", "--verify", place, "./verified", **how
-    )
+    refuses(2, "is not the folder compiler-rt/lib/scudo/standalone", "tune_program", "--verify", place, "./verified",
+            **how)
     refuses(2, verification.FETCH, "tune_program", "--verify", place, "./verified", **how)
     commands = re.split(" && |; ", verification.FETCH)
     expect("--verify: where the sources come from stands in TUNING.md too", all(each in read(ROOT, "docs/TUNING.md") for each in commands), commands)
-    with open(os.path.join(scudo, "allocator_config.h"), "w") as file:
-        file.write('#include "custom_scudo_config.h"\n')
+    write('#include "custom_scudo_config.h"\n', scudo, "allocator_config.h")
     for words in (["--read", "x"], ["--all", "./verified"], ["--only", "x", "./verified"]):
         refuses(2, "--verify runs the program itself", "tune_program", "--verify", scudo, *words, **how)
-    refuses(
-        3,
-        "no compiler no_such",
-        "tune_program",
-        "--verify",
-        scudo,
-        "./verified",
-        cwd=place,
-        env={**os.environ, "CXX": "no_such"},
-    )
+    refuses(3, "no compiler no_such", "tune_program", "--verify", scudo, "./verified", cwd=place,
+            env={**os.environ, "CXX": "no_such"})
     expect("--verify: the program ran before it was refused", not os.path.exists(os.path.join(place, "seen")))
 
 
@@ -987,19 +934,15 @@ def says_verdict(out, words, folder, place, error):
     page = read(folder, "report.html")
     shown = html.unescape(re.search(r'</h1>\s*<p class="lead" id="verdict">(.*?)</p>', page)[1])
     expect(f"--verify: report.html has another verdict, or has it later: {shown}", told.startswith(shown))
-    expect(
-        "--verify: report.html has no bar for each allocator",
-        page.split('<h2>Each table')[0].count('<rect') == 2 * (3 + len(verdict.installed_allocators())),
-    )
+    expect("--verify: report.html has no bar for each allocator",
+           page.split('<h2>Each table')[0].count('<rect') == 2 * (3 + len(verdict.installed_allocators())))
     strange = [line for line in out.splitlines() if line.startswith("! With ")]
     expect(f"--verify: other statuses: {strange}", len(strange) == 2 * bool(words))
     seen = read(place, "seen").splitlines()
     os.remove(os.path.join(place, "seen"))
     runs, rooms = [line.rpartition(" ")[0] for line in seen], {line.split()[-1] for line in seen[1:]}
-    expect(
-        f"--verify: the runs are {seen}",
-        runs == (1 + 5 * (3 + len(verdict.installed_allocators()))) * [f"10 {1 + len(words)}"],
-    )
+    expect(f"--verify: the runs are {seen}",
+           runs == (1 + 5 * (3 + len(verdict.installed_allocators()))) * [f"10 {1 + len(words)}"])
     expect("--verify: the environment is as long in each run", len(rooms) == 1, *rooms)
 
 
@@ -1044,10 +987,8 @@ def test_intervals():
     expect("no peak is below 0", evenly("glibc", 1, 9).interval()[0] == 0)
     random_, rounds, within, shares = random.Random(7), 20000, 0, 0
     for _ in range(rounds):
-        rows = [
-            row(name, *sorted(draw_peak(random_, middle, 0.3) for _ in range(5)))
-            for name, middle in (("glibc", 40), (verdict.DEFAULT, 50), ("tuned", 45))
-        ]
+        middles = {"glibc": 40, verdict.DEFAULT: 50, "tuned": 45}
+        rows = [row(name, *sorted(draw_peak(random_, middle, 0.3) for _ in range(5))) for name, middle in middles.items()]
         plain, default, tuned = further = [int(draw_peak(random_, middle, 0.3) * 2**20) for middle in (40, 50, 45)]
         within += sum(low <= peak <= high for peak, (low, high) in zip(further, (row_.interval() for row_ in rows)))
         low, high = verdict.Price(*rows).range()
@@ -1077,8 +1018,7 @@ int main(void) {
 
 def test_as_scudo(place):
     """What a realloc records with --as-scudo, and so under tune_program: nothing where Scudo leaves the block as it is."""
-    with open(os.path.join(place, "shrinks.c"), "w") as file:
-        file.write(SHRINKS)
+    write(SHRINKS, place, "shrinks.c")
     subprocess.run(["cc", "-O0", "shrinks.c", "-o", "./shrinks"], cwd=place, check=True)
     # 905 is 4,095 bytes less than 5,000, and 4,096 less than 5,001; 7,904 is 4,096 less than 12,000, and 12,273 is 4,095 less than 16,368
     wanted = "100 5000 -5000 5001 -5001 905 -905 large -large 7904 -7904 16368 -16368".split()
@@ -1092,16 +1032,8 @@ def test_as_scudo(place):
     found = read(place, "shrinks.tuned", "program.timeline").split()
     expect(f"tune_program: {status}: {found} {error}", status == 0 and found == ["timeline", *wanted])
     refuses(2, "--as-scudo goes with --live", "profile_program", "--as-scudo", "./shrinks", cwd=place)
-    refuses(
-        2,
-        "--import reads a file, and --as-scudo is for a run",
-        "profile_program",
-        "--live",
-        "--as-scudo",
-        "--import",
-        "x",
-        cwd=place,
-    )
+    refuses(2, "--import reads a file, and --as-scudo is for a run", "profile_program", "--live", "--as-scudo",
+            "--import", "x", cwd=place)
 
 
 def test_unproved(place):
@@ -1135,8 +1067,7 @@ def test_report(place):
 
     # the same from a profile in another order, and a sheet with class 1024 forced; the command in the page checks these
     odd = os.path.join(place, "<i>odd'.profile")
-    with open(odd, "w") as file:
-        file.write("".join(f"{line}\n" for line in reversed(read(perl).splitlines())))
+    write("".join(f"{line}\n" for line in reversed(read(perl).splitlines())), odd)
     forced = os.path.join(place, "forced.sheet")
     with open(forced, "wb") as file:
         subprocess.run([BUILT, "tune", "--limit", "12", "--largest-class", "1"], input=read(perl).encode(), stdout=file, check=True)
@@ -1152,8 +1083,7 @@ def test_report(place):
 
 def reports_no_proof(place, counts, perl, sheet):
     """A sheet that shows nothing, one of another profile, no sheet, no words."""
-    with open(os.path.join(place, "loose.sheet"), "w") as file:
-        file.write(f"classes {DEFAULT}\nlimit 32\nwaste {waste(table_of(DEFAULT), counts)}\n")
+    write(f"classes {DEFAULT}\nlimit 32\nwaste {waste(table_of(DEFAULT), counts)}\n", place, "loose.sheet")
     status, out, error = run("report", perl, os.path.join(place, "loose.sheet"))
     expect(f"report of a loose sheet: {status}: {error}", status == 1 and Numbers(out).proved == ("0", "refused 43 Shape"))
     # sheets that would be right over what the end of one joined to the counts makes of them

@@ -246,7 +246,7 @@ class Sites(commands.Commands):
                         most[block], best[block] = sum(mine.values()), mine
             found = site_costs.SiteCosts(run, timed)
             expect(f"drawn {seed}: how many blocks each class has", sum(most[block] * block * 16 for block in most) == found.footprint)
-            expect(f"drawn {seed}: the places take all of it", sum(part.taken() for _, parts in found.places() for part in parts) == found.footprint)
+            expect(f"drawn {seed}: the places take all of it", sum(part.bytes_taken() for _, parts in found.places() for part in parts) == found.footprint)
             for part in found.parts:
                 expect(f"drawn {seed}: a class of {part.block}", figures.block_of(timed.fit.classes, sizes[part.site]) == part.block and part.blocks > 0)
 

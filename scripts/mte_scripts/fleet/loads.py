@@ -111,7 +111,7 @@ class Member:
         """Of a timeline: also the moments at which the classes of this table have the most blocks."""
         if self.timeline is None or self.known_footprint(classes) == self.footprint(classes):
             return
-        more = timelines.history_at(self.timeline, figures.peaks(classes, self.timeline).reached())
+        more = timelines.history_at(self.timeline, figures.peaks(classes, self.timeline).moments_of_peaks())
         both = [(each.counts, [0] * each.snapshots) for each in (self.history, more)]
         sizes = {**self.history.counts, **more.counts}
         counts = {size: [count for own, none in both for count in own.get(size, none)] for size in sizes}

@@ -1,8 +1,10 @@
-"""A program that a script runs to its end, whatever signal comes meanwhile."""
+"""A program that a script runs to its end, whatever signal comes meanwhile; and what looks at it."""
 
+import contextlib
 import signal
 import subprocess
 import threading
+from collections.abc import Callable, Iterator
 from typing import Any
 
 HANDED_ON = (signal.SIGTERM, signal.SIGHUP)
@@ -41,3 +43,21 @@ def run(words: "list[str]", grace: "float | None" = None, signals: "list | None"
     finally:
         for each, handler in kept.items():
             signal.signal(each, handler)
+
+
+@contextlib.contextmanager
+def call_each(seconds: float, look: "Callable[[], object]") -> "Iterator[None]":
+    """Meanwhile a thread calls this each so many seconds, until it returns something true."""
+    end = threading.Event()
+
+    def watch() -> None:
+        while not end.wait(seconds) and not look():
+            pass
+
+    watcher = threading.Thread(target=watch, daemon=True)
+    watcher.start()
+    try:
+        yield
+    finally:
+        end.set()
+        watcher.join()

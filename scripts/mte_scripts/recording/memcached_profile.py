@@ -49,15 +49,10 @@ WAIT = 30  # seconds
 def profile(words: "list[str]") -> None:
     options = Words(HELP, "names", items={"action": "store_true"}).take(words, once=True)
     if len(options.names) != 1:
-        raise Refusal(
-            2, "name a server as HOST:PORT, or a file after --items; `memcached_profile --help` says all"
-        )
+        raise Refusal(2, "name a server as HOST:PORT, or a file after --items; `memcached_profile --help` says all")
     if options.each if options.items else options.flags or options.no_cas:
-        raise Refusal(
-            2,
-            "--each is for a server; --flags and --no-cas are for --items, as a server says itself how large an item "
-            "is",
-        )
+        raise Refusal(2, "--each is for a server; --flags and --no-cas are for --items, as a server says itself how "
+                         "large an item is")
     if options.items:
         header = HEADER + (0 if options.no_cas else CAS) + (FLAGS if options.flags else 0)
         counts = of_file(options.names[0], header)
@@ -71,10 +66,8 @@ def of_file(path: str, header: int) -> "Counter[int]":
     for number, line in enumerate(text_files.lines_of(text_files.read(path)), 1):
         match = re.fullmatch(rb"[ \t]*([0-9]{1,10})[ \t]+([0-9]{1,10})(?:[ \t]+([0-9]{1,10}))?[ \t]*", line)
         if not match:
-            wrong = (
-                count_texts.encoding(line, number)
-                or f"line {number} is not KEYBYTES VALUEBYTES [COUNT]: {text_layout.shorten_line(line)}"
-            )
+            wrong = (count_texts.encoding(line, number)
+                     or f"line {number} is not KEYBYTES VALUEBYTES [COUNT]: {text_layout.shorten_line(line)}")
             raise Refusal(2, f"{text_files.input_name(path)}: {wrong}")
         key, value, count = int(match[1]), int(match[2]), int(match[3] or 1)
         if not 1 <= key <= LONGEST_KEY or value > MOST_VALUE:
@@ -102,15 +95,12 @@ def of_server(name: str, each: bool) -> "Counter[int]":
             else:
                 raise Refusal(3, f"{name} ended the connection before the end of its answer")
     except OSError as error:
-        raise Refusal(
-            3, f"{name} does not answer: {error.strerror or error}: is memcached running there?"
-        ) from None
+        raise Refusal(3, f"{name} does not answer: {error.strerror or error}: is memcached running there?") from None
     except UnicodeError:  # a host name that no resolver takes
         raise Refusal(2, f"{name} is not HOST:PORT, such as 127.0.0.1:11211") from None
     if not counts:
-        raise Refusal(
-            3, f"{name} holds no item" + ("" if each else ", or has stored none since it began to count sizes")
-        )
+        raise Refusal(3,
+                      f"{name} holds no item" + ("" if each else ", or has stored none since it began to count sizes"))
     if not each:
         say("memcached_profile", f"the sizes are in steps of {STEP} bytes; with --each they are exact")
     return counts

@@ -39,18 +39,12 @@ def chunk_sizes(words: list[str]) -> None:
     if not rooms:
         raise Refusal(2, "the table has no class: was the profile empty?")
     if rooms[0] < LEAST_CHUNK:
-        raise Refusal(
-            2,
-            f"class {classes[0]} holds {rooms[0]} bytes, and memcached takes no chunk below {LEAST_CHUNK}: tune a "
-            "profile of items, of memcached_profile",
-        )
+        raise Refusal(2, f"class {classes[0]} holds {rooms[0]} bytes, and memcached takes no chunk below "
+                         f"{LEAST_CHUNK}: tune a profile of items, of memcached_profile")
     chunks = rooms + LARGER
     if len(chunks) > MOST_CHUNKS:
-        raise Refusal(
-            2,
-            f"{len(rooms)} classes and memcached's {len(LARGER)} larger ones are more than {MOST_CHUNKS}: tune with "
-            f"`--limit {MOST_CHUNKS - len(LARGER)}`",
-        )
+        raise Refusal(2, f"{len(rooms)} classes and memcached's {len(LARGER)} larger ones are more than {MOST_CHUNKS}: "
+                         f"tune with `--limit {MOST_CHUNKS - len(LARGER)}`")
     if memory is not None and memory < PAGES_A_CLASS * len(rooms):
         say("memcached_sizes", f"warning: {memory} MB are few for {len(rooms)} classes, as each takes pages of 1 MiB of its own. "
                   f"Try `--limit {max(1, memory // PAGES_A_CLASS)}` too, and compare the hits")

@@ -108,9 +108,8 @@ def drop_large_blocks(history: count_texts.History) -> dict[int, list[int]]:
 
 def undominated_snapshots(histories: list[count_texts.History]) -> set[int]:
     """The snapshots but those that have in no size more blocks than another one. Of equal ones, the first."""
-    blocks = [
-        total for each in histories for total in map(sum, zip([0] * each.snapshots, *drop_large_blocks(each).values()))
-    ]
+    blocks = [total for each in histories
+              for total in map(sum, zip([0] * each.snapshots, *drop_large_blocks(each).values()))]
     order = sorted(range(len(blocks)), key=lambda number: -blocks[number])
     ranks = [0] * len(order)
     for rank, number in enumerate(order):
@@ -178,9 +177,8 @@ def in_classes(history: count_texts.History) -> Iterator[tuple[tuple[int, int], 
 
 
 def merge(words: list[str]) -> int:
-    options = Words(HELP, "files", {"snapshots": MOST_SNAPSHOTS}, snapshots=number_between(1, MOST_SNAPSHOTS)).take(
-        words
-    )
+    options = Words(HELP, "files", {"snapshots": MOST_SNAPSHOTS},
+                    snapshots=number_between(1, MOST_SNAPSHOTS)).take(words)
     files = files_of(options)
     if not words:
         text_files.say_reading("merge_profiles")
@@ -193,17 +191,11 @@ def merge(words: list[str]) -> int:
         else:
             count_texts.add_counts(sums, found)
         if histories and len(histories) <= at:
-            raise Refusal(
-                2,
-                f"{text_files.input_name(files[0])} and {text_files.input_name(file)} are a profile and a history: merge one "
-                "kind alone",
-            )
+            raise Refusal(2, f"{text_files.input_name(files[0])} and {text_files.input_name(file)} are a profile and a "
+                             "history: merge one kind alone")
     if histories:
-        return text_files.write(
-            count_texts.fitting_text(
-                merge_histories(histories, options.snapshots), functools.partial(say, "merge_profiles")
-            )
-        )
+        return text_files.write(count_texts.fitting_text(merge_histories(histories, options.snapshots),
+                                                         functools.partial(say, "merge_profiles")))
     if not any(sums.values()):
         raise Refusal(3, "there is no request to count")
     return text_files.write(count_texts.fitting_text(sums, functools.partial(say, "merge_profiles")))

@@ -7,23 +7,15 @@ from typing import NamedTuple
 from mte_scripts.recording import TABLES
 
 PAGE, RINGS = 4096, 1024
-REASONS = (
-    f"more than {RINGS:,} run at once",
-    "a limit of their address space (ulimit -v) leaves no room for the stream",
-    "they can't open the stream from where they are (chroot, another user or namespace)",
-    "they began in a program that gave up system calls (seccomp)",
-    "the file of the stream has no room for them (a full disk)",
-)
+REASONS = (f"more than {RINGS:,} run at once",
+           "a limit of their address space (ulimit -v) leaves no room for the stream",
+           "they can't open the stream from where they are (chroot, another user or namespace)",
+           "they began in a program that gave up system calls (seccomp)",
+           "the file of the stream has no room for them (a full disk)")
 # of shims/loadable.h, from 1 on: why a program is not followed
-UNFOLLOWED = (
-    "it is static",
-    "its C library is not this machine's glibc",
-    "it is for another kind of processor",
-    "it is set-user-id or set-group-id",
-    "it has file capabilities",
-    "it can't be read",
-    "system calls were given up before it (seccomp)",
-)
+UNFOLLOWED = ("it is static", "its C library is not this machine's glibc", "it is for another kind of processor",
+              "it is set-user-id or set-group-id", "it has file capabilities", "it can't be read",
+              "system calls were given up before it (seccomp)")
 
 
 class Texts(NamedTuple):
@@ -91,7 +83,7 @@ class Notes(ctypes.Structure):
     ]
 
     @classmethod
-    def of(cls, page: bytes) -> "Notes":
+    def of_page(cls, page: bytes) -> "Notes":
         """Those of a page, which may be cut off."""
         return cls.from_buffer_copy(page.ljust(PAGE, b"\0"))
 
@@ -110,19 +102,19 @@ class Notes(ctypes.Structure):
         found = sorted((each for each in self.named if each.requests), key=lambda each: each.name != self.followed)
         return [each.line(self.resident if each.name == self.followed else 0) for each in found]
 
-    def unfollowed(self) -> "list[str]":
+    def name_unfollowed(self) -> "list[str]":
         """The programs that were run without the library, each with the reason."""
         found = [str(each) for each in self.programs_left_alone if each.number]
         return [*found, *[f"{self.more_left_alone:,} others"] * bool(self.more_left_alone)]
 
-    def last_unfollowed(self) -> "tuple[str, str] | None":
+    def name_last_unfollowed(self) -> "tuple[str, str] | None":
         """The name of the program that the first process ran at last, and why it is not followed; None where it is."""
         if not self.instead:
             return None
         last = self.programs_left_alone[self.instead - 1] if self.instead <= len(self.programs_left_alone) else ProgramLeftAlone()
         return os.fsdecode(last.name), last.reason()
 
-    def remaining(self) -> list:
+    def remaining_processes(self) -> list:
         """The processes that run on, or some of them."""
         return list(self.processes[: self.left])
 

@@ -150,15 +150,12 @@ class Options(argparse.Namespace):
     live: "str | None"
 
     def __init__(self, words: list[str]) -> None:
-        kinds: dict = {
-            "history": {"type": number_between(1, SNAPSHOTS), "nargs": "?", "const": 32},
-            "live": {"action": "store_const", "const": "--live"},
-        }
+        kinds: dict = {"history": {"type": number_between(1, SNAPSHOTS), "nargs": "?", "const": 32},
+                       "live": {"action": "store_const", "const": "--live"}}
         kinds["windows"] = {"type": number_between(1, WINDOWS), "nargs": "?", "const": USUAL_WINDOWS}
         kinds["classes"] = {"action": "append", "type": nonempty_word, "default": []}
-        ProgramWords(HELP, as_=name_among(*importers.NAMES) if importers else nonempty_word, **kinds).take(
-            words, into=self
-        )
+        kinds["as_"] = name_among(*importers.NAMES) if importers else nonempty_word
+        ProgramWords(HELP, **kinds).take(words, into=self)
         names = "follow said measured peak upper stacks blocks processes".split()
         written = [(f"--{name}", getattr(self, name)) for name in names]
         text_files.refuse_over(written, [self.import_, self.again, self.read, *self.classes], [*self.words, *["-"] * bool(self.words)])
@@ -178,11 +175,8 @@ class Options(argparse.Namespace):
         if len(over_time) > 1 or (self.tables and over_time == ["--history"]):
             raise Refusal(2, f"take one of {' and '.join([*over_time, *['--classes'] * (len(over_time) < 2)])}")
         if len(self.tables) > (TABLES if over_time else 1):
-            raise Refusal(
-                2,
-                f"there are {len(self.tables)} tables of --classes: it takes "
-                f"{TABLES if over_time else 'one without --windows'}",
-            )
+            raise Refusal(2, f"there are {len(self.tables)} tables of --classes: it takes "
+                             f"{TABLES if over_time else 'one without --windows'}")
         over_time += ["--classes"] * bool(self.tables)
         self.live = over_time[0] if over_time else self.live
         goes_with = {
@@ -215,7 +209,7 @@ class Options(argparse.Namespace):
     def table_words(self) -> str:
         return ",".join(" ".join(map(str, table)) for table in self.tables)
 
-    def wanted(self) -> str:
+    def request_to_reader(self) -> str:
         """What the reader is asked for."""
         kinds = {None: "all", "--live": "live", "--history": f"history {self.history}", "--classes": "classes",
                  "--timeline": "timeline blocks" if self.blocks else "timeline",
@@ -228,9 +222,8 @@ def moments_in(path: str) -> "list[int]":
     lines = text_files.read(path).decode(errors="replace").splitlines()
     found = [line.removeprefix("moment ") for line in lines if line.startswith("moment ")]
     if not 0 < len(found) <= MOST_SNAPSHOTS or not all(re.fullmatch("[1-9][0-9]{0,17}", each) for each in found):
-        raise Refusal(
-            2, f"{text_files.input_name(path)} does not name 1 to {MOST_SNAPSHOTS:,} moments: --measured of --windows does"
-        )
+        raise Refusal(2, f"{text_files.input_name(path)} does not name 1 to {MOST_SNAPSHOTS:,} moments: --measured of "
+                         "--windows does")
     return sorted({int(each) for each in found})
 
 
@@ -292,7 +285,7 @@ def follow(options: Options, speaker: recording.Speaker, work: private_folder.Fo
     """Follows what something else starts, until it is told to end."""
     if options.words:
         raise Refusal(2, "--follow takes one file, and runs no program")
-    with recording.Run(speaker, work, options.wanted(), options.only, options.table_words()) as run:
+    with recording.Run(speaker, work, options.request_to_reader(), options.only, options.table_words()) as run:
         status, notes = run.follow(os.path.abspath(options.follow), "", []), run.found.notes()
         if status or not notes.version:
             raise Refusal(3, f"{options.follow} can't be followed: {notes.why or 'the reader was ended'}")
@@ -319,12 +312,11 @@ def read_only(options: Options, speaker: recording.Speaker) -> int:
             path = os.path.join(os.path.realpath(os.path.dirname(options.read) or "."), os.path.basename(options.read))
             with Reader(reader, descriptor) as found:
                 if form != FORM or not found.follows(os.fstat(file.fileno()), path):
-                    raise Refusal(
-                        3, f"{options.read} is no stream, or nobody follows it: `profile_program --follow` does"
-                    )
+                    raise Refusal(3,
+                                  f"{options.read} is no stream, or nobody follows it: `profile_program --follow` does")
                 with open(found.path(descriptor), "rb") as shared:
                     run = recording.ReaderResult(shared.fileno())
-                    return print_service(options, speaker, found.asked(run, options.read), options.read)
+                    return print_service(options, speaker, found.ask_again(run, options.read), options.read)
     except OSError as error:
         if error.errno == errno.ELOOP:
             raise Refusal(3, f"{options.read} is a link: name the file itself") from None
@@ -366,7 +358,7 @@ class Reader:
             return (own.st_dev, own.st_ino) == (status.st_dev, status.st_ino) and os.readlink(self.path(descriptor)) == path
         return False
 
-    def asked(self, run: recording.ReaderResult, stream: str) -> recording.ReaderResult:
+    def ask_again(self, run: recording.ReaderResult, stream: str) -> recording.ReaderResult:
         """What it found, once it has written that anew."""
         before, end = run.notes().version, time.monotonic() + ANSWERED
         signal.pidfd_send_signal(self.opened, signal.SIGUSR1)
@@ -381,16 +373,13 @@ def import_file(options: Options, speaker: recording.Speaker) -> int:
     """Prints what a file of another tool counts, and says what that is; or what is kept of a timeline."""
     if options.is_timeline():
         with private_folder.temporary_folder() as work:
-            of_reader = recording.of_timeline(options.import_, work, options.wanted(), options.table_words())
+            of_reader = recording.of_timeline(options.import_, work, options.request_to_reader(), options.table_words())
         if print_found(options, speaker, *of_reader):
             return 0
         raise Refusal(3, f"{text_files.input_name(options.import_)}: it counts nothing")
     if not importers:
-        raise Refusal(
-            3,
-            f"{options.import_} can't be read: the files of other tools want scripts/mte_scripts/recording/imports, "
-            "which is not here",
-        )
+        raise Refusal(3, f"{options.import_} can't be read: the files of other tools want "
+                         "scripts/mte_scripts/recording/imports, which is not here")
     wanted = options.live.removeprefix("--") if options.live else importers.import_result.ALL
     got = importers.import_file(options.import_, options.as_, wanted, options.history)
     for line in got.told:
@@ -422,15 +411,13 @@ def install_library(library: str, folder: str) -> str:
     """Puts the library where a service may read it."""
     if not os.path.isdir(folder):
         raise Refusal(3, f"there is no folder {folder}")
-    refuse_unreachable(os.path.realpath(folder))
+    if closed := private_folder.first_closed(folder):
+        raise Refusal(3, f"no other user can enter {closed}: {OPEN_PLACE}")
     try:
         with private_folder.open_private_folder(folder) as place:
             if not recording.is_plain(place.path):
-                raise Refusal(
-                    3,
-                    f"the loader takes no path with a space, a colon or a dollar sign, as in {place.path}: choose "
-                    "another place",
-                )
+                raise Refusal(3, "the loader takes no path with a space, a colon or a dollar sign, as in "
+                                 f"{place.path}: choose another place")
             with place.new_file(LIBRARY) as new, open(new, "wb") as file:
                 file.write(text_files.read(library))
             path = place.file(LIBRARY)
@@ -443,20 +430,11 @@ def install_library(library: str, folder: str) -> str:
     return path
 
 
-def refuse_unreachable(path: str) -> None:
-    """Refuses a folder that a service's user can't enter, or one below such a folder."""
-    folder, below = path, ""
-    while folder != below:
-        if not os.stat(folder).st_mode & stat.S_IXOTH:
-            raise Refusal(3, f"no other user can enter {folder}: {OPEN_PLACE}")
-        folder, below = os.path.dirname(folder), folder
-
-
 # ---- a run
 
 def say_left(speaker: recording.Speaker, options: Options, notes: Notes) -> None:
     """Says of a program that goes on."""
-    begin = f"{options.words[0]} ended but left process {' '.join(map(str, notes.remaining()))} running"
+    begin = f"{options.words[0]} ended but left process {' '.join(map(str, notes.remaining_processes()))} running"
     if options.live:
         speaker.say(f"{begin}, which {options.live} does not count: {FOREGROUND}, or count all requests, without {options.live}")
     else:
@@ -465,7 +443,7 @@ def say_left(speaker: recording.Speaker, options: Options, notes: Notes) -> None
 
 def run_program(options: Options, speaker: recording.Speaker, path: str, work: private_folder.Folder) -> int:
     program = options.words[0]
-    wanted, recorder = options.wanted(), "stacks" if options.stacks else "stream"
+    wanted, recorder = options.request_to_reader(), "stacks" if options.stacks else "stream"
     if wanted == "all":
         wanted, recorder = "counts", "counts"
     with recording.Run(speaker, work, wanted, options.only, options.table_words(), recorder) as run:

@@ -8,7 +8,6 @@ import re
 import shutil
 import subprocess
 import sys
-import threading
 import time
 from collections.abc import Callable, Iterator
 from typing import NoReturn
@@ -100,9 +99,8 @@ def find_packaged(name: str) -> "str | None":
     path = os.path.realpath(os.path.join(RECORDERS, f"{name}{ENDINGS[name]}"))
     try:
         with private_folder.open_private_folder(os.path.dirname(path)) as place:
-            return (
-                path if place.has(os.path.basename(path)) and is_plain(path) and not try_loading(name, path) else None
-            )
+            return (path if place.has(os.path.basename(path)) and is_plain(path) and not try_loading(name, path)
+                    else None)
     except (NotPrivate, OSError):
         return None
 
@@ -154,9 +152,9 @@ class Library:
     def __init__(self, work: private_folder.Folder, name: str = "stream") -> None:
         self.path, self.work = make(name, work), work
         self.link: "private_folder.Folder | None" = None
-        self.name = self.path if is_plain(self.path) else self.linked()
+        self.name = self.path if is_plain(self.path) else self.link_apart()
 
-    def linked(self) -> str:
+    def link_apart(self) -> str:
         for where in (self.work.path, "/tmp", "/var/tmp", "/dev/shm"):
             with contextlib.suppress(NotPrivate, OSError):
                 self.link = private_folder.new_folder(private_folder.open_folder(where))
@@ -165,9 +163,8 @@ class Library:
                     os.symlink(self.path, name)
                     return name
                 self.link.close()
-        raise Refusal(
-            3, f"the loader takes no path with a space, a colon or a dollar sign, as in {self.path}: {ANOTHER_PLACE}"
-        )
+        raise Refusal(3, f"the loader takes no path with a space, a colon or a dollar sign, as in {self.path}: "
+                         f"{ANOTHER_PLACE}")
 
     def keep(self) -> None:
         """For processes that are left: what they start loads the library by its name."""
@@ -234,7 +231,7 @@ def say_lost(speaker: Speaker, notes: Notes) -> None:
         speaker.say(f"calls without a whole record: {notes.lost}; a signal's handler jumped out of them, or the program or a thread ended in them")
     if reasons := notes.reasons():
         speaker.say(f"some processes are not counted: {', '.join(reasons)}")
-    if unfollowed := notes.unfollowed():
+    if unfollowed := notes.name_unfollowed():
         speaker.say(f"not followed, nor what they start: {', '.join(unfollowed)}")
 
 
@@ -252,7 +249,7 @@ class ReaderResult:
         self.descriptor = descriptor
 
     def notes(self) -> Notes:
-        return Notes.of(os.pread(self.descriptor, PAGE, 0))
+        return Notes.of_page(os.pread(self.descriptor, PAGE, 0))
 
     def texts(self) -> Texts:
         with open(os.dup(self.descriptor), "rb") as file:
@@ -324,7 +321,7 @@ class Run:
         if status or not notes.version:
             raise Refusal(3, f"nothing can be recorded: {notes.why or NO_NOTES.get(status, 'the reader was ended')}")
         refuse_spoiled(notes, word)
-        if not self.only and (last := notes.last_unfollowed()):
+        if not self.only and (last := notes.name_last_unfollowed()):
             ran = f"it ran {last[0]} in its own place, which can't be followed: " if notes.started else ""
             raise Refusal(3, f"{word} can't be recorded: {ran}{last[1]}")
         if notes.started:
@@ -332,7 +329,7 @@ class Run:
         if notes.refused[:] != [0] * len(notes.refused):
             raise Refusal(3, f"{word} can't be recorded: {', '.join(notes.reasons())}")
         if self.only:
-            others = f". Not followed, nor what they start: {', '.join(unfollowed)}" if (unfollowed := notes.unfollowed()) else ""
+            others = f". Not followed, nor what they start: {', '.join(unfollowed)}" if (unfollowed := notes.name_unfollowed()) else ""
             raise Refusal(3, f"no process that could be recorded has the name {self.only}{others}")
         if why := try_loading("stream", self.library.name).decode(errors="replace").strip():
             raise Refusal(3, f"nothing can be recorded: {why}")
@@ -352,25 +349,21 @@ def show_progress(notes: "Callable[[], Notes]") -> "Iterator[None]":
     if not os.isatty(2):
         yield
         return
-    end, begin = threading.Event(), time.monotonic()
+    begin = time.monotonic()
 
     def show(line: str) -> None:
         with contextlib.suppress(OSError):  # the terminal may be closed meanwhile, and what was recorded counts
             os.write(2, f"\r{line}\033[K\r".encode())
 
     def watch() -> None:
-        while not end.wait(WATCHED):
-            seen = notes()
-            live = f", {seen.live / 2**20:,.1f} MiB live" if seen.live else ""
-            show(f"{time.monotonic() - begin:,.0f} s, {seen.requests:,} requests{live}")
+        seen = notes()
+        live = f", {seen.live / 2**20:,.1f} MiB live" if seen.live else ""
+        show(f"{time.monotonic() - begin:,.0f} s, {seen.requests:,} requests{live}")
 
-    watcher = threading.Thread(target=watch, daemon=True)
-    watcher.start()
     try:
-        yield
+        with children.call_each(WATCHED, watch):
+            yield
     finally:
-        end.set()
-        watcher.join()
         show("")
 
 

@@ -51,10 +51,8 @@ def parse_sites(data: bytes) -> Sites:
     stack_words, begins = words_of("Q", parts[0]), words_of("Q", parts[2])
     if any(begin > words for begin in begins):
         raise Refusal(3, "the record of the stacks is damaged")
-    return Sites(
-        words_of("I", parts[4]), words_of("I", parts[3]), [stack_at(stack_words, begin) for begin in begins],
-        [module_of(parts[1][place : place + width]) for place in range(0, len(parts[1]), width)],
-    )
+    return Sites(words_of("I", parts[4]), words_of("I", parts[3]), [stack_at(stack_words, begin) for begin in begins],
+                 [module_of(parts[1][place : place + width]) for place in range(0, len(parts[1]), width)])
 
 
 def stack_at(words: array, begin: int) -> tuple[int, tuple]:

@@ -48,7 +48,7 @@ def remarks(options: argparse.Namespace, notes: Notes) -> "Iterator[str]":
     """What is to be said of the trace."""
     program = options.words[0]
     if notes.left:
-        still = " ".join(map(str, notes.remaining()))
+        still = " ".join(map(str, notes.remaining_processes()))
         yield f"{program} ended but left process {still} running, which is not traced: run it in the foreground (nginx: daemon off)"
     if notes.other_requests:
         others = f"(processes: {notes.others}, requests: {notes.other_requests})"

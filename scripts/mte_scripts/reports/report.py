@@ -50,7 +50,7 @@ def report(words: list[str]) -> int:
     found = figures.Figures(counts, text_files.read(sheet, MOST_INPUT + 1).decode(errors="replace"), others, given=name, how=how)
     title = title or ("the profile" if profile == "-" else figures.without_ending(profile, ".profile"))
     text_files.write(report_page.page(found, title, "in the profile", [], [check_command(profile, sheet, found.certificate.step, is_plain)]))
-    return 1 if found.unheld() else 0
+    return 1 if found.state_refusals() else 0
 
 
 def check_command(profile: str, sheet: str, step: int, is_plain: bool) -> str:

@@ -84,7 +84,7 @@ def page(figures: Figures, name: str, counted: str, warnings: list[str], checks:
 
 def head_section(figures: Figures, title: str, warnings: list[str], tables: "str | None", verdict: str) -> str:
     """What was measured, what the table costs, and what is known of it."""
-    known, claim = figures.known(), figures.claims[0]
+    known, claim = figures.state_findings(), figures.claims[0]
     proved = int(claim.holds and claim.trust.is_proved)
     return f"""<h1>{title}</h1>
 {f'<p class="lead" id="verdict">{escape(verdict)}</p>' * bool(verdict)}
@@ -162,7 +162,7 @@ def check_section(figures: Figures, checks: list[str]) -> str:
 <pre id="class-line">{class_text(figures.first.classes)}</pre>
 <p>Its certificate is checked by this, in the folder in which the page was made:</p>
 <pre id="check">{escape(checks[0])}</pre>
-{lines(other_section(*each) for each in zip(figures.made()[1:], checks[1:]))}
+{lines(other_section(*each) for each in zip(figures.order_made()[1:], checks[1:]))}
 <p>What was counted, by <code>sha256sum</code>:</p>
 <pre id="digests">{lines(escape(f"{each.digest}  {each.name}") for each in figures.claims)}</pre>"""
 
@@ -257,7 +257,7 @@ def least_row(figures: Figures, classes: int, cost: int) -> str:
 
 
 def class_row(figures: Figures, block: int, least: int, most: int, count: int, cost: int) -> str:
-    whole = figures.seen(figures.first)
+    whole = figures.cost_over_record(figures.first)
     names = ("requests", "lost") if figures.objective == "waste" else ("blocks", "taken")
     cells = f'<th scope="row">{number(block)}</th><td>{number(least)}–{number(most)}</td>'
     cells += cell(names[0], count, number(count)) + cell(names[1], cost, number(cost))
@@ -298,7 +298,7 @@ def key(entries: Iterable[tuple[int, str]]) -> str:
 
 def serving_tables(figures: Figures) -> list[tuple[int, Table]]:
     """The tables that serve what is given, each with its style."""
-    return [(style, table) for style, table in styles(figures) if figures.seen(table) is not None]
+    return [(style, table) for style, table in styles(figures) if figures.cost_over_record(table) is not None]
 
 
 def curve_key(figures: Figures) -> str:
@@ -319,7 +319,7 @@ def curve(figures: Figures, kind: str, width: int, height: int) -> str:
     picture = Picture(kind, width, height, 46 if is_waste else 70, "waste, share of requested bytes" if is_waste else "footprint, bytes")
     most = max([len(figures.least)] + [len(table.classes) for _, table in serving_tables(figures)])
     # as high as the worst table, or as 8 classes, and some more: tables of very few classes cost far more; from 0, or near the lowest
-    costs = [figures.least[-1]] + [figures.seen(table) for _, table in serving_tables(figures)]
+    costs = [figures.least[-1]] + [figures.cost_over_record(table) for _, table in serving_tables(figures)]
     highest = max(figures.least[:8][-1], *costs)
     low = min(costs) if highest / 2 < min(costs) < highest else 0
     top = low + 1.15 * (highest - low) or figures.bytes / 100
@@ -340,8 +340,8 @@ def curve(figures: Figures, kind: str, width: int, height: int) -> str:
     picture.clip(f"area-{kind}", 6, 8)
     picture.parts.append(f'<polyline class="curve" clip-path="url(#area-{kind})" points="{drawn}"/>')
     for style, table in reversed(serving_tables(figures)):
-        title = f"{table.name}: {len(table.classes)} classes, {number(figures.seen(table))} bytes"
-        picture.parts.append(mark(style, *at(len(table.classes), figures.seen(table)), title))
+        title = f"{table.name}: {len(table.classes)} classes, {number(figures.cost_over_record(table))} bytes"
+        picture.parts.append(mark(style, *at(len(table.classes), figures.cost_over_record(table)), title))
     return picture.svg(f"{'Waste' if is_waste else 'Footprint'} by the number of classes")
 
 

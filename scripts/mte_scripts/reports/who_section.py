@@ -10,7 +10,7 @@ HEADS = ("Place", "Taken", "Share", "Lost", "Blocks", "Their bytes")
 def section(who: SiteCosts) -> str:
     """The places that take most, what fewer bytes there save, and the flame graphs: readable without a script."""
     rows = "\n".join(f'<tr><th scope="row">{escape(place)}</th>{"".join(f"<td>{escape(cell)}</td>" for cell in cells)}</tr>' for *cells, place in who.rows())
-    tried = "\n".join(f"<li>{escape(each.said())}</li>" for each in who.what_ifs)
+    tried = "\n".join(f"<li>{escape(each.state_saving())}</li>" for each in who.what_ifs)
     heads = "".join(f'<th scope="col">{each}</th>' for each in HEADS)
     return f"""<h2>Who requests it</h2>
 <p>{escape(who.lead())}</p>
@@ -21,7 +21,7 @@ def section(who: SiteCosts) -> str:
 <ul id="what-if">
 {tried}
 </ul>
-<p class="soft">{escape(f"{who.unsure()} {who.input()}".strip())}</p>
+<p class="soft">{escape(f"{who.note_unsure()} {who.input()}".strip())}</p>
 {"".join(figure(kind, pairs) for kind, pairs in who.weights().items() if pairs)}"""
 
 

@@ -44,9 +44,8 @@ def check(words: list[str]) -> int:
     options = Words(HELP, "names", {"step": 1}, **TABLES).take(words, once=True)
     names = options.names
     if len(names) != 2:
-        raise Refusal(
-            2, "name a sheet and a profile, or a fit and a history or a timeline; `check_sheet --help` says all"
-        )
+        raise Refusal(2,
+                      "name a sheet and a profile, or a fit and a history or a timeline; `check_sheet --help` says all")
     if names[0] == "-":
         raise Refusal(2, "standard input can be what was counted alone: give the name of the sheet's file")
     sheet_bytes, counts_bytes = text_files.read_some(names[0], MOST_OF_A_SHEET, "no sheet has"), text_files.read_some(names[1])
@@ -61,9 +60,8 @@ def check(words: list[str]) -> int:
     try:
         claim = claims.check_certificate(sheet_bytes, counts_bytes, text_files.input_name(names[1]), file=names[0])
     except Refusal as refused:
-        raise Refusal(
-            refused.status, locate_refusal(refused.text, len(text_files.lines_of(sheet_bytes)), names, kind)
-        ) from None
+        raise Refusal(refused.status,
+                      locate_refusal(refused.text, len(text_files.lines_of(sheet_bytes)), names, kind)) from None
     if not claim.holds:
         raise Refusal(1, f"{names[0]}: {claim.refusal()}")
     return text_files.write(f"its SHA-256 is {claim.digest}\n{claim.answer()}\n")
@@ -82,9 +80,8 @@ def whole_sheet(name: str, data: bytes, is_fit: bool) -> Any:
     """The sheet or the fit, whose rows are all there."""
     sheet: Any = (certificate_texts.parse_fit if is_fit else certificate_texts.parse_sheet)(data, name)
     if len(sheet.rows) != sheet.limit:
-        raise Refusal(
-            2, f"{name} has {len(sheet.rows)} rows for a limit of {sheet.limit}: did the command that writes it fail?"
-        )
+        raise Refusal(2, f"{name} has {len(sheet.rows)} rows for a limit of {sheet.limit}: did the command that writes "
+                         "it fail?")
     text_files.write(f"the {'fit' if is_fit else 'sheet'} is whole: a table of {claim_words.class_text(len(sheet.classes))}\n")
     return sheet
 
@@ -94,9 +91,8 @@ def meets_options(name: str, sheet: Any, options: argparse.Namespace) -> None:
     wanted = {"limit": options.limit or sheet.limit, "step": options.step}
     for option, value in wanted.items():
         if getattr(sheet, option) != value:
-            raise Refusal(
-                1, f"{name} is for --{option} {getattr(sheet, option)}, and not for --{option} {value}: tune again"
-            )
+            raise Refusal(1, f"{name} is for --{option} {getattr(sheet, option)}, and not for --{option} {value}: tune "
+                             "again")
     text_files.write(f"it is for --limit {sheet.limit} and --step {sheet.step}\n")
 
 

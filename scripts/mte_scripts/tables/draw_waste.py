@@ -56,7 +56,7 @@ class Curve:
 
 
 def answer(path: str, words: list[str], *given: bytes) -> bytes:
-    status, out, error = program_runs.mte_tool(words, *given)
+    status, out, error = program_runs.answer_once(tuple(words), *given)
     if status == 2:
         raise Refusal(2, f"{path} is refused, {error}: `merge_profiles` makes a profile of lines in any order")
     if status != 0:

@@ -40,12 +40,11 @@ def class_text(classes: list[int]) -> str:
 def run(words: list[str], text: "str | bytes", classes: "list[int] | None" = None) -> tuple[int, str]:
     """The output of the program over a text, which comes after the line of these CLASSES; and its status, 0 or 1: a verdict. Any other ends the
     script."""
-    given = os.fsencode(text)
-    status, out, error = program_runs.mte_tool(words, given) if classes is None else program_runs.over_two(words, class_text(classes), given)
+    border, line = program_runs.border(class_text(classes)) if classes is not None else ([], b"")
+    status, out, error = program_runs.answer_once((*words, *border), *filter(None, (line, os.fsencode(text))))
     if status not in (0, 1):
-        raise Refusal(
-            2 if status == 2 else 3, f"`mte_tool {' '.join(words)}` failed: {error or f'its status is {status}'}"
-        )
+        raise Refusal(2 if status == 2 else 3,
+                      f"`mte_tool {' '.join(words)}` failed: {error or f'its status is {status}'}")
     return status, out.decode("ascii", "replace").strip()
 
 
@@ -64,28 +63,24 @@ class Peaks(NamedTuple):
     live: int
     freed: int
 
-    def reached(self) -> list[int]:
+    def moments_of_peaks(self) -> list[int]:
         """The moments at which some class first has its most blocks, in the order of time."""
         return sorted({moment for most, moment in zip(self.most, self.moments) if most})
 
 
 def peaks(classes: list[int], text: bytes) -> Optional[Peaks]:
     """What a table comes to over a timeline; None where it does not serve a size. A class above the largest one counts as that."""
-    return peaks_of(tuple(min(each, LARGEST_CLASS) for each in classes), text)
-
-
-@functools.lru_cache(maxsize=8)
-def peaks_of(classes: Classes, text: bytes) -> Optional[Peaks]:
-    status, answer = run(["peaks"], text, list(classes))
+    status, answer = run(["peaks"], text, [min(each, LARGEST_CLASS) for each in classes])
     if status:
         return None
     most, moments, (live,), (freed,) = ([int(word) for word in line.split()[1:]] for line in answer.split("\n"))
     return Peaks(most, moments, live, freed)
 
 
-def refuse_timeline(data: bytes, name: str) -> None:
-    """Refuses a timeline at its first faulty line, which the program finds."""
-    status, _, error = program_runs.over_two(["footprint"], class_text([LARGEST_CLASS]), data)
+def refuse_timeline(data: bytes, name: str, command: str = "footprint", classes: "Classes | list[int]" = (LARGEST_CLASS,)) -> None:
+    """Refuses a timeline at its first faulty line, which the program finds: by what it says of a table, which may be asked again later."""
+    border, line = program_runs.border(class_text(list(classes)))
+    status, _, error = program_runs.answer_once((command, *border), line, data)
     if match := re.fullmatch(r"error (\d+) (\w+) line (\d+)", error):
         at = int(match[3]) - 1
         line = text_files.lines_of(data)[at - 1]
@@ -93,9 +88,8 @@ def refuse_timeline(data: bytes, name: str) -> None:
         why = count_texts.encoding(line, at) or CODES[int(match[1])].words + forms
         raise Refusal(2, f"{name}: {match[1]} {match[2]} line {at}: {why}: {text_layout.shorten_line(line)}")
     if status not in (0, 1):
-        raise Refusal(
-            2 if status == 2 else 3, f"`mte_tool footprint` of {name} failed: {error or f'its status is {status}'}"
-        )
+        raise Refusal(2 if status == 2 else 3,
+                      f"`mte_tool {command}` of {name} failed: {error or f'its status is {status}'}")
 
 
 class Interval(NamedTuple):
@@ -129,7 +123,7 @@ def over_time(kind: str, text: bytes, largest: bool, limit: int, step: int, name
     answer, claim = claims.fit_counts(text, name or f"the {kind}", (limit, step, largest), how)
     if claim.is_bound:
         fit = certificate_texts.Fit(certificate_texts.parse_class_line(answer.split("\n")[0]), limit, step, largest, claim.numbers["takes"], [], [])
-        moments = peaks(fit.classes, text).reached()
+        moments = peaks(fit.classes, text).moments_of_peaks()
     else:
         fit = certificate_texts.parse_fit(answer)
         moments = fit.moments or []
@@ -138,23 +132,27 @@ def over_time(kind: str, text: bytes, largest: bool, limit: int, step: int, name
 
 
 class Table:
-    """A class table with its score: its waste, or the least counted size that it does not serve."""
+    """A class table with its score: its WASTE, which a claim may have told, or the least counted size that it does not serve."""
 
-    def __init__(self, name: str, classes: list[int], profile: dict) -> None:
-        self.name = name
-        self.classes = classes
-        status, answer = run(["score"], count_texts.profile_text(profile), classes)
-        number = int(answer.split()[-1])
-        self.waste, self.unserved = (number, None) if status == 0 else (None, number)
+    def __init__(self, name: str, classes: list[int], profile: dict, waste: Optional[int] = None) -> None:
+        self.name, self.classes, self.waste = name, classes, waste
+        self.unserved: Optional[int] = None
+        if waste is None:
+            status, answer = run(["score"], count_texts.profile_text(profile), classes)
+            number = int(answer.split()[-1])
+            self.waste, self.unserved = (number, None) if status == 0 else (None, number)
         # over a history or a timeline whose sizes it serves: what it takes there, and over the run, of which a history may have some moments
         self.seen: Optional[int] = None
         self.footprint: Optional[int] = None
         self.is_known = ""  # how the two differ: it takes that over the run, "at least" that, or "at most"
 
-    def over(self, timed: OverTime, has_peaks: bool, is_chosen: bool) -> None:
-        """What it takes over time. By its peaks, which take longer, where these are asked for later. Of a run that is longer than its history,
-        what was counted, or what it takes at least, over the moments; the one that IS_CHOSEN takes at most what bounds it."""
-        if timed.kind == "timeline" and has_peaks:
+    def take_record(self, timed: OverTime, has_peaks: bool, is_chosen: bool) -> None:
+        """What it takes over time: of the fit's table its claim says it. By its peaks, which take longer, where these are asked for later. Of a
+        run that is longer than its history, what was counted, or what it takes at least, over the moments; the one that IS_CHOSEN takes at most
+        what bounds it."""
+        if self.classes == timed.fit.classes and (timed.claim.holds or timed.claim.is_bound):
+            self.seen = timed.fit.footprint
+        elif timed.kind == "timeline" and has_peaks:
             found = peaks(self.classes, timed.text)
             self.seen = found and sum(GRANULE * each * most for each, most in zip(self.classes, found.most))
         else:
@@ -187,7 +185,7 @@ class Figures:
             raise Refusal(3, NOTHING)
         found = certificate_texts.parse_sheet(sheet)
         claim = claims.check_certificate(sheet, count_texts.profile_text(profile).encode(), given, how, "the sheet")
-        self.best = Table(claim.table(), found.classes, profile)
+        self.best = Table(claim.table(), found.classes, profile, claim.cost if claim.holds else None)
         if self.best.waste is None:
             unserved = f"the sheet's table does not serve {self.best.unserved} bytes, which the profile counts"
             raise Refusal(2, f"{unserved}: is it the sheet of another profile?")
@@ -205,16 +203,17 @@ class Figures:
         certified = certified[::-1] if objective == "footprint" else certified
         self.claims: list[claims.Claim] = [each for _, each in certified]
         self.certificate = certified[0][0]
-        self.first, *self.rest = self.made() + self.others
+        self.first, *self.rest = self.order_made() + self.others
         self.least = self.least_by_classes()
 
     def take_fit(self, timed: OverTime, profile: dict[int, int]) -> None:
         """The table of the fit, and the footprint of each."""
-        self.fitted = Table(timed.claim.table(), timed.interval.classes if timed.interval else timed.fit.classes, profile)
+        classes = timed.interval.classes if timed.interval else timed.fit.classes
+        self.fitted = Table(timed.claim.table(), classes, profile, self.best.waste if classes == self.best.classes else None)
         for table in (self.best, self.fitted, *self.others):
-            table.over(timed, table in (self.made()[0], *self.others[:1]), table.classes == self.fitted.classes)
+            table.take_record(timed, table in (self.order_made()[0], *self.others[:1]), table.classes == self.fitted.classes)
 
-    def made(self) -> list[Table]:
+    def order_made(self) -> list[Table]:
         """The tables that were made, the first by the objective before the other one."""
         made = [table for table in (self.best, self.fitted) if table]
         return made[::-1] if self.objective == "footprint" else made
@@ -225,6 +224,8 @@ class Figures:
         words = options(MOST_CLASSES, self.certificate.step, self.certificate.forced)
         if self.objective == "waste":
             rows = certificate_texts.parse_sheet(run(["tune", *words], count_texts.profile_text(self.profile))[1]).rows
+        elif self.timed.fit.limit == MOST_CLASSES and self.timed.fit.rows:
+            rows = self.timed.fit.rows
         else:
             rows = certificate_texts.parse_fit(run(["fit", *words], count_texts.history_text(self.timed.history))[1]).rows
         return [row[0] if row else 0 for row in rows]
@@ -233,7 +234,7 @@ class Figures:
         """The waste or the footprint of a table, None where it does not serve all sizes."""
         return table.footprint if self.objective == "footprint" else table.waste
 
-    def seen(self, table: Table) -> "int | None":
+    def cost_over_record(self, table: Table) -> "int | None":
         """The same, of the footprint over what was recorded, which all tables are known over."""
         return table.seen if self.objective == "footprint" else table.waste
 
@@ -241,7 +242,7 @@ class Figures:
         """The bytes of the blocks that the counted requests take: headers, requests and waste."""
         return GRANULE * self.requests + self.bytes + table.waste
 
-    def whole(self, table: Table) -> int:
+    def base_of_share(self, table: Table) -> int:
         """Of what a saving against this table is a share."""
         return table.footprint if self.objective == "footprint" else self.blocks(table)
 
@@ -261,18 +262,19 @@ class Figures:
         is_alike = table.is_known == self.first.is_known
         return table.footprint - self.first.footprint if is_alike and None not in (table.footprint, self.first.footprint) else None
 
-    def most(self, amount: Callable[[int], int]) -> int:
+    def most_at_a_moment(self, amount: Callable[[int], int]) -> int:
         """The most of all live blocks together at a moment, each with an amount of its size."""
         if self.timed.kind == "timeline":
             return timelines.peak_of(self.timed.text, amount)[0]
-        rows = [[amount(size) * count for count in counts] for size, counts in self.timed.history.counts.items() if size != "large"]
+        amounts = {size: amount(size) for size in self.timed.history.counts.keys() - {"large"}}
+        rows = [[each * count for count in self.timed.history.counts[size]] for size, each in amounts.items() if each]
         return max(map(sum, zip(*rows)), default=0)
 
     def most_live(self, table: Table) -> int:
         """The most bytes of all its live blocks together: what it takes where each block that is freed is given back at once."""
         if self.timed.kind == "timeline":
             return peaks(table.classes, self.timed.text).live
-        return self.most(lambda size: block_of(table.classes, size))
+        return self.most_at_a_moment(lambda size: block_of(table.classes, size))
 
     def heights(self, parts: int) -> list[list[int]]:
         """The most live blocks of each class of the first table in each of so many equal parts of a timeline, or at each moment of a
@@ -315,27 +317,31 @@ class Figures:
             return (self.simulated.low + self.simulated.high) // 2
         return self.saved_in_scudo if self.timed else None
 
-    def requested(self) -> dict:
+    def count_requests(self) -> dict:
         """How often each size was requested over time; of a history, which has not all, how many blocks it has."""
         if self.timed.kind == "timeline":
             return timelines.requests_of(self.timed.text)
         return {size: sum(counts) for size, counts in self.timed.history.counts.items()}
 
-    def larger(self, other: Table) -> tuple[list[tuple[int, int, int]], int, int]:
+    def find_larger_blocks(self, other: Table) -> tuple[list[tuple[int, int, int]], int, int]:
         """The sizes that get a larger block of the first table than of the other one, as (size, block, the other block), and what that costs at
         a moment at most. Sizes that one of the two does not serve are left out."""
-        sizes = sorted(size for size in self.requested() if size != "large")
+        sizes = sorted(size for size in self.count_requests() if size != "large")
         found = {size: (block_of(self.first.classes, size), block_of(other.classes, size)) for size in sizes}
         found = {size: blocks for size, blocks in found.items() if 0 < blocks[1] < blocks[0]}
-        cost = self.most(lambda size: found[size][0] - found[size][1] if size in found else 0)
+        cost = self.most_at_a_moment(lambda size: found[size][0] - found[size][1] if size in found else 0)
         return [(size, *blocks) for size, blocks in found.items()], len(sizes), cost
 
-    def waste_over_time(self, table: Table) -> "int | None":
-        """The waste of all requests of a timeline, a sum over time; None where a size is not served, or not all requests are known."""
+    def wastes_over_time(self, other: Table) -> "list[int]":
+        """The waste of all requests of a timeline, a sum over time, of the first table and of the other one, where the first one's is more;
+        empty where it is not, one of the two does not serve a size, or not all requests are known."""
         if self.timed.kind != "timeline":
-            return None
-        requests = {size: min(times, MOST_COUNT) for size, times in self.requested().items()}
-        return Table(table.name, table.classes, requests).waste
+            return []
+        requests, tables = {size: min(times, MOST_COUNT) for size, times in self.count_requests().items()}, (self.first, other)
+        blocks = [(times, *(block_of(table.classes, size) for table in tables)) for size, times in requests.items() if size != "large"]
+        if min(map(min, blocks), default=0) == 0 or sum(times * (own - its) for times, own, its in blocks) <= 0:
+            return []  # so there is nothing to ask the program
+        return [Table(table.name, table.classes, requests).waste for table in tables]
 
     def classes(self) -> Iterator[tuple[int, int, int, int, int]]:
         """For each class of the first table: its block in bytes, the least and the greatest size it serves, and by the objective its requests
@@ -353,7 +359,7 @@ class Figures:
             yield GRANULE * granules, below + 1, most, count, cost
             below = most
 
-    def known(self) -> list[str]:
+    def state_findings(self) -> list[str]:
         """What is known of the table that is the first by the objective, and of the other one that is made."""
         return [each.sentence() for each in self.claims]
 
@@ -364,7 +370,7 @@ class Figures:
             return []
         return list(claims.interval(timed.claim, timed.interval.high, timed.interval.events))
 
-    def unheld(self) -> list[str]:
+    def state_refusals(self) -> list[str]:
         """What `check` and `check-fit` say where nothing follows."""
         return [each.sentence() for each in self.claims if not each.holds and not each.is_bound]
 

@@ -31,10 +31,8 @@ class InScudo:
         """The libraries of all allocators by their names, None for the program's own; Scudo's are built with its own table and with this one. In
         the folder PLACE each has a name of the same length."""
         own = verdict.present(program)
-        libraries: "dict[str, str | None]" = {
-            own: None,
-            **{name: file for name, file in verdict.installed_allocators().items() if name != own},
-        }
+        libraries: "dict[str, str | None]" = {own: None}
+        libraries |= {name: file for name, file in verdict.installed_allocators().items() if name != own}
         for name, file, table, words in ((verdict.DEFAULT, "default.so", None, "its own table"), (tuned, "tuned.so", classes, "this one")):
             say("tune_program", f"compiling Scudo with {words}; that takes about half a minute")
             libraries[name] = path = os.path.join(work, file)
@@ -59,7 +57,7 @@ class InScudo:
             ended = rounds.measure()
             if ended and not rounds.has_rows():
                 services.refuse_end(folder, rounds, ended)
-            rows, further = rounds.rows(), rounds.further()
+            rows, further = rounds.rows(), rounds.further_lines()
         else:
             rows, further = self.measure(libraries, tuned, path, work)
         said = f"{options.name()}: {verdict.verdict(rows, tuned)}"

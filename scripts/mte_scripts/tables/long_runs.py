@@ -70,18 +70,18 @@ class Runs:
             os.lseek(0, self.offset, os.SEEK_SET)
         with open(to, "wb") as file, open(self.given or os.devnull, "rb") as again:
             status = self.run_recorder(command, file.fileno(), again.fileno() if self.given else None)
-        measured = [line.split() for line in self.taken("measured").decode().splitlines()]
+        measured = [line.split() for line in self.take_text("measured").decode().splitlines()]
         taken = [None if value == "none" else int(value) for name, value in measured if name == "footprint"]
         found = {name: int(value) for name, value in measured if name not in ("footprint", "moment")}
         seen = tuple(int(value) for name, value in measured if name == "moment")
-        said = [line for line in self.taken("said").decode(errors="replace").splitlines() if line]
-        return RunRecord(status, said, found, dict(zip(tables, taken)), self.taken("upper"), seen)
+        said = [line for line in self.take_text("said").decode(errors="replace").splitlines() if line]
+        return RunRecord(status, said, found, dict(zip(tables, taken)), self.take_text("upper"), seen)
 
     def run_recorder(self, command: list[str], to: int, again: "int | None") -> int:
         """The status of the recorder, which runs the program; what it prints goes to a descriptor."""
         return children.run(command, signals=self.signals, stdout=to, stdin=again)
 
-    def taken(self, name: str) -> bytes:
+    def take_text(self, name: str) -> bytes:
         """The text of a file that is no longer needed, empty where there is none."""
         path = self.file(name)
         if not os.path.isfile(path):
@@ -169,7 +169,7 @@ class Spans:
             self.known[span] = max(sums), sums.index(max(sums))
         return self.known[span]
 
-    def of(self, classes: Iterable[int]) -> list[Span]:
+    def spans_of(self, classes: Iterable[int]) -> list[Span]:
         """Those that the classes of a table serve, from a need that is counted."""
         ends = list(classes)
         return [(self.floor(begin), end) for begin, end in zip([0, *ends], ends)]
@@ -187,13 +187,12 @@ def spread_tables(step: int) -> list[figures.Classes]:
     return list(dict.fromkeys(found))
 
 
-def join_spans(
-    spans: Spans, counted: dict[figures.Classes, Optional[int]], fit: certificate_texts.Fit
-) -> "tuple[int, figures.Classes]":
+def join_spans(spans: Spans, counted: dict[figures.Classes, Optional[int]],
+               fit: certificate_texts.Fit) -> "tuple[int, figures.Classes]":
     """Of the tables that join spans of tables that were counted, and may be that of this fit, the one that takes least, and what it takes over
     the run; no classes where there is none. A span's peak is in the history where its table takes there what was counted."""
-    usable = [table for table, taken in counted.items() if sum(map(spans.cost, spans.of(table))) == taken]
-    edges = {span for table in usable for span in spans.of(table) if span[1] % fit.step == 0 and spans.floor(span[1]) > span[0]}
+    usable = [table for table, taken in counted.items() if sum(map(spans.cost, spans.spans_of(table))) == taken]
+    edges = {span for table in usable for span in spans.spans_of(table) if span[1] % fit.step == 0 and spans.floor(span[1]) > span[0]}
     best: dict[Span, tuple[int, figures.Classes]] = {(0, 0): (0, ())}  # up to a need, with so many classes
     for begin, end in sorted(edges, key=operator.itemgetter(1)):
         for number in range(fit.limit):
@@ -210,7 +209,7 @@ def join_spans(
 def with_guesses(history: count_texts.History, classes: figures.Classes) -> count_texts.History:
     """A history with a snapshot more for each class of a table: its blocks at its peak, and as many more as the root of their number."""
     spans, counts = Spans(history), {size: list(each) for size, each in history.counts.items()}
-    for span in spans.of(classes):
+    for span in spans.spans_of(classes):
         peak, at = spans.peak(span)
         share, whole = 1 + 1 / math.sqrt(peak or 1), 0.0
         for size, each in counts.items():
@@ -245,16 +244,15 @@ class IntervalNarrower:
                 return timed, run._replace(notes=[*run.notes, f"The bounds of the footprint differ by more than 1%: {why}."])
             made = self.with_tables(made, timed, run)
             say("tune_program", f"run {self.runs.number} is too long for a timeline, and is made again to count what a table takes over it")
-            again = self.runs.record([f"--windows={WINDOWS}"], [*self.others, *made], self.runs.file("history"), self.held(run.moments))
+            again = self.runs.record([f"--windows={WINDOWS}"], [*self.others, *made], self.runs.file("history"), self.choose_moments(run.moments))
             if again.status or self.runs.signals:
-                return self.kept(timed, run)
-            lower = self.runs.taken("history")
+                return self.keep_earlier(timed, run)
+            lower = self.runs.take_text("history")
             run = with_difference(again, run, self.runs.number)
-            self.take(lower, self.runs.taken("peak"))
+            self.take(lower, self.runs.take_text("peak"))
 
-    def with_tables(
-        self, made: list[figures.Classes], timed: figures.OverTime, run: RunRecord
-    ) -> list[figures.Classes]:
+    def with_tables(self, made: list[figures.Classes], timed: figures.OverTime,
+                    run: RunRecord) -> list[figures.Classes]:
         """The tables to count next: that of the fit; what would be fitted next if each class of those before had some more blocks than are seen;
         and those of fewer classes and of the upper history. The peaks of their classes are in the next lower history."""
         history, found = by_need(timed.history), [tuple(timed.fit.classes)]
@@ -263,12 +261,12 @@ class IntervalNarrower:
             history = with_guesses(history, found[-1])
             found.append(tuple(self.fit(count_texts.history_text(history).encode(), 0).fit.classes))
         if len(run.moments) == spans.snapshots:
-            self.needed |= {run.moments[spans.peak(span)[1]] for table in found for span in spans.of(table)}
+            self.needed |= {run.moments[spans.peak(span)[1]] for table in found for span in spans.spans_of(table)}
         more = [(run.upper, 0), *[(timed.text, len(found[0]) * 3 // 4)] * (len(found[0]) > 2)]
         found += [tuple(self.fit(text, limit).fit.classes) for text, limit in more]
         return list(dict.fromkeys([*made, *reversed(found)]))[-MOST_MADE:]
 
-    def held(self, moments: tuple[int, ...]) -> list[int]:
+    def choose_moments(self, moments: tuple[int, ...]) -> list[int]:
         """The moments of a run that the next one is to have: those that a fit needs, and of the others as many as there is room for."""
         needed = [each for each in moments if each in self.needed]
         others = [each for each in moments if each not in self.needed]
@@ -276,7 +274,7 @@ class IntervalNarrower:
         spread = others if len(others) <= room else [others[at * len(others) // room] for at in range(max(room, 0))]
         return sorted([*needed[-MOST_HELD:], *spread])
 
-    def kept(self, timed: figures.OverTime, run: RunRecord) -> tuple[figures.OverTime, RunRecord]:
+    def keep_earlier(self, timed: figures.OverTime, run: RunRecord) -> tuple[figures.OverTime, RunRecord]:
         """What there was, where another run failed."""
         note = f"Run {self.runs.number} ended otherwise: what is said is of the one before."
         return timed, run._replace(notes=[*run.notes, note])
@@ -317,11 +315,10 @@ def count(options: Any, folder: Any, runs: Runs, others: list) -> RunRecord:
     if found.status not in (0, 1):
         # it said why on standard error itself
         kept = f"; what it wrote is in {shown}" if os.path.exists(printed) and os.path.getsize(printed) else ""
-        raise Refusal(
-            2 if found.status == 2 else 3, f"there is no profile of {options.name()}, and nothing to tune{kept}"
-        )
+        raise Refusal(2 if found.status == 2 else 3,
+                      f"there is no profile of {options.name()}, and nothing to tune{kept}")
     if not options.all:
-        folder.write("program.profile", runs.taken("peak"))
+        folder.write("program.profile", runs.take_text("peak"))
     return found
 
 

@@ -22,7 +22,7 @@ class Program(NamedTuple):
     resident: int
     name: str
 
-    def said(self) -> str:
+    def describe_processes(self) -> str:
         peak = f", {byte_text(self.resident)} at most" if self.resident else ""
         times = f" in {self.processes:,} processes" if self.processes > 1 else ""
         return f"{self.name}: {count_text(self.requests, 'request')}{times}{peak}"
@@ -52,10 +52,9 @@ def other_program(text: str, words: list[str], remedy: str) -> Optional[str]:
         return None
     if largest.requests * NEARLY > whole * (NEARLY - 1):
         return None if largest is found[0] else largest.name
-    listed = "; ".join(each.said() for each in sorted(found, key=lambda each: -each.requests))
-    raise Refusal(
-        3, f"{words[0]} ran more than one program, and none has nine tenths of the requests: {remedy}. {listed}"
-    )
+    listed = "; ".join(each.describe_processes() for each in sorted(found, key=lambda each: -each.requests))
+    raise Refusal(3,
+                  f"{words[0]} ran more than one program, and none has nine tenths of the requests: {remedy}. {listed}")
 
 
 def counted_program(text: str, others: int, only: Optional[str], is_followed: bool = True) -> Optional[str]:
@@ -69,5 +68,5 @@ def counted_program(text: str, others: int, only: Optional[str], is_followed: bo
     return largest.name if largest is not found[0] and largest.requests * NEARLY > whole * (NEARLY - 1) else ""
 
 
-def most(name: str) -> str:
+def tell_most(name: str) -> str:
     return f"{name} makes nearly all requests, and not the process that was started first"

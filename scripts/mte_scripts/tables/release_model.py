@@ -10,12 +10,10 @@ the first or any block of the size goes. What is predicted is wider at both ends
 
 import os
 import re
-import subprocess
 from collections.abc import Iterable
-from concurrent.futures import ThreadPoolExecutor
 from typing import NamedTuple, Optional
 
-from mte_scripts import count_texts, private_folder
+from mte_scripts import count_texts, private_folder, program_runs
 from mte_scripts.entry_point import Refusal
 from mte_scripts.formats import LARGEST_CLASS
 from mte_scripts.recording import recording
@@ -92,28 +90,29 @@ def interval_asked_for() -> int:
     return max(int(given[-1]), -1) if given else USUAL_INTERVAL
 
 
-def simulate(program: str, record: bytes, of: Map, interval: int, order: str = "", share: int = SHARES[0]) -> int:
-    """The bytes that Scudo has resident at most with a map, where this SHARE of each block is written; by a record
-    of blocks, or by a timeline, of which ORDER says what is freed."""
-    numbers, table = (interval, of.most_kept, of.bytes_log, share), ",".join(map(str, of.classes))
-    words = [program, *map(str, numbers), table, *([order] if order else [])]
-    done = subprocess.run(words, input=record, capture_output=True)
+def simulate(program: str, record: bytes, maps: "list[Map]", interval: int, orders: "tuple[str, ...]" = (),
+             shares: "tuple[int, ...]" = SHARES) -> "list[list[int]]":
+    """The bytes that Scudo has resident at most: for each of these ORDERS, if there are any, and for each map a number for
+    each share of the blocks that is written. By a record of blocks, or by a timeline, of which the order says what is freed."""
+    tables = [f"{each.most_kept}:{each.bytes_log}:{','.join(map(str, each.classes))}" for each in maps]
+    words = [program, str(interval), ",".join(map(str, shares)), *tables, *orders]
+    done = program_runs.run_over(words, program, record)
     if done.returncode:
-        why = done.stderr.decode(errors="replace").strip() or "it was ended"
+        why = done.stderr.decode(errors="replace").split("\n")[0] or "it was ended"
         raise Refusal(3, f"Scudo could not be simulated: {why}")
-    return 1024 * int(done.stdout)
+    return [[1024 * int(word) for word in line.split()] for line in done.stdout.splitlines()]
 
 
 def saving(record: bytes, tables: "tuple[list[int], list[int], list[int]]", interval: int) -> Saving:
     """What a table saves by a record of blocks or a timeline. TABLES are Scudo's default, that of the map, and
     Android's."""
-    default, tuned, android = default_map(tables[0]), tuned_map(tables[1]), android_map(tables[2])
-    orders = ORDERS if count_texts.is_timeline(record) else ("",)
-    maps = [default, tuned] if len(orders) > 1 else [default, tuned, android]
-    runs = [(each, order, share) for order in orders for share in SHARES for each in maps]
-    with private_folder.temporary_folder() as work, ThreadPoolExecutor(os.cpu_count()) as pool:
-        program = recording.make("release_model", work)
-        found = list(pool.map(lambda run: simulate(program, record, run[0], interval, *run[1:]), runs))
-    firsts = range(0, len(found), len(maps))
-    saved, by_android = ([found[at] - found[at + table] for at in firsts] for table in (1, len(maps) - 1))
-    return Saving(min(saved), max(saved), None if len(orders) > 1 else (min(by_android), max(by_android)), interval)
+    is_timeline, maps = count_texts.is_timeline(record), [default_map(tables[0]), tuned_map(tables[1])]
+    maps += [] if is_timeline else [android_map(tables[2])]
+    with private_folder.temporary_folder() as work:
+        found = simulate(recording.make("release_model", work), record, maps, interval, ORDERS if is_timeline else ())
+    ends = []
+    for table in range(1, len(maps)):
+        pairs = zip(found[:: len(maps)], found[table :: len(maps)])
+        saved = [one - other for default, its in pairs for one, other in zip(default, its)]
+        ends.append((min(saved), max(saved)))
+    return Saving(*ends[0], None if is_timeline else ends[1], interval)

@@ -2,7 +2,6 @@
 
 import contextlib
 import os
-import stat
 from collections.abc import Iterator
 from typing import Any, NamedTuple
 
@@ -21,16 +20,13 @@ class Folder:
         kept = next((name for name in KEPT if os.path.isfile(os.path.join(path, name))), None)
         if kept:
             again = f"--read {shell_words.path_word(os.path.join(path, kept))} --output ANOTHER"
-            raise Refusal(
-                3,
-                f"{path} is there already: name another folder by --output, or tune its record again, without a run: "
-                f"{again}",
-            )
+            raise Refusal(3, f"{path} is there already: name another folder by --output, or tune its record again, "
+                             f"without a run: {again}")
         self.place = text_files.new_folder(path, "--output")
         self.path = path
 
     @classmethod
-    def numbered(cls, path: str) -> "Folder":
+    def make_numbered(cls, path: str) -> "Folder":
         """The folder that nobody named: where it is there already, one with the first number that is free."""
         for number in range(1, MOST_FOLDERS + 1):
             numbered = path if number == 1 else f"{path}.{number}"
@@ -76,21 +72,11 @@ class Folder:
             pass  # there is something in it
 
 
-def is_open_to_all(path: str) -> bool:
-    """Whether every user can come to a folder."""
-    path, below = os.path.realpath(path), ""
-    while path != below:
-        if not os.stat(path).st_mode & stat.S_IXOTH:
-            return False
-        path, below = os.path.dirname(path), path
-    return True
-
-
 def shared_folder() -> private_folder.Folder:
     """A new folder for what a server reads, which may change its user: every user can go through it, and nobody else list or change it."""
     for where in dict.fromkeys((os.environ.get("TMPDIR") or "/tmp", "/tmp", "/var/tmp", "/dev/shm")):
         with contextlib.suppress(NotPrivate, OSError):
-            if is_open_to_all(where):
+            if not private_folder.first_closed(where):
                 return private_folder.new_folder(private_folder.open_folder(where))
     raise Refusal(3, "there is no folder for libraries that every user can read: set TMPDIR to one")
 
@@ -106,7 +92,7 @@ class Folders(NamedTuple):
 @contextlib.contextmanager
 def open_folders(options: Any) -> "Iterator[Folders]":
     """Those of the options of tune_program."""
-    new = Folder(options.output) if options.output else Folder.numbered(options.name() + ".tuned")
+    new = Folder(options.output) if options.output else Folder.make_numbered(options.name() + ".tuned")
     with private_folder.temporary_folder() as work:
         if options.load is None:
             yield Folders(new, work, work)

@@ -48,20 +48,19 @@ def record_program(plan: Plan, folders: Folders, runs: long_runs.Runs) -> Record
         runs.words = [*(word for kind in kinds for word in (f"--{kind}", runs.file(kind))), *words]
         with services.watch(options):
             run = long_runs.count(options, folders.new, runs, plan.others)
-        runs.words, stacks = words, runs.taken("stacks")
-        run = run._replace(blocks=runs.taken("blocks"))
-        started = runs.taken("processes").decode(errors="surrogateescape")
+        runs.words, stacks = words, runs.take_text("stacks")
+        run = run._replace(blocks=runs.take_text("blocks"))
+        started = runs.take_text("processes").decode(errors="surrogateescape")
         if (name := other_program(started, options, folders)) is None:
             break
         folders.new.drop_record()
         if why := runs.why_not(run, long_runs.MOST_RUNS):
-            raise Refusal(
-                3, f"{processes.most(name)}; that is not run again, since {why}: {services.remedy(options, name)}"
-            )
-        say("tune_program", f"{processes.most(name)}: it is run again for that, as with --only {name}")
-        options, words = options.changed(only=name), ["--only", name, *words]
+            raise Refusal(3, f"{processes.tell_most(name)}; that is not run again, since {why}: "
+                             f"{services.remedy(options, name)}")
+        say("tune_program", f"{processes.tell_most(name)}: it is run again for that, as with --only {name}")
+        options, words = options.with_values(only=name), ["--only", name, *words]
     if not options.only:
-        options = options.changed(ran=processes.last_program(started, options.words))
+        options = options.with_values(ran=processes.last_program(started, options.words))
     if not options.who:
         return Record(options, run, runs)
     if run.upper or not stacks:

@@ -35,7 +35,9 @@ def cut(block: int, blocks: int) -> tuple[int, int]:
         needed = (before + at_once) * block
         if needed > mapped:
             mapped += -(-(needed - mapped) // MAPPED) * MAPPED
-        last = min(SETS * at_once, mapped // block - before)
+        left, most = mapped // block - before, SETS * at_once
+        before += most * max(min(left // most, -(-(blocks - begin - before) // most)) - 1, 0)  # sets of that size
+        last = min(most, mapped // block - before)
     return begin + before, last
 
 

@@ -152,17 +152,14 @@ class ServiceRun:
             now = time.monotonic()
             if now - begin > READY:
                 remedy = "" if self.server.ready else "; say by --ready PORT, --ready /REGEX/ or --ready 'CMD' when it is ready"
-                raise Refusal(
-                    3,
-                    f"{self.name} is not ready after {READY} s: waited for "
-                    f"{self.awaited()}{last_line(self.log)}{remedy}",
-                )
+                raise Refusal(3, f"{self.name} is not ready after {READY} s: waited for "
+                                 f"{self.awaited_sign()}{last_line(self.log)}{remedy}")
             if now - told > 5:
                 told = now
-                say("tune_program", f"waiting for {self.name}: {self.awaited()}; {READY - (now - begin):.0f} s are left")
+                say("tune_program", f"waiting for {self.name}: {self.awaited_sign()}; {READY - (now - begin):.0f} s are left")
             time.sleep(LOOKS)
 
-    def awaited(self) -> str:
+    def awaited_sign(self) -> str:
         """What says that the server is ready."""
         ready = self.server.ready
         if ready is None:
@@ -249,11 +246,8 @@ class ServiceRun:
         maps = process_tree.read_of(largest, "maps")
         if maps and os.fsencode(os.path.basename(library)) not in maps:
             why = "is it static or set-user-id, or is its environment cleared before it?"
-            raise Refusal(
-                3,
-                f"{process_tree.name_of(largest)} of the server does not load {os.path.basename(library)} by "
-                f"LD_PRELOAD: {why}",
-            )
+            raise Refusal(3, f"{process_tree.name_of(largest)} of the server does not load {os.path.basename(library)} "
+                             f"by LD_PRELOAD: {why}")
 
     def begin(self) -> None:
         """Starts the server, and waits until it is ready."""

@@ -5,15 +5,13 @@ import os
 import random
 import re
 import signal
-import statistics
-import threading
 import time
-from collections.abc import Iterator, Sequence
+from statistics import median
 from typing import Any, NoReturn, Optional
 
 from mte_scripts import private_folder, text_files, text_layout
 from mte_scripts.entry_point import Refusal, say
-from mte_scripts.recording import profile_program, programs
+from mte_scripts.recording import children, programs, recording
 from mte_scripts.tables import long_runs, process_tree, processes, service_runs, verdict, verification
 from mte_scripts.tables.figures import kibibytes
 from mte_scripts.tables.result_folder import Folder, Folders
@@ -66,29 +64,17 @@ def remedy(options: Any, name: str = "NAME") -> str:
     return f"--verify measures one program, so name {'that' if name == 'NAME' else name} alone; {hint('redis-server')}"
 
 
-@contextlib.contextmanager
-def watch(options: Any) -> "Iterator[None]":
+def watch(options: Any) -> "contextlib.AbstractContextManager[None]":
     """While a program is recorded that is to be measured without a load: says at once if it is a server."""
-    if options.verify is None or options.load is not None:
-        yield
-        return
-    end = threading.Event()
+    def look() -> bool:
+        pid, place = process_tree.listening_place(process_tree.descendants())
+        if is_port := place.startswith("port"):
+            name = process_tree.name_of(pid)
+            say("tune_program", f"{name} listens on {place}: {hint(name)}; Ctrl-C ends this one")
+        return is_port
 
-    def look() -> None:
-        while not end.wait(LOOKS):
-            pid, place = process_tree.listening_place(process_tree.descendants())
-            if place.startswith("port"):
-                name = process_tree.name_of(pid)
-                say("tune_program", f"{name} listens on {place}: {hint(name)}; Ctrl-C ends this one")
-                break
-
-    watcher = threading.Thread(target=look, daemon=True)
-    watcher.start()
-    try:
-        yield
-    finally:
-        end.set()
-        watcher.join()
+    is_watched = options.verify is not None and options.load is None
+    return children.call_each(LOOKS, look) if is_watched else contextlib.nullcontext()
 
 
 def refuse_ended(options: Any, runs: "long_runs.Runs | None") -> None:
@@ -109,7 +95,9 @@ class ServiceRuns(long_runs.Runs):
         super().__init__([*only, *["--as-scudo"] * (not options.all), "--follow", self.stream], work, os.devnull)
 
     def run_recorder(self, command: "list[str]", to: int, again: "int | None") -> int:
-        library = profile_program.install_library(profile_program.recording.make("stream", self.work), self.shared.path)
+        from mte_scripts.recording import profile_program  # it takes its time, which other runs are spared
+
+        library = profile_program.install_library(recording.make("stream", self.work), self.shared.path)
         say("tune_program", f"recording {self.server.words[0]} under its load")
         return process_tree.in_process(lambda: self.record_run(command, to, library))
 
@@ -154,14 +142,14 @@ def count(options: Any, folders: Folders, others: list) -> "tuple[Any, long_runs
         words = runs.words
         beside = [] if options.all else ["--processes", runs.file("processes"), "--blocks", runs.file("blocks")]
         runs.words = [*beside, *words]
-        recorded, runs.words, blocks = record_once(options, folder, runs, others), words, runs.taken("blocks")
-        name, started = None, os.fsdecode(runs.taken("processes"))
+        recorded, runs.words, blocks = record_once(options, folder, runs, others), words, runs.take_text("blocks")
+        name, started = None, os.fsdecode(runs.take_text("processes"))
         if not options.all:
             rest = recorded.measured.get("others", 0) if recorded else 0
             name = processes.counted_program(started, rest, options.only, recorded is not None)
         if name is None and recorded:
             if started and not options.only:
-                options = options.changed(ran=processes.last_program(started, options.words))
+                options = options.with_values(ran=processes.last_program(started, options.words))
             has = f"{options.name()} has"
             notes = [re.sub("^the service has", lambda _: has, note) for note in recorded.notes]
             return options, recorded._replace(notes=notes, blocks=blocks), runs
@@ -169,13 +157,13 @@ def count(options: Any, folders: Folders, others: list) -> "tuple[Any, long_runs
         if name is None:
             raise Refusal(3, f"there is no profile of {options.words[0]}{service_runs.last_line(runs.recorder_log)}")
         if name:
-            say("tune_program", f"{processes.most(name)}: it is recorded again for that, as with --only {name}")
-            options = options.changed(only=name)
+            say("tune_program", f"{processes.tell_most(name)}: it is recorded again for that, as with --only {name}")
+            options = options.with_values(only=name)
         else:
             say("tune_program", "its processes share the requests: it is recorded again for all requests of all of them, as with --all")
             if options.objective == "footprint" and options.is_objective_given:
                 raise Refusal(3, "of several processes there is no footprint: take --objective waste")
-            options = options.changed(all=True, objective="waste")
+            options = options.with_values(all=True, objective="waste")
 
 
 def record_once(options: Any, folder: Folder, runs: ServiceRuns, others: list) -> "long_runs.RunRecord | None":
@@ -224,11 +212,8 @@ class Rounds:
         if reading.failed and name == first:
             raise Refusal(3, reading.failed)
         if self.server.measure and reading.number is None and not reading.failed:
-            raise Refusal(
-                3,
-                f"the load printed no number that --measure `{self.server.measure}` "
-                f"finds{service_runs.last_line(run.load_log)}",
-            )
+            raise Refusal(3, f"the load printed no number that --measure `{self.server.measure}` "
+                             f"finds{service_runs.last_line(run.load_log)}")
         if reading.killed and self.takes > service_runs.SHORT_END:
             self.takes = service_runs.SHORT_END
             say("tune_program", f"it did not end by --stop {self.server.stop}, and was killed: so are the next ones after {self.takes:.0f} s")
@@ -260,7 +245,7 @@ class Rounds:
             found.append(verdict.Row(name, peaks, times, sum(bool(each.failed) for each in readings)))
         return found
 
-    def further(self) -> "list[str]":
+    def further_lines(self) -> "list[str]":
         """What else was measured, and in which way."""
         several = self.is_several()
         how = "of all processes together what is no file and no shared memory, sampled" if several else "the resident set, as Linux counts it"
@@ -277,13 +262,9 @@ class Rounds:
             sets = [[each.loaded[0] for each in readings], [each.loaded[1] for each in readings], [each.idle[0] for each in readings],
                     [each.idle[1] for each in readings]]
             numbers = [each.number for each in readings if each.number is not None]
-            number = f"{middle(numbers):,.6g}" if numbers else ""
-            rows.append((name, *(f"{int(middle(each)) // 1024:,}" for each in sets), f"{middle([each.load for each in readings]):.2f}", number))
+            number = f"{median(numbers):,.6g}" if numbers else ""
+            rows.append((name, *(f"{int(median(each)) // 1024:,}" for each in sets), f"{median(each.load for each in readings):.2f}", number))
         return text_layout.columns(rows, most=80)
-
-
-def middle(values: "Sequence[float]") -> float:
-    return statistics.median(values)
 
 
 def measured_text(reading: Measurement) -> str:

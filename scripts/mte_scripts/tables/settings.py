@@ -1,11 +1,10 @@
 """What Scudo's own settings do to a program, with its default table and with a tuned one: measured beside the verdict where it is asked for."""
 
-import random
+import itertools
 import statistics
 from typing import NamedTuple, Optional
 
 from mte_scripts import text_layout
-from mte_scripts.entry_point import say
 from mte_scripts.tables import verdict, verification
 
 AS_IT_IS = "as it is"
@@ -28,28 +27,19 @@ class Measurement(NamedTuple):
     is_strange: bool
 
 
-def measure_settings(
-    runner: str, words: list, path: str, libraries: list[str], given: Optional[str]
-) -> dict[tuple[str, str], Measurement]:
-    """Runs the program some times with each setting and each library, each round in a random order."""
-    order, found = random.Random(verdict.SEED), {(setting, library): list[verification.Run]() for setting in SETTINGS for library in libraries}
+def measure_settings(runner: str, words: list, path: str, libraries: list[str],
+                     given: Optional[str]) -> dict[tuple[str, str], Measurement]:
+    """Runs the program some times with each setting and each library."""
     most = max(map(len, SETTINGS.values()))
-    for made in range(verdict.RUNS):
-        say("tune_program", f"round {made + 1} of {verdict.RUNS}: {words[0]} with {len(SETTINGS)} settings of Scudo")
-        for setting, library in order.sample(sorted(found), len(found)):
-            scudo_options = SETTINGS[setting].ljust(most, ":")  # equally long, and Scudo skips colons
-            found[setting, library].append(
-                verification.run_once(runner, words, path, library, given, scudo_options, libraries)
-            )
+
+    def run(how: "tuple[str, str]") -> verification.Run:
+        scudo_options = SETTINGS[how[0]].ljust(most, ":")  # equally long, and Scudo skips colons
+        return verification.run_once(runner, words, path, how[1], given, scudo_options, libraries)
+
+    found = verdict.run_rounds(itertools.product(SETTINGS, libraries), run, f"{words[0]} with {len(SETTINGS)} settings of Scudo")
     usual = {run.status for library in libraries for run in found[AS_IT_IS, library]}
-    return {
-        each: Measurement(
-            int(statistics.median(run.peak for run in runs)),
-            statistics.median(run.spent for run in runs),
-            any(run.status not in usual for run in runs),
-        )
-        for each, runs in found.items()
-    }
+    return {each: Measurement(int(statistics.median(run.peak for run in runs)), statistics.median(run.spent for run in runs),
+                              any(run.status not in usual for run in runs)) for each, runs in found.items()}
 
 
 def lines(rows: dict[tuple[str, str], Measurement], libraries: list[str]) -> list[str]:
@@ -62,7 +52,5 @@ def lines(rows: dict[tuple[str, str], Measurement], libraries: list[str]) -> lis
             row += [f"{one.peak // 1024:,}", "" if setting == AS_IT_IS else f"{100 * (one.peak / usual.peak - 1):+.1f}%", f"{one.time:.2f}"]
         cells.append((setting, *row))
     strange = [setting for setting in SETTINGS if any(rows[setting, library].is_strange for library in libraries)]
-    return [
-        *text_layout.columns(cells, most=80),
-        *(line for setting in strange for line in text_layout.wrap_text(f"! With {setting} the program ended otherwise.")),
-    ]
+    said = [text_layout.wrap_text(f"! With {setting} the program ended otherwise.") for setting in strange]
+    return [*text_layout.columns(cells, most=80), *itertools.chain(*said)]

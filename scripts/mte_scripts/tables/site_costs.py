@@ -72,7 +72,7 @@ class Part(NamedTuple):
     blocks: int
     block: int  # bytes
 
-    def taken(self) -> int:
+    def bytes_taken(self) -> int:
         return self.blocks * self.block
 
 
@@ -95,7 +95,7 @@ class WhatIf(NamedTuple):
     claims: "tuple[claims.Claim, Optional[claims.Claim]]"
     kept: Optional[Fewer]
 
-    def said(self) -> str:
+    def state_saving(self) -> str:
         made, kept = self.made, self.kept
         text = claims.place_cost(*self.claims, self.place, self.size, self.blocks, made.block, made.fewer)
         if kept and (saved := claims.saving(kept.saved)):
@@ -135,19 +135,16 @@ class SiteCosts:
     def __init__(self, run: Run, timed: figures.OverTime) -> None:
         self.run, self.timed = run, timed
         fit = timed.fit
-        self.parts = at_peaks(run, fit.classes, sorted(set(fit.moments or figures.peaks(fit.classes, timed.text).reached())))
-        self.footprint = sum(part.taken() for part in self.parts)
+        self.parts = at_peaks(run, fit.classes, sorted(set(fit.moments or figures.peaks(fit.classes, timed.text).moments_of_peaks())))
+        self.footprint = sum(part.bytes_taken() for part in self.parts)
         if timed.claim.holds and self.footprint != fit.footprint:
-            raise Refusal(
-                3,
-                f"the stacks are of another run: the blocks at the peaks take {self.footprint:,} bytes, not "
-                f"{fit.footprint:,}",
-            )
+            raise Refusal(3, f"the stacks are of another run: the blocks at the peaks take {self.footprint:,} bytes, "
+                             f"not {fit.footprint:,}")
         self.stacks = run.frames([part.site for part in self.parts])
         self.handing = self.find_handing()
         self.kept = certificate_texts.class_line(os.path.join(EXAMPLES, KEPT_FILE))
         self.kept_takes = figures.footprint(self.kept, timed.text)
-        self.what_ifs = sorted(self.tried(), key=lambda each: -(each.made.saved or 0))
+        self.what_ifs = sorted(self.try_changes(), key=lambda each: -(each.made.saved or 0))
 
     def hands_on(self, function: str) -> bool:
         return function in self.handing or bool(HANDS_ON.search(function))
@@ -177,9 +174,9 @@ class SiteCosts:
         found = defaultdict[str, list](list)
         for part in self.parts:
             found[self.place(self.stacks[part.site])].append(part)
-        return sorted(found.items(), key=lambda pair: (-sum(part.taken() for part in pair[1]), pair[0]))
+        return sorted(found.items(), key=lambda pair: (-sum(part.bytes_taken() for part in pair[1]), pair[0]))
 
-    def tried(self) -> "list[WhatIf]":
+    def try_changes(self) -> "list[WhatIf]":
         """The places and sizes with the most blocks, each with a second fit."""
         blocks_of, block_of = Counter[tuple[str, int]](), dict[tuple[str, int], int]()
         for part in self.parts:
@@ -194,7 +191,7 @@ class SiteCosts:
         keys = {site: (self.place(stack), self.run.sizes[site]) for site, stack in others.items()}  # also of those that were not live then
         self.lettered = timeline_of(self.run, {site: self.letters[key] for site, key in keys.items() if key in self.letters})
         made = [(key, key[1] - granule_of(key[1])) for key, _ in able]
-        kept = [(key, below) for key, _ in able if (below := self.below(key[1]))]
+        kept = [(key, below) for key, _ in able if (below := self.size_below(key[1]))]
         import multiprocessing  # the two take longer to import than a refusal of words
         from concurrent.futures import ProcessPoolExecutor
 
@@ -202,26 +199,18 @@ class SiteCosts:
             second, saved = list(workers.map(claim_of_worker, made)), iter(list(workers.map(saving_of_worker, kept)))
         found = []
         for ((place, size), blocks), each in zip(able, second):
-            below, both = self.below(size), (self.timed.claim, each)
+            below, both = self.size_below(size), (self.timed.claim, each)
             kept_ = Fewer(figures.block_of(self.kept, size), size - below, next(saved)) if below else None
-            found.append(
-                WhatIf(
-                    place,
-                    size,
-                    blocks,
-                    Fewer(block_of[place, size], granule_of(size), claims.saved_bytes(*both)),
-                    both,
-                    kept_,
-                )
-            )
+            found.append(WhatIf(place, size, blocks,
+                                Fewer(block_of[place, size], granule_of(size), claims.saved_bytes(*both)), both, kept_))
         return found
 
-    def below(self, size: int) -> int:
+    def size_below(self, size: int) -> int:
         """The most bytes that a smaller class of the table that stays serves; 0 where there is none, or it does not serve this size."""
         at = bisect.bisect_left(self.kept, timelines.need_of(size))
         return GRANULE * (self.kept[at - 1] - 1) if 0 < at < len(self.kept) and self.kept_takes is not None else 0
 
-    def changed(self, change: "tuple[tuple[str, int], int]") -> bytes:
+    def changed_timeline(self, change: "tuple[tuple[str, int], int]") -> bytes:
         """The run where this place requests another size."""
         changed, size = change
         text = self.lettered
@@ -233,18 +222,15 @@ class SiteCosts:
         """What is claimed of the fit of that run; None where that of the run itself has no certificate."""
         fit, first = self.timed.fit, self.timed.claim
         how = claim_words.how("changed")
-        return (
-            claims.fit_counts(self.changed(change), first.name, (fit.limit, fit.step, fit.forced), how)[1]
-            if first.holds
-            else None
-        )
+        return (claims.fit_counts(self.changed_timeline(change), first.name, (fit.limit, fit.step, fit.forced), how)[1]
+                if first.holds else None)
 
     def saved_by(self, change: "tuple[tuple[str, int], int]") -> Optional[int]:
         """By how many bytes the table that stays takes less over that run."""
-        takes = figures.footprint(self.kept, self.changed(change))
+        takes = figures.footprint(self.kept, self.changed_timeline(change))
         return None if takes is None or self.kept_takes is None else self.kept_takes - takes
 
-    def lost(self, part: Part) -> int:
+    def bytes_lost(self, part: Part) -> int:
         """The bytes that rounding loses."""
         return part.blocks * (part.block - GRANULE - self.run.sizes[part.site])
 
@@ -252,7 +238,7 @@ class SiteCosts:
         """The bytes of each stack, the outermost call first, that its blocks take, and that they lose."""
         said = functools.lru_cache(maxsize=None)(str)  # each once, of the calls of all stacks
         stacks = {site: (*map(said, reversed(stack)), f"{number(self.run.sizes[site])} bytes") for site, stack in self.stacks.items()}
-        kinds = (("footprint", Part.taken), ("lost by rounding", self.lost))
+        kinds = (("footprint", Part.bytes_taken), ("lost by rounding", self.bytes_lost))
         return {kind: [(stacks[part.site], weight) for part in self.parts if (weight := of(part)) > 0] for kind, of in kinds}
 
     def rows(self) -> Iterator[tuple]:
@@ -262,19 +248,17 @@ class SiteCosts:
             for part in parts:
                 sizes[self.run.sizes[part.site]] += part.blocks
             size, times = sizes.most_common(1)[0]
-            blocks, taken = sum(sizes.values()), sum(part.taken() for part in parts)
+            blocks, taken = sum(sizes.values()), sum(part.bytes_taken() for part in parts)
             said = number(size) if len(sizes) == 1 else f"{100 * times // blocks}% {number(size)}"
-            yield kibibytes(taken), percent(taken, self.footprint), kibibytes(sum(map(self.lost, parts))), number(blocks), said, place
+            yield kibibytes(taken), percent(taken, self.footprint), kibibytes(sum(map(self.bytes_lost, parts))), number(blocks), said, place
 
-    def unsure(self) -> str:
+    def note_unsure(self) -> str:
         """What may be wrong of the places."""
         if not self.run.unsure:
             return ""
         objects = claim_words.join_words(sorted(self.run.unsure))
-        return (
-            f"addr2line does not read all debug symbols of DWARF 5 right: in {objects} a file may be wrong, or a caller left out. "
-            "Install llvm-addr2line (of Debian's package llvm), or build with -gdwarf-4."
-        )
+        return (f"addr2line does not read all debug symbols of DWARF 5 right: in {objects} a file may be wrong, or a "
+                "caller left out. Install llvm-addr2line (of Debian's package llvm), or build with -gdwarf-4.")
 
     def input(self) -> str:
         return claims.who_input(self.timed.claim)
@@ -286,18 +270,15 @@ class SiteCosts:
         lines = text_layout.wrap_text(self.lead())
         lines += ["", *(f"{line}  {place}" for line, place in zip(text_layout.columns(rows, left=10), places)), ""]
         for each in self.what_ifs:
-            lines += text_layout.wrap_text(f"- {each.said()}", indent="  ")
-        return "".join(
-            f"{printable(line)}\n"
-            for line in lines + text_layout.wrap_text(self.unsure()) + text_layout.wrap_text(self.input())
-        )
+            lines += text_layout.wrap_text(f"- {each.state_saving()}", indent="  ")
+        return "".join(f"{printable(line)}\n"
+                       for line in lines + text_layout.wrap_text(self.note_unsure()) + text_layout.wrap_text(self.input()))
 
     def lead(self) -> str:
-        lost = sum(map(self.lost, self.parts))
-        return (
-            f"The footprint of {kibibytes(self.footprint)} by the places that request it, each class at the moment of its most blocks. "
-            f"{kibibytes(lost)} of it, {percent(lost, self.footprint)}, are lost by rounding. A place is the innermost call that hands no request on."
-        )
+        lost = sum(map(self.bytes_lost, self.parts))
+        return (f"The footprint of {kibibytes(self.footprint)} by the places that request it, each class at the moment "
+                f"of its most blocks. {kibibytes(lost)} of it, {percent(lost, self.footprint)}, are lost by rounding. "
+                "A place is the innermost call that hands no request on.")
 
     def files(self, name: str) -> "dict[str, str]":
         """The text, the flame graphs, and the file for speedscope."""

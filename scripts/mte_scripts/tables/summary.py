@@ -14,21 +14,14 @@ from mte_scripts.tables.result_folder import Folder
 from mte_scripts.text_layout import wrap_text
 
 WIDTH, HEIGHT = 80, 24
-FILES = [
-    ("program.profile", "what was counted"),
-    ("tuned.sheet", "table, certificate"),
-    ("tuned_map.inc", "the table for Scudo"),
-    ("program.timeline", "what was recorded"),
-    ("program.history", "blocks over time"),
-    ("upper.history", "most of each window"),
-    ("fitted.fit", "table, certificate"),
-    ("moments.history", "the fit's moments"),
-    ("claims.txt", "what is shown"),
-    ("who.txt", "who requests it"),
-    ("waste.svg", "waste by classes"),
-    ("report.html", "all of it as a page"),
-    ("summary.txt", "this summary"),
-]
+FOOTPRINT_LEGEND = ("Footprint: the most memory of the classes over time; the first table saves so much of it. Waste: the "
+                    "share of the blocks live at the peak that rounding loses.")
+FILES = [("program.profile", "what was counted"), ("tuned.sheet", "table, certificate"),
+         ("tuned_map.inc", "the table for Scudo"), ("program.timeline", "what was recorded"),
+         ("program.history", "blocks over time"), ("upper.history", "most of each window"),
+         ("fitted.fit", "table, certificate"), ("moments.history", "the fit's moments"),
+         ("claims.txt", "what is shown"), ("who.txt", "who requests it"), ("waste.svg", "waste by classes"),
+         ("report.html", "all of it as a page"), ("summary.txt", "this summary")]
 
 
 def warnings(options: Any, found: figures.Figures, notes: list[str]) -> Iterator[str]:
@@ -41,7 +34,7 @@ def warnings(options: Any, found: figures.Figures, notes: list[str]) -> Iterator
         yield f"Less than 1 MiB counts here ({figures.byte_text(found.bytes)}): the resident set may not change."
     elif saving is not None and 0 <= saving < 1 << 20 and not options.all:
         yield f"The saving against {default.name} is below 1 MiB: the resident set may not show it."
-    for table in found.made():
+    for table in found.order_made():
         is_alike = found.timed and table.is_known == default.is_known and None not in (table.footprint, default.footprint)
         if is_alike and table.footprint > default.footprint:
             more, span = kibibytes(table.footprint - default.footprint), "the recorded moments" if table.is_known else "time"
@@ -59,13 +52,10 @@ def warnings(options: Any, found: figures.Figures, notes: list[str]) -> Iterator
 
 def wasteful(found: figures.Figures, default: figures.Table) -> Iterator[str]:
     """Whether all requests lose more than by default, though their peak does not."""
-    ours, theirs = (found.waste_over_time(table) for table in (found.first, default))
-    if None not in (ours, theirs) and ours > theirs:
-        yield (
-            f"Over all requests of the run, the table of {found.first.name} wastes more than {default.name}: "
-            f"{count_text(ours, 'byte')}, and not "
-            f"{number(theirs)}. Another run, which has other sizes at its peak, may take more with it."
-        )
+    if wastes := found.wastes_over_time(default):
+        yield (f"Over all requests of the run, the table of {found.first.name} wastes more than {default.name}: "
+               f"{count_text(wastes[0], 'byte')}, and not {number(wastes[1])}. Another run, which has other sizes at its "
+               "peak, may take more with it.")
 
 
 def counted_requests(options: Any, timed: "figures.OverTime | None" = None) -> str:
@@ -87,12 +77,12 @@ def how_known(options: Any) -> str:
 def headline(options: Any, found: figures.Figures, process: int) -> str:
     """What the table of the map is, and what it saves: of the bytes of the process, where these were measured."""
     default = found.others[0]
-    saving, name = found.saving(default), f"{options.counted()}{how_known(options)}"
+    saving, name = found.saving(default), f"{options.name_counted()}{how_known(options)}"
     if found.simulated:
         return f"{name}: {simulated_words.first_line(found, found.simulated, process)}"
     if saving is None:
         return f"{name}: {found.first.name}"
-    share = "" if process else f" ({percent(abs(saving), found.whole(default))})"
+    share = "" if process else f" ({percent(abs(saving), found.base_of_share(default))})"
     saved = f"{kibibytes(abs(saving))}{share} {'less' if saving >= 0 else 'more'} than {default.name}"
     if not process:
         return f"{name}: {found.first.name}, {saved}"
@@ -114,21 +104,17 @@ def summary(options: Any, found: figures.Figures, folder: Folder, noted: list[st
         lines += ["", *wrap_text(f"Counted: {what}, {counted_requests(options, found.timed)}.")]
     if found.large or measured.get("large"):
         most = f"; at most {figures.byte_text(measured['large'])} live" if measured.get("large") else ""
-        lines += wrap_text(
-            f"Not counted: {count_text(found.large, 'large request')}, above {number(LARGEST_SIZE)} bytes{most}."
-        )
+        lines += wrap_text(f"Not counted: {count_text(found.large, 'large request')}, above {number(LARGEST_SIZE)} "
+                           f"bytes{most}.")
     lines += over_time(found, measured) if found.timed else ["", *comparison(found), *wrap_text(legend(options))]
-    rest = [line for known in [*found.known()[:1], *found.interval()[1:]] for line in wrap_text(known)]
-    rest += [line for each in what_ifs for line in wrap_text(each.said())]
+    rest = [line for known in [*found.state_findings()[:1], *found.interval()[1:]] for line in wrap_text(known)]
+    rest += [line for each in what_ifs for line in wrap_text(each.state_saving())]
     rest += [line for text in noted for line in wrap_text(f"! {text}", indent="  ")]
     is_next = options.verify is None and folder.has("tuned_map.inc")
     files = short_folder_lines(folder, is_next) if found.timed else folder_lines(found, folder, is_next)
     rest += files if len(list(filter(None, lines + rest + files))) <= HEIGHT else short_folder_lines(folder, is_next)
-    if (
-        options.verify is None
-        and found.timed
-        and len(lines) + len(rest) + len(foreseen := wrap_text(prediction(found))) <= HEIGHT
-    ):
+    if (options.verify is None and found.timed
+        and len(lines) + len(rest) + len(foreseen := wrap_text(prediction(found))) <= HEIGHT):
         lines += foreseen
     lines += rest
     if len(lines) > HEIGHT:
@@ -139,19 +125,16 @@ def summary(options: Any, found: figures.Figures, folder: Folder, noted: list[st
 def legend(options: Any) -> str:
     """What the columns of the tables without a record over time are."""
     sums = " Of all requests, these are sums over time, and no memory." if options.all else ""
-    return (
-        "Waste: lost by rounding, with its share of the requested bytes. "
-        f"Saving: by the first table, with its share of all blocks with that table.{sums}"
-    )
+    return ("Waste: lost by rounding, with its share of the requested bytes. Saving: by the first table, with its "
+            f"share of all blocks with that table.{sums}")
 
 
 def short_folder_lines(folder: Folder, is_next: bool) -> list[str]:
     """What the folder has, in short, and the next step, if there is one."""
     lines = wrap_text(f"In {folder.path}: report.html has all of it, claims.txt how to check it.")
     if is_next:
-        lines += wrap_text(
-            f"Next (docs/TUNING.md, section 6): cp {shell_words.path_word(folder.file('tuned_map.inc'))} $SCUDO/", indent="  "
-        )
+        lines += wrap_text("Next (docs/TUNING.md, section 6): cp "
+                           f"{shell_words.path_word(folder.file('tuned_map.inc'))} $SCUDO/", indent="  ")
     return lines
 
 
@@ -171,9 +154,8 @@ def folder_lines(found: figures.Figures, folder: Folder, is_next: bool) -> list[
 def recorded_moments(timed: figures.OverTime) -> str:
     """What was seen of the run."""
     if timed.interval:
-        return (
-            f"Recorded: {count_text(timed.history.snapshots, 'moment')} of the run, and the most blocks between them."
-        )
+        return (f"Recorded: {count_text(timed.history.snapshots, 'moment')} of the run, and the most blocks between "
+                "them.")
     if timed.kind == "timeline":
         return f"Recorded: each moment of the run, {count_text(len(timelines.parse_events(timed.text)), 'event')}."
     return f"Recorded: {count_text(timed.history.snapshots, 'moment')} of the run, and not what lies between."
@@ -192,23 +174,20 @@ def over_time(found: figures.Figures, measured: dict[str, int]) -> list[str]:
         rows.append((table.name, f"{table.is_known} {kibibytes(table.footprint)}".lstrip(), *saving, number(len(table.classes)), waste))
     if measured.get("resident"):
         rows.append(("the process now", kibibytes(measured["resident"]), "", "", "", ""))
-    return text_layout.columns(rows, most=WIDTH) + wrap_text(
-        "Footprint: the most memory of the classes over time; the first table saves so much of it. Waste: the share of the blocks live at the peak "
-        "that rounding loses."
-    )
+    return text_layout.columns(rows, most=WIDTH) + wrap_text(FOOTPRINT_LEGEND)
 
 
 def unserved_sizes(found: figures.Figures, table: figures.Table) -> str:
     """Which sizes a table does not serve."""
     most = 16 * table.classes[-1] - 16 if table.classes else -1
-    above = figures.byte_text(found.most(lambda size: size if size > most else 0))
+    above = figures.byte_text(found.most_at_a_moment(lambda size: size if size > most else 0))
     return f"serves none above {number(most)} bytes, of which {above} were live"
 
 
 def larger_blocks(found: figures.Figures) -> str:
     """Which sizes have a larger block than by default."""
     default = found.others[0]
-    sizes, all_sizes, cost = found.larger(default)
+    sizes, all_sizes, cost = found.find_larger_blocks(default)
     if not sizes:
         return f"No requested size has a larger block than with {default.name}."
     return f"Of {all_sizes} requested sizes {len(sizes)} have a larger block than with {default.name}: together at most {figures.byte_text(cost)} more at a moment."
@@ -221,12 +200,9 @@ def prediction(found: figures.Figures) -> str:
         return "Nothing is predicted, since one of the tables does not serve all sizes."
     at_once = found.most_live(default) - found.most_live(found.first)
     rests = "each moment of the run" if found.timed.kind == "timeline" else "the recorded moments"
-    return (
-        f"Predicted of Scudo from {rests}, and not proved: {simulated_words.clause(found, found.simulated)}"
-        f"against {default.name} the peak {peak_change(found.saved_in_scudo)} where it gives nothing back, in whole "
-        "pages, "
-        f"and {peak_change(at_once)} where it gives back each block."
-    )
+    return (f"Predicted of Scudo from {rests}, and not proved: {simulated_words.clause(found, found.simulated)}against "
+            f"{default.name} the peak {peak_change(found.saved_in_scudo)} where it gives nothing back, in whole pages, "
+            f"and {peak_change(at_once)} where it gives back each block.")
 
 
 def peak_change(saved: int) -> str:

@@ -24,7 +24,7 @@ class Fits(NamedTuple):
 def fit_tables(plan: Plan, record: Record, folder: Folder) -> Fits:
     """Makes the run again where its record is too long for a timeline, and bounds the footprint too widely."""
     divisor = max(record.options.divisor, count_texts.told_divisor(record.run.notes))
-    options = record.options.changed(divisor=divisor)
+    options = record.options.with_values(divisor=divisor)
     timed, run = long_runs.narrow_interval(options, folder, record.runs, record.run, plan.others)
     profile = count_texts.read_profile(folder.at("program.profile")) if folder.has("program.profile") else {}
     if not any(size for size in profile if size != "large"):

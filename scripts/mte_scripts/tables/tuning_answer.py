@@ -32,7 +32,7 @@ def write_answer(record: Record, fits: Fits, found: Figures, folder: Folder) -> 
     noted = [*summary.warnings(options, found, fits.run.notes), *failed]
     checks = write_claims(fits, folder, found)
     costs = site_costs.SiteCosts(record.calls, timed) if record.calls and timed else None
-    for name, text in costs.files(options.counted()).items() if costs else ():
+    for name, text in costs.files(options.name_counted()).items() if costs else ():
         folder.write(name, text)
     report = report_writer(options, found, folder, noted, checks, costs)
     report("", "")
@@ -41,7 +41,7 @@ def write_answer(record: Record, fits: Fits, found: Figures, folder: Folder) -> 
     folder.write("summary.txt", text)
     if options.verify is None:
         text_files.write(text)
-    return Answer(found, report, [*failed, *found.unheld()])
+    return Answer(found, report, [*failed, *found.state_refusals()])
 
 
 def report_writer(options: Options, found: Figures, folder: Folder, noted: "list[str]", checks: "list[str]",
@@ -53,7 +53,7 @@ def report_writer(options: Options, found: Figures, folder: Folder, noted: "list
     counted = summary.counted_requests(options, found.timed)
 
     def report(measured: str, verdict: str) -> None:
-        page = report_page.page(found, options.counted(), counted, noted, checks, beside, measured + part, verdict)
+        page = report_page.page(found, options.name_counted(), counted, noted, checks, beside, measured + part, verdict)
         folder.write("report.html", page)
 
     return report
@@ -63,7 +63,7 @@ def write_pictures(options: Options, folder: Folder, found: Figures) -> "list[st
     """Makes the map, the picture and the page, which nothing else needs; says which of them failed."""
     makes: "dict[str, Callable[[], str]]" = {
         "tuned_map.inc": lambda: scudo_map.as_default(found.first.classes),
-        "waste.svg": lambda: draw_waste.picture([draw_waste.Curve(folder.at("program.profile"), options.counted())]),
+        "waste.svg": lambda: draw_waste.picture([draw_waste.Curve(folder.at("program.profile"), options.name_counted())]),
     }
     if engines := web_page.at_hand():  # with nothing to prove or compile before it
         makes["page.html"] = lambda: page_of_tables(options, folder, engines)
@@ -82,6 +82,6 @@ def page_of_tables(options: Options, folder: Folder, engines: "dict[str, bytes]"
     name = "program.profile"
     if options.objective == "footprint":
         name = "moments.history" if folder.has("moments.history") else "program.history"
-    given = options.counted(), text_files.read(folder.at(name)).decode()
+    given = options.name_counted(), text_files.read(folder.at(name)).decode()
     begin_with = {"limit": options.limit, "step": options.step, "largest": options.largest}
     return web_page.page(engines, profile=given, options=begin_with)

@@ -110,10 +110,8 @@ class Options(argparse.Namespace):
     def __init__(self, words: list[str]) -> None:
         kinds: dict[str, Any] = {**TABLES, "objective": name_among("footprint", "waste")}
         kinds |= {"largest": {"action": "store_true", "default": True}, "no_largest": {"action": "store_false", "dest": "largest"}}
-        kinds |= {
-            "against": {"action": "append", "type": nonempty_word, "default": []},
-            "runs": number_between(1, long_runs.MOST_RUNS),
-        }
+        kinds |= {"against": {"action": "append", "type": nonempty_word, "default": []},
+                  "runs": number_between(1, long_runs.MOST_RUNS)}
         kinds["idle"] = decimal(0, services.MOST_IDLE, "seconds")
         ProgramWords(HELP, defaults={"limit": 32, "step": 1, "runs": 4}, **kinds).take(words, into=self)
         self.refuse_conflicts()
@@ -129,22 +127,17 @@ class Options(argparse.Namespace):
             raise Refusal(2, "--upper goes with --read")
         services.agree(self)
         if self.verify is not None and self.load is None and (self.read is not None or self.all or self.only is not None):
-            raise Refusal(
-                2,
-                "--verify runs the program itself, so there is no place for --read, --all or --only: name the program "
-                "alone; "
-                f"{services.hint('redis-server')}",
-            )
+            raise Refusal(2, "--verify runs the program itself, so there is no place for --read, --all or --only: name "
+                             f"the program alone; {services.hint('redis-server')}")
         if self.settings and self.verify is None:
             raise Refusal(2, "--settings goes with --verify")
         if self.who and (self.all or self.upper is not None):
-            raise Refusal(
-                2, f"--who takes each moment of a run, so there is no place for {'--all' if self.all else '--upper'}"
-            )
+            raise Refusal(2, "--who takes each moment of a run, so there is no place for "
+                             f"{'--all' if self.all else '--upper'}")
         if self.limit == 1 and self.largest:
             raise Refusal(2, "--limit 1 has no class beside 1024: take --no-largest too, or a higher limit")
 
-    def changed(self, **values: object) -> "Options":
+    def with_values(self, **values: object) -> "Options":
         """A copy with other values: what a step was given it leaves as it is."""
         found = copy.copy(self)
         vars(found).update(values)
@@ -158,24 +151,21 @@ class Options(argparse.Namespace):
         if history is not None and self.all:
             raise Refusal(2, "--all counts all requests, and this has the live blocks: leave it out")
         follows = "waste" if history is None else "footprint"
-        return self.changed(is_objective_given=self.objective is not None, objective=self.objective or follows)
+        return self.with_values(is_objective_given=self.objective is not None, objective=self.objective or follows)
 
     def with_divisor(self, found: "dict | count_texts.History") -> "Options":
         """With that of the counts, where it is wanted; else those that no text can have are refused."""
         divisor = count_texts.divisor_of(found) if self.scale else 1
         if divisor < count_texts.divisor_of(found):
-            raise Refusal(
-                2,
-                f"{text_files.input_name(self.read)}: 32 CountOutOfRange: {CODES[32].words}; --scale divides all counts by "
-                "the same number",
-            )
-        return self.changed(divisor=divisor)
+            raise Refusal(2, f"{text_files.input_name(self.read)}: 32 CountOutOfRange: {CODES[32].words}; --scale "
+                             "divides all counts by the same number")
+        return self.with_values(divisor=divisor)
 
     def name(self) -> str:
         if self.read is None:
             return self.ran or os.path.basename(self.words[0]) or self.words[0]
         return "profile" if self.read == "-" else figures.without_ending(self.read, ".profile", ".history", ".timeline")
 
-    def counted(self) -> str:
+    def name_counted(self) -> str:
         """The name of what is counted, with that of the program that started it."""
         return self.name() if self.only in (None, self.name()) else f"{self.only} of {self.name()}"

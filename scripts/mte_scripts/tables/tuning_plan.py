@@ -43,13 +43,13 @@ def make_plan(words: "list[str]") -> Plan:
     elif options.read is not None and is_long(options):
         options = options.with_objective(options.read)
     elif options.read is not None:
-        options, given = read_record(options)
+        options, given = read_record(options, others[0][1])
     plan = Plan(options, others, given)
     if options.verify is not None:
         from mte_scripts.tables import hardening  # it takes its time, which other runs are spared
 
         plan = plan._replace(measured=hardening.InScudo(options))
-    need_program(options)
+    need_program(options, given)
     return plan
 
 
@@ -60,8 +60,8 @@ def is_long(options: Options) -> bool:
     return options.upper is None and count_texts.is_timeline(text_files.read(options.read, 100))
 
 
-def read_record(options: Options) -> "tuple[Options, GivenRecord]":
-    """The profile, the history or the timeline that --read names."""
+def read_record(options: Options, default: "list[int]") -> "tuple[Options, GivenRecord]":
+    """The profile, the history or the timeline that --read names. Of a timeline the peaks of this table are asked for later too."""
     data, name = text_files.read_some(options.read, if_empty=3), text_files.input_name(options.read)
     if options.upper is not None and not count_texts.is_history(data):
         raise Refusal(2, f"--upper goes with a history of `profile_program --windows`, and {name} is none")
@@ -69,7 +69,7 @@ def read_record(options: Options) -> "tuple[Options, GivenRecord]":
     most_blocks = b""
     if count_texts.is_timeline(data):
         options = options.with_objective(data)
-        figures.refuse_timeline(data, name)
+        figures.refuse_timeline(data, name, "peaks", default)
         profile, files["program.timeline"] = profile_at_peak(data), data
     elif count_texts.is_history(data):
         history, upper = count_texts.parse_history(data, name), None
@@ -98,10 +98,8 @@ def profile_at_peak(timeline: bytes) -> dict:
 def read_stacks(options: Options) -> "tuple[Options, GivenRecord]":
     """The record of heaptrack that --read names, whose calls are wanted too."""
     if not (heaptrack_stacks := entry_point.part("recording.imports.heaptrack_stacks")):
-        raise Refusal(
-            3,
-            "--who with --read wants scripts/mte_scripts/recording/imports, which is not here: run the program itself",
-        )
+        raise Refusal(3, "--who with --read wants scripts/mte_scripts/recording/imports, which is not here: run the "
+                         "program itself")
     record = heaptrack_stacks.read(options.read)
     run = site_costs.Run(record.events, record.sizes, record.stacks)
     text = site_costs.timeline_of(run, {})
@@ -109,14 +107,17 @@ def read_stacks(options: Options) -> "tuple[Options, GivenRecord]":
     return options.with_objective(text), GivenRecord({**files, "program.timeline": text}, run=run)
 
 
-def need_program(options: Options) -> None:
+def need_program(options: Options, given: Optional[GivenRecord]) -> None:
     """Refuses at once where no table could be made: before there is a folder, and before the user's program runs for nothing."""
     if options.read is None:
         recording.find_program(options.words[0])
         recording.need_recorder()
-    try:
-        words = figures.options(options.limit, options.step, options.largest)
-        certificate_texts.parse_sheet(figures.run(["tune", *words], "16 1\n")[1])
-    except Refusal as refused:
-        done = "run" if options.read is None else "made"
-        raise Refusal(3, f"{refused.text}: there is no program to tune with, so nothing was {done}") from None
+    words, why = ["tune", *figures.options(options.limit, options.step, options.largest)], ""
+    known = [given.files["program.profile"]] if given else []  # which may be refused for what it is
+    for text in [*known, "16 1\n"]:
+        try:
+            certificate_texts.parse_sheet(figures.run(words, text)[1])
+            return
+        except Refusal as refused:
+            why = refused.text
+    raise Refusal(3, f"{why}: there is no program to tune with, so nothing was {'run' if options.read is None else 'made'}")

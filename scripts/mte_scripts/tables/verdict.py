@@ -6,7 +6,8 @@ import random
 import re
 import statistics
 import subprocess
-from typing import NamedTuple, Optional
+from collections.abc import Callable, Iterable
+from typing import Any, NamedTuple, Optional
 
 from mte_scripts import text_layout
 from mte_scripts.entry_point import Refusal, say
@@ -64,7 +65,7 @@ class Price(NamedTuple):
     def cost(self) -> int:
         return self.default.peak() - self.plain.peak()
 
-    def back(self) -> int:
+    def bytes_back(self) -> int:
         return self.default.peak() - self.tuned.peak()
 
     def range(self) -> Optional[tuple[float, float]]:
@@ -101,26 +102,29 @@ def present(path: str) -> str:
     return linked[1] if linked else GLIBC
 
 
-def measure_allocators(
-    runner: str, words: list, path: str, libraries: dict[str, Optional[str]], given: Optional[str]
-) -> list[Row]:
-    """Runs the program some times with each library, each round in a random order. The first is the present allocator: no library."""
-    order, found = random.Random(SEED), dict[str, list]((name, []) for name in libraries)
+def run_rounds(names: "Iterable[Any]", run: "Callable[[Any], Any]", what: str) -> "dict[Any, list]":
+    """What some runs with each of these return, each round of them in a random order; WHAT says of which."""
+    order, found = random.Random(SEED), dict[Any, list]((name, []) for name in names)
     for made in range(RUNS):
-        say("tune_program", f"round {made + 1} of {RUNS}: {words[0]} with {', '.join(libraries)}")
-        for name in order.sample(sorted(libraries), len(libraries)):
-            found[name].append(
-                verification.run_once(runner, words, path, libraries[name], given, None, libraries.values())
-            )
+        say("tune_program", f"round {made + 1} of {RUNS}: {what}")
+        for name in order.sample(sorted(found), len(found)):
+            found[name].append(run(name))
+    return found
+
+
+def measure_allocators(runner: str, words: list, path: str, libraries: dict[str, Optional[str]],
+                       given: Optional[str]) -> list[Row]:
+    """Runs the program some times with each library. The first is the present allocator: no library."""
+    def run(name: str) -> verification.Run:
+        return verification.run_once(runner, words, path, libraries[name], given, None, libraries.values())
+
+    found = run_rounds(libraries, run, f"{words[0]} with {', '.join(libraries)}")
     statuses = {run.status for run in found[next(iter(libraries))]}
     if len(statuses) > 1:
-        raise Refusal(
-            3, f"{words[0]} does not end the same each time: with status {' or '.join(map(str, sorted(statuses)))}"
-        )
-    return [
-        Row(name, sorted(run.peak for run in each), sorted(run.spent for run in each), sum(run.status not in statuses for run in each))
-        for name, each in found.items()
-    ]
+        raise Refusal(3, f"{words[0]} does not end the same each time: with status "
+                         f"{' or '.join(map(str, sorted(statuses)))}")
+    return [Row(name, sorted(run.peak for run in each), sorted(run.spent for run in each),
+                sum(run.status not in statuses for run in each)) for name, each in found.items()]
 
 
 def price_of(rows: list[Row], tuned: str) -> Optional[Price]:
@@ -141,11 +145,11 @@ def verdict(rows: list[Row], tuned: str) -> str:
     takes = f"It takes {kibibytes(now.peak())} with {now.name}, as now"
     if price is None:
         return f"measured, and nothing follows for Scudo, with which it ended otherwise. {takes}."
-    share = f"in Scudo, {percent(abs(price.back()), price.default.peak())} of the peak"
+    share = f"in Scudo, {percent(abs(price.bytes_back()), price.default.peak())} of the peak"
     if is_worth(rows, tuned):
-        said = f"measured, the table saves {kibibytes(price.back())} {share}."
+        said = f"measured, the table saves {kibibytes(price.bytes_back())} {share}."
     else:
-        saved = f"saves {kibibytes(price.back())}" if price.back() >= 0 else f"takes {kibibytes(-price.back())} more"
+        saved = f"saves {kibibytes(price.bytes_back())}" if price.bytes_back() >= 0 else f"takes {kibibytes(-price.bytes_back())} more"
         said = f"this table is not worth it: take Scudo as it is. Measured, it {saved} {share}."
     takes += f"; {kibibytes(price.default.peak())} with {DEFAULT}; and {kibibytes(price.tuned.peak())} with the table."
     return f"{said} {payback_text(price, is_worth(rows, tuned))} {takes} {processor_time(price)}"
@@ -162,7 +166,7 @@ def payback_text(price: Price, is_worth_it: bool) -> str:
     ends = price.range()
     sure = f" ({math.floor(100 * ends[0])} to {math.ceil(100 * ends[1])}%)" if ends else ", as the middle of runs that differ much"
     left = "so that it costs no memory" if not now.is_below(price.tuned) else f"so that it costs {kibibytes(price.tuned.peak() - now.peak())}"
-    return f"{cost}; the table pays back {100 * price.back() / price.cost():.0f}% of that{sure}, {left}."
+    return f"{cost}; the table pays back {100 * price.bytes_back() / price.cost():.0f}% of that{sure}, {left}."
 
 
 def processor_time(price: Price) -> str:

@@ -34,11 +34,8 @@ class Place(NamedTuple):
 def place(folder: str) -> Place:
     """The folder of Scudo's sources, as --verify names it; what is missing is told before the program runs."""
     if not os.path.isfile(os.path.join(folder, "wrappers_c.cpp")):
-        raise Refusal(
-            2,
-            f"{folder} is not the folder compiler-rt/lib/scudo/standalone of LLVM's sources. On Debian it comes, as "
-            f"root, by: {FETCH}",
-        )
+        raise Refusal(2, f"{folder} is not the folder compiler-rt/lib/scudo/standalone of LLVM's sources. On Debian it "
+                         f"comes, as root, by: {FETCH}")
     if not any(CONFIG in read(path) for path in glob.glob(os.path.join(glob.escape(folder), "*.h"))):
         raise Refusal(2, f"the Scudo in {folder} takes no {CONFIG}: it has to be LLVM 19's or a later one")
     compiler = os.environ.get("CXX") or "clang++"
@@ -68,11 +65,8 @@ def need_loaded(library: str) -> None:
     """Refuses a library that does not come before a program's own: then each run would be one with the present allocator."""
     shown = subprocess.run(["cat", "/proc/self/maps"], stdin=subprocess.DEVNULL, capture_output=True, env={**os.environ, "LD_PRELOAD": library})
     if os.fsencode(library) not in shown.stdout:
-        raise Refusal(
-            3,
-            f"{library} is not loaded by LD_PRELOAD, which ends a path at a space or a colon: set TMPDIR to another "
-            "folder",
-        )
+        raise Refusal(3, f"{library} is not loaded by LD_PRELOAD, which ends a path at a space or a colon: set TMPDIR "
+                         "to another folder")
 
 
 def keep_input(to: str) -> bool:
@@ -126,15 +120,8 @@ def preload_value(library: Optional[str], libraries: "Iterable[Optional[str]]", 
     return b":".join(filter(None, (os.fsencode(library or "").ljust(most, b":"), own)))
 
 
-def run_once(
-    runner: str,
-    words: list,
-    path: str,
-    library: Optional[str],
-    given: Optional[str],
-    scudo_options: Optional[str] = None,
-    libraries: "Iterable[Optional[str]]" = (),
-) -> Run:
+def run_once(runner: str, words: list, path: str, library: Optional[str], given: Optional[str],
+             scudo_options: Optional[str] = None, libraries: "Iterable[Optional[str]]" = ()) -> Run:
     """One run with a library before all others, or none, and with these options of Scudo after the user's. What the program prints is not kept.
     Its environment is as long as with another one of LIBRARIES, and with options of the same length."""
     found, variables = os.memfd_create("mte_found", 0), programs.environment()
@@ -151,7 +138,7 @@ def run_once(
             process_tree.end_descendants()  # a signal ended this process
             raise
         after = resource.getrusage(resource.RUSAGE_CHILDREN)
-        notes = Notes.of(noted.read(PAGE))
+        notes = Notes.of_page(noted.read(PAGE))
     if done.returncode or notes.error:
         raise Refusal(3, f"{words[0]} can't be run again")
     return Run(notes.status, notes.resident, after.ru_utime + after.ru_stime - before.ru_utime - before.ru_stime)
