@@ -243,7 +243,7 @@ def block_sizes(claim: Claim, given: "tuple[str, str, str]", cost: int, places: 
     over = fill_template(f"allocator.{kind}", given=fill_template("input", name=quote_name(name), digest=digest[:DIGITS], how=""))
     sizes = count_text(claim.numbers["limit"], "block size")
     said_ = fill_template("allocator.claim", sizes=sizes, over=over, cost=byte_text(cost), **places)
-    return claim_sentence("allocator.all", known=claim.known(), claim=said_, words=places["words"])
+    return claim_sentence("allocator.all", known=claim.state_finding(), claim=said_, words=places["words"])
 
 
 def shared_sizes(ends: Iterable[str]) -> str:
