@@ -480,9 +480,9 @@ def run_zookeeper(work):
     main = "org.apache.zookeeper.server.quorum.QuorumPeerMain"
     words = ["java", "-Xmx256m", "-cp", ZOOKEEPER, main, f"{folder}/zoo.cfg"]
     with run_server(words, port, f"{folder}/out"):
-        for _ in range(600):
-            with contextlib.suppress(OSError), socket.create_connection(("127.0.0.1", port)) as client:
-                client.sendall(b"srvr\n")
+        for _ in range(200):
+            with contextlib.suppress(OSError), socket.create_connection(("127.0.0.1", port), 5) as client:
+                client.sendall(b"srvr\n")  # one that it takes while it starts may have no answer
                 if b"Mode: standalone" in client.makefile("rb").read():
                     break
             time.sleep(0.1)
