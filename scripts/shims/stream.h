@@ -131,5 +131,5 @@ static inline uint64_t own_space(void) {
   return readlink("/proc/self/ns/pid", text, sizeof text - 1) > 5 ? strtoull(text + 5, NULL, 10) : 0;
 }
 
-static const uint64_t FORM = 0x344D4145525453;
+static const uint64_t FORM = 0x334D4145525453;
 enum { HEAD = (sizeof(struct stream) + LARGEST_PAGE - 1) & -LARGEST_PAGE };
