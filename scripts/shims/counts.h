@@ -42,7 +42,7 @@ static __attribute__((noinline, cold)) void count_late(uint64_t counter) {
   reached = 1;
   if (here->state == UNSTARTED) begin();
   if (here->state == NESTED && put_in_nest(1 + (counter == LARGE), record)) return;
-  if (here->state == NESTED) leave_nest(1);
+  if (here->state == NESTED) leave_nest();
   if (here == &at_first && here->state == STARTING) __atomic_fetch_add(&early[counter], 1, __ATOMIC_RELAXED);
   if (here->state != WRITES) return;
   uint64_t *area = take_area(here, own_thread());

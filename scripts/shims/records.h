@@ -135,7 +135,7 @@ static __attribute__((noinline, cold)) void *put_first(void *given, int number, 
   reached = 1;
   if (here->state == UNSTARTED) begin();
   if (here->state == NESTED && put_in_nest(number, all)) return given;
-  if (here->state == NESTED) leave_nest(1);
+  if (here->state == NESTED) leave_nest();
   if (here == &at_first && here->state == STARTING)
     for (uint64_t k = 0, i = add(&early_next, number, 1); k < (uint64_t)number; k++) {
       if (i + k < EARLY) early[i + k] = all[k]; else early_ring.overrun = 1;

@@ -260,17 +260,11 @@ static void begin(void) {
 
 static void put_all(const uint64_t *records, uint64_t number);
 
-// Goes on from the nest to a ring, with what is in it; the process may have set a filter since it was told. A child of vfork
-// leaves the nest to its parent.
-static void leave_nest(int is_own) {
+// Goes on from the nest to a ring, with what is in it.
+static void leave_nest(void) {
   struct nest *nest = here->nest;
   if (!is_now(NESTED, STARTING)) return;
-  if (!sealed) __atomic_store_n(&nest->told, UNTOLD, __ATOMIC_RELEASE);
-  uint64_t told = sealed ? IS_FILTERED : wait_for_told(nest);
-  if (!is_own && told != UNTOLD && told != IS_FILTERED && (uint64_t)getpid() != nest->process) {
-    __atomic_store_n(&here->state, NESTED, __ATOMIC_RELEASE);
-    return;
-  }
+  uint64_t told = wait_for_told(nest);
   sealed |= told == IS_FILTERED, go_on(told != UNTOLD);
   uint64_t number = nest->number < NEST ? nest->number : NEST;
   for (uint64_t i = 0, turns = 0; i + 2 < number && turns < 2 * NEST; turns++)  // other threads may be about to store theirs
@@ -350,26 +344,19 @@ int posix_memalign(void **result, size_t alignment, size_t size) {
 // A process may give up system calls: from then on none of its forks may make one for us. On x86-64 that is seen of `syscall` too, which is
 // here as glibc has it: it can't go on to that by a frame of its own, since some calls come back twice, or on another
 // stack. What runs another program goes on as execve.
-static void give_up_calls(void) {
-  leave_nest(0), sealed = 1;
-}
 int prctl(int option, ...) {
   va_list more;
   va_start(more, option);
   unsigned long words[4];
   for (int i = 0; i < 4; i++) words[i] = va_arg(more, unsigned long);
   va_end(more);
-  if (option == PR_SET_SECCOMP) give_up_calls();
+  if (option == PR_SET_SECCOMP) sealed = 1;
   return plain_syscall(SYS_prctl, option, words[0], words[1], words[2], words[3]);
 }
 #ifdef __x86_64__
-__attribute__((used)) static long give_up_by_number(long number, long one, long two, long three, long four, long five) {
-  give_up_calls();
-  return plain_syscall(number, one, two, three, four, five);
-}
 __asm__(".globl syscall\n.type syscall, @function\nsyscall:\n"
         "  cmpl $59, %edi\n  je execute_by_number\n  cmpl $322, %edi\n  je execute_by_number\n"  // execve, execveat
-        "  cmpl $317, %edi\n  je give_up_by_number\n"  // seccomp
+        "  cmpl $317, %edi\n  jne plain_syscall\n  movl $1, sealed(%rip)\n"  // seccomp
         ".hidden plain_syscall\n.globl plain_syscall\nplain_syscall:\n"
         "  movq %rdi, %rax\n  movq %rsi, %rdi\n  movq %rdx, %rsi\n  movq %rcx, %rdx\n  movq %r8, %r10\n  movq %r9, %r8\n"
         "  movq 8(%rsp), %r9\n  syscall\n  cmpq $-4095, %rax\n  jae 2f\n  ret\n"

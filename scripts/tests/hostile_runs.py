@@ -50,7 +50,6 @@ PROGRAMS = {
     "filtered thread": Case(said=SEALED),
     "filtered storm": Case(said=SEALED),
     "few calls by hand": Case(said=SEALED),
-    "child that gives up calls by hand": Case(said=SEALED),
     "child of a filter": Case(said=SEALED),
     "filtered and spawns": Case(said=GIVEN_UP),
     "filtered and becomes": Case(refused=GIVEN_UP),

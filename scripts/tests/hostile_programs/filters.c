@@ -159,19 +159,6 @@ PROGRAM(orphan_by_hand, "orphan of a filter by hand") {
   return 0;
 }
 
-static int give_up_in_child(int by_hand) {
-  request(1);
-  pid_t child = fork();
-  if (!child) {
-    request(5);
-    if (filter_calls(SOME(SYS_openat, SYS_mmap, SYS_getpid), KILL, ALLOW, by_hand)) _exit(1);
-    request(2000), _exit(4);
-  }
-  return show(ended(child)), 0;
-}
-PROGRAM(child_gives_up, "child that gives up calls") { return give_up_in_child(0); }
-PROGRAM(child_gives_up_by_hand, "child that gives up calls by hand") { return give_up_in_child(1); }
-
 PROGRAM(late, "filtered late") {
   request(100000);
   if (filter_calls(SOME(SYS_futex, SYS_openat, SYS_getpid, SYS_clock_gettime), KILL, ALLOW, 0)) return 1;
