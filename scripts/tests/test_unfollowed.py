@@ -157,9 +157,7 @@ class ProgramsLeftAlone(commands.Commands):
         self.recorded(PROFILE, "./plain", "any", "./plain", status=3)
         if platform.machine() == "x86_64":
             for number, counted in ((5, 8), (2000, 3)):  # that many a fork may make before it makes a call, or more
-                expect("forks under a filter: alone", self.call("./plain", "forks", str(number)) == 0)
-                self.call(PROFILES, "./plain", "forks", str(number))
-                expect("forks under a filter: as alone", "ended with status" not in self.err, self.err)
+                self.recorded(PROFILE, "./plain", "forks", str(number))
                 said = "1 for they began in a program that gave up system calls" in self.err
                 expect(f"forks under a filter, of {number} requests: what is said", said == (counted == 3), self.err)
                 self.counts(counted)
