@@ -78,8 +78,7 @@ static int why_not_now(const struct program *program, const struct own *own) {
 // vfork, and the reader looks whether its ring goes on.
 static uint64_t *note_program(const struct own *own, int place) {
   struct ring *ring = here->ring;
-  struct nest *nest = here->nest;
-  if (here->state == NESTED && (uint64_t)own->process == nest->process) return nest->executed = 1, &nest->executed;
+  if (here->state == NESTED && !sealed && (uint64_t)getpid() == here->nest->process) return here->nest->executed = 1, &here->nest->executed;
   if (here->state != WRITES) return NULL;
   if (!sealed && (own->process ? (uint64_t)own->process != ring->process : here->process != getpid())) return NULL;
   ring->marked = sealed ? progress_of(ring, COUNTS ? here->records : NULL) + 1 : 0, ring->executed = 1 + place;

@@ -267,13 +267,13 @@ static void tell(struct nest *nest) {
   __atomic_store_n(&nest->told, !is_known ? IS_UNKNOWN : is_filtered ? IS_FILTERED : IS_FREE, __ATOMIC_RELEASE);
 }
 
-static struct nest *end_of_nests(void) { return stream->nests + (stream->most_nests < NESTS ? stream->most_nests : NESTS); }
-
 // Tells those that are untold; how many.
 static int tell_all(void) {
   int number = 0;
-  for (struct nest *nest = stream->nests; nest < end_of_nests(); nest++)
+  for (uint64_t k = 0; k < stream->most_nests && k < NESTS; k++) {
+    struct nest *nest = &stream->nests[k];
     if (__atomic_load_n(&nest->process, __ATOMIC_ACQUIRE) && !nest->told) tell(nest), number++;
+  }
   return number;
 }
 
@@ -299,27 +299,6 @@ static struct named *named_as(const char *name) {
   return &nowhere;
 }
 
-static uint64_t counted;  // the requests of the processes that have ended
-
-// Notes the requests of a process that has ended.
-static void note_requests(const struct reading *reading, const char *name) {
-  if (is_counting && reading->is_counted) counted += reading->requests;
-  if (!reading->is_main && !reading->is_counted && reading->is_named && reading->requests)
-    notes->others++, notes->other_requests += reading->requests;
-  if (!is_all) named_as(name)->requests += reading->requests;
-}
-
-static void take_nest(struct nest *nest) {
-  uint64_t number = nest->number < NEST ? nest->number : NEST;
-  int is_named = !only || !strncmp(only, nest->name, sizeof nest->name - 1), many = 1;
-  struct reading reading = {.is_named = is_named, .is_counted = is_named && is_all};
-  for (uint64_t i = 0; i < number && !notes->spoiled; i += many > 0 ? many : 1) many = take(&reading, nest->records, i, number);
-  if (!is_all) named_as(nest->name)->processes++;
-  notes->executed += reading.is_counted && nest->executed && !has_ring(nest->process, 0);
-  note_requests(&reading, nest->name);
-  free_nest(nest);
-}
-
 static void begin_ring(int k, uint64_t start) {
   struct ring *ring = &stream->rings[k];
   struct reading *reading = &readings[k];
@@ -327,8 +306,6 @@ static void begin_ring(int k, uint64_t start) {
   if (!records) records = mmap(NULL, words_of_ring * 8, PROT_READ | PROT_WRITE, MAP_SHARED, opened, HEAD + k * words_of_ring * 8);
   if (records == MAP_FAILED) give_up("it has no memory");
   int is_named = !only || !strncmp(only, ring->name, sizeof ring->name - 1);
-  for (struct nest *nest = stream->nests; nest < end_of_nests(); nest++)
-    if (nest->executed && nest->process == ring->process) take_nest(nest);  // of what ran before in its place
   *reading = (struct reading){.records = records, .start = start, .is_named = is_named, .is_counted = is_named && is_all};
   if (is_named) notes->started = 1;
   if (!is_all) named_as(ring->name)->processes++;
@@ -460,6 +437,8 @@ static int is_read(int k) {
   return 1;
 }
 
+static uint64_t counted;  // the requests of the processes that have ended
+
 // Takes what the threads of a process have counted; how many requests these are.
 static uint64_t take_counts(int k, int64_t *counts) {
   const struct ring *ring = &stream->rings[k];
@@ -522,6 +501,14 @@ static void note_running(pid_t process) {
   if (is_there(process) && !is_zombie(process)) note_left(process);
 }
 
+// Notes the requests of a process that has ended.
+static void note_requests(const struct reading *reading, const char *name) {
+  if (is_counting && reading->is_counted) counted += reading->requests;
+  if (!reading->is_main && !reading->is_counted && reading->is_named && reading->requests)
+    notes->others++, notes->other_requests += reading->requests;
+  if (!is_all) named_as(name)->requests += reading->requests;
+}
+
 static void end_ring(int k) {
   struct ring *ring = &stream->rings[k];
   struct reading *reading = &readings[k];
@@ -544,10 +531,22 @@ static void end_ring(int k) {
   __atomic_store_n(&ring->process, 0, __ATOMIC_RELEASE);
 }
 
+static void take_nest(struct nest *nest) {
+  uint64_t number = nest->number < NEST ? nest->number : NEST;
+  int is_named = !only || !strncmp(only, nest->name, sizeof nest->name - 1), many = 1;
+  struct reading reading = {.is_named = is_named, .is_counted = is_named && is_all};
+  for (uint64_t i = 0; i < number && !notes->spoiled; i += many > 0 ? many : 1) many = take(&reading, nest->records, i, number);
+  if (!is_all) named_as(nest->name)->processes++;
+  notes->executed += reading.is_counted && nest->executed && !has_ring(nest->process, 0);
+  note_requests(&reading, nest->name);
+  free_nest(nest);
+}
+
 // Takes the nests of the processes that have ended, or all; how many there are left.
 static int take_nests(int are_all) {
   int left = 0;
-  for (struct nest *nest = stream->nests; nest < end_of_nests() && !notes->spoiled; nest++) {
+  for (uint64_t k = 0; k < stream->most_nests && k < NESTS && !notes->spoiled; k++) {
+    struct nest *nest = &stream->nests[k];
     uint64_t process = __atomic_load_n(&nest->process, __ATOMIC_ACQUIRE);
     int is_over = nest->executed ? has_ring(process, 0) || !is_there(process) : nest->told != IS_UNKNOWN && !is_there(process);
     if (process && are_all) note_running(process);
@@ -629,8 +628,8 @@ static void sample_other(const char *name, pid_t process) {
 // of a few processes that are not followed, what they take at most
 static void sample_others(void) {
   int looked = 0;
-  for (struct nest *nest = stream->nests; nest < end_of_nests() && looked < LOOKED_AT; nest++)
-    if (nest->process) sample_other(nest->name, nest->process), looked++;
+  for (uint64_t k = 0; k < stream->most_nests && k < NESTS && looked < LOOKED_AT; k++)
+    if (stream->nests[k].process) sample_other(stream->nests[k].name, stream->nests[k].process), looked++;
   for (uint64_t k = 0; k < number_of_rings && k < stream->turn && looked < LOOKED_AT; k++) {
     if (!stream->rings[k].start || !readings[k].records || readings[k].is_main) continue;
     sample_other(stream->rings[k].name, stream->rings[k].process), looked++;

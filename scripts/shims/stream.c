@@ -266,10 +266,7 @@ static void leave_nest(void) {
   if (!is_now(NESTED, STARTING)) return;
   uint64_t told = wait_for_told(nest);
   sealed |= told == IS_FILTERED, go_on(told != UNTOLD);
-  uint64_t number = nest->number < NEST ? nest->number : NEST;
-  for (uint64_t i = 0, turns = 0; i + 2 < number && turns < 2 * NEST; turns++)  // other threads may be about to store theirs
-    if (nest->records[i]) i++; else spin();
-  if (here->state == WRITES) put_all(nest->records, number);
+  if (here->state == WRITES) put_all(nest->records, nest->number < NEST ? nest->number : NEST);
   free_nest(nest);
 }
 
