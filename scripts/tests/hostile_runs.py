@@ -49,7 +49,6 @@ PROGRAMS = {
     "strict child": Case(said=SEALED),
     "filtered thread": Case(said=SEALED),
     "filtered storm": Case(said=SEALED),
-    "few calls by hand": Case(said=SEALED),
     "child of a filter": Case(said=SEALED),
     "filtered and spawns": Case(said=GIVEN_UP),
     "filtered and becomes": Case(refused=GIVEN_UP),
