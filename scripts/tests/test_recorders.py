@@ -694,7 +694,7 @@ class Recorders(commands.Commands):
 
     def compare_full_stream(self, small: str) -> None:
         """A service whose stream has room for one process."""
-        subprocess.run(["mount", "-o", "remount,size=4m", small], check=True)
+        subprocess.run(["mount", "-o", "remount,size=3m", small], check=True)
         given = self.followed("small/stream")
         self.ends(0, "abc", "sh", "-c", "./linked; :", **given)
         expect("a stream that is full: nothing is said to the service", not self.err, self.err)
