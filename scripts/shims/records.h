@@ -1,7 +1,7 @@
 // A record for each call, in the thread's lane of this process's ring; a thread that is a lane ahead waits for the reader.
 #pragma once
 static uint64_t early_next;
-enum { SPINS = 2 };                                     // turns of a spin, before a thread sleeps
+enum { TICKS = 1000, SPINS = 2, PATIENCE = 1 << 23 };  // turns of so many ticks: before a thread sleeps, or at most
 enum { MOST_TURNS = 16 };                                 // of others, until a thread takes a new one
 enum { LAPSE = 20, MOST_LAPSE = 10000 };                  // milliseconds of a sleep, and of all while the reader stands
 
@@ -20,6 +20,14 @@ static uint64_t milliseconds(void) {
   return time.tv_sec * 1000ULL + time.tv_nsec / 1000000;
 }
 
+// Some time, without a call, a clock or a store.
+static void spin(void) {
+#ifdef __x86_64__
+  __builtin_ia32_pause();
+#endif
+  for (int k = 0; k < TICKS; k++) __asm__ volatile("" : : : "memory");
+}
+
 // The reader is a lane behind: waits as long as it goes on, and at most some seconds for each step. Else the stream of this
 // process ends; at once where the reader has. Signals may end many a sleep, so these are not counted but timed.
 static __attribute__((noinline, cold)) int wait_for(struct ring *ring, struct lane *lane, uint64_t last) {
@@ -30,8 +38,8 @@ static __attribute__((noinline, cold)) int wait_for(struct ring *ring, struct la
     if (sleeps) sleep_at(lane, read); else spin();
     uint64_t now = __atomic_load_n(&lane->read, __ATOMIC_ACQUIRE);
     if (now != read) read = now, turns = since = 0;
-    int is_last = since ? milliseconds() - since > MOST_LAPSE : turns > PATIENCE;
-    if (is_last || !stream || is_over() || ring->overrun) {
+    int is_over = !stream || stream->closed || ring->overrun || is_reader_gone(stream);
+    if (is_over || (since ? milliseconds() - since > MOST_LAPSE : turns > PATIENCE)) {
       if (stream) here->state = OFF;
       return ring->overrun = 1, 0;
     }
@@ -134,8 +142,6 @@ static __attribute__((noinline, cold)) void *put_first(void *given, int number, 
   uint64_t all[] = {one, two, three};
   reached = 1;
   if (here->state == UNSTARTED) begin();
-  if (here->state == NESTED && put_in_nest(number, all)) return given;
-  if (here->state == NESTED) leave_nest(1);
   if (here == &at_first && here->state == STARTING)
     for (uint64_t k = 0, i = add(&early_next, number, 1); k < (uint64_t)number; k++) {
       if (i + k < EARLY) early[i + k] = all[k]; else early_ring.overrun = 1;
@@ -155,12 +161,9 @@ static inline __attribute__((always_inline)) void *put(void *given, int number, 
   return put_in(given, place, k, number, one, two, three);
 }
 
-// Puts down again what stood elsewhere first.
-static void put_all(const uint64_t *records, uint64_t number) {
-  for (uint64_t i = 0; i < number; i++)
-    if (records[i]) put(NULL, 1, records[i], 0, 0);
+static void put_early(void) {
+  for (uint64_t i = 0; i < early_next && i < EARLY; i++) put(NULL, 1, early[i], 0, 0);
 }
-static void put_early(void) { put_all(early, early_next < EARLY ? early_next : EARLY); }
 
 static inline uint64_t record(int kind, void *block, size_t size) {
   return kind | (size <= LARGEST_SIZE ? size : LARGE) << 4 | (uintptr_t)block >> 3 << ADDRESS;

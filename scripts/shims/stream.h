@@ -58,17 +58,6 @@ struct ring {
 // A program that is not followed, with the reason of loadable.h, and how often it was run.
 enum { UNFOLLOWED = 16 };
 struct unfollowed { uint64_t key, why, number; char name[40]; };
-// What a process that was forked has called so far, as records. It may make no call before it knows that no filter of system
-// calls ends it for that: so it writes here first, without one, and the reader tells it. Where it ends before it has more
-// than there is room for, the reader takes what is here.
-enum { NESTS = 256, NEST = 505 };
-enum { UNTOLD, IS_FREE, IS_FILTERED, IS_UNKNOWN };
-struct nest {
-  uint64_t process, told, number;  // the process, 0 where the nest is free; how many records it has, or wanted to have
-  uint64_t executed;               // as of a ring
-  char name[24];
-  uint64_t records[NEST];
-};
 struct stream {
   uint64_t form, reader, found; // the reader's process, and its descriptor of what it found
   uint64_t space;               // the reader's namespace of processes
@@ -81,10 +70,8 @@ struct stream {
   uint64_t foreign;             // how many have another one than glibc's that is followed
   char allocator[NAME];         // the file that has the allocator of the last process that has another one
   uint64_t filters;             // of system calls that the reader is under
-  uint64_t most_nests;          // how many were ever in use at once
   uint64_t more_unfollowed;     // programs that are not followed, and have no place here
   struct unfollowed unfollowed[UNFOLLOWED];
-  struct nest nests[NESTS];
   uint64_t stacks;              // where the stacks are in the file, 0 where none are wanted
   struct ring rings[RINGS];
 };
@@ -104,10 +91,6 @@ struct stacks {
   struct kept_stack place[STACKS_MOST];
   uint64_t words[STACK_WORDS] __attribute__((aligned(LARGEST_PAGE)));  // of a stack: the image and how many addresses, and these
 };
-static inline void free_nest(struct nest *nest) {
-  memset(&nest->told, 0, sizeof *nest - offsetof(struct nest, told));
-  __atomic_store_n(&nest->process, 0, __ATOMIC_RELEASE);
-}
 
 static inline int is_reader_gone(const struct stream *stream) {
   uint32_t word = __atomic_load_n(&stream->alive, __ATOMIC_ACQUIRE);
@@ -131,5 +114,5 @@ static inline uint64_t own_space(void) {
   return readlink("/proc/self/ns/pid", text, sizeof text - 1) > 5 ? strtoull(text + 5, NULL, 10) : 0;
 }
 
-static const uint64_t FORM = 0x344D4145525453;
+static const uint64_t FORM = 0x334D4145525453;
 enum { HEAD = (sizeof(struct stream) + LARGEST_PAGE - 1) & -LARGEST_PAGE };
