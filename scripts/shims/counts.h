@@ -1,7 +1,8 @@
 // Counts of requests, and nothing else: one addition for each, in an area of the thread's own, which the reader takes
 // when the process has ended. A free is not seen. (A variable of each thread would do as well, but a thread's start
 // would then request more.)
-#pragma once
+#ifndef COUNTS_H
+#define COUNTS_H
 enum { LOOKS = 4 };  // areas that a thread looks for
 
 // One instruction, so that a handler's addition comes before or after; only this thread adds here.
@@ -65,3 +66,4 @@ void *realloc(void *block, size_t size) {
   void *moved = TO(realloc)(block, size);
   return inner || !is_free || !moved ? moved : request(MALLOC, moved, size, NULL);
 }
+#endif

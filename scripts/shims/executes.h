@@ -1,7 +1,8 @@
 // The calls that run another program, in the place of a process or beside it: before each it is asked whether the
 // program can be followed (loadable.h). One that can't is run without the library, and the stream has its name. A child
 // of vfork shares the memory of its parent: what is made here stands on the stack.
-#pragma once
+#ifndef EXECUTES_H
+#define EXECUTES_H
 static char own_name[PATH_MAX];  // the library's, as LD_PRELOAD has it
 
 // How a program is named; the flags are those of execveat.
@@ -183,3 +184,4 @@ __attribute__((used)) static long execute_by_number(long number, long one, long 
   if (number == SYS_execve) return execve((const char *)one, (char *const *)two, (char *const *)three);
   return execveat(one, (const char *)two, (char *const *)three, (char *const *)four, five);
 }
+#endif

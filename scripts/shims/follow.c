@@ -16,6 +16,7 @@
 // the program runs on, and the notes say why.
 #define _GNU_SOURCE
 #include <dirent.h>
+#include <stddef.h>
 #include <signal.h>
 #include <sys/resource.h>
 #include <sys/wait.h>
@@ -214,25 +215,6 @@ static inline int take_small(struct reading *reading, const uint64_t *records, u
   return 1;
 }
 
-// a file of a process in /proc
-static FILE *open_of(pid_t process, const char *name) {
-  char path[64];
-  snprintf(path, sizeof path, "/proc/%d/%s", process, name);
-  return process > 0 ? fopen(path, "re") : NULL;
-}
-
-// Whether it has a line, or a word that ends so, with both texts.
-static int tells(pid_t process, const char *name, int end, const char *text, const char *key) {
-  char *line = NULL;
-  size_t room = 0;
-  int has = 0;
-  FILE *file = open_of(process, name);
-  while (file && !has && getdelim(&line, &room, end, file) > 0) has = strstr(line, text) && strstr(line, key);
-  if (file) fclose(file);
-  free(line);
-  return has;
-}
-
 // ---- the rings
 
 // What is noted of the programs with a name; nothing where there are too many.
@@ -412,8 +394,10 @@ static void clear_ring(int k) {
 }
 
 // What /proc tells of a process after its name, in which there may be anything; null where it is gone.
-static const char *after_name(pid_t process, char *text, size_t bytes) {
-  FILE *file = open_of(process, "stat");
+static const char *after_name(const char *process, char *text, size_t bytes) {
+  char path[64];
+  snprintf(path, sizeof path, "/proc/%.20s/stat", process);
+  FILE *file = fopen(path, "re");
   text[file ? fread(text, 1, bytes - 1, file) : 0] = 0;
   if (file) fclose(file);
   const char *end = strrchr(text, ')');
@@ -421,8 +405,9 @@ static const char *after_name(pid_t process, char *text, size_t bytes) {
 }
 
 static int is_zombie(pid_t process) {  // it has ended, and nobody waits for it
-  char text[1024] = "", state = 0;
-  const char *after = after_name(process, text, sizeof text);
+  char number[24], text[1024] = "", state = 0;
+  snprintf(number, sizeof number, "%d", process);
+  const char *after = after_name(number, text, sizeof text);
   return after && sscanf(after, " %c", &state) == 1 && state == 'Z';
 }
 
@@ -459,7 +444,7 @@ static void end_ring(int k) {
   }
   if (reading->is_main && !has_next) main_process = -1;  // another one may get its number
   clear_ring(k);
-  memset(ring->lanes, 0, sizeof ring->lanes), memset(ring->turn, 0, sizeof ring->turn);
+  memset(ring->lanes, 0, sizeof ring->lanes);
   ring->start = ring->turns = ring->areas = ring->overrun = ring->executed = ring->marked = 0;
   memset(ring->name, 0, sizeof ring->name);
   *reading = (struct reading){.records = reading->records};
@@ -498,8 +483,9 @@ static uint64_t read_all(void) {
 
 // KiB, as a line of a process's status has them after these words; 0 where it is gone
 static uint64_t kibibytes_of(pid_t process, const char *words) {
-  char line[256];
-  FILE *file = open_of(process, "status");
+  char path[64], line[256];
+  snprintf(path, sizeof path, "/proc/%d/status", process);
+  FILE *file = process > 0 ? fopen(path, "re") : NULL;
   unsigned long kibibytes = 0;
   size_t length = strlen(words);
   while (file && fgets(line, sizeof line, file))
@@ -511,8 +497,10 @@ static uint64_t resident_of(pid_t process) { return kibibytes_of(process, "VmHWM
 
 // Milliseconds for which a process was ready to run and had no processor; 0 where Linux does not count it.
 static uint64_t waited_of(pid_t process) {
+  char path[64];
   unsigned long long nanoseconds = 0;
-  FILE *file = open_of(process, "schedstat");
+  snprintf(path, sizeof path, "/proc/%d/schedstat", process);
+  FILE *file = process > 0 ? fopen(path, "re") : NULL;
   if (file && fscanf(file, "%*u %llu", &nanoseconds) != 1) nanoseconds = 0;
   if (file) fclose(file);
   return nanoseconds / 1000000;
@@ -729,7 +717,7 @@ static void begin_wanted(const char *words) {
 // ---- processes that are left
 
 // When a process began, in ticks since the system did; 0 where it is gone.
-static uint64_t began(pid_t process) {
+static uint64_t began(const char *process) {
   char text[1024];
   uint64_t start = 0;
   const char *after = after_name(process, text, sizeof text);
@@ -737,6 +725,19 @@ static uint64_t began(pid_t process) {
   for (int k = 0; after && k < BEFORE; k++) after = strchr(after + 1, ' ');
   if (after) start = strtoull(after, NULL, 10);
   return start;
+}
+
+// Whether a file of a process in /proc has a line, or a word that ends so, with both texts.
+static int tells(const char *process, const char *name, int end, const char *text, const char *key) {
+  char path[64], *line = NULL;
+  size_t room = 0;
+  int has = 0;
+  snprintf(path, sizeof path, "/proc/%.20s/%s", process, name);
+  FILE *file = fopen(path, "re");
+  while (file && !has && getdelim(&line, &room, end, file) > 0) has = strstr(line, text) && strstr(line, key);
+  if (file) fclose(file);
+  free(line);
+  return has;
 }
 
 static void note_left(pid_t process) {
@@ -751,13 +752,13 @@ static void note_left(pid_t process) {
 static void note_holders(void) {
   char inode[64], place[64];
   struct stat status = {0};
-  uint64_t own = began(getpid());
+  uint64_t own = began("self");
   DIR *all = fstat(opened, &status) ? NULL : opendir("/proc");
   snprintf(inode, sizeof inode, " %lu ", (unsigned long)status.st_ino), snprintf(place, sizeof place, "/proc/%d/fd/%d", getpid(), opened);
   for (struct dirent *entry; all && (entry = readdir(all));) {
     pid_t process = atoi(entry->d_name);
-    if (process <= 0 || process == getpid() || began(process) < own) continue;
-    if (tells(process, "maps", '\n', "/memfd:mte_stream", inode) || tells(process, "environ", 0, "MTE_STREAM=", place))
+    if (process <= 0 || process == getpid() || began(entry->d_name) < own) continue;
+    if (tells(entry->d_name, "maps", '\n', "/memfd:mte_stream", inode) || tells(entry->d_name, "environ", 0, "MTE_STREAM=", place))
       note_left(process);
   }
   if (all) closedir(all);

@@ -1,13 +1,17 @@
 // Whether a program can be followed: whether this machine's glibc would load the library into it, and nothing ends it
 // for that. Asked before the program is run, by nothing but calls that a loader makes too.
-#pragma once
+#ifndef LOADABLE_H
+#define LOADABLE_H
 #include <elf.h>
 #include <errno.h>
 #include <fcntl.h>
+#include <limits.h>
 #include <link.h>
+#include <string.h>
 #include <sys/auxv.h>
 #include <sys/stat.h>
 #include <sys/xattr.h>
+#include <unistd.h>
 #include "stream.h"
 
 extern const char __ehdr_start[] __attribute__((visibility("hidden")));  // of this object
@@ -152,3 +156,4 @@ static int note_unfollowed(struct stream *stream, int why, const char *path) {
   __atomic_fetch_add(&stream->more_unfollowed, 1, __ATOMIC_RELAXED);
   return UNFOLLOWED + 1;
 }
+#endif

@@ -13,7 +13,10 @@
 #include <dlfcn.h>
 #include <spawn.h>
 #include <stdarg.h>
+#include <stddef.h>
 #include <stdio.h>
+#include <stdlib.h>
+#include <string.h>
 #include <sys/mman.h>
 #include <sys/prctl.h>
 #include <time.h>
@@ -320,14 +323,20 @@ static int calls_otherwise(struct dl_phdr_info *object, size_t size, void *of) {
   }
   if ((uintptr_t)of - part.from < part.bytes) return allocator = part, 0;
   if (!dynamic || !strcmp(object->dlpi_name, "linux-vdso.so.1")) return 0;
-  uintptr_t found[DT_NUM] = {0};  // by the tags
-  for (; dynamic->d_tag != DT_NULL; dynamic++)
-    if (dynamic->d_tag > 0 && dynamic->d_tag < DT_NUM) found[dynamic->d_tag] = dynamic->d_un.d_ptr;
-#define IN_OBJECT(tag) (found[tag] ? found[tag] + (found[tag] < object->dlpi_addr ? object->dlpi_addr : 0) : 0)
-  const ElfW(Sym) *symbols = (const void *)IN_OBJECT(DT_SYMTAB);
-  const char *strings = (const char *)IN_OBJECT(DT_STRTAB);
-  const ElfW(Rela) *bound[] = {(const void *)IN_OBJECT(DT_RELA), (const void *)IN_OBJECT(DT_JMPREL)};  // they name the symbols that it uses
-  const size_t bytes[] = {found[DT_RELASZ], found[DT_PLTRELSZ]};
+  const ElfW(Sym) *symbols = NULL;
+  const char *strings = NULL;
+  const ElfW(Rela) *bound[2] = {NULL, NULL};  // the relocations name the symbols that the object uses
+  size_t bytes[2] = {0, 0};
+  for (; dynamic->d_tag != DT_NULL; dynamic++) {
+    uintptr_t bias = dynamic->d_un.d_ptr < object->dlpi_addr ? object->dlpi_addr : 0;
+    const void *at = (const void *)(dynamic->d_un.d_ptr + bias);
+    if (dynamic->d_tag == DT_SYMTAB) symbols = at;
+    if (dynamic->d_tag == DT_STRTAB) strings = at;
+    if (dynamic->d_tag == DT_RELA) bound[0] = at;
+    if (dynamic->d_tag == DT_RELASZ) bytes[0] = dynamic->d_un.d_val;
+    if (dynamic->d_tag == DT_JMPREL) bound[1] = at;
+    if (dynamic->d_tag == DT_PLTRELSZ) bytes[1] = dynamic->d_un.d_val;
+  }
   for (int k = 0; symbols && strings && k < 2; k++)
     for (size_t i = 0; bound[k] && i < bytes[k] / sizeof(ElfW(Rela)); i++) {
       const ElfW(Sym) *symbol = symbols + ELF64_R_SYM(bound[k][i].r_info);
